@@ -1,0 +1,2 @@
+pub mod AsnValue
+pub mod AsnType

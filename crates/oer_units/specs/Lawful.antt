@@ -1,0 +1,21 @@
+-- What it means that a reader reads the spellings of a relation.
+use Rattle.std.specs.Prelude.{◌≡◌, ℕ, ◌+◌, ◌≤◌, List, [], ◌++◌, length}
+use Rattle.oer_units.specs.declared.fault.Why.{Why}
+use Rattle.oer_units.specs.declared.fault.Why.TheVariants.{End, Limit}
+use Rattle.oer_units.specs.Reader.{Place, at, got, refused, Reader}
+
+-- Of the spellings b that may yet stand where t was taken, v the octets that are supposed to follow t, a refusal speaks of these:
+-- an end, of those that need no more octets; a Limit, of those of at most n octets; every other, of all.
+abbrev pub SpokenOf : Why → ℕ → List ℕ → List ℕ → Type 0
+SpokenOf End n b v = v ≡ []
+SpokenOf Limit n b v = length b ≤ n
+SpokenOf why n b v = Unit {0}
+
+-- No such spelling begins with t, and none is a front of t: for b ++ u ≡ t ++ v says that one of b and t begins with the other.
+abbrev pub Excludes : {A : Type 0} → (A → List ℕ → Type 0) → Why → ℕ → List ℕ → Type 0
+Excludes {A} Spells why n t = (x : A) (b u v : List ℕ) → Spells x b → b ++ u ≡ t ++ v → SpokenOf why n b v → ⊥
+
+pub record Lawful {A : Type 0} (r : Reader A) (Spells : A → List ℕ → Type 0) : Type 0 where
+  pub sound : (p : Place) (x : A) (q : Place) → r p ≡ got x q → (b : List ℕ) × Spells x b × (p.input ≡ b ++ q.input) × (p.left ≡ length b + q.left)
+  pub complete : (x : A) (b rest : List ℕ) (m : ℕ) → Spells x b → r (at (b ++ rest) (length b + m)) ≡ got x (at rest m)
+  pub refusal : (p : Place) (why : Why) (rest : List ℕ) → r p ≡ refused why rest → (t : List ℕ) × (p.input ≡ t ++ rest) × (length t ≤ p.left) × Excludes Spells why p.left t × (why ≡ End → rest ≡ [])
