@@ -1,0 +1,22 @@
+# make: proves and builds the program, as bin/oer
+# make test: the whole gate; make install PREFIX=..: puts the program into PREFIX/bin
+PREFIX ?= /usr/local
+
+.PHONY: all test install clean
+
+all: bin/oer
+
+bin/oer: crates.txt $(shell find crates -name out -prune -o -type f \( -name '*.rt' -o -name '*.antt' \) -print)
+	cd crates/oer_cmd && rt run -- --help > /dev/null
+	mkdir -p bin
+	cp crates/oer_cmd/out/oer_cmd bin/oer
+
+test:
+	rt ci
+
+install: bin/oer
+	install -d $(DESTDIR)$(PREFIX)/bin
+	install -m 755 bin/oer $(DESTDIR)$(PREFIX)/bin/oer
+
+clean:
+	rm -rf bin crates/*/out

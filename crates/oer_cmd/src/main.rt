@@ -1,0 +1,5 @@
+//! Canonical octets at the command line.
+#![tactic(auto)]
+pub mod laws;
+mod options;
+fn main() {}
