@@ -1,2 +1,13 @@
 pub mod AsnValue
 pub mod AsnType
+pub mod Bits
+pub mod Constraints
+pub mod Fits
+pub mod Filling
+pub mod Encoding
+pub mod Strict
+pub mod Reading
+pub mod Canonical
+pub mod Checking
+pub mod Nodes
+pub mod Laws
