@@ -2,7 +2,7 @@
 use Rattle.std.specs.Prelude.{ℕ, zero, suc, ◌+◌, ◌-◌, ◌*◌, ◌/◌, ◌%◌, ◌^◌, max, List, [], ◌∷◌, ◌++◌, length, cond, nat_lt, eqb, if◌then◌else◌, ℤ, pos, negsuc}
 use Rattle.std.specs.Int.Digits.{digits_of}
 use Rattle.oer_units.specs.Spelling.{class_number}
-use Rattle.oer_units.specs.declared.tag.Tag.{Tag}
+use Rattle.oer_units.specs.declared.tagging.Tag.{Tag}
 
 -- the k lowest octets of n
 abbrev pub big_endian : ℕ → ℕ → List ℕ

@@ -5,3 +5,11 @@ pub mod Least
 pub mod Reader
 pub mod Lawful
 pub mod Reading
+pub mod Width
+pub mod Stream
+pub mod Writing
+pub mod Laws
+pub mod Reads
+pub mod Fixed
+pub mod ReadingSteps
+pub mod Faults

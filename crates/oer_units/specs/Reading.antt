@@ -1,12 +1,12 @@
 -- How the units are read from a list: the groups, the steps and the refusals, in their order.
-use Rattle.std.specs.Prelude.{ℕ, zero, suc, ◌+◌, ◌-◌, ◌*◌, ◌/◌, ◌%◌, ◌^◌, min, pos, neg_ℤ, ◌-ℤ◌, int_le, List, [], ◌∷◌, length, get_or, Bool, not, ◌&&◌, leb, ltb, eqb, ℤ}
+use Rattle.std.specs.Prelude.{ℕ, zero, suc, ◌+◌, ◌-◌, ◌*◌, ◌/◌, ◌%◌, ◌^◌, min, pos, neg_ℤ, ◌-ℤ◌, int_le, List, [], ◌∷◌, get_or, Bool, not, ◌&&◌, leb, ltb, eqb, ℤ}
 use Rattle.oer_units.specs.Reader.{Reader, give, refuse, bind, guard, choose, group, within, filled_by}
-use Rattle.oer_units.specs.Numbers.{unsigned, signed, natural}
+use Rattle.oer_units.specs.Numbers.{unsigned, signed}
 use Rattle.oer_units.specs.declared.fault.Why.{Why}
 use Rattle.oer_units.specs.declared.fault.Why.TheVariants.{LengthForm, EmptyNumber, IntegerRange, EnumForm, ObjectId, TagForm}
-use Rattle.oer_units.specs.declared.tag.Class.{Class}
-use Rattle.oer_units.specs.declared.tag.Class.TheVariants.{Universal, Application, Context, Private}
-use Rattle.oer_units.specs.declared.tag.Tag.{Tag}
+use Rattle.oer_units.specs.declared.tagging.Class.{Class}
+use Rattle.oer_units.specs.declared.tagging.Class.TheVariants.{Universal, Application, Context, Private}
+use Rattle.oer_units.specs.declared.tagging.Tag.{Tag}
 
 unfoldable pub octet : Reader ℕ
 octet = bind (group 1) (λ w. give (get_or w 0 0))

@@ -1,9 +1,9 @@
 -- The spellings of lengths, numbers, tags and object identifiers.
 use Rattle.std.specs.Prelude.{◌≡◌, ◌≢◌, ℕ, ◌+◌, ◌*◌, ◌%◌, ◌^◌, ◌<◌, ◌≤◌, ◌⊎◌, List, [], ◌∷◌, ◌++◌, length, ℤ, pos}
 use Rattle.oer_units.specs.Numbers.{unsigned, signed}
-use Rattle.oer_units.specs.declared.tag.Class.{Class}
-use Rattle.oer_units.specs.declared.tag.Class.TheVariants.{Universal, Application, Context, Private}
-use Rattle.oer_units.specs.declared.tag.Tag.{Tag}
+use Rattle.oer_units.specs.declared.tagging.Class.{Class}
+use Rattle.oer_units.specs.declared.tagging.Class.TheVariants.{Universal, Application, Context, Private}
+use Rattle.oer_units.specs.declared.tagging.Tag.{Tag}
 
 -- The length determinant of n (X.696, 8.6): [n] with n < 128, or [128 + k] and k octets that stand for n, k from 1 to 127.
 abbrev pub IsLength : ℕ → List ℕ → Type 0

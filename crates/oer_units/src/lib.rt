@@ -2,8 +2,32 @@
 //! reader and any writer.
 #![tactic(auto)]
 
+mod bound;
 mod fault;
-mod tag;
+pub mod laws;
+mod reading;
+#[cfg(test)]
+mod reading_tests;
+mod stream;
+mod tagging;
+mod twos;
+mod width;
+mod window;
+mod writing;
+#[cfg(test)]
+mod writing_tests;
 
 pub use fault::{ReadFault, SinkFault, Why};
-pub use tag::{Class, Tag};
+pub use reading::{
+    enumerated, length, octet, octets, signed_counted, signed_fixed, subidentifier, tag,
+    unsigned_counted, unsigned_fixed,
+};
+pub use stream::{Metered, Sink, Source};
+pub use tagging::{Class, Tag};
+pub use width::Width;
+pub use window::{Outer, Window};
+pub use writing::{
+    enumerated_len, length_len, put_enumerated, put_length, put_octets, put_signed_counted,
+    put_signed_fixed, put_subidentifier, put_tag, put_unsigned_counted, put_unsigned_fixed,
+    signed_counted_len, subidentifier_len, tag_len, unsigned_counted_len,
+};

@@ -1,5 +1,0 @@
-//! Canonical octets at the command line.
-#![tactic(auto)]
-pub mod laws;
-mod options;
-fn main() {}

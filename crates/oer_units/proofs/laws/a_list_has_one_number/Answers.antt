@@ -1,0 +1,22 @@
+use Rattle.oer_units.specs.Spelling.{IsLength, IsEnumerated, IsBase128, IsTag}
+use Rattle.oer_units.specs.Laws.{IsUnsignedCounted, IsSignedCounted}
+use Rattle.oer_units.proofs.UnitLaws.{alone_spells, lengths_alone, unsigned_alone, signed_alone, enumerations_alone, base128_alone, tags_alone}
+use Rattle.oer_units.proofs.laws.a_list_has_one_number.Goals as goal
+
+pub returns-clause-lengths : goal.returns-clause-lengths
+returns-clause-lengths c = alone_spells IsLength lengths_alone
+
+pub returns-clause-unsigned_numbers : goal.returns-clause-unsigned_numbers
+returns-clause-unsigned_numbers c = alone_spells IsUnsignedCounted unsigned_alone
+
+pub returns-clause-signed_numbers : goal.returns-clause-signed_numbers
+returns-clause-signed_numbers c = alone_spells IsSignedCounted signed_alone
+
+pub returns-clause-enumerations : goal.returns-clause-enumerations
+returns-clause-enumerations c = alone_spells IsEnumerated enumerations_alone
+
+pub returns-clause-base128 : goal.returns-clause-base128
+returns-clause-base128 c = alone_spells IsBase128 base128_alone
+
+pub returns-clause-tags : goal.returns-clause-tags
+returns-clause-tags c = alone_spells IsTag tags_alone
