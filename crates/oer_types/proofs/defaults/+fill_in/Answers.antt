@@ -1,0 +1,80 @@
+use Rattle.std.proofs.Common.{◌≡◌, ◌∷◌, drop, suc, map, ap, sym, ◌∙◌, drop-cons, add-one, arith}
+use Rattle.std.proofs.lemmas.Grind.{common_steps}
+use Rattle.oer_types.specs.AsnValue.{chosen, items}
+use Rattle.oer_types.specs.Filling.{filled}
+use Rattle.oer_types.specs.ShapeView.{seen_field, seen_addition, type_of}
+use Rattle.oer_types.proofs.Shapes.{type_of-SequenceOf, type_of-Choice}
+use Rattle.oer_types.proofs.Values.{value_of-List, value_of-Chosen}
+use Rattle.oer_types.proofs.FillSteps.{field_step, addition_step, fields_done, additions_done, mapped_values, chosen_in_root, chosen_nowhere, chosen_later}
+use Rattle.oer_types.specs.ValueView.{value_of}
+use Rattle.oer_types.proofs.defaults.+fill_in.Goals as goal
+
+pub fill_fields-loop-field-preserved : goal.fill_fields-loop-field-preserved
+fill_fields-loop-field-preserved t c =
+    let l = c.loop-field in
+    let after = drop (suc l.field-index) c.args.fields.now in
+    let first : drop l.field-index c.args.fields.now ≡ c.field-item.result ∷ after = drop-cons c.args.fields.now l.field-index c.field-item.result c.loop-field-test.true ∙ ap (λ x. x ∷ after) (sym c.field-item.is) in
+    rw (c.in_ok-push.ensures.items, add-one)
+    (field_step (seen_field c.field-item.result) (map seen_field after) c.in-Some.place.now c.in_ok-fill_place.field-0 l.copies.items c.in-Some.more.now c.in_ok-fill_place.ensures ∙ rw (first, c.in-Some.ensures.cases.0) at l.invariant)
+
+pub fill_fields-returns-in_default : goal.fill_fields-returns-in_default
+fill_fields-returns-in_default t c =
+    let l = c.loop-field in
+    let after = drop (suc l.field-index) c.args.fields.now in
+    let first : drop l.field-index c.args.fields.now ≡ c.field-item.result ∷ after = drop-cons c.args.fields.now l.field-index c.field-item.result c.loop-field-test.true ∙ ap (λ x. x ∷ after) (sym c.field-item.is) in
+    fields_done (seen_field c.field-item.result) (map seen_field after) l.copies.items l.rest.now c.in_default.ensures.cases ∙ rw first at l.invariant
+
+pub fill_additions-loop-addition-preserved : goal.fill_additions-loop-addition-preserved
+fill_additions-loop-addition-preserved t c =
+    let l = c.loop-addition in
+    let after = drop (suc l.addition-index) c.args.additions.now in
+    let first : drop l.addition-index c.args.additions.now ≡ c.addition-item.result ∷ after = drop-cons c.args.additions.now l.addition-index c.addition-item.result c.loop-addition-test.true ∙ ap (λ x. x ∷ after) (sym c.addition-item.is) in
+    rw (c.in_ok-push.ensures.items, add-one)
+    (addition_step (seen_addition c.addition-item.result) (map seen_addition after) c.in-Some.place.now c.in_ok-fill_addition.field-0 l.copies.items c.in-Some.more.now c.in_ok-fill_addition.ensures ∙ rw (first, c.in-Some.ensures.cases.0) at l.invariant)
+
+pub fill_additions-returns-in_default : goal.fill_additions-returns-in_default
+fill_additions-returns-in_default t c =
+    let l = c.loop-addition in
+    let after = drop (suc l.addition-index) c.args.additions.now in
+    let first : drop l.addition-index c.args.additions.now ≡ c.addition-item.result ∷ after = drop-cons c.args.additions.now l.addition-index c.addition-item.result c.loop-addition-test.true ∙ ap (λ x. x ∷ after) (sym c.addition-item.is) in
+    additions_done (seen_addition c.addition-item.result) (map seen_addition after) l.copies.items l.rest.now c.in_default.ensures.cases ∙ rw first at l.invariant
+
+pub fill_in-returns-in_ok-fill_values-in-SequenceOf-List : goal.fill_in-returns-in_ok-fill_values-in-SequenceOf-List
+fill_in-returns-in_ok-fill_values-in-SequenceOf-List t c =
+    let at = c.in-SequenceOf-List in
+    let made = c.in_ok-fill_values-in-SequenceOf-List in
+    rw (at.is-0, at.is-1, type_of-SequenceOf, value_of-List made.field-0, value_of-List at.values)
+    (ap items (rw (c.deref-in-SequenceOf-List.ensures, c.deref-in-SequenceOf-List-2.ensures.value) at made.ensures))
+
+pub fill_values-returns : goal.fill_values-returns
+fill_values-returns t c =
+    let l = c.loop-value in
+    mapped_values (filled (type_of c.args.item.now)) l.copies.items c.args.values.now (grind (arith, common_steps))
+
+pub fill_in-returns-then-contains_tag : goal.fill_in-returns-then-contains_tag
+fill_in-returns-then-contains_tag t c =
+    let at = c.in-Choice-Chosen in
+    let made = c.in_ok-value-in-Choice-Chosen in
+    let h = rw (c.if-contains_tag.true, c.deref-in-Choice-Chosen.ensures.value) at c.contains_tag.ensures in
+    let f = rw (c.deref-then-contains_tag.ensures.value, c.deref-then-contains_tag-2.ensures) at c.in_ok-filled-in-Choice-Chosen.ensures in
+    rw (at.is-0, at.is-1, type_of-Choice, value_of-Chosen at.tag made.value, value_of-Chosen at.tag at.value)
+    (ap (chosen at.tag) (ap value_of made.ensures.ok ∙ f) ∙ sym (chosen_in_root at.tag (value_of at.value.value) at.root.items at.additions (sym h)))
+
+pub fill_in-returns-in_ok-value-in-None-additions : goal.fill_in-returns-in_ok-value-in-None-additions
+fill_in-returns-in_ok-value-in-None-additions t c =
+    let at = c.in-Choice-Chosen in
+    let made = c.in_ok-value-in-None-additions in
+    let h = rw (c.if-contains_tag.false, c.deref-in-Choice-Chosen.ensures.value) at c.contains_tag.ensures in
+    let f = rw c.deref-in-None-additions.ensures at c.in_ok-copied-in-None-additions.ensures in
+    rw (at.is-0, at.is-1, type_of-Choice, value_of-Chosen at.tag made.value, value_of-Chosen at.tag at.value, c.in-None-additions.is)
+    (ap (chosen at.tag) (ap value_of made.ensures.ok ∙ f) ∙ sym (chosen_nowhere at.tag (value_of at.value.value) at.root.items (sym h)))
+
+pub fill_in-returns-in_ok-value-in-Some-additions : goal.fill_in-returns-in_ok-value-in-Some-additions
+fill_in-returns-in_ok-value-in-Some-additions t c =
+    let at = c.in-Choice-Chosen in
+    let made = c.in_ok-value-in-Some-additions in
+    let more = c.in-Some-additions.additions in
+    let h = rw (c.if-contains_tag.false, c.deref-in-Choice-Chosen.ensures.value) at c.contains_tag.ensures in
+    let f = rw (c.deref-in-Some-additions.ensures.value, c.deref-in-Some-additions-2.ensures) at c.in_ok-filled-in-Some-additions.ensures in
+    rw (at.is-0, at.is-1, type_of-Choice, value_of-Chosen at.tag made.value, value_of-Chosen at.tag at.value, c.in-Some-additions.is)
+    (ap (chosen at.tag) (ap value_of made.ensures.ok ∙ f) ∙ sym (chosen_later at.tag (value_of at.value.value) at.root.items more (sym h)))

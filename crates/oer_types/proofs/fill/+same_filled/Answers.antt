@@ -1,0 +1,83 @@
+use Rattle.std.proofs.Common.{◌≡◌, Some, None, true, suc, map, drop, get_or, length, drop-cons, sym, refl, arith, rules}
+use Rattle.std.proofs.lemmas.Grind.{common_steps}
+use Rattle.std.proofs.lemmas.List.{drop_all}
+use Rattle.oer_types.proofs.Shapes.{type_of-Sequence, type_of-SequenceOf, type_of-Choice}
+use Rattle.oer_types.proofs.Values.{value_of-Seq, value_of-List, value_of-Chosen}
+use Rattle.oer_types.proofs.FillSteps.{◌then◌, no_field_left, no_addition_left, no_values_left, items-same, tags_differ_not, chosen_in_root, chosen_nowhere, chosen_later, same_chosen}
+use Rattle.oer_types.specs.Filling.{filled}
+use Rattle.oer_types.specs.ShapeView.{type_of, choice_with, seen_field, seen_addition}
+use Rattle.oer_types.specs.ValueView.{value_of}
+use Rattle.oer_types.proofs.fill.+same_filled.Goals as goal
+
+pub same_filled_additions-returns-in_default : goal.same_filled_additions-returns-in_default
+same_filled_additions-returns-in_default t c =
+    let l = c.loop-addition in
+    let first = drop-cons c.args.additions.now l.addition-index c.addition-item.result c.loop-addition-test.true in
+    let left = rw first at l.invariant in
+    no_addition_left (seen_addition (get_or c.args.additions.now l.addition-index c.addition-item.result)) (map seen_addition (drop (suc l.addition-index) c.args.additions.now)) l.rest_a.now l.rest_b.now c.is_empty.result c.in_default.ensures.cases c.is_empty.ensures then left
+
+pub same_filled_fields-returns-in_default : goal.same_filled_fields-returns-in_default
+same_filled_fields-returns-in_default t c =
+    let l = c.loop-field in
+    let first = drop-cons c.args.fields.now l.field-index c.field-item.result c.loop-field-test.true in
+    let left = rw first at l.invariant in
+    no_field_left (seen_field (get_or c.args.fields.now l.field-index c.field-item.result)) (map seen_field (drop (suc l.field-index) c.args.fields.now)) l.rest_a.now l.rest_b.now c.is_empty.result c.in_default.ensures.cases c.is_empty.ensures then left
+
+pub same_filled_values-returns : goal.same_filled_values-returns
+same_filled_values-returns t c =
+    let l = c.loop-one in
+    no_values_left (filled (type_of c.args.item.now)) l.rest.now c.is_empty.result c.is_empty.ensures then rw (drop_all l.one-index c.args.ones.now c.loop-one-test.false) at l.invariant
+
+pub same_filled_at-returns-in-SequenceOf-List-List : goal.same_filled_at-returns-in-SequenceOf-List-List
+same_filled_at-returns-in-SequenceOf-List-List t c =
+    let at = c.in-SequenceOf-List-List in
+    rw (at.is-0, at.is-1, at.is-2, type_of-SequenceOf, value_of-List at.a, value_of-List at.b)
+    (rw (c.deref-in-SequenceOf-List-List.ensures, c.deref-in-SequenceOf-List-List-2.ensures.value, c.deref-in-SequenceOf-List-List-3.ensures.value) at c.same_filled_values.ensures then items-same _ _)
+
+pub same_filled_at-returns-then-contains_tag : goal.same_filled_at-returns-then-contains_tag
+same_filled_at-returns-then-contains_tag t c =
+    let at = c.in-Choice-Chosen-Chosen in
+    let e = tags_differ_not at.s at.t _ c.ne.ensures c.if-ne.false in
+    let h = rw (c.if-contains_tag.true, c.deref-in-Choice-Chosen-Chosen.ensures.value) at c.contains_tag.ensures in
+    rw (at.is-0, at.is-1, at.is-2, type_of-Choice, value_of-Chosen at.s at.a, value_of-Chosen at.t at.b)
+    (rw (c.deref-then-contains_tag.ensures.value, c.deref-then-contains_tag-2.ensures, c.deref-then-contains_tag-3.ensures) at c.same_filled_alternative.ensures
+    then same_chosen at.s at.t _ _ _ _ (choice_with at.root.items at.additions) e (chosen_in_root at.t (value_of at.a.value) at.root.items at.additions (sym h)) (chosen_in_root at.t (value_of at.b.value) at.root.items at.additions (sym h)))
+
+pub same_filled_at-returns-in-None-additions : goal.same_filled_at-returns-in-None-additions
+same_filled_at-returns-in-None-additions t c =
+    let at = c.in-Choice-Chosen-Chosen in
+    let e = tags_differ_not at.s at.t _ c.ne.ensures c.if-ne.false in
+    let h = rw (c.if-contains_tag.false, c.deref-in-Choice-Chosen-Chosen.ensures.value) at c.contains_tag.ensures in
+    rw (at.is-0, at.is-1, at.is-2, type_of-Choice, value_of-Chosen at.s at.a, value_of-Chosen at.t at.b, c.in-None-additions.is)
+    (rw (c.deref-in-None-additions.ensures, c.deref-in-None-additions-2.ensures) at c.same.ensures
+    then same_chosen at.s at.t _ _ _ _ (choice_with at.root.items None) e (chosen_nowhere at.t (value_of at.a.value) at.root.items (sym h)) (chosen_nowhere at.t (value_of at.b.value) at.root.items (sym h)))
+
+pub same_filled_at-returns-in-Some-additions : goal.same_filled_at-returns-in-Some-additions
+same_filled_at-returns-in-Some-additions t c =
+    let at = c.in-Choice-Chosen-Chosen in
+    let more = c.in-Some-additions.additions in
+    let e = tags_differ_not at.s at.t _ c.ne.ensures c.if-ne.false in
+    let h = rw (c.if-contains_tag.false, c.deref-in-Choice-Chosen-Chosen.ensures.value) at c.contains_tag.ensures in
+    rw (at.is-0, at.is-1, at.is-2, type_of-Choice, value_of-Chosen at.s at.a, value_of-Chosen at.t at.b, c.in-Some-additions.is)
+    (rw (c.deref-in-Some-additions.ensures.value, c.deref-in-Some-additions-2.ensures, c.deref-in-Some-additions-3.ensures) at c.same_filled_alternative-in-Some-additions.ensures
+    then same_chosen at.s at.t _ _ _ _ (choice_with at.root.items (Some more)) e (chosen_later at.t (value_of at.a.value) at.root.items more (sym h)) (chosen_later at.t (value_of at.b.value) at.root.items more (sym h)))
+
+pub same_filled_at-returns-then-not-same_places : goal.same_filled_at-returns-then-not-same_places
+same_filled_at-returns-then-not-same_places t c =
+    let at = c.in-Sequence-Seq-Seq in
+    rw (at.is-0, at.is-1, at.is-2, type_of-Sequence, value_of-Seq, value_of-Seq, c.in-None.is) (grind (arith, common_steps))
+
+pub same_filled_at-returns-then-not-same_filled_fields : goal.same_filled_at-returns-then-not-same_filled_fields
+same_filled_at-returns-then-not-same_filled_fields t c =
+    let at = c.in-Sequence-Seq-Seq in
+    rw (at.is-0, at.is-1, at.is-2, type_of-Sequence, value_of-Seq, value_of-Seq, c.in-Some.is) (grind (arith, common_steps))
+
+pub same_filled_at-returns-else-not-same_places : goal.same_filled_at-returns-else-not-same_places
+same_filled_at-returns-else-not-same_places t c =
+    let at = c.in-Sequence-Seq-Seq in
+    rw (at.is-0, at.is-1, at.is-2, type_of-Sequence, value_of-Seq, value_of-Seq, c.in-None.is) (grind (arith, common_steps))
+
+pub same_filled_at-returns-else-not-same_filled_fields : goal.same_filled_at-returns-else-not-same_filled_fields
+same_filled_at-returns-else-not-same_filled_fields t c =
+    let at = c.in-Sequence-Seq-Seq in
+    rw (at.is-0, at.is-1, at.is-2, type_of-Sequence, value_of-Seq, value_of-Seq, c.in-Some.is) (grind (arith, common_steps))

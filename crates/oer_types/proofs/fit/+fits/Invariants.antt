@@ -1,0 +1,19 @@
+use Rattle.std.proofs.Common.{◌≡◌, drop}
+use Rattle.oer_types.specs.AsnType.{no_alternatives}
+use Rattle.oer_types.specs.FitTest.{is_fit, fields_fit, additions_fit, all_fit, alternative_fits}
+use Rattle.oer_types.specs.ShapeView.{type_of, fields_of, additions_of, root_of}
+use Rattle.oer_types.specs.ValueView.{value_of, values_of, places_of}
+use Rattle.oer_types.proofs.fit.+fits.Given as goal
+
+-- whether what is left fits, says whether all does
+abbrev pub invariant-fields_fit-loop-field : goal.invariant-fields_fit-loop-field
+invariant-fields_fit-loop-field l = fields_fit (fields_of (drop l.field-index l.fields)) (places_of l.rest) ≡ fields_fit (fields_of l.fields) (places_of l.places)
+
+abbrev pub invariant-additions_fit-loop-addition : goal.invariant-additions_fit-loop-addition
+invariant-additions_fit-loop-addition l = additions_fit (additions_of (drop l.addition-index l.additions)) (places_of l.rest) ≡ additions_fit (additions_of l.additions) (places_of l.places)
+
+abbrev pub invariant-all_fit-loop-value : goal.invariant-all_fit-loop-value
+invariant-all_fit-loop-value l = all_fit (is_fit (type_of l.item)) (values_of (drop l.value-index l.values)) ≡ all_fit (is_fit (type_of l.item)) (values_of l.values)
+
+abbrev pub invariant-alternative_fits-loop-alt : goal.invariant-alternative_fits-loop-alt
+invariant-alternative_fits-loop-alt l = alternative_fits (root_of (drop l.alt-index l.alts) no_alternatives) l.tag (value_of l.value) ≡ alternative_fits (root_of l.alts no_alternatives) l.tag (value_of l.value)

@@ -1,0 +1,12 @@
+use Rattle.std.proofs.Common.{◌≡◌, length}
+use Rattle.oer_types.specs.FaultTest.{names_repeat}
+use Rattle.oer_types.specs.ShapeView.{root_of}
+use Rattle.oer_types.specs.WellFormed.{alternative_names}
+use Rattle.oer_types.specs.AsnType.{no_alternatives}
+use Rattle.oer_types.proofs.name.one_list_repeats.Given as goal
+
+abbrev pub invariant-loop-alt : goal.invariant-loop-alt
+invariant-loop-alt l = names_repeat (alternative_names (root_of l.rest no_alternatives)) ≡ names_repeat (alternative_names (root_of l.alts no_alternatives))
+
+abbrev pub decreases-loop-alt : goal.decreases-loop-alt
+decreases-loop-alt l = length l.rest

@@ -1,0 +1,10 @@
+use Rattle.std.proofs.Common.{◌≡◌, length}
+use Rattle.oer_types.specs.FaultTest.{tags_repeat}
+use Rattle.oer_types.specs.ShapeView.{root_of, later_of}
+use Rattle.oer_types.proofs.rule.tags_repeat.Given as goal
+
+abbrev pub invariant-loop-alt : goal.invariant-loop-alt
+invariant-loop-alt l = tags_repeat (root_of l.rest (later_of l.later)) ≡ tags_repeat (root_of l.alts (later_of l.later))
+
+abbrev pub decreases-loop-alt : goal.decreases-loop-alt
+decreases-loop-alt l = length l.rest

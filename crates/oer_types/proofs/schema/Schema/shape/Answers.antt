@@ -1,0 +1,6 @@
+use Rattle.oer_types.specs.ShapeView.{type_of}
+use Rattle.oer_types.proofs.Faults.{defaults_fit}
+use Rattle.oer_types.proofs.schema.Schema.shape.Goals as goal
+
+pub returns-clause-defaults : goal.returns-clause-defaults
+returns-clause-defaults c = defaults_fit (type_of c.args.self.now.shape) c.args.self.now.well_formed

@@ -1,0 +1,78 @@
+-- Whether a value fits a type, as a test.
+use Rattle.std.specs.Prelude.{ℕ, suc, ◌+◌, ◌*◌, ◌^◌, List, [], ◌∷◌, length, Bool, true, false, not, ◌&&◌, ◌||◌, leb, ltb, if◌then◌else◌}
+use Rattle.std.specs.Str.{is_utf8, chars}
+use Rattle.oer_units.specs.Reading.{is_int64}
+use Rattle.oer_units.specs.declared.tagging.Tag.{Tag}
+use Rattle.oer_types.specs.AsnType.{Additions, Alternatives, AsnType, Fields, Need, addition, alternative, bit_string, boolean, choice, default, enumerated, extensible_sequence, field, integer, later, may, must, no_additions, no_alternatives, no_fields, null, object_id, octet_string, restricted_string, sequence, sequence_of, utf8_string}
+use Rattle.oer_types.specs.AsnValue.{AsnValue, Places, Unknown, Values, absent, bit_list, bool, chosen, enum, foreign, int, items, no_places, no_values, nothing, octets, oid, present, seq, text, unknown, value}
+use Rattle.oer_types.specs.Constraints.{addition_count, all_characters, has_number, has_tag, in_range, same_tag, size_fits}
+
+-- each is below n
+abbrev pub all_below : ℕ → List ℕ → Bool
+all_below n [] = true
+all_below n (x ∷ xs) = ltb x n && all_below n xs
+
+-- the first two arcs come from one subidentifier below 2^128
+abbrev pub first_arcs : ℕ → ℕ → Bool
+first_arcs a b = leb a 2 && (leb 2 a || ltb b 40) && ltb (40 * a + b) (2 ^ 128)
+
+abbrev pub arcs_fit : List ℕ → Bool
+arcs_fit [] = false
+arcs_fit (a ∷ []) = false
+arcs_fit (a ∷ b ∷ rest) = first_arcs a b && all_below (2 ^ 128) rest
+
+abbrev pub values_length : Values → ℕ
+values_length no_values = 0
+values_length (value v vs) = suc (values_length vs)
+
+abbrev pub all_fit : (AsnValue → Bool) → Values → Bool
+all_fit f no_values = true
+all_fit f (value v vs) = f v && all_fit f vs
+
+abbrev pub may_be_absent : Need → Bool
+may_be_absent must = false
+may_be_absent may = true
+may_be_absent (default v) = true
+
+abbrev pub unknown_fit : ℕ → List Unknown → Bool
+unknown_fit lowest [] = true
+unknown_fit lowest (unknown place w ∷ us) = (leb lowest place && leb place 65535 && all_below 256 w) && unknown_fit (suc place) us
+
+abbrev pub is_without : Places → List Unknown → Bool
+is_without no_places [] = true
+is_without ps us = false
+
+abbrev mutual
+  pub is_fit : AsnType → AsnValue → Bool
+  is_fit boolean (bool x) = true
+  is_fit null nothing = true
+  is_fit (integer low high) (int z) = in_range low high z
+  is_fit (enumerated xs extensible) (enum z) = is_int64 z && (extensible || has_number xs z)
+  is_fit (bit_string s) (bit_list bits) = size_fits s (length bits)
+  is_fit object_id (oid arcs) = arcs_fit arcs
+  is_fit (restricted_string kind s) (text w) = all_below 256 w && (all_characters kind w && size_fits s (length w))
+  is_fit (utf8_string s) (text w) = all_below 256 w && (is_utf8 w && size_fits s (length (chars w)))
+  is_fit (octet_string s) (octets w) = all_below 256 w && size_fits s (length w)
+  is_fit (sequence fs) (seq root added us) = is_without added us && fields_fit fs root
+  is_fit (extensible_sequence fs more) (seq root added us) = fields_fit fs root && (additions_fit more added && unknown_fit (addition_count more) us)
+  is_fit (sequence_of s T) (items vs) = size_fits s (values_length vs) && all_fit (is_fit T) vs
+  is_fit (choice extensible more) (chosen t v) = alternative_fits more t v
+  is_fit (choice extensible more) (foreign t w) = extensible && (not (has_tag t more) && (ltb t.number (2 ^ 32) && all_below 256 w))
+  is_fit T v = false
+
+  pub fields_fit : Fields → Places → Bool
+  fields_fit no_fields no_places = true
+  fields_fit (field name need T fs) (absent ps) = may_be_absent need && fields_fit fs ps
+  fields_fit (field name need T fs) (present v ps) = is_fit T v && fields_fit fs ps
+  fields_fit fs ps = false
+
+  pub additions_fit : Additions → Places → Bool
+  additions_fit no_additions no_places = true
+  additions_fit (addition name T more) (absent ps) = additions_fit more ps
+  additions_fit (addition name T more) (present v ps) = is_fit T v && additions_fit more ps
+  additions_fit more ps = false
+
+  pub alternative_fits : Alternatives → Tag → AsnValue → Bool
+  alternative_fits no_alternatives t v = false
+  alternative_fits (alternative name u T more) t v = if same_tag u t then is_fit T v else alternative_fits more t v
+  alternative_fits (later name u T more) t v = if same_tag u t then is_fit T v else alternative_fits more t v

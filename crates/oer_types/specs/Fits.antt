@@ -1,0 +1,130 @@
+-- Which values fit a type.
+use Rattle.std.specs.Prelude.{◌≡◌, ℕ, suc, ◌+◌, ◌*◌, ◌^◌, ◌<◌, ◌≤◌, ◌⊎◌, List, [], ◌∷◌, length, Bool, true, false, ◌||◌, ℤ}
+use Rattle.std.specs.Str.{is_utf8, chars}
+use Rattle.oer_units.specs.Octets.{IsOctets}
+use Rattle.oer_units.specs.Reading.{is_int64}
+use Rattle.oer_units.specs.declared.tagging.Tag.{Tag}
+use Rattle.oer_types.specs.AsnType.{Additions, Alternatives, AsnType, Fields, Need, addition, alternative, bit_string, boolean, choice, default, enumerated, extensible_sequence, field, integer, later, may, must, no_additions, no_alternatives, no_fields, null, object_id, octet_string, restricted_string, sequence, sequence_of, utf8_string}
+use Rattle.oer_types.specs.AsnValue.{AsnValue, Places, Unknown, Values, absent, bit_list, bool, chosen, enum, foreign, int, items, no_places, no_values, nothing, octets, oid, present, seq, text, unknown, value}
+use Rattle.oer_types.specs.Constraints.{HasTagNumber, addition_count, all_characters, has_number, has_tag, in_range, same_tag, size_fits}
+use Rattle.oer_types.specs.declared.size.Size.{Size}
+
+-- values as the list of a SEQUENCE OF
+abbrev pub listed : List AsnValue → Values
+listed [] = no_values
+listed (x ∷ xs) = value x (listed xs)
+
+-- each addition absent
+abbrev pub all_absent : Additions → Places
+all_absent no_additions = no_places
+all_absent (addition name T more) = absent (all_absent more)
+
+-- one after the last unknown place, 0 where there is none
+abbrev pub after_last : List Unknown → ℕ
+after_last [] = 0
+after_last (unknown n w ∷ []) = suc n
+after_last (unknown n w ∷ u ∷ us) = after_last (u ∷ us)
+
+-- each is below n
+abbrev pub AllBelow : ℕ → List ℕ → Type 0
+AllBelow n [] = Unit {0}
+AllBelow n (x ∷ xs) = (x < n) × AllBelow n xs
+
+-- two arcs or more; the first is 0, 1 or 2, the second at most 39 under 0 and 1 (X.690, 8.19.4); numbers below 2^128
+abbrev pub AreArcs : List ℕ → Type 0
+AreArcs arcs = (a : ℕ) × (b : ℕ) × (rest : List ℕ) × (arcs ≡ a ∷ b ∷ rest) × (a ≤ 2) × (a < 2 → b < 40) × (40 * a + b < 2 ^ 128) × AllBelow (2 ^ 128) rest
+
+-- a text of characters that pass the test, as many as the constraint allows
+abbrev pub IsText : (List ℕ → Bool) → Size → AsnValue → Type 0
+IsText test size v = (w : List ℕ) × (v ≡ text w) × IsOctets w × (test w ≡ true) × (size_fits size (length w) ≡ true)
+
+-- each has P
+abbrev pub AllFit : (AsnValue → Type 0) → List AsnValue → Type 0
+AllFit P [] = Unit {0}
+AllFit P (v ∷ vs) = P v × AllFit P vs
+
+-- the first component is there with P, and Rest holds of the others
+abbrev pub IsThere : (AsnValue → Type 0) → (Places → Type 0) → Places → Type 0
+IsThere P Rest ps = (v : AsnValue) × (rest : Places) × (ps ≡ present v rest) × P v × Rest rest
+
+-- the first component is absent, and Rest holds of the others
+abbrev pub IsMissing : (Places → Type 0) → Places → Type 0
+IsMissing Rest ps = (rest : Places) × (ps ≡ absent rest) × Rest rest
+
+-- a component that has P, or is absent where it may be; Rest: the others
+abbrev pub FitsPlace : Need → (AsnValue → Type 0) → (Places → Type 0) → Places → Type 0
+FitsPlace must P Rest ps = IsThere P Rest ps
+FitsPlace may P Rest ps = IsThere P Rest ps ⊎ IsMissing Rest ps
+FitsPlace (default d) P Rest ps = IsThere P Rest ps ⊎ IsMissing Rest ps
+
+-- by the first alternative that has the tag
+abbrev pub FitsByTag : Bool → (AsnValue → Type 0) → (AsnValue → Type 0) → AsnValue → Type 0
+FitsByTag true P Rest v = P v
+FitsByTag false P Rest v = Rest v
+
+-- the unknown additions: their places rise from the lowest to 65,535
+abbrev pub FitsUnknown : ℕ → List Unknown → Type 0
+FitsUnknown lowest [] = Unit {0}
+FitsUnknown lowest (unknown place w ∷ us) = (lowest ≤ place) × (place ≤ 65535) × IsOctets w × FitsUnknown (suc place) us
+
+-- an alternative of the type; or one that it doesn't know, where there is an extension marker
+abbrev pub FitsChosen : Bool → Alternatives → (Tag → AsnValue → Type 0) → AsnValue → Type 0
+FitsChosen extensible more P v = ((t : Tag) × (x : AsnValue) × (v ≡ chosen t x) × P t x) ⊎ ((t : Tag) × (w : List ℕ) × (v ≡ foreign t w) × (extensible ≡ true) × (has_tag t more ≡ false) × HasTagNumber t × IsOctets w)
+
+-- Which values fit a type: of its kind, within its bounds and sizes, each part fitting (X.680).
+abbrev mutual
+  pub Fits : AsnType → AsnValue → Type 0
+  Fits boolean v = (x : Bool) × (v ≡ bool x)
+  Fits null v = v ≡ nothing
+  Fits (integer low high) v = (z : ℤ) × (v ≡ int z) × (in_range low high z ≡ true)
+  Fits (enumerated numbers extensible) v = (z : ℤ) × (v ≡ enum z) × (is_int64 z ≡ true) × ((extensible || has_number numbers z) ≡ true)
+  Fits (bit_string size) v = (s : List Bool) × (v ≡ bit_list s) × (size_fits size (length s) ≡ true)
+  Fits object_id v = (arcs : List ℕ) × (v ≡ oid arcs) × AreArcs arcs
+  Fits (restricted_string kind size) v = IsText (all_characters kind) size v
+  Fits (utf8_string size) v = (w : List ℕ) × (v ≡ text w) × IsOctets w × (is_utf8 w ≡ true) × (size_fits size (length (chars w)) ≡ true)
+  Fits (octet_string size) v = (w : List ℕ) × (v ≡ octets w) × IsOctets w × (size_fits size (length w) ≡ true)
+  Fits (sequence fs) v = (root : Places) × (v ≡ seq root no_places []) × FitsFields fs root
+  Fits (extensible_sequence fs more) v = (root : Places) × (added : Places) × (us : List Unknown) × (v ≡ seq root added us) × FitsFields fs root × FitsAdditions more added × FitsUnknown (addition_count more) us
+  Fits (sequence_of size T) v = (vs : List AsnValue) × (v ≡ items (listed vs)) × (size_fits size (length vs) ≡ true) × AllFit (Fits T) vs
+  Fits (choice extensible more) v = FitsChosen extensible more (FitsAlternative more) v
+
+  pub FitsFields : Fields → Places → Type 0
+  FitsFields no_fields ps = ps ≡ no_places
+  FitsFields (field name need T fs) ps = FitsPlace need (Fits T) (FitsFields fs) ps
+
+  pub FitsAdditions : Additions → Places → Type 0
+  FitsAdditions no_additions ps = ps ≡ no_places
+  FitsAdditions (addition name T more) ps = FitsPlace may (Fits T) (FitsAdditions more) ps
+
+  pub FitsAlternative : Alternatives → Tag → AsnValue → Type 0
+  FitsAlternative no_alternatives t v = ⊥
+  FitsAlternative (alternative name u T more) t v = FitsByTag (same_tag u t) (Fits T) (FitsAlternative more t) v
+  FitsAlternative (later name u T more) t v = FitsByTag (same_tag u t) (Fits T) (FitsAlternative more t) v
+
+-- a default has P
+abbrev pub DefaultFits : Need → (AsnValue → Type 0) → Type 0
+DefaultFits must P = Unit {0}
+DefaultFits may P = Unit {0}
+DefaultFits (default d) P = P d
+
+-- each default in the type fits its component's type
+abbrev mutual
+  pub DefaultsFit : AsnType → Type 0
+  DefaultsFit (sequence fs) = FieldDefaultsFit fs
+  DefaultsFit (extensible_sequence fs more) = FieldDefaultsFit fs × AdditionDefaultsFit more
+  DefaultsFit (sequence_of size T) = DefaultsFit T
+  DefaultsFit (choice extensible more) = AlternativeDefaultsFit more
+  DefaultsFit T = Unit {0}
+
+  pub FieldDefaultsFit : Fields → Type 0
+  FieldDefaultsFit no_fields = Unit {0}
+  FieldDefaultsFit (field name need T fs) = DefaultsFit T × DefaultFits need (Fits T) × FieldDefaultsFit fs
+
+  pub AdditionDefaultsFit : Additions → Type 0
+  AdditionDefaultsFit no_additions = Unit {0}
+  AdditionDefaultsFit (addition name T more) = DefaultsFit T × AdditionDefaultsFit more
+
+  pub AlternativeDefaultsFit : Alternatives → Type 0
+  AlternativeDefaultsFit no_alternatives = Unit {0}
+  AlternativeDefaultsFit (alternative name t T more) = DefaultsFit T × AlternativeDefaultsFit more
+  AlternativeDefaultsFit (later name t T more) = DefaultsFit T × AlternativeDefaultsFit more

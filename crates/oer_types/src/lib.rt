@@ -1,0 +1,33 @@
+//! Types of ASN.1, their values, and what encodes them.
+#![tactic(auto)]
+
+mod bits;
+mod calls;
+mod copy;
+mod counting;
+mod defaults;
+mod depth;
+mod fault;
+mod fill;
+mod fit;
+mod form;
+pub mod laws;
+mod name;
+mod rule;
+mod schema;
+mod shape;
+mod size;
+mod value;
+
+pub use bits::Bits;
+pub use calls::{filled, fits, same_filled};
+pub use fault::SchemaFault;
+pub use fill::same_filled_at;
+pub use form::Form;
+pub use schema::Schema;
+pub use shape::{Addition, Alt, Field, Item, Need, Shape};
+pub use size::Size;
+pub use value::{Unknown, Value};
+
+#[cfg(test)]
+mod tests;

@@ -1,0 +1,369 @@
+//! Faults that a type has of itself or in a type in it.
+ghost use Rattle.std.specs.Prelude.{◌≡◌, ◌==◌, ◌||◌, map};
+ghost use Rattle.oer_types.specs.AsnType.{no_alternatives};
+ghost use Rattle.oer_types.specs.Constraints.{fixed, is_zero as spec_is_zero, may_all_be_empty as spec_may_all_be_empty, may_be_empty as spec_may_be_empty, optional};
+ghost use Rattle.oer_types.specs.FaultTest.{any_bad_name, any_misfit as spec_any_misfit, has_crossed_bounds as spec_has_crossed_bounds, has_crossed_size as spec_has_crossed_size, has_empty_element as spec_has_empty_element, has_fault_here as spec_has_fault_here, has_misfit as spec_has_misfit, has_no_items as spec_has_no_items, has_repeated_number as spec_has_repeated_number, has_repeated_tag as spec_has_repeated_tag, in_additions, in_alternatives, in_fields, is_crossed, names_repeat, numbers_repeat as spec_numbers_repeat, somewhere, tags_repeat as spec_tags_repeat};
+ghost use Rattle.oer_types.specs.ShapeView.{additions_of, choice_with, fields_of, known_additions as spec_known_additions, known_later as spec_known_later, later_of, named_number, root_of, sequence_with, type_of};
+ghost use Rattle.oer_types.specs.WellFormed.{names};
+
+use crate::fault::SchemaFault;
+use crate::fit::{contains_number, contains_tag, fits_shape};
+use crate::name;
+use crate::shape::{Addition, Alt, Field, Item, Need, Shape};
+use crate::size::Size;
+
+/// The additions, none where there is no extension marker.
+fn known_additions(additions: &Option<Vec<Addition>>) -> &[Addition]
+    ensures { result.now ≡ spec_known_additions additions.now }
+{
+    match additions {
+        None => &[],
+        Some(additions) => additions,
+    }
+}
+
+/// The alternatives after the extension marker, none where there is none.
+fn known_later(additions: &Option<Vec<Alt>>) -> &[Alt]
+    ensures { result.now ≡ spec_known_later additions.now }
+{
+    match additions {
+        None => &[],
+        Some(additions) => additions,
+    }
+}
+
+#[tactic(auto, using(crate::proofs::Shapes::shapes))]
+fn has_crossed_bounds(shape: &Shape) -> bool
+    ensures { result ≡ spec_has_crossed_bounds (type_of shape.now) }
+{
+    match shape {
+        Shape::Integer {
+            low: Some(low),
+            high: Some(high),
+        } => *high < *low,
+        _ => false,
+    }
+}
+
+impl Size {
+    fn is_crossed(self) -> bool
+        ensures { result ≡ is_crossed self }
+    {
+        match self.high {
+            Some(high) => high < self.low,
+            None => false,
+        }
+    }
+
+    /// Whether 0 is the one size.
+    fn is_zero(self) -> bool
+        ensures { result ≡ spec_is_zero (fixed self) }
+    {
+        match self.high {
+            Some(high) => self.low == 0 && high == 0,
+            None => false,
+        }
+    }
+}
+
+#[tactic(auto, using(crate::proofs::Shapes::shapes))]
+fn has_crossed_size(shape: &Shape) -> bool
+    ensures { result ≡ spec_has_crossed_size (type_of shape.now) }
+{
+    match shape {
+        Shape::BitString(size) => size.is_crossed(),
+        Shape::OctetString(size) => size.is_crossed(),
+        Shape::Ia5(size) => size.is_crossed(),
+        Shape::Visible(size) => size.is_crossed(),
+        Shape::Numeric(size) => size.is_crossed(),
+        Shape::Printable(size) => size.is_crossed(),
+        Shape::Utf8(size) => size.is_crossed(),
+        Shape::SequenceOf { size, .. } => size.is_crossed(),
+        _ => false,
+    }
+}
+
+#[tactic(auto, using(crate::proofs::NameSteps::names_of))]
+fn has_bad_name(shape: &Shape) -> bool
+    ensures { result ≡ any_bad_name (names (type_of shape.now)) }
+{
+    match shape {
+        Shape::Enumerated { items, .. } => name::has_bad_item_name(items),
+        Shape::Sequence { root, additions } => {
+            if name::has_bad_field_name(root) {
+                return true;
+            }
+            name::has_bad_addition_name(known_additions(additions))
+        }
+        Shape::Choice { root, additions } => {
+            if name::has_bad_alternative_name(root) {
+                return true;
+            }
+            name::has_bad_alternative_name(known_later(additions))
+        }
+        _ => false,
+    }
+}
+
+#[tactic(auto, using(crate::proofs::NameSteps::names_of))]
+fn has_repeated_name(shape: &Shape) -> bool
+    ensures { result ≡ names_repeat (names (type_of shape.now)) }
+{
+    match shape {
+        Shape::Enumerated { items, .. } => name::item_names_repeat(items),
+        Shape::Sequence { root, additions } => {
+            name::field_names_repeat(root, known_additions(additions))
+        }
+        Shape::Choice { root, additions } => {
+            name::alternative_names_repeat(root, known_later(additions))
+        }
+        _ => false,
+    }
+}
+
+#[tactic(auto, using(crate::proofs::NameSteps::items_of))]
+fn has_no_items(shape: &Shape) -> bool
+    ensures { result ≡ spec_has_no_items (type_of shape.now) }
+{
+    match shape {
+        Shape::Enumerated { items, .. } => items.is_empty(),
+        Shape::Choice { root, .. } => root.is_empty(),
+        _ => false,
+    }
+}
+
+fn numbers_repeat(items: &[Item]) -> bool
+    ensures { result ≡ spec_numbers_repeat (map named_number items.now) }
+{
+    let mut rest = items;
+    while let Some((item, more)) = rest.split_first() {
+        if contains_number(more, item.number) {
+            return true;
+        }
+        rest = more;
+    }
+    false
+}
+
+#[tactic(auto, using(crate::proofs::Shapes::shapes))]
+fn has_repeated_number(shape: &Shape) -> bool
+    ensures { result ≡ spec_has_repeated_number (type_of shape.now) }
+{
+    match shape {
+        Shape::Enumerated { items, .. } => numbers_repeat(items),
+        _ => false,
+    }
+}
+
+/// Whether one tag stands twice among the alternatives, or in both lists.
+#[tactic(auto, using(crate::proofs::FitSteps::tag_in_root))]
+fn tags_repeat(alts: &[Alt], later: &[Alt]) -> bool
+    ensures { result ≡ spec_tags_repeat (root_of alts.now (later_of later.now)) }
+{
+    let mut rest = alts;
+    while let Some((alt, more)) = rest.split_first() {
+        if contains_tag(more, alt.tag) || contains_tag(later, alt.tag) {
+            return true;
+        }
+        rest = more;
+    }
+    later_tags_repeat(later)
+}
+
+#[tactic(auto, using(crate::proofs::Alternatives::later_tag))]
+fn later_tags_repeat(alts: &[Alt]) -> bool
+    ensures { result ≡ spec_tags_repeat (later_of alts.now) }
+{
+    let mut rest = alts;
+    while let Some((alt, more)) = rest.split_first() {
+        if contains_tag(more, alt.tag) {
+            return true;
+        }
+        rest = more;
+    }
+    false
+}
+
+#[tactic(auto, using(crate::proofs::NameSteps::tags_of))]
+fn has_repeated_tag(shape: &Shape) -> bool
+    ensures { result ≡ spec_has_repeated_tag (type_of shape.now) }
+{
+    match shape {
+        Shape::Choice { root, additions } => tags_repeat(root, known_later(additions)),
+        _ => false,
+    }
+}
+
+/// Whether a default doesn't fit its component's type.
+fn any_misfit(fields: &[Field]) -> bool
+    ensures { result ≡ spec_any_misfit (fields_of fields.now) }
+{
+    for field in fields {
+        if let Need::Default(value) = &field.need {
+            if !fits_shape(&field.shape, value) {
+                return true;
+            }
+        }
+    }
+    false
+}
+
+#[tactic(auto, using(crate::proofs::NameSteps::defaults_of))]
+fn has_misfit(shape: &Shape) -> bool
+    ensures { result ≡ spec_has_misfit (type_of shape.now) }
+{
+    match shape {
+        Shape::Sequence { root, .. } => any_misfit(root),
+        _ => false,
+    }
+}
+
+/// Whether no component may be absent.
+fn are_all_needed(fields: &[Field]) -> bool
+    ensures { result ≡ (optional (fields_of fields.now) == 0) }
+{
+    for field in fields {
+        if !matches!(field.need, Need::Must) {
+            return false;
+        }
+    }
+    true
+}
+
+/// Whether the type may take no octets: a NULL, a string of the one size 0, or a SEQUENCE without
+/// extension marker and optional components whose components all may.
+#[cycle(empty)]
+#[tactic(auto, using(crate::proofs::Shapes::shapes))]
+fn may_be_empty(shape: &Shape) -> bool
+    ensures { result ≡ spec_may_be_empty (type_of shape.now) }
+{
+    match shape {
+        Shape::Null => true,
+        Shape::BitString(size) => size.is_zero(),
+        Shape::OctetString(size) => size.is_zero(),
+        Shape::Ia5(size) => size.is_zero(),
+        Shape::Visible(size) => size.is_zero(),
+        Shape::Numeric(size) => size.is_zero(),
+        Shape::Printable(size) => size.is_zero(),
+        Shape::Sequence {
+            root,
+            additions: None,
+        } => {
+            if !are_all_needed(root) {
+                return false;
+            }
+            may_all_be_empty(root)
+        }
+        _ => false,
+    }
+}
+
+#[cycle(empty)]
+fn may_all_be_empty(fields: &[Field]) -> bool
+    ensures { result ≡ spec_may_all_be_empty (fields_of fields.now) }
+{
+    for field in fields {
+        if !may_be_empty(&field.shape) {
+            return false;
+        }
+    }
+    true
+}
+
+#[tactic(auto, using(crate::proofs::Shapes::shapes))]
+fn has_empty_element(shape: &Shape) -> bool
+    ensures { result ≡ spec_has_empty_element (type_of shape.now) }
+{
+    match shape {
+        Shape::SequenceOf { item, .. } => may_be_empty(item),
+        _ => false,
+    }
+}
+
+/// Whether the type itself has the fault, whatever the types in it have.
+fn has_fault_here(fault: SchemaFault, shape: &Shape) -> bool
+    ensures { result ≡ spec_has_fault_here fault (type_of shape.now) }
+{
+    match fault {
+        SchemaFault::TooDeep => false,
+        SchemaFault::TooManyParts => false,
+        SchemaFault::BoundOrder => has_crossed_bounds(shape),
+        SchemaFault::SizeOrder => has_crossed_size(shape),
+        SchemaFault::BadName => has_bad_name(shape),
+        SchemaFault::RepeatedName => has_repeated_name(shape),
+        SchemaFault::NoItems => has_no_items(shape),
+        SchemaFault::RepeatedNumber => has_repeated_number(shape),
+        SchemaFault::RepeatedTag => has_repeated_tag(shape),
+        SchemaFault::DefaultMisfit => has_misfit(shape),
+        SchemaFault::EmptyElement => has_empty_element(shape),
+    }
+}
+
+/// Whether the type or a type in it has the fault.
+#[cycle(somewhere)]
+#[tactic(auto, using(crate::proofs::Shapes::shapes))]
+pub(crate) fn is_somewhere(fault: SchemaFault, shape: &Shape) -> bool
+    ensures { result ≡ somewhere (spec_has_fault_here fault) (type_of shape.now) }
+{
+    if has_fault_here(fault, shape) {
+        return true;
+    }
+    match shape {
+        Shape::Sequence { root, additions } => {
+            if is_in_fields(fault, root) {
+                return true;
+            }
+            match additions {
+                None => false,
+                Some(additions) => is_in_additions(fault, additions),
+            }
+        }
+        Shape::SequenceOf { item, .. } => is_somewhere(fault, item),
+        Shape::Choice { root, additions } => {
+            if is_in_alternatives(fault, root) {
+                return true;
+            }
+            match additions {
+                None => false,
+                Some(additions) => is_in_alternatives(fault, additions),
+            }
+        }
+        _ => false,
+    }
+}
+
+#[cycle(somewhere)]
+fn is_in_fields(fault: SchemaFault, fields: &[Field]) -> bool
+    ensures { result ≡ in_fields (spec_has_fault_here fault) (fields_of fields.now) }
+{
+    for field in fields {
+        if is_somewhere(fault, &field.shape) {
+            return true;
+        }
+    }
+    false
+}
+
+#[cycle(somewhere)]
+fn is_in_additions(fault: SchemaFault, additions: &[Addition]) -> bool
+    ensures { result ≡ in_additions (spec_has_fault_here fault) (additions_of additions.now) }
+{
+    for addition in additions {
+        if is_somewhere(fault, &addition.shape) {
+            return true;
+        }
+    }
+    false
+}
+
+#[cycle(somewhere)]
+fn is_in_alternatives(fault: SchemaFault, alts: &[Alt]) -> bool
+    ensures { result ≡ in_alternatives (spec_has_fault_here fault) (root_of alts.now no_alternatives) }
+{
+    for alt in alts {
+        if is_somewhere(fault, &alt.shape) {
+            return true;
+        }
+    }
+    false
+}

@@ -1,0 +1,123 @@
+//! Well-formed types.
+ghost use Rattle.oer_types.specs.AtMostOne.{IsWellFormed-prop};
+ghost use Rattle.oer_types.specs.ShapeView.{type_of};
+ghost use Rattle.oer_types.specs.WellFormed.{IsWellFormed};
+
+use crate::counting::parts_left;
+use crate::depth::is_within_depth;
+use crate::fault::SchemaFault;
+use crate::rule::is_somewhere;
+use crate::shape::Shape;
+
+const MAX_DEPTH: u8 = 32;
+
+const MAX_PARTS: u16 = 4096;
+
+/// A well-formed type: a shape of which no fault holds.
+#[derive(Drop)]
+pub struct Schema {
+    shape: Shape,
+    pub ghost well_formed: { IsWellFormed (type_of shape) } by { IsWellFormed-prop (type_of shape) },
+}
+
+impl Schema {
+    ghost use Rattle.std.specs.Prelude.{◌≡◌, MatchResult};
+    ghost use Rattle.oer_types.specs.Constraints.{KeepsLimits};
+    ghost use Rattle.oer_types.specs.Fits.{DefaultsFit};
+    ghost use Rattle.oer_types.specs.Schema.{shape_of};
+    ghost use Rattle.oer_types.specs.WellFormed.{IsFirstFault};
+
+    /// The type, exactly where no fault holds of the shape. Else the fault of least number that
+    /// holds anywhere in it, and the shape. It looks no deeper than 32 levels and counts no further
+    /// than 4,096 parts, and takes no memory.
+    pub fn new(shape: Shape) -> Result<Schema, (SchemaFault, Shape)>
+        ensures { MatchResult result (λ schema. (shape_of schema ≡ shape) × IsWellFormed (type_of shape))
+            (λ refused. IsFirstFault (type_of shape) refused.0 × (refused.1 ≡ shape)) }
+    {
+        match first_fault(&shape) {
+            Some(fault) => Err((fault, shape)),
+            None => Ok(Schema { shape }),
+        }
+    }
+
+    /// The shape, which is well-formed.
+    pub fn shape(&self) -> &Shape
+        ensures same { result.now ≡ shape_of self.now }
+        ensures well_formed { IsWellFormed (type_of result.now) }
+        ensures limits { KeepsLimits (type_of result.now) }
+        ensures defaults { DefaultsFit (type_of result.now) }
+    {
+        &self.shape
+    }
+
+    /// The shape.
+    pub fn into_shape(self) -> Shape
+        ensures { result ≡ shape_of self }
+    {
+        self.shape
+    }
+}
+
+ghost use Rattle.std.specs.Prelude.{◌≡◌, None, false};
+ghost use Rattle.oer_types.specs.Counting.{HasRanges};
+ghost use Rattle.oer_types.specs.FaultTest.{first_fault as spec_first_fault, first_in, has_fault, later_faults};
+ghost use Rattle.oer_types.specs.declared.fault.SchemaFault.TheVariants.{TooManyParts};
+
+/// Whether the type has more parts than it may have. Where it hasn't, its numbers are known.
+fn has_too_many_parts(shape: &Shape) -> bool
+    ensures many { result ≡ has_fault TooManyParts (type_of shape.now) }
+    ensures ranges { result ≡ false → HasRanges (type_of shape.now) }
+{
+    match parts_left(shape, MAX_PARTS) {
+        Some(_) => false,
+        None => true,
+    }
+}
+
+/// The fault of least number.
+fn first_fault(shape: &Shape) -> Option<SchemaFault>
+    ensures first { result ≡ spec_first_fault (type_of shape.now) }
+    ensures ranges { result ≡ None → HasRanges (type_of shape.now) }
+{
+    if !is_within_depth(shape, MAX_DEPTH) {
+        return Some(SchemaFault::TooDeep);
+    }
+    if has_too_many_parts(shape) {
+        return Some(SchemaFault::TooManyParts);
+    }
+    later_fault(shape)
+}
+
+/// The fault of least number after the first two.
+fn later_fault(shape: &Shape) -> Option<SchemaFault>
+    ensures { result ≡ first_in (type_of shape.now) later_faults }
+{
+    if is_somewhere(SchemaFault::BoundOrder, shape) {
+        return Some(SchemaFault::BoundOrder);
+    }
+    if is_somewhere(SchemaFault::SizeOrder, shape) {
+        return Some(SchemaFault::SizeOrder);
+    }
+    if is_somewhere(SchemaFault::BadName, shape) {
+        return Some(SchemaFault::BadName);
+    }
+    if is_somewhere(SchemaFault::RepeatedName, shape) {
+        return Some(SchemaFault::RepeatedName);
+    }
+    if is_somewhere(SchemaFault::NoItems, shape) {
+        return Some(SchemaFault::NoItems);
+    }
+    if is_somewhere(SchemaFault::RepeatedNumber, shape) {
+        return Some(SchemaFault::RepeatedNumber);
+    }
+    if is_somewhere(SchemaFault::RepeatedTag, shape) {
+        return Some(SchemaFault::RepeatedTag);
+    }
+    if is_somewhere(SchemaFault::DefaultMisfit, shape) {
+        return Some(SchemaFault::DefaultMisfit);
+    }
+    if is_somewhere(SchemaFault::EmptyElement, shape) {
+        return Some(SchemaFault::EmptyElement);
+    }
+    None
+}
