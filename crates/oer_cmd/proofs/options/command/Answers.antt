@@ -1,0 +1,12 @@
+use Rattle.std.proofs.Common.{rules, ◌≡◌, ◌∙◌, true, ap, codes}
+use Rattle.std.proofs.lemmas.Result.{IfOk-weaker}
+use Rattle.clap.specs.Words.{new_app}
+use Rattle.clap.specs.Simple.{on_top}
+use Rattle.oer_cmd.specs.Words.{HasShape}
+use Rattle.oer_cmd.proofs.Asked.{adds_task}
+use Rattle.oer_cmd.proofs.options.command.Goals as goal
+
+pub returns : goal.returns
+returns c =
+    let start : HasShape (on_top (λ s. record s { subcommand_required = true }) (new_app (codes "oer"))) c.subcommand_required.result = record { app = search rules; local = search rules } in
+    IfOk-weaker c.subcommand.result _ _ (λ r h. adds_task _ _ _ _ _ start c.in_ok-canon.ensures h) c.subcommand.ensures

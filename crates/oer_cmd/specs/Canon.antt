@@ -1,0 +1,13 @@
+-- The canonical octets of the value that octets encode.
+use Rattle.std.specs.Prelude.{◌≤◌, ℕ, List, length}
+use Rattle.oer_types.specs.AsnType.{AsnType}
+use Rattle.oer_types.specs.AsnValue.{AsnValue}
+use Rattle.oer_types.specs.Encoding.{Encodes}
+use Rattle.oer_types.specs.Strict.{IsCanonical}
+
+-- b is an encoding, of no more octets than the limit, of a value whose canonical octets are c
+pub record IsRewritten (T : AsnType) (limit : ℕ) (b c : List ℕ) : Type 0 where
+  pub value : AsnValue
+  pub encodes : Encodes T value b
+  pub canonical : IsCanonical T value c
+  pub within : length b ≤ limit

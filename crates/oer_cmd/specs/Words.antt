@@ -1,0 +1,66 @@
+-- What the words of the command line ask for.
+use Rattle.std.specs.Prelude.{◌≡◌, ℕ, List, [], ◌∷◌, Option, Some, None, false, true, codes, option_map, option_and_then}
+use Rattle.std.specs.Borrow.{Bor}
+use Rattle.std.specs.Str.Parse.{IsNumeral, digits_value, without_leading_plus}
+use Rattle.oer_cmd.specs.declared.options.Options.{Options}
+use Rattle.clap.specs.Words.{App, Rule, Text, first_of, new_app, new_rule, one_of, subcommand_of, with_rule, with_subcommand}
+use Rattle.clap.specs.Simple.{app_of, on_top}
+use Rattle.clap.specs.declared.builder.command.Command.{Command}
+use Rattle.clap.specs.declared.builder.command.Command.TheViews.{out-Command}
+use Rattle.clap.specs.declared.builder.value_parser.ValueParser.TheVariants as vp
+
+-- an option with a value, that is named by its id
+abbrev pub option_rule : Text → Rule
+option_rule id = record (new_rule id) { long = Some id }
+
+-- one that must be there
+abbrev pub required_rule : Text → Rule
+required_rule id = record (option_rule id) { required = true }
+
+abbrev pub limit_rule : Rule
+limit_rule = record (option_rule (codes "limit")) {
+  parser = Some (vp.Unsigned 0 18446744073709551615);
+  defaults = codes "1048576" ∷ [];
+}
+
+-- the command of one task
+abbrev pub task_app : Text → App
+task_app name = with_rule (with_rule (with_rule (new_app name) (required_rule (codes "type"))) (option_rule (codes "hex"))) limit_rule
+
+-- the whole command
+abbrev pub oer : App
+oer = with_subcommand (on_top (λ s. record s { subcommand_required = true }) (new_app (codes "oer"))) (task_app (codes "canon")).top
+
+-- the task that the words name
+abbrev pub asked : List Text → Option Text
+asked words = option_map (λ p. p.0) (subcommand_of oer words)
+
+-- the value of an option of the task, as it was written, or its default
+abbrev pub given : List Text → Text → Option Text
+given words id = option_and_then (λ p. first_of id p.1) (subcommand_of oer words)
+
+-- the same as a number is read from it
+abbrev pub given_number : List Text → Text → Option Text
+given_number words id = option_and_then (λ p. one_of id p.1) (subcommand_of oer words)
+
+-- the text writes n, in decimal digits after a plus at most
+pub record NumberOf (text : Text) (n : ℕ) : Type 0 where
+  pub digits : IsNumeral 10 (without_leading_plus text)
+  pub value : n ≡ digits_value 10 (without_leading_plus text)
+
+-- the text behind a reference
+abbrev pub behind : Option (Bor Text) → Option Text
+behind = option_map (λ s. s.now)
+
+-- the options are those of the words, which ask for `canon`
+pub record Asks (words : List Text) (o : Options) : Type 0 where
+  pub task : asked words ≡ Some (codes "canon")
+  pub type_text : given words (codes "type") ≡ Some o.type_text.now
+  pub hex : given words (codes "hex") ≡ behind o.hex
+  -- the number that the value of `--limit` writes
+  pub limit : (text : Text) × (given_number words (codes "limit") ≡ Some text) × NumberOf text o.limit
+
+-- the command has the shape of a, and nothing in it is global
+pub record HasShape (a : App) (c : Command) : Type 0 where
+  pub app : app_of c ≡ a
+  pub local : (out-Command c).has_globals ≡ false
