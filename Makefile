@@ -1,5 +1,5 @@
 # make: proves and builds the program, as bin/oer
-# make test: the whole gate; make install PREFIX=..: puts the program into PREFIX/bin
+# make test: the whole gate, then the commands that the documents show; make install PREFIX=..: puts the program into PREFIX/bin
 PREFIX ?= /usr/local
 
 .PHONY: all test install clean
@@ -13,6 +13,9 @@ bin/oer: crates.txt $(shell find crates -name out -prune -o -type f \( -name '*.
 
 test:
 	rt ci
+	@mkdir -p bin
+	@cp crates/oer_cmd/out/oer_cmd bin/oer
+	@examples/check
 
 install: bin/oer
 	install -d $(DESTDIR)$(PREFIX)/bin

@@ -1,10 +1,9 @@
 -- From what `clap` says of its matches to what the words ask for.
-use Rattle.std.proofs.Common.{◌≡◌, ◌∙◌, List, ℕ, Bool, Option, Some, None, false, true, sym, ap, ap₂, refl, true≢false, IfSome, Ok, Err, Result, ◌<◌, ◌^◌}
-use Rattle.std.specs.Prelude.{option_map, option_and_then, unwrap_or, is_some, Box, codes, ◌||◌}
+use Rattle.std.proofs.Common.{◌≡◌, ◌∙◌, List, ℕ, Bool, Option, Some, None, false, true, sym, ap, ap₂, refl, true≢false, IfSome, Ok, Result, ◌<◌, ◌^◌}
+use Rattle.std.specs.Prelude.{option_map, option_and_then, unwrap_or, is_some, Box, ◌||◌}
 use Rattle.std.specs.Box.{box_value}
-use Rattle.std.specs.Borrow.{Bor}
 use Rattle.std.specs.Str.Parse.{IsNumeral, digits_value, without_leading_plus}
-use Rattle.clap.specs.Words.{AddsArg, AddsSubcommand, App, shape_of, with_subcommand, Row, Rule, rule_of, with_rule, Text, ReadsOne, app_of, found_of, first_value, one_text, is_simple, rows_of, subcommand_name_of, subcommand_of, subcommand_rows, subcommand_rows_of}
+use Rattle.clap.specs.Words.{AddsArg, AddsSubcommand, App, with_subcommand, Row, Rule, rule_of, with_rule, Text, ReadsOne, found_of, first_value, one_text, is_simple, rows_of, subcommand_name_of, subcommand_of, subcommand_rows, subcommand_rows_of}
 use Rattle.clap.specs.declared.builder.arg.Arg.{Arg}
 use Rattle.clap.specs.declared.builder.command.Command.{Command}
 use Rattle.clap.specs.declared.parser.matches.ArgMatches.{ArgMatches}

@@ -1,13 +1,17 @@
 -- The canonical octets of the value that octets encode.
-use Rattle.std.specs.Prelude.{◌≤◌, ℕ, List, length}
+use Rattle.std.specs.Prelude.{◌≡◌, ◌≤◌, ℕ, List, [], length, Option, IfSome}
 use Rattle.oer_types.specs.AsnType.{AsnType}
 use Rattle.oer_types.specs.AsnValue.{AsnValue}
 use Rattle.oer_types.specs.Encoding.{Encodes}
 use Rattle.oer_types.specs.Strict.{IsCanonical}
 
 -- b is an encoding, of no more octets than the limit, of a value whose canonical octets are c
-pub record IsRewritten (T : AsnType) (limit : ℕ) (b c : List ℕ) : Type 0 where
+pub record MakesCanonical (T : AsnType) (limit : ℕ) (b c : List ℕ) : Type 0 where
   pub value : AsnValue
   pub encodes : Encodes T value b
   pub canonical : IsCanonical T value c
   pub within : length b ≤ limit
+
+-- Nothing is left, where that is known.
+abbrev pub IsEmpty : Option (List ℕ) → Type 0
+IsEmpty known = IfSome known (λ xs. xs ≡ [])

@@ -1,5 +1,5 @@
 -- What the words of the command line ask for.
-use Rattle.std.specs.Prelude.{◌≡◌, ℕ, List, [], ◌∷◌, Option, Some, None, false, true, codes, option_map, option_and_then}
+use Rattle.std.specs.Prelude.{◌≡◌, ℕ, List, [], ◌∷◌, Option, Some, false, true, codes, option_map, option_and_then}
 use Rattle.std.specs.Borrow.{Bor}
 use Rattle.std.specs.Str.Parse.{IsNumeral, digits_value, without_leading_plus}
 use Rattle.oer_cmd.specs.declared.options.Options.{Options}
@@ -13,10 +13,6 @@ use Rattle.clap.specs.declared.builder.value_parser.ValueParser.TheVariants as v
 abbrev pub option_rule : Text → Rule
 option_rule id = record (new_rule id) { long = Some id }
 
--- one that must be there
-abbrev pub required_rule : Text → Rule
-required_rule id = record (option_rule id) { required = true }
-
 abbrev pub limit_rule : Rule
 limit_rule = record (option_rule (codes "limit")) {
   parser = Some (vp.Unsigned 0 18446744073709551615);
@@ -25,7 +21,8 @@ limit_rule = record (option_rule (codes "limit")) {
 
 -- the command of one task
 abbrev pub task_app : Text → App
-task_app name = with_rule (with_rule (with_rule (new_app name) (required_rule (codes "type"))) (option_rule (codes "hex"))) limit_rule
+task_app name = with_rule (with_rule (with_rule (with_rule (with_rule (new_app name)
+    (option_rule (codes "type"))) (option_rule (codes "types"))) (option_rule (codes "name"))) (option_rule (codes "hex"))) limit_rule
 
 -- the whole command
 abbrev pub oer : App
@@ -55,7 +52,9 @@ behind = option_map (λ s. s.now)
 -- the options are those of the words, which ask for `canon`
 pub record Asks (words : List Text) (o : Options) : Type 0 where
   pub task : asked words ≡ Some (codes "canon")
-  pub type_text : given words (codes "type") ≡ Some o.type_text.now
+  pub type_text : given words (codes "type") ≡ behind o.type_text
+  pub types : given words (codes "types") ≡ behind o.types
+  pub name : given words (codes "name") ≡ behind o.name
   pub hex : given words (codes "hex") ≡ behind o.hex
   -- the number that the value of `--limit` writes
   pub limit : (text : Text) × (given_number words (codes "limit") ≡ Some text) × NumberOf text o.limit

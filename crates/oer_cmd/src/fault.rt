@@ -1,39 +1,59 @@
 //! Why the program prints no line.
 ghost use Rattle.std.specs.Prelude.{◌≡◌, ◌≤◌};
 
-use oer_types::SchemaFault;
+use oer_reader::RewriteFault;
+use oer_text::{TextFault, TextWhy};
 use oer_units::{ReadFault, Why};
+use oer_writer::WriteFault;
 use thiserror::Error;
-
-/// Why the text of a type is refused.
-#[derive(Clone, Copy, Debug, PartialEq, Eq, Error)]
-pub enum TypeFault {
-    #[error("Syntax")]
-    Syntax,
-    #[error("{0}")]
-    Schema(SchemaFault),
-}
 
 /// Why the program prints no line: its text is the line on the standard error.
 #[derive(Clone, Copy, Debug, PartialEq, Eq, Error)]
-pub enum Fault {
+pub enum Fault<'a> {
+    /// The octets begin with no encoding.
     #[error("{0}")]
     Read(ReadFault),
+    /// An octet follows the value, which took so many.
     #[error("octets follow the value at {0}")]
     Follows(u64),
-    #[error("type: {0} at 0")]
-    Type(TypeFault),
+    /// Neither `--type` nor `--types` is given, or both are.
+    #[error("one of --type and --types")]
+    OneType,
+    /// `--types` without `--name`.
+    #[error("--types needs --name")]
+    NoName,
+    /// `--name` without `--types`.
+    #[error("--name needs --types")]
+    NoTypes,
+    /// The text of the type, or of the definitions, is refused.
+    #[error("type: {0}")]
+    Type(TextFault),
+    /// No definition has this Name.
+    #[error("no type {0}")]
+    Unnamed(&'a str),
+    /// The text of `--hex` is not an even number of hexadecimal digits.
     #[error("hex refused")]
     Hex,
+    /// A read of the input failed.
     #[error("input failed")]
     Input,
+    /// A write to the output failed, or its flush.
     #[error("output failed")]
     Output,
+    /// A growth of memory was refused.
     #[error("out of memory")]
     Memory,
 }
 
-impl Fault {
+impl<'a> Fault<'a> {
+    /// The fault for a refusal of the notation.
+    pub fn of_text(fault: TextFault) -> Self {
+        match fault.why {
+            TextWhy::Memory => Fault::Memory,
+            _ => Fault::Type(fault),
+        }
+    }
+
     /// The fault for a refusal of the reader.
     pub fn of_read(fault: ReadFault) -> Self {
         match fault.why {
@@ -43,15 +63,25 @@ impl Fault {
         }
     }
 
+    /// The fault for a refusal to rewrite octets into memory.
+    pub fn of_rewrite(fault: RewriteFault) -> Self {
+        match fault {
+            RewriteFault::Read(fault) => Fault::of_read(fault),
+            RewriteFault::Write(WriteFault::Device { .. }) => Fault::Memory,
+            RewriteFault::Write(WriteFault::TooLong) => Fault::Output,
+        }
+    }
+
     /// The status of the program: 1 where the octets are refused, 2 where the words are, 3 where
     /// the machine fails.
     pub fn status(self) -> u8
         ensures fails { 1 ≤ result }
-        ensures output { self ≡ Fault.Output → result ≡ 3 }
+        ensures output { self.entry ≡ Fault.Output → result ≡ 3 }
     {
         match self {
             Fault::Read(_) | Fault::Follows(_) => 1,
-            Fault::Type(_) | Fault::Hex => 2,
+            Fault::OneType | Fault::NoName | Fault::NoTypes => 2,
+            Fault::Type(_) | Fault::Unnamed(_) | Fault::Hex => 2,
             Fault::Input | Fault::Output | Fault::Memory => 3,
         }
     }

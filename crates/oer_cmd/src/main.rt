@@ -2,16 +2,17 @@
 #![tactic(auto)]
 
 mod canon;
+#[cfg(test)]
+mod example;
 mod fault;
 pub mod laws;
-mod notation;
 mod options;
-mod reading;
 mod run;
 #[cfg(test)]
 mod tests;
-mod write_fault;
-mod writing;
+mod type_text;
+#[cfg(test)]
+mod vectors;
 
 use run::run;
 use std::io::BufReader;

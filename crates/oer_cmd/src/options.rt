@@ -10,8 +10,12 @@ use std::alloc::{AllocError, Global};
 /// What the words ask `canon` for.
 #[derive(Clone, Copy)]
 pub struct Options<'a> {
-    /// The text of the type.
-    pub type_text: &'a str,
+    /// The text of one type.
+    pub type_text: Option<&'a str>,
+    /// The text of definitions.
+    pub types: Option<&'a str>,
+    /// The Name of a type among the definitions.
+    pub name: Option<&'a str>,
     /// The octets in hexadecimal digits; without them they come from the input.
     pub hex: Option<&'a str>,
     /// How many octets the value may take.
@@ -30,13 +34,14 @@ fn option<'a>(alloc: Global, id: &'a str) -> Arg<'a>
 fn task_command<'a>(alloc: Global, name: &'a str) -> Result<Command<'a>, AllocError>
     ensures { IfOk result (HasShape (task_app name.entry.now)) }
 {
-    let type_text = Arg::new(alloc, "type").long("type").required(true);
     let limit = Arg::new(alloc, "limit")
         .long("limit")
         .value_parser(clap::value_parser!(u64))
         .default_value("1048576");
     Command::new(alloc, name)
-        .arg(type_text)?
+        .arg(option(alloc, "type"))?
+        .arg(option(alloc, "types"))?
+        .arg(option(alloc, "name"))?
         .arg(option(alloc, "hex"))?
         .arg(limit)
 }
@@ -65,17 +70,15 @@ pub fn parsed<'a>(alloc: Global, words: &'a [String]) -> Result<Options<'a>, Err
     let Some((task, found)) = matches.subcommand() else {
         return Err(Error::from(AllocError));
     };
-    let Some(type_text) = found.get_str("type") else {
-        return Err(Error::from(AllocError));
-    };
     let Some(limit) = found.get_one::<u64>("limit") else {
         return Err(Error::from(AllocError));
     };
-    let hex = found.get_str("hex");
     if task == "canon" {
         Ok(Options {
-            type_text,
-            hex,
+            type_text: found.get_str("type"),
+            types: found.get_str("types"),
+            name: found.get_str("name"),
+            hex: found.get_str("hex"),
             limit,
         })
     } else {

@@ -4,23 +4,27 @@ ghost use Rattle.std.specs.Io.KnownBytes.{Appends, Keeps};
 ghost use Rattle.hex.specs.Hex.{decode_of};
 ghost use Rattle.clap.specs.Words.{kind_of, takes};
 ghost use Rattle.clap.specs.declared.error.kind.ErrorKind.TheVariants.{OutOfMemory};
-ghost use Rattle.oer_cmd.specs.Simple.{type_of_simple};
+ghost use Rattle.oer_types.specs.Schema.{the_type};
 ghost use Rattle.oer_cmd.specs.Run.{Answers, IsCanonLine, OfOctets, Prints};
+ghost use Rattle.oer_cmd.specs.Types.{texts_at, texts_of};
 ghost use Rattle.oer_cmd.specs.Words.{behind, oer};
+ghost use Rattle.oer_cmd.specs.declared.type_text.TypeText.TheVariants.{Named, One};
 
 use crate::canon::canonical;
 use crate::fault::Fault;
-use crate::notation::{SimpleType, parse_type};
 use crate::options::{Options, parsed};
+use crate::type_text::{TypeText, definitions, named_type, one_type, type_text};
 use clap::error::ErrorKind;
 use hex::FromHexError;
+use oer_types::Schema;
 use oer_units::{Metered, Source};
 use std::alloc::Global;
 use std::io::{Read, Write};
 
 // The octets that the digits spell.
-fn decoded(alloc: Global, digits: &str) -> Result<Vec<u8>, Fault>
-    ensures { IfOk result (λ b. decode_of digits.now ≡ Ok b.items) }
+fn decoded<'a>(alloc: Global, digits: &str) -> Result<Vec<u8>, Fault<'a>>
+    ensures octets { IfOk result (λ b. decode_of digits.now ≡ Ok b.items) }
+    ensures refused { IfErr result (λ fault. fault ≡ Fault.Hex → (b : List ℕ) → decode_of digits.now ≡ Ok b → ⊥) }
 {
     match hex::decode(alloc, digits) {
         Ok(octets) => Ok(octets),
@@ -30,16 +34,16 @@ fn decoded(alloc: Global, digits: &str) -> Result<Vec<u8>, Fault>
 }
 
 // The line of `canon` for the octets that the reader has left.
-fn canon_line<R: Source>(
+fn canon_line<'a, R: Source>(
     alloc: Global,
-    simple: SimpleType,
+    schema: &Schema,
     reader: &mut R,
     limit: u64,
-) -> Result<String, Fault>
+) -> Result<String, Fault<'a>>
     ensures { IfOk result (λ line. IfSome (R.remaining reader.old)
-        (IsCanonLine (type_of_simple simple) limit (string_bytes line))) }
+        (IsCanonLine (the_type schema.now) limit (string_bytes line))) }
 {
-    let octets = canonical(alloc, simple, reader, limit)?;
+    let octets = canonical(alloc, schema, reader, limit)?;
     match hex::encode(alloc, octets) {
         Ok(line) => Ok(line),
         Err(_) => Err(Fault::Memory),
@@ -47,42 +51,83 @@ fn canon_line<R: Source>(
 }
 
 // The line of `canon` for the octets that the digits spell.
-fn hex_line(alloc: Global, simple: SimpleType, digits: &str, limit: u64) -> Result<String, Fault>
+fn hex_line<'a>(
+    alloc: Global,
+    schema: &Schema,
+    digits: &str,
+    limit: u64,
+) -> Result<String, Fault<'a>>
     ensures { IfOk result (λ line. (b : List ℕ) × (decode_of digits.now ≡ Ok b)
-        × IsCanonLine (type_of_simple simple) limit (string_bytes line) b) }
+        × IsCanonLine (the_type schema.now) limit (string_bytes line) b) }
 {
     let octets = decoded(alloc, digits)?;
     let mut reader = Metered::new(octets.as_slice());
-    canon_line(alloc, simple, &mut reader, limit)
+    canon_line(alloc, schema, &mut reader, limit)
 }
 
 // The line of `canon` for the octets that the options or the input give.
-fn line_of<R: Source>(
+fn line_of<'a, R: Source>(
     alloc: Global,
-    simple: SimpleType,
-    options: Options<'_>,
+    schema: &Schema,
+    options: Options<'a>,
     input: &mut R,
-) -> Result<String, Fault>
+) -> Result<String, Fault<'a>>
     ensures { IfOk result (λ line. OfOctets (behind options.entry.hex) (R.remaining input.old)
-        (IsCanonLine (type_of_simple simple) options.entry.limit (string_bytes line))) }
+        (IsCanonLine (the_type schema.now) options.entry.limit (string_bytes line))) }
 {
     match options.hex {
-        Some(digits) => hex_line(alloc, simple, digits, options.limit),
-        None => canon_line(alloc, simple, input, options.limit),
+        Some(digits) => hex_line(alloc, schema, digits, options.limit),
+        None => canon_line(alloc, schema, input, options.limit),
     }
 }
 
-// The line that the options ask for.
-fn answer<R: Source>(alloc: Global, options: Options<'_>, input: &mut R) -> Result<String, Fault>
-    ensures { IfOk result (λ line. Answers options.entry.type_text.now (behind options.entry.hex)
+// The line for the type that the text spells.
+fn line_of_one<'a, R: Source>(
+    alloc: Global,
+    text: &'a str,
+    options: Options<'a>,
+    input: &mut R,
+) -> Result<String, Fault<'a>>
+    ensures { IfOk result (λ line. Answers (texts_at (One text.entry)) (behind options.entry.hex)
         options.entry.limit (R.remaining input.old) (string_bytes line)) }
 {
-    let simple = parse_type(alloc, options.type_text)?;
-    line_of(alloc, simple, options, input)
+    let schema = one_type(alloc, text)?;
+    line_of(alloc, &schema, options, input)
+}
+
+// The line for the type that the Name has among the definitions that the text spells.
+fn line_of_named<'a, R: Source>(
+    alloc: Global,
+    types: &'a str,
+    name: &'a str,
+    options: Options<'a>,
+    input: &mut R,
+) -> Result<String, Fault<'a>>
+    ensures { IfOk result (λ line. Answers (texts_at (Named types.entry name.entry)) (behind options.entry.hex)
+        options.entry.limit (R.remaining input.old) (string_bytes line)) }
+{
+    let types = definitions(alloc, types)?;
+    let schema = named_type(&types, name)?;
+    line_of(alloc, schema, options, input)
+}
+
+// The line that the options ask for.
+fn answer<'a, R: Source>(
+    alloc: Global,
+    options: Options<'a>,
+    input: &mut R,
+) -> Result<String, Fault<'a>>
+    ensures { IfOk result (λ line. Answers (texts_of options.entry) (behind options.entry.hex)
+        options.entry.limit (R.remaining input.old) (string_bytes line)) }
+{
+    match type_text(options)? {
+        TypeText::One(text) => line_of_one(alloc, text, options, input),
+        TypeText::Named { types, name } => line_of_named(alloc, types, name, options, input),
+    }
 }
 
 // Writes a line, all of it.
-fn print_line<W: Write>(output: &mut W, line: &str) -> Result<(), Fault>
+fn print_line<'a, W: Write>(output: &mut W, line: &str) -> Result<(), Fault<'a>>
     ensures printed { OnOk result (Appends (W.contents output.old) (W.contents output.new)
         (line.now ++ 10 ∷ [])) }
     ensures fails { IfErr result (λ fault. fault ≡ Fault.Output) }
@@ -100,9 +145,9 @@ fn print_line<W: Write>(output: &mut W, line: &str) -> Result<(), Fault>
 }
 
 // Writes why there is no line. A failure to write it is ignored.
-fn report<E: Write>(fault: Fault, errors: &mut E) -> u8
+fn report<E: Write>(fault: Fault<'_>, errors: &mut E) -> u8
     ensures fails { 1 ≤ result }
-    ensures output { fault ≡ Fault.Output → result ≡ 3 }
+    ensures output { fault.entry ≡ Fault.Output → result ≡ 3 }
 {
     let _ = writeln!(errors, "oer: {fault}");
     fault.status()

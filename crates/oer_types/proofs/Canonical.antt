@@ -278,7 +278,7 @@ extension_one true true more one ps qs us vs b c (s, z, m, a, u, e, k, i, len, s
     let sizes : max (addition_count more) (after_last us) ≡ max (addition_count more) (after_last vs) = ap (λ us. max (addition_count more) (after_last us)) others in
     let n : length z ≡ length y = omega (arith, length-append s z, length-append t y, len ∙ sizes ∙ sym len') in
     let q = unknown_one (addition_count more) z y us u u' n r (subst (λ us. SpellsUnknown (StrictCounted IsItself) (addition_count more) y us u') (sym others) r') in
-    let h = counted_one (λ s. s) StrictBits bits_are_one (s ++ z) (t ++ y) m m' k k' (ap₂ (λ x y. x ++ y) o.0 q.0) in
+    let h = counted_one (λ s. s) StrictBits bits_are_one (s ++ z) (t ++ y) m m' k.1 k'.1 (ap₂ (λ x y. x ++ y) o.0 q.0) in
     (refl, o.1, e ∙ ap₂ (λ x y. x ++ y) h.1 (ap₂ (λ x y. x ++ y) o.2 q.1) ∙ sym e')
 extension_one true false more one ps qs us vs b c (s, z, m, a, u, e, k, i, len, some, low, x, r) (is', none, e') same others =
     absurd (extension_some more s z ps us a u i some x r (same ∙ ap (filled_additions more) is') (others ∙ none))

@@ -1,18 +1,17 @@
 -- The checkers of types without parts.
-use Rattle.std.proofs.Common.{◌≡◌, ℕ, zero, suc, ◌+◌, ◌-◌, ◌*◌, ◌/◌, ◌%◌, ◌^◌, ◌<◌, ◌≤◌, List, [], ◌∷◌, ◌++◌, length, take, drop, Bool, true, false, not, ◌&&◌, ◌||◌, leb, ltb, eqb, refl, ap, ap₂, sym, ◌∙◌, subst, append-nil, append_assoc, arith, length-append, le-leb, leb-true, eqb-true, eq-eqb, take-append-drop, length-take-le, drop_at, take_at, ℤ, Option, Some, None}
+use Rattle.std.proofs.Common.{◌≡◌, ℕ, zero, suc, ◌-◌, ◌*◌, ◌≤◌, List, [], ◌∷◌, ◌++◌, length, take, drop, Bool, true, false, not, ◌&&◌, ◌||◌, leb, eqb, refl, ap, ap₂, sym, ◌∙◌, subst, append-nil, append_assoc, arith, length-append, eqb-true, eq-eqb, take-append-drop, length-take-le, drop_at, ℤ, Option, Some, None}
 use Rattle.std.specs.Str.{is_utf8, chars}
 use Rattle.oer_units.specs.Lawful.{Lawful}
 use Rattle.oer_units.specs.Least.{length_octets, counted, enumerated_octets, object_id_octets}
 use Rattle.oer_units.specs.Numbers.{natural, signed}
 use Rattle.oer_units.specs.Octets.{IsOctets, IsShortest}
-use Rattle.oer_units.specs.Reader.{Outcome, Place, Reader, give, refuse, bind, then_read, got, refused, guard, choose, group, within}
+use Rattle.oer_units.specs.Reader.{Outcome, Place, Reader, give, refuse, bind, then_read, got, refused, guard, choose, within}
 use Rattle.oer_units.specs.Reading as unit
 use Rattle.oer_units.specs.Reading.{determinant, is_int64, octet, number, counted_number, counted_octets, subidentifier, subidentifiers, object_identifier, arcs_of, with_length}
 use Rattle.oer_units.specs.Spelling.{IsLength, IsCounted, IsEnumerated, IsObjectId}
-use Rattle.oer_units.specs.declared.fault.Why.{Why}
 use Rattle.oer_units.specs.declared.fault.Why.TheVariants.{Character, End, IntegerRange, ObjectId, UnknownEnum}
 use Rattle.oer_units.specs.declared.fault.Why.TheVariants as reason
-use Rattle.oer_units.proofs.Closure.{Then, within_lawful, give_lawful, bind_lawful, got_place, got_value, same_refusal, same_spellings}
+use Rattle.oer_units.proofs.Closure.{within_lawful, give_lawful, got_place, got_value, same_spellings}
 use Rattle.oer_units.proofs.Counted.{counted_octets_lawful}
 use Rattle.oer_units.proofs.EnumeratedNumbers.{enumeration_lawful}
 use Rattle.oer_units.proofs.Leasts.{fixed_shortest, len_exists, len_small}
@@ -24,17 +23,16 @@ use Rattle.oer_types.proofs.Checked.{front_same, and_checked, within_checked, In
 use Rattle.oer_types.proofs.Bridge.{integer_exists, strict_counted_only}
 use Rattle.oer_types.proofs.Forms.{FitsForm, form_fits}
 use Rattle.oer_units.proofs.LeastDigits.{oid_only}
-use Rattle.oer_types.proofs.Parts.{size_goes_on}
+use Rattle.oer_types.proofs.Parts.{size_goes_on, bits_lawful}
 use Rattle.oer_types.proofs.StrictEnc.{bit_string_within}
 use Rattle.std.proofs.lemmas.List.{length-drop}
 use Rattle.oer_types.proofs.Computed.{bitmap_plain, value_plain}
 use Rattle.oer_types.proofs.Fitting.{enc_fits}
 use Rattle.oer_types.proofs.Given.{small_from, value_given}
 use Rattle.oer_types.proofs.LeastBits.{length-padded}
-use Rattle.oer_types.proofs.Main.{value_lawful}
 use Rattle.oer_types.proofs.Parts.{length-bits_of, form_lawful, octets_lawful}
 use Rattle.oer_types.proofs.StrictEnc.{strict_within}
-use Rattle.oer_types.proofs.Strings.{bits_lawful, text_lawful, utf8_lawful}
+use Rattle.oer_types.proofs.Strings.{text_lawful, utf8_lawful}
 use Rattle.oer_types.specs.AsnType.{AsnType, NamedNumber, boolean, null, integer, enumerated, bit_string, object_id, restricted_string, utf8_string, octet_string, Alphabet}
 use Rattle.oer_types.specs.AsnValue.{AsnValue, nothing, bool, int, enum, bit_list, octets, oid, text}
 use Rattle.oer_types.specs.Bits.{all_false, bits_of, octets_for, padded, spare_bits, IsPreamble, IsBits}
@@ -326,7 +324,7 @@ taken : (k : ℕ) (s : List Bool) (w : List Bool) → s ≡ take k w → k ≤ l
 taken k s w is l = ap length is ∙ length-take-le k w l
 
 -- a counted bit string, by the test
-pub counted_bits : (s : List Bool) (m : List ℕ) → Input m → IsCounted IsBits s m → (are_least_bits bitmap_octets s m ≡ true → StrictCounted StrictBits s m) × (StrictCounted StrictBits s m → are_least_bits bitmap_octets s m ≡ true)
+counted_bits : (s : List Bool) (m : List ℕ) → Input m → IsCounted IsBits s m → (are_least_bits bitmap_octets s m ≡ true → StrictCounted StrictBits s m) × (StrictCounted StrictBits s m → are_least_bits bitmap_octets s m ≡ true)
 unfolding bitmap_octets
 counted_bits s m i (l, c, e, len, (u, d, is, low, none, front)) = (there, back)
   where
@@ -379,7 +377,7 @@ fixed_bits n s b o l front = (
     place : drop (length (bits_of b) - spare_bits (length s)) (bits_of b) ≡ drop n (bits_of b)
     place = ap (λ k. drop k (bits_of b)) (omega (arith, length-bits_of b, exact))
 
-bits_by_test : (fix : Option ℕ) (z : Size) (s : List Bool) (b : List ℕ) → Input b → SpellsBits fix z s b → (are_least_bits (bit_octets fix) s b ≡ true → StrictBitString fix z s b) × (StrictBitString fix z s b → are_least_bits (bit_octets fix) s b ≡ true)
+pub bits_by_test : (fix : Option ℕ) (z : Size) (s : List Bool) (b : List ℕ) → Input b → SpellsBits fix z s b → (are_least_bits (bit_octets fix) s b ≡ true → StrictBitString fix z s b) × (StrictBitString fix z s b → are_least_bits (bit_octets fix) s b ≡ true)
 bits_by_test (Some n) z s b i (l, front) = fixed_bits n s b i.octs l front
 bits_by_test None z s b i (l, c, e, len, (bits, ok)) =
     let both = counted_bits s b i (l, c, e, len, bits) in

@@ -1,43 +1,39 @@
 -- The checker of a type tells whether the octets are strict.
-use Rattle.std.proofs.Common.{◌≡◌, ℕ, zero, suc, ◌+◌, ◌-◌, ◌*◌, ◌^◌, ◌<◌, ◌≤◌, max, inl, inr, List, [], ◌∷◌, ◌++◌, length, take, drop, Bool, true, false, not, ◌&&◌, ◌||◌, leb, ltb, refl, ap, ap₂, sym, ◌∙◌, subst, arith, length-append, le-leb, leb-true, ltb-true, take-append-drop, length-take-le, drop_at}
+use Rattle.std.proofs.Common.{◌≡◌, ℕ, zero, suc, ◌+◌, ◌^◌, ◌<◌, ◌≤◌, max, inl, inr, List, [], ◌∷◌, ◌++◌, length, take, drop, Bool, true, false, not, ◌&&◌, leb, ltb, refl, ap, ap₂, sym, ◌∙◌, subst, arith, length-append, le-leb, leb-true, ltb-true, take-append-drop, length-take-le, drop_at, None}
 use Rattle.oer_units.specs.Lawful.{Lawful}
-use Rattle.oer_units.specs.Least.{length_octets, counted, unsigned_octets}
 use Rattle.oer_units.specs.Numbers.{unsigned}
-use Rattle.oer_units.specs.Octets.{IsShortest}
 use Rattle.oer_units.specs.Reader.{Reader, give, refuse, bind, then_read, guard, choose, group, within, filled_by, times}
-use Rattle.oer_units.specs.Reading.{determinant, with_length, tag, counted_octets, open_type}
+use Rattle.oer_units.specs.Reading.{tag, counted_octets, open_type}
 use Rattle.oer_units.specs.Spelling.{StandsFor, IsCounted, IsTag, IsJoined}
 use Rattle.oer_units.specs.declared.fault.Why.{Why}
 use Rattle.oer_units.specs.declared.fault.Why.TheVariants.{End, UnknownAddition, UnknownAlternative}
 use Rattle.oer_units.specs.declared.tagging.Tag.{Tag}
 use Rattle.oer_units.proofs.Closure.{Then, same_spellings, bind_lawful, within_lawful, same_refusal}
 use Rattle.oer_units.proofs.Counted.{counted_octets_lawful, from_each, to_each, every_long}
-use Rattle.oer_units.proofs.Leasts.{len_only, len_exists, len_small, quantity_only, quantity_exists}
-use Rattle.oer_units.proofs.Lengths.{determinant_lawful}
+use Rattle.oer_units.proofs.Leasts.{quantity_exists}
 use Rattle.oer_units.proofs.TagReaders.{tag_lawful}
 use Rattle.oer_units.proofs.Units.{group_lawful, open_lawful, mapped_lawful, tested_lawful, Each, times_lawful}
-use Rattle.oer_types.proofs.Checked.{Input, Checked, flag, with_value, read_spelt, judged_checked, checked_as, give_checked, and_checked, bind_checked, made_checked, guard_checked, flag_checked, same_bind_checked, within_checked, filled_checked, unlike_checked}
-use Rattle.oer_types.proofs.CheckedLeaves.{by_length, counted_bits, with_length_checked, boolean_checked, null_checked, integer_checked, enumerated_checked, bit_string_checked, object_id_checked, text_checked, utf8_checked, octet_string_checked}
-use Rattle.oer_types.proofs.Computed.{bitmap_plain, value_plain, form_computed}
-use Rattle.oer_types.proofs.Fitting.{enc_fits}
-use Rattle.oer_types.proofs.Given.{bitmap_exists, small_from, value_given, canon_given}
+use Rattle.oer_types.proofs.Checked.{Input, Checked, flag, with_value, read_spelt, judged_checked, checked_as, give_checked, and_checked, bind_checked, made_checked, guard_checked, same_bind_checked, within_checked, filled_checked, unlike_checked}
+use Rattle.oer_types.proofs.CheckedLeaves.{by_length, with_length_checked, boolean_checked, null_checked, integer_checked, enumerated_checked, bit_string_checked, object_id_checked, text_checked, utf8_checked, octet_string_checked, bits_by_test}
+use Rattle.oer_types.proofs.Computed.{form_computed}
+use Rattle.oer_types.proofs.Given.{canon_given}
 use Rattle.oer_types.proofs.Main.{takes_some, tag_known, open_is_lawful, value_lawful, fields_lawful, adds_lawful, alts_lawful}
 use Rattle.oer_types.proofs.Parts.{both_lawful, size_small, extension_lawful, chosen_lawful, preamble_lawful, bitmap_lawful, quantity_lawful, unknown_lawful}
 use Rattle.oer_types.proofs.Same.{same_list-true, same_list-refl}
-use Rattle.oer_types.proofs.StrictEnc.{HasCanonicalForm, extension_within, bit_within, bits_within, adds_within, alts_within, fields_within, counted_within, unknown_within, strict_within, canon_tells}
+use Rattle.oer_types.proofs.StrictEnc.{HasCanonicalForm, extension_within, bit_within, adds_within, alts_within, fields_within, counted_within, unknown_within, strict_within, canon_tells, bit_string_within}
 use Rattle.oer_types.proofs.Trimming.{trims_from_fills}
 use Rattle.oer_types.proofs.CanonicalForms.{form_of_canonical}
 use Rattle.oer_types.specs.AsnType.{Need, must, may, default, AsnType, boolean, null, integer, enumerated, bit_string, object_id, restricted_string, utf8_string, octet_string, sequence, extensible_sequence, sequence_of, choice, Fields, no_fields, field, Additions, no_additions, addition, Alternatives, no_alternatives, alternative, later}
 use Rattle.oer_types.specs.AsnValue.{Unknown, unknown, AsnValue, seq, items, chosen, foreign, Places, no_places, absent, present}
-use Rattle.oer_types.specs.Bits.{all_false, first_bit, later_bits, IsPreamble, IsBits}
-use Rattle.oer_types.specs.Canonical.{same_list, bitmap_octets, trimmed, plain_octets, canonical_octets}
-use Rattle.oer_types.specs.Checking.{judged, and_also, both, unlike, is_least, are_least_bits, check_length, check_open, check_group, check_octets, check_times, check_bit, check_need, check_by_tag, check_unknown, ends_set, is_bitmap, check_extension, check_sequence, check_extensible, quantity_octets, check_items, check_chosen, check_choice, check_value, check_fields, check_additions, check_alternative}
-use Rattle.oer_types.specs.Constraints.{has_tag, same_tag, size_fits, optional, addition_count, KeepsLimits, FieldsKeepLimits, AdditionsKeepLimits, AlternativesKeepLimits}
-use Rattle.oer_types.specs.Encoding.{IsItself, SpellsUnknown, IsPresent, IsAbsent, ByBit, ByTag, SpellsChosen, SpellsExtension, IsSpelling, SpellsFields, SpellsAdditions, SpellsAlternative}
+use Rattle.oer_types.specs.Bits.{all_false, first_bit, later_bits, IsPreamble}
+use Rattle.oer_types.specs.Canonical.{same_list, bitmap_octets, plain_octets, canonical_octets}
+use Rattle.oer_types.specs.Checking.{judged, and_also, both, unlike, is_least, are_least_bits, check_open, check_group, check_octets, check_times, check_bit, check_need, check_by_tag, check_unknown, ends_set, is_bitmap, check_extension, check_sequence, check_extensible, quantity_octets, check_items, check_chosen, check_choice, check_value, check_fields, check_additions, check_alternative}
+use Rattle.oer_types.specs.Constraints.{has_tag, same_tag, size_fits, optional, addition_count, KeepsLimits, FieldsKeepLimits, AdditionsKeepLimits, AlternativesKeepLimits, any_size}
+use Rattle.oer_types.specs.Encoding.{IsItself, SpellsUnknown, IsPresent, IsAbsent, ByBit, ByTag, SpellsChosen, SpellsExtension, IsSpelling, SpellsFields, SpellsAdditions, SpellsAlternative, SpellsBitmap}
 use Rattle.oer_types.specs.Filling.{filled}
 use Rattle.oer_types.specs.Fits.{after_last, listed, all_absent, Fits, DefaultFits, DefaultsFit, FieldDefaultsFit, AdditionDefaultsFit, AlternativeDefaultsFit}
 use Rattle.oer_types.specs.Reading.{preamble, bitmap, quantity, read_unknown, read_both, read_present, read_absent, read_by_bit, read_by_need, read_by_tag, read_sequence, read_extensible, read_extension, read_items, read_chosen, read_choice, read_value, read_fields, read_additions, read_alternative}
-use Rattle.oer_types.specs.Strict.{StrictCounted, StrictBits, StrictPreamble, StrictQuantity, StrictNeed, StrictExtension, StrictChosen, IsStrictSpelling, SpellsFieldsStrictly, SpellsAdditionsStrictly, SpellsAlternativeStrictly}
+use Rattle.oer_types.specs.Strict.{StrictCounted, StrictPreamble, StrictQuantity, StrictNeed, StrictExtension, StrictChosen, IsStrictSpelling, SpellsFieldsStrictly, SpellsAdditionsStrictly, SpellsAlternativeStrictly, StrictBitmap}
 use Rattle.oer_types.specs.declared.size.Size.{Size}
 use Rattle.oer_units.specs.declared.fault.Why.TheVariants as reason
 
@@ -121,11 +117,11 @@ not_true true e = absurd (cc)
 not_true false e = refl
 
 abbrev IsBitmap : ℕ → List Bool → List ℕ → Type 0
-IsBitmap n s m = StrictCounted StrictBits s m × (all_false s ≡ false) × (n ≤ length s) × (ends_set (drop n s) ≡ true)
+IsBitmap n s m = StrictBitmap s m × (all_false s ≡ false) × (n ≤ length s) × (ends_set (drop n s) ≡ true)
 
 bitmap_checked : (n : ℕ) → Checked with_value bitmap (judged (is_bitmap n) bitmap) (IsBitmap n)
-bitmap_checked n = judged_checked (is_bitmap n) bitmap (IsCounted IsBits) (IsBitmap n) bitmap_lawful
-    (λ s m i p. (let bits = counted_bits s m i p in (
+bitmap_checked n = judged_checked (is_bitmap n) bitmap SpellsBitmap (IsBitmap n) bitmap_lawful
+    (λ s m i p. (let bits = bits_by_test None any_size s m i p in (
       λ t. (
           let a = and_pair (are_least_bits bitmap_octets s m) (not (all_false s) && (leb n (length s) && ends_set (drop n s))) t in
           let b = and_pair (not (all_false s)) (leb n (length s) && ends_set (drop n s)) a.1 in
@@ -190,8 +186,8 @@ extension_checked false more l inside k = checked_as (give_checked (all_absent m
 extension_checked true more l inside k = checked_as
     (bind_checked with_value flag bitmap (λ s. guard (all_false (drop 65536 s)) UnknownAddition (read_both (read_additions more s) (read_unknown (addition_count more) (drop (addition_count more) s))))
     (judged (is_bitmap (addition_count more)) bitmap) (λ y. guard (all_false (drop 65536 y.0)) UnknownAddition (and_also y.1 (both (check_additions more y.0) (check_unknown (drop (addition_count more) y.0)))))
-    (IsCounted IsBits) (IsBitmap (addition_count more)) (λ s y b. (all_false (drop 65536 s) ≡ true) × Extended (SpellsAdditions more) (IsCounted IsItself) (addition_count more) s y b) (λ s y b. (all_false (drop 65536 s) ≡ true) × Extended (SpellsAdditionsStrictly more) (StrictCounted IsItself) (addition_count more) s y b)
-    bitmap_lawful (λ s m p. counted_within StrictBits IsBits bits_within s m p.0) (bitmap_checked (addition_count more))
+    SpellsBitmap (IsBitmap (addition_count more)) (λ s y b. (all_false (drop 65536 s) ≡ true) × Extended (SpellsAdditions more) (IsCounted IsItself) (addition_count more) s y b) (λ s y b. (all_false (drop 65536 s) ≡ true) × Extended (SpellsAdditionsStrictly more) (StrictCounted IsItself) (addition_count more) s y b)
+    bitmap_lawful (λ s m p. bit_string_within None any_size s m p.0) (bitmap_checked (addition_count more))
     (λ s. tested_lawful (all_false (drop 65536 s)) UnknownAddition (read_both (read_additions more s) (read_unknown (addition_count more) (drop (addition_count more) s))) (Extended (SpellsAdditions more) (IsCounted IsItself) (addition_count more) s) goes_on
     (both_lawful (read_additions more s) (read_unknown (addition_count more) (drop (addition_count more) s)) (SpellsAdditions more s) (SpellsUnknown (IsCounted IsItself) (addition_count more) (drop (addition_count more) s)) (l s) (unknown_lawful (addition_count more) (drop (addition_count more) s))))
     (λ s f. guard_checked (all_false (drop 65536 s)) UnknownAddition (λ y e. f && e) (read_both (read_additions more s) (read_unknown (addition_count more) (drop (addition_count more) s))) (and_also f (both (check_additions more s) (check_unknown (drop (addition_count more) s)))) (Extended (SpellsAdditionsStrictly more) (StrictCounted IsItself) (addition_count more) s)
@@ -213,7 +209,7 @@ extension_checked true more l inside k = checked_as
           a,
           u,
           e ∙ ap (λ w. m ++ w) f,
-          subst (λ s. StrictCounted StrictBits s m) (sym halves) p,
+          subst (λ s. StrictBitmap s m) (sym halves) p,
           i,
           omega (arith, length-append (take (addition_count more) s) (drop (addition_count more) s)),
           ap all_false halves ∙ some,

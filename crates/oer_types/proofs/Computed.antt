@@ -1,5 +1,5 @@
 -- The computed octets are the canonical ones.
-use Rattle.std.proofs.Common.{◌≡◌, ℕ, suc, ◌+◌, ◌^◌, ◌<◌, ◌≤◌, inl, inr, Bool, true, false, ◌||◌, if◌then◌else◌, ℤ, List, [], ◌∷◌, ◌++◌, length, Option, Some, None, refl, sym, ap, ap₂, ◌∙◌, subst, arith, length-append}
+use Rattle.std.proofs.Common.{◌≡◌, ℕ, suc, inl, inr, Bool, true, false, ◌||◌, if◌then◌else◌, ℤ, List, [], ◌∷◌, ◌++◌, length, Option, Some, None, refl, sym, ap, ap₂, ◌∙◌, subst, arith, length-append}
 use Rattle.oer_units.specs.Least.{counted, unsigned_octets, enumerated_octets, tag_octets, object_id_octets}
 use Rattle.oer_units.specs.Octets.{IsShortest}
 use Rattle.oer_units.specs.Spelling.{IsTag, IsEnumerated, IsObjectId, IsJoined}
@@ -23,7 +23,7 @@ use Rattle.oer_types.specs.AsnType.{NamedNumber, Need, must, may, default, AsnTy
 use Rattle.oer_types.specs.AsnValue.{Unknown, AsnValue, int, enum, seq, items, chosen, value, Places, no_places, absent, present}
 use Rattle.oer_types.specs.Bits.{all_false, padded, spare_bits}
 use Rattle.oer_types.specs.Canonical.{same, trimmed_present, trimmed_place, trimmed, trimmed_fields, trimmed_additions, trimmed_alternative, integer_octets, string_octets, bit_octets, bitmap_octets, count, all_octets, place_octets, place_bits, root_bits, addition_bits, unknown_marks, unknown_octets, any_present, any_unknown, extension_octets, by_tag_octets, plain_octets, plain_field_octets, plain_addition_octets, plain_alternative_octets, canonical_octets}
-use Rattle.oer_types.specs.Constraints.{same_tag, size_fits, fixed, all_characters, form_of, optional, optional_with, addition_count}
+use Rattle.oer_types.specs.Constraints.{same_tag, size_fits, fixed, all_characters, form_of, optional, optional_with, addition_count, any_size}
 use Rattle.oer_types.specs.Encoding.{SpellsInteger, SpellsOctets, SpellsText, IsItself, IsPresent, IsAbsent, ByTag}
 use Rattle.oer_types.specs.Filling.{map_values, filled_by_tag, filled}
 use Rattle.oer_types.specs.Fits.{listed, all_absent}
@@ -168,7 +168,7 @@ extension_plain true more one ps us b (s, z, m, a, u, e, k, i, len, some, low, x
     let bits : s ++ z ≡ addition_bits more ps ++ unknown_marks (addition_count more) us = ap₂ (λ x y. x ++ y) o.2 q.0 in
     let test = some_known more ps us (ap all_false (sym bits) ∙ some) in (
       o.0,
-      e ∙ ap₂ (λ x y. x ++ y) (bitmap_plain (s ++ z) m k ∙ ap bitmap_octets bits) (ap₂ (λ x y. x ++ y) o.1 q.1) ∙ sym (ap (λ c. extension_octets c (bitmap_octets (addition_bits more ps ++ unknown_marks (addition_count more) us) ++ (plain_addition_octets more ps ++ unknown_octets us))) test),
+      e ∙ ap₂ (λ x y. x ++ y) (bit_string_plain None any_size (s ++ z) m k ∙ ap bitmap_octets bits) (ap₂ (λ x y. x ++ y) o.1 q.1) ∙ sym (ap (λ c. extension_octets c (bitmap_octets (addition_bits more ps ++ unknown_marks (addition_count more) us) ++ (plain_addition_octets more ps ++ unknown_octets us))) test),
       sym test,
     )
 

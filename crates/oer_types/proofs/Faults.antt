@@ -8,6 +8,7 @@ use Rattle.oer_types.specs.Counting.{AdditionsHaveRanges, AlternativesHaveRanges
 use Rattle.oer_types.specs.FaultTest.{first_fault, first_in, has_empty_element, has_fault, has_misfit, any_misfit, is_misfit, in_additions, in_alternatives, in_fields, later_faults, somewhere}
 use Rattle.oer_types.specs.FitTest.{is_fit}
 use Rattle.oer_types.specs.Fits.{AdditionDefaultsFit, AlternativeDefaultsFit, DefaultFits, DefaultsFit, FieldDefaultsFit, Fits}
+use Rattle.oer_types.specs.Laws.{FaultlessIsWellFormed, FirstFaultFound, NoFaultFound, OneFirstFault}
 use Rattle.oer_types.specs.Nodes.{additions_nodes, alternatives_nodes, fields_nodes, type_nodes}
 use Rattle.oer_types.specs.WellFormed.{HasFault, IsFirstFault, IsWellFormed, fault_number}
 use Rattle.oer_types.specs.declared.fault.SchemaFault.{SchemaFault}
@@ -193,6 +194,30 @@ pub well_formed : (T : AsnType) → HasRanges T → first_fault T ≡ None → I
 well_formed T r e =
     let f = free T e in
     record { faultless = λ g. no_fault T g (f g); limits = limits_from T r (few_parts (type_nodes T) (f TooManyParts)) (f EmptyElement) }
+
+only_none : (T : AsnType) (o : Option SchemaFault) → first_fault T ≡ o → ((f : SchemaFault) → HasFault T f → ⊥) → o ≡ None
+only_none T None e h = refl
+only_none T (Some f) e h = absurd (h f (first_is T f e).holds)
+
+pub no_fault_found : NoFaultFound
+no_fault_found T = (λ e g. no_fault T g (free T e g), only_none T (first_fault T) refl)
+
+pub one_first_fault : OneFirstFault
+one_first_fault T f g h k =
+    let no_less : fault_number g < fault_number f → ⊥ = λ l. h.first g l k.holds in
+    let no_more : fault_number f < fault_number g → ⊥ = λ l. k.first f l h.holds in
+    let same : fault_number f ≡ fault_number g = ⊎_elim (λ l. absurd (no_more l)) (λ ge. ⊎_elim (λ l. absurd (no_less l)) (λ le. omega arith) (cases_lt (fault_number g) (fault_number f))) (cases_lt (fault_number f) (fault_number g)) in
+    sym (number_back f) ∙ ap numbered same ∙ number_back g
+
+only_first : (T : AsnType) (f : SchemaFault) (o : Option SchemaFault) → first_fault T ≡ o → IsFirstFault T f → o ≡ Some f
+only_first T f None e h = absurd (no_fault T f (free T e f) h.holds)
+only_first T f (Some g) e h = ap Some (one_first_fault T g f (first_is T g e) h)
+
+pub first_fault_found : FirstFaultFound
+first_fault_found T f = (first_is T f, only_first T f (first_fault T) refl)
+
+pub faultless_is_well_formed : FaultlessIsWellFormed
+faultless_is_well_formed T r = (well_formed T r, λ w. only_none T (first_fault T) refl w.faultless)
 
 is_off : (b : Bool) → (b ≡ true → ⊥) → b ≡ false
 is_off true h = absurd (h refl)

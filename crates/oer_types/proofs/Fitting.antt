@@ -10,7 +10,8 @@ use Rattle.oer_types.proofs.Parts.{length-bits_of}
 use Rattle.oer_types.specs.AsnType.{Need, must, may, default, AsnType, boolean, null, integer, enumerated, bit_string, object_id, restricted_string, utf8_string, octet_string, sequence, extensible_sequence, sequence_of, choice, Fields, no_fields, field, Additions, no_additions, addition, Alternatives, no_alternatives, alternative, later}
 use Rattle.oer_types.specs.AsnValue.{Unknown, unknown, AsnValue, text, Places}
 use Rattle.oer_types.specs.Bits.{bits_of, octets_for, first_bit, later_bits, all_false}
-use Rattle.oer_types.specs.Constraints.{HasTagNumber, addition_count, same_tag, HasSizeLimit, size_fits, at_most, fixed, fixed_by, all_characters, KeepsLimits, FieldsKeepLimits, AdditionsKeepLimits, AlternativesKeepLimits}
+use Rattle.oer_units.specs.Laws.{HasTagNumber}
+use Rattle.oer_types.specs.Constraints.{addition_count, same_tag, HasSizeLimit, size_fits, at_most, fixed, fixed_by, all_characters, KeepsLimits, FieldsKeepLimits, AdditionsKeepLimits, AlternativesKeepLimits}
 use Rattle.oer_types.specs.Encoding.{IsPresent, ByBit, ByNeed, ByTag, SpellsOctets, SpellsBits, SpellsText, IsItself, SpellsUnknown, SpellsExtension, IsSpelling, SpellsFields, SpellsAdditions, SpellsAlternative}
 use Rattle.oer_types.specs.Fits.{all_absent, AllBelow, IsText, AllFit, IsThere, FitsUnknown, FitsPlace, FitsByTag, Fits, FitsFields, FitsAdditions, FitsAlternative}
 use Rattle.oer_types.specs.declared.size.Size.{Size}

@@ -1,5 +1,5 @@
 -- What fits has canonical octets, unless these are too many.
-use Rattle.std.proofs.Common.{◌≡◌, ℕ, suc, ◌+◌, ◌^◌, ◌<◌, ◌≤◌, max, inl, inr, Bool, true, false, ◌&&◌, ◌||◌, eqb, leb, if◌then◌else◌, ℤ, List, [], ◌∷◌, ◌++◌, length, map, Option, Some, None, refl, sym, ap, ◌∙◌, subst, arith, length-append, leb-true, eqb-true}
+use Rattle.std.proofs.Common.{◌≡◌, ℕ, suc, ◌^◌, ◌<◌, ◌≤◌, max, inl, inr, Bool, true, false, ◌&&◌, ◌||◌, eqb, leb, if◌then◌else◌, ℤ, List, [], ◌∷◌, ◌++◌, length, map, Option, Some, None, refl, sym, ap, ◌∙◌, subst, arith, length-append, leb-true, eqb-true, ap₂, le-leb}
 use Rattle.std.proofs.lemmas.List.{length-map, drop_all}
 use Rattle.std.specs.Str.{is_utf8, chars}
 use Rattle.oer_units.specs.Least.{octets_needed, length_octets, counted, unsigned_octets, enumerated_octets, tag_octets, object_id_octets}
@@ -25,7 +25,8 @@ use Rattle.oer_types.specs.AsnType.{NamedNumber, Need, must, may, default, AsnTy
 use Rattle.oer_types.specs.AsnValue.{Unknown, unknown, AsnValue, int, enum, text, oid, octets, items, Places, absent, present}
 use Rattle.oer_types.specs.Bits.{all_false, padded, spare_bits}
 use Rattle.oer_types.specs.Canonical.{same, trimmed_place, trimmed, trimmed_fields, trimmed_additions, trimmed_alternative, integer_octets, string_octets, bit_octets, bitmap_octets, count, all_octets, place_octets, place_bits, root_bits, addition_bits, unknown_marks, unknown_octets, any_present, any_unknown, extension_octets, by_tag_octets, plain_octets, plain_field_octets, plain_addition_octets, plain_alternative_octets, canonical_octets}
-use Rattle.oer_types.specs.Constraints.{HasTagNumber, same_tag, size_fits, at_most, fixed, fixed_by, all_characters, form_of, in_range, has_number, optional, optional_with, addition_count, KeepsLimits, FieldsKeepLimits, AdditionsKeepLimits, AlternativesKeepLimits}
+use Rattle.oer_units.specs.Laws.{HasTagNumber}
+use Rattle.oer_types.specs.Constraints.{same_tag, size_fits, at_most, fixed, fixed_by, all_characters, form_of, in_range, has_number, optional, optional_with, addition_count, KeepsLimits, FieldsKeepLimits, AdditionsKeepLimits, AlternativesKeepLimits, any_size}
 use Rattle.oer_types.specs.Encoding.{SpellsInteger, SpellsOctets, SpellsText, IsItself, IsPresent, IsAbsent, ByTag}
 use Rattle.oer_types.specs.Filling.{filled_by_tag, filled}
 use Rattle.oer_types.specs.Fits.{after_last, listed, all_absent, AreArcs, AllFit, FitsPlace, FitsByTag, FitsUnknown, Fits, FitsFields, FitsAdditions, FitsAlternative}
@@ -117,6 +118,9 @@ bitmap_exists s small = strict_counted_exists StrictBits s (spare_bits (length s
 bit_string_exists : (fix : Option ℕ) (size : Size) (s : List Bool) → fixed size ≡ fix → size_fits size (length s) ≡ true → Small (bit_octets fix s) → StrictBitString fix size s (bit_octets fix s)
 bit_string_exists (Some n) size s e f small = (fixed_is size.low size.high n (length s) e f, preamble_exists s)
 bit_string_exists None size s e f small = (f, bitmap_exists s small)
+
+any_fits : (n : ℕ) → n < 2 ^ 64 → size_fits any_size n ≡ true
+any_fits n l = ap₂ (λ a b. a && true && b) (le-leb 0 n (omega arith)) (le-leb n 18446744073709551615 (omega arith))
 
 -- What has P is spelt as p tells once f has trimmed it.
 abbrev AreGiven : (AsnValue → Type 0) → (AsnValue → AsnValue) → (AsnValue → List ℕ) → (AsnValue → List ℕ → Type 0) → Type 0
@@ -281,7 +285,7 @@ extension_given more added us few f u n one true e s =
       plain_addition_octets more a,
       unknown_octets us,
       refl,
-      bitmap_exists (bits ++ marks) (small_left (bitmap_octets (bits ++ marks)) (plain_addition_octets more a ++ unknown_octets us) s),
+      bit_string_exists None any_size (bits ++ marks) refl (any_fits (length (bits ++ marks)) (omega arith)) (small_left (bitmap_octets (bits ++ marks)) (plain_addition_octets more a ++ unknown_octets us) s),
       n,
       whole,
       some_set more added us f e,

@@ -13,8 +13,8 @@ use Rattle.oer_units.proofs.EnumeratedNumbers.{enumeration_lawful}
 use Rattle.oer_units.proofs.Lengths.{octet_lawful, open_type_lawful}
 use Rattle.oer_units.proofs.ObjectIds.{object_identifier_lawful}
 use Rattle.oer_units.proofs.Units.{mapped_lawful, tested_lawful}
-use Rattle.oer_types.proofs.Parts.{form_lawful, octets_lawful, by_bit_lawful, by_need_lawful, by_tag_lawful, extension_lawful, sequence_lawful, extensible_lawful, items_lawful, choice_lawful}
-use Rattle.oer_types.proofs.Strings.{bits_lawful, text_lawful, utf8_lawful}
+use Rattle.oer_types.proofs.Parts.{form_lawful, octets_lawful, by_bit_lawful, by_need_lawful, by_tag_lawful, extension_lawful, sequence_lawful, extensible_lawful, items_lawful, choice_lawful, bits_lawful}
+use Rattle.oer_types.proofs.Strings.{text_lawful, utf8_lawful}
 use Rattle.oer_types.specs.AsnType.{must, may, default, AsnType, boolean, null, integer, enumerated, bit_string, object_id, restricted_string, utf8_string, octet_string, sequence, extensible_sequence, sequence_of, choice, Fields, no_fields, field, Additions, no_additions, addition, Alternatives, no_alternatives, alternative, later}
 use Rattle.oer_types.specs.AsnValue.{AsnValue, bool, nothing, int, enum, bit_list, text, oid, octets, Places, no_places}
 use Rattle.oer_types.specs.Bits.{first_bit, later_bits, octets_for, IsPreamble, IsBits}

@@ -15,10 +15,10 @@ use Rattle.oer_units.proofs.Units.{group_lawful, choose_lawful, guard_lawful, te
 use Rattle.oer_types.specs.AsnType.{Alternatives, Need, must, may, default, Additions}
 use Rattle.oer_types.specs.AsnValue.{Unknown, unknown, foreign, AsnValue, seq, items, chosen, Places, no_places, absent, present}
 use Rattle.oer_types.specs.Bits.{bits_of, all_false, first_bit, later_bits, octets_for, IsPreamble, IsBits}
-use Rattle.oer_types.specs.Constraints.{has_tag, size_fits, at_most, Form, unsigned_fixed, signed_fixed, unsigned_counted, signed_counted, addition_count}
-use Rattle.oer_types.specs.Encoding.{SpellsInteger, SpellsOctets, IsPresent, IsAbsent, ByBit, ByNeed, ByTag, IsItself, SpellsUnknown, SpellsChosen, SpellsExtension}
+use Rattle.oer_types.specs.Constraints.{has_tag, size_fits, at_most, Form, unsigned_fixed, signed_fixed, unsigned_counted, signed_counted, addition_count, any_size}
+use Rattle.oer_types.specs.Encoding.{SpellsInteger, SpellsOctets, IsPresent, IsAbsent, ByBit, ByNeed, ByTag, IsItself, SpellsUnknown, SpellsChosen, SpellsExtension, SpellsBits, SpellsBitmap}
 use Rattle.oer_types.specs.Fits.{listed, all_absent}
-use Rattle.oer_types.specs.Reading.{read_integer, read_octets, preamble, bits_after, bitmap, quantity, read_present, read_absent, read_by_bit, read_by_need, read_by_tag, read_unknown, read_both, read_chosen, read_extension, read_sequence, read_extensible, read_items, read_choice}
+use Rattle.oer_types.specs.Reading.{read_integer, read_octets, preamble, bitmap, quantity, read_present, read_absent, read_by_bit, read_by_need, read_by_tag, read_unknown, read_both, read_chosen, read_extension, read_sequence, read_extensible, read_items, read_choice, read_bits, bits_sized}
 use Rattle.oer_types.specs.declared.size.Size.{Size}
 use Rattle.oer_units.specs.declared.fault.Why.TheVariants as reason
 
@@ -75,10 +75,6 @@ preamble_lawful k = same_spellings
       sym (append-nil p),
     ))
 
--- what may follow the initial octet u in a bit string of n octets
-BitsAfter : ℕ → ℕ → List Bool → List ℕ → Type 0
-BitsAfter n u s d = (u ≤ 7) × (length d ≡ 0 → u ≡ 0) × (length d ≡ n - 1) × (s ≡ take (length (bits_of d) - u) (bits_of d))
-
 pub unused_fits : (n u : ℕ) → (leb u 7 && (leb 2 n || eqb u 0)) ≡ true → (u ≤ 7) × (n - 1 ≡ 0 → u ≡ 0)
 unused_fits n u t =
     let both = both_true (leb u 7) (leb 2 n || eqb u 0) t in
@@ -95,26 +91,43 @@ fits_unused n u m l z e = true_both (leb u 7) (leb 2 n || eqb u 0) (le-leb u 7 l
     either true f = refl
     either false f = eq-eqb u 0 (z (let one : n < 2 = leb-false 2 n f in omega arith))
 
-bits_after_lawful : (n u : ℕ) → Lawful (bits_after n u) (BitsAfter n u)
-unfolding BitsAfter
-bits_after_lawful n u = same_spellings
-    (tested_lawful (leb u 7 && (leb 2 n || eqb u 0)) BitUnused _ (λ s b. (d : List ℕ) × (s ≡ take (length (bits_of d) - u) (bits_of d)) × ((d ≡ b) × (length b ≡ n - 1))) unused_goes_on
-    (mapped_lawful (λ d. take (length (bits_of d) - u) (bits_of d)) (group (n - 1)) (λ d b. (d ≡ b) × (length b ≡ n - 1)) (group_lawful (n - 1))))
-    (λ s b (t, (d, is, (e, l))). (let fits = unused_fits n u t in (fits.0, (λ none. fits.1 (sym l ∙ none)), l, is ∙ ap (λ d. take (length (bits_of d) - u) (bits_of d)) e)))
-    (λ s b (low, none, l, is). (fits_unused n u (length b) low none l, (b, is, (refl, l))))
+-- what may follow the initial octet u in a bit string of n octets
+BitsAfter : Size → ℕ → ℕ → List Bool → List ℕ → Type 0
+BitsAfter z n u s d = (u ≤ 7) × (length d ≡ 0 → u ≡ 0) × (length d ≡ n - 1) × (s ≡ take (length (bits_of d) - u) (bits_of d)) × (size_fits z (length s) ≡ true)
 
-pub bitmap_lawful : Lawful bitmap (IsCounted IsBits)
-unfolding bitmap BitsAfter
-bitmap_lawful = with_length_lawful (λ n. guard (leb 1 n) BitUnused (bind octet (bits_after n))) IsBits
-    (λ n. same_spellings (tested_lawful (leb 1 n) BitUnused (bind octet (bits_after n)) (Then (λ u b. b ≡ u ∷ []) (BitsAfter n)) unused_goes_on
-    (bind_lawful octet (bits_after n) (λ u b. b ≡ u ∷ []) (BitsAfter n) octet_lawful (bits_after_lawful n)))
-    (λ s c (t, (u, b1, d, s1, (low, none, l, is), e)).
+bits_sized_lawful : (z : Size) (n u : ℕ) → Lawful (bits_sized z n u) (BitsAfter z n u)
+unfolding BitsAfter
+bits_sized_lawful z n u = same_spellings
+    (tested_lawful (leb u 7 && (leb 2 n || eqb u 0)) BitUnused _ (λ s b. (size_fits z (8 * (n - 1) - u) ≡ true) × ((d : List ℕ) × (s ≡ take (length (bits_of d) - u) (bits_of d)) × ((d ≡ b) × (length b ≡ n - 1)))) unused_goes_on
+    (tested_lawful (size_fits z (8 * (n - 1) - u)) reason.Size _ (λ s b. (d : List ℕ) × (s ≡ take (length (bits_of d) - u) (bits_of d)) × ((d ≡ b) × (length b ≡ n - 1))) size_goes_on
+    (mapped_lawful (λ d. take (length (bits_of d) - u) (bits_of d)) (group (n - 1)) (λ d b. (d ≡ b) × (length b ≡ n - 1)) (group_lawful (n - 1)))))
+    (λ s b (t, (t', (d, is, (e, l)))).
+    (let fits = unused_fits n u t in let is' = is ∙ ap (λ d. take (length (bits_of d) - u) (bits_of d)) e in
+    (fits.0, (λ none. fits.1 (sym l ∙ none)), l, is', ap (size_fits z) (many s b u n is' l) ∙ t')))
+    (λ s b (low, none, l, is, ok). (fits_unused n u (length b) low none l, (ap (size_fits z) (sym (many s b u n is l)) ∙ ok, (b, is, (refl, l)))))
+  where
+    many : (s : List Bool) (b : List ℕ) (u n : ℕ) → s ≡ take (length (bits_of b) - u) (bits_of b) → length b ≡ n - 1 → length s ≡ 8 * (n - 1) - u
+    many s b u n is l = ap length is ∙ length-take-le (length (bits_of b) - u) (bits_of b) (omega arith) ∙ omega (arith, length-bits_of b)
+
+pub bits_lawful : (fix : Option ℕ) (z : Size) → Lawful (read_bits fix z) (SpellsBits fix z)
+unfolding BitsAfter
+bits_lawful (Some n) z = same_spellings (mapped_lawful (λ w. take n (bits_of w)) (group (octets_for n)) (λ w b. (w ≡ b) × (length b ≡ octets_for n)) (group_lawful (octets_for n)))
+    (λ s b (w, is, (e, l)). (l, is ∙ ap (λ w. take n (bits_of w)) e))
+    (λ s b (l, is). (b, is, (refl, l)))
+bits_lawful None z = with_length_lawful (λ n. guard (leb 1 n) BitUnused (bind octet (bits_sized z n))) (λ s c. IsBits s c × (size_fits z (length s) ≡ true))
+    (λ n. same_spellings (tested_lawful (leb 1 n) BitUnused (bind octet (bits_sized z n)) (Then (λ u b. b ≡ u ∷ []) (BitsAfter z n)) unused_goes_on
+    (bind_lawful octet (bits_sized z n) (λ u b. b ≡ u ∷ []) (BitsAfter z n) octet_lawful (bits_sized_lawful z n)))
+    (λ s c (t, (u, b1, d, s1, (low, none, l, is, ok), e)).
     (let whole : c ≡ u ∷ d = e ∙ ap (λ w. w ++ d) s1 in
     let some : 1 ≤ n = leb-true 1 n t in
-    ((u, d, whole, low, none, is), omega (arith, ap length whole))))
-    (λ s c ((u, d, e, low, none, is), l).
+    (((u, d, whole, low, none, is), ok), omega (arith, ap length whole))))
+    (λ s c (((u, d, e, low, none, is), ok), l).
     (let all : suc (length d) ≡ n = ap length (sym e) ∙ l in
-    (le-leb 1 n (omega arith), (u, u ∷ [], d, refl, (low, none, omega arith, is), e)))))
+    (le-leb 1 n (omega arith), (u, u ∷ [], d, refl, (low, none, omega arith, is, ok), e)))))
+
+pub bitmap_lawful : Lawful bitmap SpellsBitmap
+unfolding bitmap
+bitmap_lawful = bits_lawful None any_size
 
 pub quantity_lawful : Lawful quantity (IsCounted (λ n w. (1 ≤ length w) × (unsigned w ≡ n) × (ltb n (2 ^ 127) ≡ true)))
 unfolding quantity
@@ -176,7 +189,7 @@ extension_lawful false more r S l = same_spellings (give_lawful (all_absent more
     pair : {p q : Places} {us vs : List Unknown} → p ≡ q → us ≡ vs → both p us ≡ both q vs
     pair e f = ap₂ both e f
 extension_lawful true more r S l = same_spellings
-    (bind_lawful bitmap (λ s. guard (all_false (drop 65536 s)) UnknownAddition (read_both (r s) (read_unknown (addition_count more) (drop (addition_count more) s)))) (IsCounted IsBits)
+    (bind_lawful bitmap (λ s. guard (all_false (drop 65536 s)) UnknownAddition (read_both (r s) (read_unknown (addition_count more) (drop (addition_count more) s)))) SpellsBitmap
     (λ s y b. (all_false (drop 65536 s) ≡ true) × ((a : List ℕ) × (u : List ℕ) × (b ≡ a ++ u) × S s y.0 a × SpellsUnknown (IsCounted IsItself) (addition_count more) (drop (addition_count more) s) y.1 u)) bitmap_lawful
     (λ s. tested_lawful (all_false (drop 65536 s)) UnknownAddition (read_both (r s) (read_unknown (addition_count more) (drop (addition_count more) s)))
     (λ y b. (a : List ℕ) × (u : List ℕ) × (b ≡ a ++ u) × S s y.0 a × SpellsUnknown (IsCounted IsItself) (addition_count more) (drop (addition_count more) s) y.1 u) addition_goes_on

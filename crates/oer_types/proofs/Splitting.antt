@@ -1,14 +1,14 @@
 -- The parts of an encoding are read.
-use Rattle.std.proofs.Common.{◌≡◌, ◌⊎◌, inl, inr, ⊎_elim, ◌||◌, ltb, ◌^◌, ℕ, zero, suc, ◌+◌, ◌-◌, ◌≤◌, List, [], ◌∷◌, ◌++◌, length, drop, Bool, true, false, Option, Some, None, refl, ap, ap₂, sym, ◌∙◌, subst, append-nil, arith}
-use Rattle.oer_units.specs.Lawful.{Excludes, Lawful, SpokenOf}
+use Rattle.std.proofs.Common.{◌≡◌, ◌⊎◌, inl, inr, ⊎_elim, ◌||◌, ltb, ◌^◌, ℕ, zero, suc, ◌+◌, ◌≤◌, List, [], ◌∷◌, ◌++◌, length, drop, Bool, true, false, Option, Some, None, refl, ap, ap₂, sym, ◌∙◌, append-nil, arith}
+use Rattle.oer_units.specs.Lawful.{Excludes, Lawful}
 use Rattle.oer_units.specs.Numbers.{unsigned}
-use Rattle.oer_units.specs.Reader.{Outcome, Place, Reader, at, bind, choose, give, got, refuse, refused}
+use Rattle.oer_units.specs.Reader.{Outcome, Place, Reader, at, bind, choose, give, got, refused}
 use Rattle.oer_units.specs.Reading.{counted_octets, open_type, tag}
-use Rattle.oer_units.specs.Spelling.{IsCounted, IsTag, StandsFor}
+use Rattle.oer_units.specs.Spelling.{IsCounted, IsTag}
 use Rattle.oer_units.specs.declared.fault.Why.{Why}
 use Rattle.oer_units.specs.declared.fault.Why.TheVariants.{End, UnknownAlternative}
 use Rattle.oer_units.specs.declared.tagging.Tag.{Tag}
-use Rattle.oer_units.proofs.Closure.{Then, bind_lawful, give_lawful, got_place, got_value, refuse_lawful, same_refusal, same_spellings}
+use Rattle.oer_units.proofs.Closure.{bind_lawful, give_lawful, got_place, got_value, refuse_lawful, same_refusal, same_spellings}
 use Rattle.oer_units.proofs.Counted.{counted_octets_lawful}
 use Rattle.oer_units.proofs.TagReaders.{tag_lawful}
 use Rattle.oer_units.proofs.Units.{choose_lawful, mapped_lawful}
@@ -17,10 +17,10 @@ use Rattle.oer_types.proofs.CheckedParts.{value_checked}
 use Rattle.oer_types.proofs.Main.{open_is_lawful, value_lawful}
 use Rattle.oer_types.proofs.Parts.{bitmap_lawful, preamble_lawful, quantity_lawful, size_small}
 use Rattle.oer_types.specs.AsnType.{boolean, null, integer, enumerated, bit_string, object_id, restricted_string, utf8_string, octet_string, Additions, Alternatives, AsnType, Fields, Need, addition, alternative, choice, default, extensible_sequence, field, later, may, must, no_additions, no_alternatives, no_fields, sequence, sequence_of}
-use Rattle.oer_types.specs.Bits.{IsBits, IsPreamble, first_bit, later_bits}
+use Rattle.oer_types.specs.Bits.{IsPreamble, first_bit, later_bits}
 use Rattle.oer_types.specs.Checking.{check_value}
 use Rattle.oer_types.specs.Constraints.{KeepsLimits, FieldsKeepLimits, AdditionsKeepLimits, AlternativesKeepLimits, addition_count, has_tag, optional, same_tag}
-use Rattle.oer_types.specs.Encoding.{IsItself, IsSpelling}
+use Rattle.oer_types.specs.Encoding.{IsItself, IsSpelling, SpellsBitmap}
 use Rattle.oer_types.specs.Fits.{DefaultsFit, FieldDefaultsFit, AdditionDefaultsFit, AlternativeDefaultsFit}
 use Rattle.oer_types.specs.Parts.{AloneByTag, Holds, IsAlone, IsSplit, Part, SplitsAdditions, SplitsAlternative, SplitsExtension, SplitsFields, SplitsItems, SplitsUnknown, Starts, StartsByBit, StartsByNeed, Step, addition_parts, alone_by_tag, alternative_parts, extension_parts, field_parts, first_by_bit, first_by_need, item_parts, join_parts, octets_of, part, parts_in, read_alone, read_first, read_parts, taken_from, to_addition, to_chosen, to_component, to_item, unknown_parts}
 use Rattle.oer_types.specs.Reading.{bitmap, preamble, quantity, read_value}
@@ -112,7 +112,7 @@ extension_split : (x : Bool) (more : Additions) → AdditionsKeepLimits more →
 unfolding Joined
 extension_split false more wf d = give_lawful []
 extension_split true more wf d = same_spellings
-    (bind_lawful bitmap (λ s. join_parts (addition_parts more 0 s) (unknown_parts (addition_count more) (drop (addition_count more) s))) (IsCounted IsBits) (λ s. Joined (SplitsAdditions more 0 s) (SplitsUnknown (addition_count more) (drop (addition_count more) s))) bitmap_lawful
+    (bind_lawful bitmap (λ s. join_parts (addition_parts more 0 s) (unknown_parts (addition_count more) (drop (addition_count more) s))) SpellsBitmap (λ s. Joined (SplitsAdditions more 0 s) (SplitsUnknown (addition_count more) (drop (addition_count more) s))) bitmap_lawful
     (λ s. join_lawful (addition_parts more 0 s) (unknown_parts (addition_count more) (drop (addition_count more) s)) (SplitsAdditions more 0 s) (SplitsUnknown (addition_count more) (drop (addition_count more) s)) (additions_split more wf d 0 s) (unknown_split (addition_count more) (drop (addition_count more) s))))
     (λ parts e (s, m, rest, k, (p, q, a, u, is, f, x, y), g). (s, m, p, q, a, u, is, g ∙ ap (λ w. m ++ w) f, k, x, y))
     (λ parts e (s, m, p, q, a, u, is, g, k, x, y). (s, m, a ++ u, k, (p, q, a, u, is, refl, x, y), g))

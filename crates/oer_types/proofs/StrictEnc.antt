@@ -7,7 +7,7 @@ use Rattle.oer_types.proofs.Main.{value_lawful}
 use Rattle.oer_types.specs.AsnType.{Need, must, may, default, AsnType, boolean, null, integer, enumerated, bit_string, object_id, restricted_string, utf8_string, octet_string, sequence, extensible_sequence, sequence_of, choice, Fields, no_fields, field, Additions, no_additions, addition, Alternatives, no_alternatives, alternative, later}
 use Rattle.oer_types.specs.AsnValue.{Unknown, AsnValue, Places}
 use Rattle.oer_types.specs.Bits.{bits_of, first_bit, later_bits, octets_for, IsBits}
-use Rattle.oer_types.specs.Constraints.{same_tag, fixed, addition_count, KeepsLimits}
+use Rattle.oer_types.specs.Constraints.{same_tag, fixed, addition_count, KeepsLimits, any_size}
 use Rattle.oer_types.specs.Encoding.{IsPresent, ByBit, ByNeed, ByTag, IsItself, SpellsUnknown, SpellsBits, SpellsExtension, IsSpelling, SpellsFields, SpellsAdditions, SpellsAlternative}
 use Rattle.oer_types.specs.Filling.{filled}
 use Rattle.oer_types.specs.Strict.{StrictCounted, StrictBits, StrictBitString, StrictNeed, StrictExtension, IsStrictSpelling, SpellsFieldsStrictly, SpellsAdditionsStrictly, SpellsAlternativeStrictly}
@@ -65,7 +65,7 @@ longer_bitmap (addition name T more) (x ∷ s) z i ps b p = bit_within x (IsCoun
 pub extension_within : (x : Bool) (more : Additions) (S : List Bool → Places → List ℕ → Type 0) → ((s : List Bool) → Within (S s) (SpellsAdditions more s)) → (ps : Places) (us : List Unknown) (b : List ℕ) → StrictExtension x more S ps us b → SpellsExtension x more (SpellsAdditions more) ps us b
 extension_within false more S f ps us b p = p
 extension_within true more S f ps us b (s, z, m, a, u, e, k, i, len, some, low, x, r) =
-    (s ++ z, m, a, u, e, counted_within StrictBits IsBits bits_within (s ++ z) m k, low, longer_bitmap more s z i ps a (f s ps a x), unknown_within (addition_count more) (drop (addition_count more) (s ++ z)) us u (subst (λ z. SpellsUnknown (StrictCounted IsItself) (addition_count more) z us u) (sym (drop_at s z (addition_count more) i)) r))
+    (s ++ z, m, a, u, e, bit_string_within None any_size (s ++ z) m k, low, longer_bitmap more s z i ps a (f s ps a x), unknown_within (addition_count more) (drop (addition_count more) (s ++ z)) us u (subst (λ z. SpellsUnknown (StrictCounted IsItself) (addition_count more) z us u) (sym (drop_at s z (addition_count more) i)) r))
 
 boolean_within : Within (IsStrictSpelling boolean) (IsSpelling boolean)
 boolean_within v b (true, is, e) = (255, e, is)

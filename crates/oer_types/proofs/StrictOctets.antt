@@ -1,13 +1,13 @@
 -- The strict spelling of what fits is a list of octets.
-use Rattle.std.proofs.Common.{◌≡◌, ℕ, suc, ◌+◌, ◌*◌, ◌≤◌, ◌<◌, inl, inr, List, [], ◌∷◌, ◌++◌, length, Bool, true, false, Option, Some, None, refl, sym, ap, ◌∙◌, subst, arith}
+use Rattle.std.proofs.Common.{◌≡◌, ℕ, suc, inl, inr, List, [], ◌∷◌, ◌++◌, Bool, true, false, Option, Some, None, sym, ◌∙◌, subst, arith}
 use Rattle.oer_units.specs.Octets.{IsOctets}
-use Rattle.oer_units.specs.Spelling.{class_number, IsTag, IsJoined}
+use Rattle.oer_units.specs.Spelling.{IsTag, IsJoined}
 use Rattle.oer_units.specs.declared.tagging.Tag.{Tag}
 use Rattle.oer_units.proofs.LeastDigits.{base128_octet}
 use Rattle.oer_units.proofs.OneSpelling.{octets_join}
 use Rattle.oer_units.proofs.TagReaders.{class_below}
 use Rattle.oer_types.specs.AsnType.{Need, must, may, default, AsnType, boolean, null, integer, enumerated, bit_string, object_id, restricted_string, utf8_string, octet_string, sequence, extensible_sequence, sequence_of, choice, Fields, no_fields, field, Additions, no_additions, addition, Alternatives, no_alternatives, alternative, later}
-use Rattle.oer_types.specs.AsnValue.{Unknown, unknown, AsnValue, seq, items, chosen, foreign, Values, no_values, value, Places, no_places, absent, present}
+use Rattle.oer_types.specs.AsnValue.{Unknown, AsnValue, seq, items, chosen, foreign, Places, no_places, absent, present}
 use Rattle.oer_types.specs.Bits.{first_bit, later_bits}
 use Rattle.oer_types.specs.Constraints.{addition_count, same_tag, fixed}
 use Rattle.oer_types.specs.Encoding.{IsPresent, ByBit, ByTag, IsItself, SpellsUnknown}
@@ -81,7 +81,7 @@ unknown_are lowest place (false ∷ s) us b f r = unknown_are lowest (suc place)
 
 extension_are : (x : Bool) (more : Additions) → ((s : List Bool) → AreOctets (FitsAdditions more) (SpellsAdditionsStrictly more s)) → (ps : Places) (us : List Unknown) (b : List ℕ) → FitsAdditions more ps → FitsUnknown (addition_count more) us → StrictExtension x more (SpellsAdditionsStrictly more) ps us b → IsOctets b
 extension_are false more f ps us b p q (is, none, e) = subst IsOctets (sym e) tt
-extension_are true more f ps us b p q (s, z, m, a, u, e, (l, c, e', short, (o, k)), n, i, some, zeros, x, r) =
+extension_are true more f ps us b p q (s, z, m, a, u, e, (fits, (l, c, e', short, (o, k))), n, i, some, zeros, x, r) =
     subst IsOctets (sym e) (octets_join m (a ++ u) (subst IsOctets (sym e') (octets_join l c short.0 o)) (octets_join a u (f s ps a p x) (unknown_are (addition_count more) (addition_count more) z us u q r)))
 
 same_root : (r r' a a' : Places) (us us' : List Unknown) → seq r a us ≡ seq r' a' us' → (r ≡ r') × (a ≡ a') × (us ≡ us')

@@ -1,6 +1,6 @@
 -- Sizes, bounds, characters and tags of types.
 use Rattle.std.specs.Prelude.{◌≡◌, ℕ, suc, ◌^◌, ◌<◌, ◌≤◌, List, [], ◌∷◌, Bool, true, false, ◌&&◌, ◌||◌, leb, eqb, if◌then◌else◌, ℤ, pos, neg_ℤ, ◌-ℤ◌, int_le, Option, Some, None}
-use Rattle.oer_units.specs.Reading.{number}
+use Rattle.oer_units.specs.Laws.{HasTagNumber}
 use Rattle.oer_units.specs.Spelling.{class_number}
 use Rattle.oer_units.specs.declared.tagging.Tag.{Tag}
 use Rattle.oer_types.specs.AsnType.{Additions, Alphabet, Alternatives, AsnType, Fields, NamedNumber, Need, addition, alternative, bit_string, boolean, choice, default, enumerated, extensible_sequence, field, ia5, integer, later, may, must, no_additions, no_alternatives, no_fields, null, numeric, object_id, octet_string, printable, restricted_string, sequence, sequence_of, utf8_string, visible}
@@ -10,6 +10,10 @@ use Rattle.oer_types.specs.declared.size.Size.{Size}
 abbrev pub at_most : Option ℕ → ℕ → Bool
 at_most None n = true
 at_most (Some h) n = leb n h
+
+-- without a constraint
+abbrev pub any_size : Size
+any_size = record { low = 0; high = None }
 
 -- n is a size that the constraint allows, of 64 bits
 abbrev pub size_fits : Size → ℕ → Bool
@@ -153,11 +157,7 @@ abbrev mutual
 abbrev pub HasSizeLimit : Size → Type 0
 HasSizeLimit s = leb s.low 18446744073709551615 ≡ true
 
--- the number has 32 bits
-abbrev pub HasTagNumber : Tag → Type 0
-HasTagNumber t = t.number < 2 ^ 32
-
--- What encodings need of a type, part of its being well-formed: no element may take no octets; lower ends of sizes have 64 bits, tag numbers 32 bits;
+-- What encodings need of a type, part of its being well-formed: no element may take no octets; the lower ends of the sizes of strings have 64 bits, tag numbers 32 bits;
 -- no more than 65,536 additions.
 abbrev mutual
   pub KeepsLimits : AsnType → Type 0

@@ -1,9 +1,10 @@
 -- What the numbers in every `Shape` keep, and the count of its parts.
 use Rattle.std.specs.Prelude.{◌≡◌, ℕ, ◌+◌, ◌<◌, Option, MatchOption}
 use Rattle.oer_types.specs.AsnType.{Additions, Alternatives, AsnType, Fields, addition, alternative, bit_string, choice, extensible_sequence, field, later, no_additions, no_alternatives, no_fields, octet_string, restricted_string, sequence, sequence_of, utf8_string}
-use Rattle.oer_types.specs.Constraints.{HasSizeLimit, HasTagNumber}
+use Rattle.oer_units.specs.Laws.{HasTagNumber}
+use Rattle.oer_types.specs.Constraints.{HasSizeLimit}
 
--- the lower ends of sizes have 64 bits, tag numbers 32 bits
+-- the lower ends of the sizes of strings have 64 bits, tag numbers 32 bits
 abbrev mutual
   pub HasRanges : AsnType → Type 0
   HasRanges (bit_string s) = HasSizeLimit s

@@ -1,5 +1,5 @@
 -- Which octets are encodings of which values (Basic-OER).
-use Rattle.std.specs.Prelude.{◌≡◌, ℕ, suc, ◌≤◌, ◌⊎◌, List, [], ◌∷◌, ◌++◌, length, take, drop, Bool, true, false, not, ◌||◌, eqb, ℤ, Option, Some, None}
+use Rattle.std.specs.Prelude.{◌≡◌, ℕ, suc, ◌⊎◌, List, [], ◌∷◌, ◌++◌, length, take, drop, Bool, true, false, not, ◌||◌, eqb, ℤ, Option, Some, None}
 use Rattle.std.specs.Str.{is_utf8, chars}
 use Rattle.oer_units.specs.Numbers.{natural, signed, unsigned}
 use Rattle.oer_units.specs.Octets.{IsOctets}
@@ -9,7 +9,7 @@ use Rattle.oer_units.specs.declared.tagging.Tag.{Tag}
 use Rattle.oer_types.specs.AsnType.{Additions, Alternatives, AsnType, Fields, Need, addition, alternative, bit_string, boolean, choice, default, enumerated, extensible_sequence, field, integer, later, may, must, no_additions, no_alternatives, no_fields, null, object_id, octet_string, restricted_string, sequence, sequence_of, utf8_string}
 use Rattle.oer_types.specs.AsnValue.{AsnValue, Places, Unknown, absent, bit_list, bool, chosen, enum, foreign, int, items, no_places, nothing, octets, oid, present, seq, text, unknown}
 use Rattle.oer_types.specs.Bits.{IsBits, IsPreamble, all_false, bits_of, first_bit, later_bits, octets_for}
-use Rattle.oer_types.specs.Constraints.{Form, addition_count, all_characters, fixed, form_of, has_number, has_tag, in_range, optional, same_tag, signed_counted, signed_fixed, size_fits, unsigned_counted, unsigned_fixed}
+use Rattle.oer_types.specs.Constraints.{Form, addition_count, all_characters, any_size, fixed, form_of, has_number, has_tag, in_range, optional, same_tag, signed_counted, signed_fixed, size_fits, unsigned_counted, unsigned_fixed}
 use Rattle.oer_types.specs.Fits.{Fits, all_absent, listed}
 use Rattle.oer_types.specs.declared.size.Size.{Size}
 
@@ -29,6 +29,10 @@ SpellsOctets None size w b = IsCounted (λ x c. (c ≡ x) × (size_fits size (le
 abbrev pub SpellsBits : Option ℕ → Size → List Bool → List ℕ → Type 0
 SpellsBits (Some n) size s b = (length b ≡ octets_for n) × (s ≡ take n (bits_of b))
 SpellsBits None size s b = IsCounted (λ s c. IsBits s c × (size_fits size (length s) ≡ true)) s b
+
+-- the bits s as a BIT STRING without size constraint
+abbrev pub SpellsBitmap : List Bool → List ℕ → Type 0
+SpellsBitmap s b = SpellsBits None any_size s b
 
 -- characters, an octet for each, all passing the test
 abbrev pub SpellsText : (List ℕ → Bool) → Option ℕ → Size → List ℕ → List ℕ → Type 0
@@ -68,11 +72,11 @@ SpellsUnknown S place [] us b = (us ≡ []) × (b ≡ [])
 SpellsUnknown S place (true ∷ s) us b = (w : List ℕ) × (rest : List Unknown) × (b1 : List ℕ) × (b2 : List ℕ) × (us ≡ unknown place w ∷ rest) × (b ≡ b1 ++ b2) × S w b1 × SpellsUnknown S (suc place) s rest b2
 SpellsUnknown S place (false ∷ s) us b = SpellsUnknown S (suc place) s us b
 
--- The additions (X.696, 16.4): without the extension bit none; with it a bitmap as a BIT STRING without size, no bit of it set past place 65,535,
+-- The additions (X.696, 16.4): without the extension bit none; with it a bitmap, no bit of it set past place 65,535,
 -- and then each addition whose bit is set, as an open type.
 abbrev pub SpellsExtension : Bool → Additions → (List Bool → Places → List ℕ → Type 0) → Places → List Unknown → List ℕ → Type 0
 SpellsExtension false more S added us e = (added ≡ all_absent more) × (us ≡ []) × (e ≡ [])
-SpellsExtension true more S added us e = (s : List Bool) × (m : List ℕ) × (a : List ℕ) × (u : List ℕ) × (e ≡ m ++ (a ++ u)) × IsCounted IsBits s m × (all_false (drop 65536 s) ≡ true) × S s added a
+SpellsExtension true more S added us e = (s : List Bool) × (m : List ℕ) × (a : List ℕ) × (u : List ℕ) × (e ≡ m ++ (a ++ u)) × SpellsBitmap s m × (all_false (drop 65536 s) ≡ true) × S s added a
     × SpellsUnknown (IsCounted IsItself) (addition_count more) (drop (addition_count more) s) us u
 
 -- an alternative of the type, spelt by S; or one that it doesn't know, where there is an extension marker, as an open type

@@ -6,10 +6,11 @@ use Rattle.oer_units.specs.declared.fault.Why.{Why}
 use Rattle.oer_units.specs.declared.fault.Why.TheVariants.{BitUnused, Character, EmptyNumber, End, EnumForm, IntegerRange, LengthForm, Limit, ObjectId, PreamblePadding, TagForm, UnknownAddition, UnknownAlternative, UnknownEnum, Window}
 use Rattle.oer_units.specs.declared.tagging.Class.TheVariants.{Context}
 use Rattle.oer_units.specs.declared.tagging.Tag.{Tag}
-use Rattle.oer_types.specs.AsnType.{AsnType, NamedNumber, addition, alternative, bit_string, boolean, choice, default, enumerated, extensible_sequence, field, ia5, integer, later, may, must, no_additions, no_alternatives, no_fields, null, numeric, object_id, octet_string, printable, restricted_string, sequence, sequence_of, utf8_string, visible}
+use Rattle.oer_types.specs.AsnType.{AsnType, addition, alternative, bit_string, boolean, choice, default, enumerated, extensible_sequence, field, ia5, integer, later, may, must, no_additions, no_alternatives, no_fields, null, numeric, object_id, octet_string, printable, restricted_string, sequence, sequence_of, utf8_string, visible}
 use Rattle.oer_types.specs.AsnValue.{AsnValue, absent, bit_list, bool, chosen, enum, foreign, int, items, no_places, no_values, nothing, octets, oid, present, seq, text, unknown, value}
 use Rattle.oer_types.specs.Canonical.{canonical_octets}
 use Rattle.oer_types.specs.Checking.{check_value}
+use Rattle.oer_types.specs.Constraints.{any_size}
 use Rattle.oer_types.specs.Laws.{rewritten}
 use Rattle.oer_types.specs.Parts.{Step, Answer, absent_part, find_part, found, no_such_step, to_addition, to_chosen, to_component, to_item}
 use Rattle.oer_types.specs.Reading.{read_value}
@@ -42,9 +43,6 @@ CheckRefuses T input why taken = check_value T (at input 1000) ≡ refused why (
 
 abbrev pub unnamed : List ℕ
 unnamed = []
-
-abbrev pub any : Size
-any = record { low = 0; high = None }
 
 abbrev pub exactly : ℕ → Size
 exactly n = record { low = n; high = Some n }
@@ -80,6 +78,8 @@ Integers = Gives natural_number (0x02 ∷ 0x00 ∷ 0x05 ∷ []) (0x01 ∷ 0x05 �
     × Reads (integer None None) (0x11 ∷ 0xff ∷ 0x80 ∷ zeros 15) (int (negsuc 170141183460469231731687303715884105727))
     × Refuses (integer None None) (0x11 ∷ 0x00 ∷ 0x80 ∷ zeros 15) IntegerRange 18
     × RefusesWithin 1 (up_to 65535) (0x00 ∷ 0x01 ∷ []) Limit 0
+    × Stays (integer None None) (0x10 ∷ 0x80 ∷ zeros 15)
+    × Gives (integer None None) (0x11 ∷ 0xff ∷ 0x80 ∷ zeros 15) (0x10 ∷ 0x80 ∷ zeros 15)
 
 -- The canonical octets of 255 by the bounds.
 abbrev pub IntegerForms : Type 0
@@ -104,21 +104,27 @@ Enumerations = Gives colours (0x81 ∷ 0x05 ∷ []) (0x05 ∷ [])
     × Refuses colours (0x80 ∷ []) EnumForm 1
 
 abbrev pub OctetStrings : Type 0
-OctetStrings = Stays (octet_string any) (0x7f ∷ replicate 127 0x61)
-    × Stays (octet_string any) (0x81 ∷ 0x80 ∷ replicate 128 0x61)
-    × Gives (octet_string any) (0x82 ∷ 0x00 ∷ 0x80 ∷ replicate 128 0x61) (0x81 ∷ 0x80 ∷ replicate 128 0x61)
-    × RefusesWithin 100 (octet_string any) (0x88 ∷ replicate 8 0xff) Limit 9
-    × Refuses (octet_string any) (0x03 ∷ 0x61 ∷ []) End 2
-    × (read_value (octet_string any) (at (0x01 ∷ 0x61 ∷ 0x62 ∷ []) 1000) ≡ got (octets (0x61 ∷ [])) (at (0x62 ∷ []) 998))
+OctetStrings = Stays (octet_string any_size) (0x7f ∷ replicate 127 0x61)
+    × Stays (octet_string any_size) (0x81 ∷ 0x80 ∷ replicate 128 0x61)
+    × Gives (octet_string any_size) (0x82 ∷ 0x00 ∷ 0x80 ∷ replicate 128 0x61) (0x81 ∷ 0x80 ∷ replicate 128 0x61)
+    × RefusesWithin 100 (octet_string any_size) (0x88 ∷ replicate 8 0xff) Limit 9
+    × Refuses (octet_string any_size) (0x03 ∷ 0x61 ∷ []) End 2
+    × (read_value (octet_string any_size) (at (0x01 ∷ 0x61 ∷ 0x62 ∷ []) 1000) ≡ got (octets (0x61 ∷ [])) (at (0x62 ∷ []) 998))
+
+-- the length of 2 ^ 64 bits, and how many of the last octet are unused
+abbrev pub many_bits : ℕ → List ℕ
+many_bits unused = 0x88 ∷ 0x20 ∷ zeros 6 ++ (0x01 ∷ unused ∷ [])
 
 abbrev pub BitStrings : Type 0
 BitStrings = Gives (bit_string (exactly 4)) (0xaf ∷ []) (0xa0 ∷ [])
-    × Reads (bit_string any) (0x02 ∷ 0x04 ∷ 0xa0 ∷ []) (bit_list (true ∷ false ∷ true ∷ false ∷ []))
-    × Stays (bit_string any) (0x02 ∷ 0x04 ∷ 0xa0 ∷ [])
-    × Reads (bit_string any) (0x01 ∷ 0x00 ∷ []) (bit_list [])
-    × Stays (bit_string any) (0x01 ∷ 0x00 ∷ [])
-    × Refuses (bit_string any) (0x01 ∷ 0x04 ∷ []) BitUnused 2
-    × Refuses (bit_string any) (0x00 ∷ []) BitUnused 1
+    × Reads (bit_string any_size) (0x02 ∷ 0x04 ∷ 0xa0 ∷ []) (bit_list (true ∷ false ∷ true ∷ false ∷ []))
+    × Stays (bit_string any_size) (0x02 ∷ 0x04 ∷ 0xa0 ∷ [])
+    × Reads (bit_string any_size) (0x01 ∷ 0x00 ∷ []) (bit_list [])
+    × Stays (bit_string any_size) (0x01 ∷ 0x00 ∷ [])
+    × Refuses (bit_string any_size) (0x01 ∷ 0x04 ∷ []) BitUnused 2
+    × Refuses (bit_string any_size) (0x00 ∷ []) BitUnused 1
+    × RefusesWithin 18446744073709551615 (bit_string any_size) (many_bits 0) reason.Size 10
+    × RefusesWithin 18446744073709551615 (bit_string any_size) (many_bits 1) End 10
 
 abbrev pub ObjectIds : Type 0
 ObjectIds = Reads object_id (0x06 ∷ 0x2a ∷ 0x86 ∷ 0x48 ∷ 0x86 ∷ 0xf7 ∷ 0x0d ∷ []) (oid (1 ∷ 2 ∷ 840 ∷ 113549 ∷ []))
@@ -136,13 +142,13 @@ Strings = Reads (utf8_string (exactly 1)) (0x02 ∷ 0xc3 ∷ 0xa9 ∷ []) (text 
     × Reads (restricted_string ia5 (exactly 2)) (0x61 ∷ 0x62 ∷ []) (text (0x61 ∷ 0x62 ∷ []))
     × Stays (restricted_string ia5 (exactly 2)) (0x61 ∷ 0x62 ∷ [])
     × Refuses (restricted_string ia5 (exactly 2)) (0x61 ∷ 0x80 ∷ []) Character 2
-    × Refuses (restricted_string visible any) (0x01 ∷ 0x7f ∷ []) Character 2
-    × Stays (restricted_string numeric any) (0x03 ∷ 0x31 ∷ 0x32 ∷ 0x33 ∷ [])
-    × Refuses (restricted_string numeric any) (0x01 ∷ 0x61 ∷ []) Character 2
+    × Refuses (restricted_string visible any_size) (0x01 ∷ 0x7f ∷ []) Character 2
+    × Stays (restricted_string numeric any_size) (0x03 ∷ 0x31 ∷ 0x32 ∷ 0x33 ∷ [])
+    × Refuses (restricted_string numeric any_size) (0x01 ∷ 0x61 ∷ []) Character 2
     × Stays (restricted_string numeric (exactly 2)) (0x31 ∷ 0x20 ∷ [])
-    × Stays (restricted_string printable any) (0x03 ∷ 0x41 ∷ 0x2d ∷ 0x3f ∷ [])
-    × Refuses (restricted_string printable any) (0x01 ∷ 0x40 ∷ []) Character 2
-    × Refuses (restricted_string printable any) (0x01 ∷ 0x2a ∷ []) Character 2
+    × Stays (restricted_string printable any_size) (0x03 ∷ 0x41 ∷ 0x2d ∷ 0x3f ∷ [])
+    × Refuses (restricted_string printable any_size) (0x01 ∷ 0x40 ∷ []) Character 2
+    × Refuses (restricted_string printable any_size) (0x01 ∷ 0x2a ∷ []) Character 2
 
 -- SEQUENCE {a BOOLEAN, b INTEGER (0..255) DEFAULT 7, c NULL OPTIONAL, ...}, and the same without a marker
 abbrev pub with_default : AsnType
@@ -183,7 +189,7 @@ abbrev pub older : AsnType
 older = extensible_sequence (field unnamed must boolean no_fields) no_additions
 
 abbrev pub octets_added : AsnType
-octets_added = extensible_sequence no_fields (addition unnamed (octet_string any) no_additions)
+octets_added = extensible_sequence no_fields (addition unnamed (octet_string any_size) no_additions)
 
 abbrev pub Extensions : Type 0
 Extensions = Stays extended (0x80 ∷ 0xff ∷ 0x02 ∷ 0x06 ∷ 0x80 ∷ 0x01 ∷ 0x09 ∷ [])
@@ -197,6 +203,10 @@ Extensions = Stays extended (0x80 ∷ 0xff ∷ 0x02 ∷ 0x06 ∷ 0x80 ∷ 0x01 �
     × Refuses extended (0x80 ∷ 0xff ∷ 0x02 ∷ 0x05 ∷ 0x20 ∷ []) End 5
     × Refuses octets_added (0x80 ∷ 0x02 ∷ 0x07 ∷ 0x80 ∷ 0x04 ∷ 0x05 ∷ 0x61 ∷ 0x62 ∷ []) Window 6
     × Refuses octets_added (0x80 ∷ 0x02 ∷ 0x07 ∷ 0x80 ∷ 0x88 ∷ replicate 8 0xff) Limit 13
+    × Refuses octets_added (0x80 ∷ 0x00 ∷ []) BitUnused 2
+    × Refuses octets_added (0x80 ∷ 0x01 ∷ 0x04 ∷ []) BitUnused 3
+    × RefusesWithin 18446744073709551615 octets_added (0x80 ∷ many_bits 0) reason.Size 11
+    × RefusesWithin 18446744073709551615 octets_added (0x80 ∷ many_bits 1) End 11
 
 abbrev pub UnknownAdditions : Type 0
 UnknownAdditions = Stays extended (0x80 ∷ 0xff ∷ 0x02 ∷ 0x05 ∷ 0x20 ∷ 0x01 ∷ 0x09 ∷ [])
@@ -208,10 +218,10 @@ UnknownAdditions = Stays extended (0x80 ∷ 0xff ∷ 0x02 ∷ 0x05 ∷ 0x20 ∷ 
     × Stays older (0x80 ∷ 0xff ∷ 0x02 ∷ 0x07 ∷ 0x80 ∷ 0x01 ∷ 0x09 ∷ [])
 
 abbrev pub Lists : Type 0
-Lists = Stays (sequence_of any boolean) (0x01 ∷ 0x02 ∷ 0xff ∷ 0x00 ∷ [])
-    × Reads (sequence_of any boolean) (0x01 ∷ 0x02 ∷ 0xff ∷ 0x00 ∷ []) (items (value (bool true) (value (bool false) no_values)))
-    × Stays (sequence_of any boolean) (0x01 ∷ 0x00 ∷ [])
-    × Gives (sequence_of any boolean) (0x02 ∷ 0x00 ∷ 0x02 ∷ 0x01 ∷ 0x00 ∷ []) (0x01 ∷ 0x02 ∷ 0xff ∷ 0x00 ∷ [])
+Lists = Stays (sequence_of any_size boolean) (0x01 ∷ 0x02 ∷ 0xff ∷ 0x00 ∷ [])
+    × Reads (sequence_of any_size boolean) (0x01 ∷ 0x02 ∷ 0xff ∷ 0x00 ∷ []) (items (value (bool true) (value (bool false) no_values)))
+    × Stays (sequence_of any_size boolean) (0x01 ∷ 0x00 ∷ [])
+    × Gives (sequence_of any_size boolean) (0x02 ∷ 0x00 ∷ 0x02 ∷ 0x01 ∷ 0x00 ∷ []) (0x01 ∷ 0x02 ∷ 0xff ∷ 0x00 ∷ [])
     × Refuses (sequence_of (record { low = 1; high = Some 2 }) boolean) (0x01 ∷ 0x03 ∷ 0xff ∷ 0x00 ∷ 0xff ∷ []) reason.Size 2
     × Refuses (sequence_of (record { low = 1; high = Some 2 }) boolean) (0x01 ∷ 0x00 ∷ []) reason.Size 2
     × RefusesWithin 5 (sequence_of (record { low = 1; high = Some 2 }) boolean) (0x01 ∷ 0x09 ∷ []) Limit 2
@@ -221,7 +231,7 @@ abbrev pub tagged : AsnType
 tagged = choice false (alternative unnamed (context 62) null (alternative unnamed (context 63) null (alternative unnamed (context 200) null no_alternatives)))
 
 abbrev pub open_choice : AsnType
-open_choice = choice true (alternative unnamed (context 0) null (later unnamed (context 1) (octet_string any) no_alternatives))
+open_choice = choice true (alternative unnamed (context 0) null (later unnamed (context 1) (octet_string any_size) no_alternatives))
 
 abbrev pub Choices : Type 0
 Choices = Stays tagged (0xbe ∷ [])
@@ -257,11 +267,11 @@ Checkings = Checks extended (0x80 ∷ 0xff ∷ 0x02 ∷ 0x06 ∷ 0x80 ∷ 0x01 �
     × Checks natural_number (0x81 ∷ 0x01 ∷ 0x05 ∷ []) [] false
     × Checks colours (0x81 ∷ 0x05 ∷ []) [] false
     × Checks (bit_string (exactly 4)) (0xaf ∷ []) [] false
-    × Checks (bit_string any) (0x02 ∷ 0x04 ∷ 0xa0 ∷ []) [] true
-    × Checks (bit_string any) (0x02 ∷ 0x04 ∷ 0xa1 ∷ []) [] false
+    × Checks (bit_string any_size) (0x02 ∷ 0x04 ∷ 0xa0 ∷ []) [] true
+    × Checks (bit_string any_size) (0x02 ∷ 0x04 ∷ 0xa1 ∷ []) [] false
     × Checks object_id (0x06 ∷ 0x2a ∷ 0x86 ∷ 0x48 ∷ 0x86 ∷ 0xf7 ∷ 0x0d ∷ []) [] true
-    × Checks (octet_string any) (0x81 ∷ 0x01 ∷ 0x61 ∷ []) [] false
-    × Checks (utf8_string any) (0x02 ∷ 0xc3 ∷ 0xa9 ∷ []) [] true
+    × Checks (octet_string any_size) (0x81 ∷ 0x01 ∷ 0x61 ∷ []) [] false
+    × Checks (utf8_string any_size) (0x02 ∷ 0xc3 ∷ 0xa9 ∷ []) [] true
 
 -- SEQUENCE {...} with an addition at the last place, 65,535, and with one past it
 abbrev pub Farthest : Type 0
@@ -283,9 +293,9 @@ PathsFollowed = Finds extended (0x80 ∷ 0xff ∷ 0x02 ∷ 0x06 ∷ 0x80 ∷ 0x0
     × Finds extended (0x80 ∷ 0xff ∷ 0x02 ∷ 0x05 ∷ 0x20 ∷ 0x01 ∷ 0x09 ∷ []) (to_addition 2 ∷ to_chosen ∷ []) no_such_step
     × Finds extended (0x80 ∷ 0xff ∷ 0x02 ∷ 0x05 ∷ 0x20 ∷ 0x01 ∷ 0x09 ∷ []) (to_addition 3 ∷ []) no_such_step
     × Finds extended (0x80 ∷ 0xff ∷ 0x02 ∷ 0x05 ∷ 0x20 ∷ 0x01 ∷ 0x09 ∷ []) (to_addition 0 ∷ []) absent_part
-    × Finds (sequence_of any boolean) (0x01 ∷ 0x02 ∷ 0xff ∷ 0x00 ∷ []) (to_item 1 ∷ []) (found (Some boolean) (0x00 ∷ []))
-    × Finds (sequence_of any boolean) (0x01 ∷ 0x02 ∷ 0xff ∷ 0x00 ∷ []) (to_item 2 ∷ []) no_such_step
-    × Finds open_choice (0x81 ∷ 0x03 ∷ 0x02 ∷ 0x61 ∷ 0x62 ∷ []) (to_chosen ∷ []) (found (Some (octet_string any)) (0x02 ∷ 0x61 ∷ 0x62 ∷ []))
+    × Finds (sequence_of any_size boolean) (0x01 ∷ 0x02 ∷ 0xff ∷ 0x00 ∷ []) (to_item 1 ∷ []) (found (Some boolean) (0x00 ∷ []))
+    × Finds (sequence_of any_size boolean) (0x01 ∷ 0x02 ∷ 0xff ∷ 0x00 ∷ []) (to_item 2 ∷ []) no_such_step
+    × Finds open_choice (0x81 ∷ 0x03 ∷ 0x02 ∷ 0x61 ∷ 0x62 ∷ []) (to_chosen ∷ []) (found (Some (octet_string any_size)) (0x02 ∷ 0x61 ∷ 0x62 ∷ []))
     × Finds open_choice (0x85 ∷ 0x02 ∷ 0x01 ∷ 0x02 ∷ []) (to_chosen ∷ []) (found None (0x01 ∷ 0x02 ∷ []))
 
 -- ENUMERATED {a(0), ...}
@@ -298,17 +308,17 @@ Boundaries = Reads open_numbers (0x88 ∷ 0x80 ∷ zeros 7) (enum (negsuc 922337
     × Reads open_numbers (0x88 ∷ 0x7f ∷ replicate 7 0xff) (enum (pos 9223372036854775807))
     × Refuses open_numbers (0x89 ∷ 0x00 ∷ 0x80 ∷ zeros 7) EnumForm 10
     × Refuses open_numbers (0x89 ∷ 0xff ∷ 0x7f ∷ replicate 7 0xff) EnumForm 10
-    × Stays (restricted_string ia5 any) (0x02 ∷ 0x00 ∷ 0x7f ∷ [])
-    × Stays (restricted_string visible any) (0x02 ∷ 0x20 ∷ 0x7e ∷ [])
-    × Refuses (restricted_string visible any) (0x01 ∷ 0x1f ∷ []) Character 2
-    × Stays (restricted_string numeric any) (0x03 ∷ 0x20 ∷ 0x30 ∷ 0x39 ∷ [])
-    × Refuses (restricted_string numeric any) (0x01 ∷ 0x2f ∷ []) Character 2
-    × Refuses (restricted_string numeric any) (0x01 ∷ 0x3a ∷ []) Character 2
-    × Stays (restricted_string printable any) (0x12 ∷ 0x41 ∷ 0x5a ∷ 0x61 ∷ 0x7a ∷ 0x30 ∷ 0x39 ∷ 0x20 ∷ 0x27 ∷ 0x28 ∷ 0x29 ∷ 0x2b ∷ 0x2c ∷ 0x2d ∷ 0x2e ∷ 0x2f ∷ 0x3a ∷ 0x3d ∷ 0x3f ∷ [])
-    × Refuses (restricted_string printable any) (0x01 ∷ 0x5b ∷ []) Character 2
-    × Refuses (restricted_string printable any) (0x01 ∷ 0x60 ∷ []) Character 2
-    × Refuses (restricted_string printable any) (0x01 ∷ 0x7b ∷ []) Character 2
-    × Refuses (restricted_string printable any) (0x01 ∷ 0x3b ∷ []) Character 2
+    × Stays (restricted_string ia5 any_size) (0x02 ∷ 0x00 ∷ 0x7f ∷ [])
+    × Stays (restricted_string visible any_size) (0x02 ∷ 0x20 ∷ 0x7e ∷ [])
+    × Refuses (restricted_string visible any_size) (0x01 ∷ 0x1f ∷ []) Character 2
+    × Stays (restricted_string numeric any_size) (0x03 ∷ 0x20 ∷ 0x30 ∷ 0x39 ∷ [])
+    × Refuses (restricted_string numeric any_size) (0x01 ∷ 0x2f ∷ []) Character 2
+    × Refuses (restricted_string numeric any_size) (0x01 ∷ 0x3a ∷ []) Character 2
+    × Stays (restricted_string printable any_size) (0x12 ∷ 0x41 ∷ 0x5a ∷ 0x61 ∷ 0x7a ∷ 0x30 ∷ 0x39 ∷ 0x20 ∷ 0x27 ∷ 0x28 ∷ 0x29 ∷ 0x2b ∷ 0x2c ∷ 0x2d ∷ 0x2e ∷ 0x2f ∷ 0x3a ∷ 0x3d ∷ 0x3f ∷ [])
+    × Refuses (restricted_string printable any_size) (0x01 ∷ 0x5b ∷ []) Character 2
+    × Refuses (restricted_string printable any_size) (0x01 ∷ 0x60 ∷ []) Character 2
+    × Refuses (restricted_string printable any_size) (0x01 ∷ 0x7b ∷ []) Character 2
+    × Refuses (restricted_string printable any_size) (0x01 ∷ 0x3b ∷ []) Character 2
     × Reads open_choice (0xbf ∷ 0x8f ∷ 0xff ∷ 0xff ∷ 0xff ∷ 0x7f ∷ 0x00 ∷ []) (foreign (context 4294967295) [])
     × Refuses open_choice (0xbf ∷ 0x90 ∷ 0x80 ∷ 0x80 ∷ 0x80 ∷ 0x00 ∷ 0x00 ∷ []) TagForm 6
     × Reads (octet_string (record { low = 1; high = Some 3 })) (0x03 ∷ 0x01 ∷ 0x02 ∷ 0x03 ∷ []) (octets (0x01 ∷ 0x02 ∷ 0x03 ∷ []))

@@ -6,7 +6,8 @@ use Rattle.oer_units.specs.Reading.{is_int64}
 use Rattle.oer_units.specs.declared.tagging.Tag.{Tag}
 use Rattle.oer_types.specs.AsnType.{Additions, Alternatives, AsnType, Fields, Need, addition, alternative, bit_string, boolean, choice, default, enumerated, extensible_sequence, field, integer, later, may, must, no_additions, no_alternatives, no_fields, null, object_id, octet_string, restricted_string, sequence, sequence_of, utf8_string}
 use Rattle.oer_types.specs.AsnValue.{AsnValue, Places, Unknown, Values, absent, bit_list, bool, chosen, enum, foreign, int, items, no_places, no_values, nothing, octets, oid, present, seq, text, unknown, value}
-use Rattle.oer_types.specs.Constraints.{HasTagNumber, addition_count, all_characters, has_number, has_tag, in_range, same_tag, size_fits}
+use Rattle.oer_units.specs.Laws.{HasTagNumber}
+use Rattle.oer_types.specs.Constraints.{addition_count, all_characters, has_number, has_tag, in_range, same_tag, size_fits}
 use Rattle.oer_types.specs.declared.size.Size.{Size}
 
 -- values as the list of a SEQUENCE OF

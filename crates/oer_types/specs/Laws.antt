@@ -10,13 +10,17 @@ use Rattle.oer_types.specs.AsnValue.{AsnValue}
 use Rattle.oer_types.specs.Canonical.{canonical_octets}
 use Rattle.oer_types.specs.Checking.{check_value}
 use Rattle.oer_types.specs.Constraints.{KeepsLimits}
+use Rattle.oer_types.specs.Counting.{HasRanges}
 use Rattle.oer_types.specs.Encoding.{Encodes}
+use Rattle.oer_types.specs.FaultTest.{first_fault}
 use Rattle.oer_types.specs.Filling.{filled}
 use Rattle.oer_types.specs.Fits.{DefaultsFit, Fits}
 use Rattle.oer_types.specs.Nodes.{nodes, payload, type_nodes}
 use Rattle.oer_types.specs.Parts.{EntersDefault, StopsAt, Step, Within, find_part, found, nothing_at}
 use Rattle.oer_types.specs.Reading.{read_value}
 use Rattle.oer_types.specs.Strict.{IsCanonical}
+use Rattle.oer_types.specs.WellFormed.{HasFault, IsFirstFault, IsWellFormed}
+use Rattle.oer_types.specs.declared.fault.SchemaFault.{SchemaFault}
 
 -- No encoding begins with t, and none is a front of t.
 abbrev pub IsDead : AsnType → List ℕ → Type 0
@@ -79,6 +83,26 @@ CanonicalTellsFilled = (T : AsnType) → KeepsLimits T → (v w : AsnValue) (b :
 -- Canonical octets are an encoding, of a value that is equal after filling, and that value's canonical octets.
 abbrev pub CanonicalEncodes : Type 0
 CanonicalEncodes = (T : AsnType) (v : AsnValue) (b : List ℕ) → IsCanonical T v b → (w : AsnValue) × Encodes T w b × IsCanonical T w b × (filled T w ≡ filled T v)
+
+-- No fault is found exactly where none holds.
+abbrev pub NoFaultFound : Type 0
+NoFaultFound = (T : AsnType) → (first_fault T ≡ None) ↔ ((fault : SchemaFault) → HasFault T fault → ⊥)
+
+-- The fault that is found is the first one.
+abbrev pub FirstFaultFound : Type 0
+FirstFaultFound = (T : AsnType) (fault : SchemaFault) → (first_fault T ≡ Some fault) ↔ IsFirstFault T fault
+
+-- There is one first fault.
+abbrev pub OneFirstFault : Type 0
+OneFirstFault = (T : AsnType) (one other : SchemaFault) → IsFirstFault T one → IsFirstFault T other → one ≡ other
+
+-- A type whose numbers are in their ranges is well-formed exactly where no fault is found.
+abbrev pub FaultlessIsWellFormed : Type 0
+FaultlessIsWellFormed = (T : AsnType) → HasRanges T → (first_fault T ≡ None) ↔ IsWellFormed T
+
+-- The defaults in a well-formed type fit their components' types.
+abbrev pub WellFormedDefaults : Type 0
+WellFormedDefaults = (T : AsnType) → IsWellFormed T → DefaultsFit T
 
 -- What is filled fits.
 abbrev pub FilledFits : Type 0

@@ -8,10 +8,10 @@ use Rattle.oer_units.specs.declared.fault.Why.TheVariants.{UnknownAlternative}
 use Rattle.oer_units.specs.declared.tagging.Tag.{Tag}
 use Rattle.oer_types.specs.AsnType.{Additions, Alternatives, AsnType, Fields, Need, addition, alternative, choice, default, extensible_sequence, field, later, may, must, no_additions, no_alternatives, no_fields, sequence, sequence_of}
 use Rattle.oer_types.specs.AsnValue.{AsnValue}
-use Rattle.oer_types.specs.Bits.{IsBits, IsPreamble, first_bit, later_bits}
+use Rattle.oer_types.specs.Bits.{IsPreamble, first_bit, later_bits}
 use Rattle.oer_types.specs.Checking.{check_value}
 use Rattle.oer_types.specs.Constraints.{addition_count, has_tag, optional, same_tag, size_fits}
-use Rattle.oer_types.specs.Encoding.{IsItself, IsSpelling}
+use Rattle.oer_types.specs.Encoding.{IsItself, IsSpelling, SpellsBitmap}
 use Rattle.oer_types.specs.Filling.{filled}
 use Rattle.oer_types.specs.Reading.{bitmap, preamble, quantity}
 
@@ -68,7 +68,7 @@ SplitsUnknown i (false ∷ s) parts b = SplitsUnknown (suc i) s parts b
 abbrev pub SplitsExtension : Bool → Additions → List Part → List ℕ → Type 0
 SplitsExtension false more parts e = (parts ≡ []) × (e ≡ [])
 SplitsExtension true more parts e = (s : List Bool) × (m : List ℕ) × (p : List Part) × (q : List Part) × (a : List ℕ) × (u : List ℕ) × (parts ≡ p ++ q) × (e ≡ m ++ (a ++ u))
-    × IsCounted IsBits s m × SplitsAdditions more 0 s p a × SplitsUnknown (addition_count more) (drop (addition_count more) s) q u
+    × SpellsBitmap s m × SplitsAdditions more 0 s p a × SplitsUnknown (addition_count more) (drop (addition_count more) s) q u
 
 -- n elements from the one with the number i on
 abbrev pub SplitsItems : AsnType → ℕ → ℕ → List Part → List ℕ → Type 0

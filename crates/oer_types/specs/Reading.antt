@@ -11,7 +11,7 @@ use Rattle.oer_units.specs.declared.tagging.Tag.{Tag}
 use Rattle.oer_types.specs.AsnType.{Additions, Alternatives, AsnType, Fields, Need, addition, alternative, bit_string, boolean, choice, default, enumerated, extensible_sequence, field, integer, later, may, must, no_additions, no_alternatives, no_fields, null, object_id, octet_string, restricted_string, sequence, sequence_of, utf8_string}
 use Rattle.oer_types.specs.AsnValue.{AsnValue, Places, Unknown, absent, bit_list, bool, chosen, enum, foreign, int, items, no_places, nothing, octets, oid, present, seq, text, unknown}
 use Rattle.oer_types.specs.Bits.{all_false, bits_of, first_bit, later_bits, octets_for}
-use Rattle.oer_types.specs.Constraints.{Form, addition_count, all_characters, fixed, form_of, has_number, has_tag, in_range, optional, same_tag, signed_counted, signed_fixed, size_fits, unsigned_counted, unsigned_fixed}
+use Rattle.oer_types.specs.Constraints.{Form, addition_count, all_characters, any_size, fixed, form_of, has_number, has_tag, in_range, optional, same_tag, signed_counted, signed_fixed, size_fits, unsigned_counted, unsigned_fixed}
 use Rattle.oer_types.specs.Fits.{all_absent, listed}
 use Rattle.oer_types.specs.declared.size.Size.{Size}
 
@@ -32,12 +32,17 @@ unfoldable pub preamble : ℕ → Reader (List Bool)
 preamble k = bind (group (octets_for k)) (λ p. guard (all_false (drop k (bits_of p))) PreamblePadding (give (take k (bits_of p))))
 
 -- after the initial octet u, in a bit string of n octets
-abbrev pub bits_after : ℕ → ℕ → Reader (List Bool)
-bits_after n u = guard (leb u 7 && (leb 2 n || eqb u 0)) BitUnused (bind (group (n - 1)) (λ d. give (take (length (bits_of d) - u) (bits_of d))))
+abbrev pub bits_sized : Size → ℕ → ℕ → Reader (List Bool)
+bits_sized s n u = guard (leb u 7 && (leb 2 n || eqb u 0)) BitUnused (guard (size_fits s (8 * (n - 1) - u)) reason.Size (bind (group (n - 1)) (λ d. give (take (length (bits_of d) - u) (bits_of d)))))
 
--- a bit string without size constraint
+-- a BIT STRING: of one size, or after a length and the initial octet
+abbrev pub read_bits : Option ℕ → Size → Reader (List Bool)
+read_bits (Some n) s = bind (group (octets_for n)) (λ w. give (take n (bits_of w)))
+read_bits None s = with_length (λ n. guard (leb 1 n) BitUnused (bind octet (bits_sized s n)))
+
+-- the bits of a BIT STRING without size constraint
 unfoldable pub bitmap : Reader (List Bool)
-bitmap = with_length (λ n. guard (leb 1 n) BitUnused (bind octet (bits_after n)))
+bitmap = read_bits None any_size
 
 -- a quantity, of 128 bits signed
 unfoldable pub quantity : Reader ℕ
@@ -101,15 +106,6 @@ read_chosen extensible more r t = choose (has_tag t more) (bind (r t) (λ v. giv
 -- a tag, and what follows it
 unfoldable pub read_choice : Bool → Alternatives → (Tag → Reader AsnValue) → Reader AsnValue
 read_choice extensible more r = bind tag (read_chosen extensible more r)
-
--- after the initial octet u, in a bit string of n octets, with a size constraint
-abbrev pub bits_sized : Size → ℕ → ℕ → Reader (List Bool)
-bits_sized s n u = guard (leb u 7 && (leb 2 n || eqb u 0)) BitUnused (guard (size_fits s (8 * (n - 1) - u)) reason.Size (bind (group (n - 1)) (λ d. give (take (length (bits_of d) - u) (bits_of d)))))
-
--- a BIT STRING: of one size, or after a length and the initial octet
-abbrev pub read_bits : Option ℕ → Size → Reader (List Bool)
-read_bits (Some n) s = bind (group (octets_for n)) (λ w. give (take n (bits_of w)))
-read_bits None s = with_length (λ n. guard (leb 1 n) BitUnused (bind octet (bits_sized s n)))
 
 -- characters that pass the test
 abbrev pub read_text : (List ℕ → Bool) → Option ℕ → Size → Reader (List ℕ)

@@ -7,7 +7,7 @@ use Rattle.oer_units.specs.declared.tagging.Tag.{Tag}
 use Rattle.oer_types.specs.AsnType.{Additions, Alternatives, AsnType, Fields, Need, addition, alternative, bit_string, boolean, choice, default, extensible_sequence, field, later, may, must, no_additions, no_alternatives, no_fields, null, sequence, sequence_of}
 use Rattle.oer_types.specs.AsnValue.{AsnValue, Places, Unknown, bit_list, bool, chosen, foreign, items, no_places, nothing, seq}
 use Rattle.oer_types.specs.Bits.{IsPreamble, all_false, bits_of, first_bit, later_bits}
-use Rattle.oer_types.specs.Constraints.{addition_count, fixed, has_tag, optional, same_tag, size_fits}
+use Rattle.oer_types.specs.Constraints.{addition_count, any_size, fixed, has_tag, optional, same_tag, size_fits}
 use Rattle.oer_types.specs.Encoding.{ByBit, ByTag, IsItself, IsPresent, IsSpelling, SpellsUnknown}
 use Rattle.oer_types.specs.Filling.{filled}
 use Rattle.oer_types.specs.Fits.{Fits, after_last, all_absent, listed}
@@ -34,6 +34,10 @@ abbrev pub StrictBitString : Option ℕ → Size → List Bool → List ℕ → 
 StrictBitString (Some n) size s b = (length s ≡ n) × StrictPreamble s b
 StrictBitString None size s b = (size_fits size (length s) ≡ true) × StrictCounted StrictBits s b
 
+-- as SpellsBitmap, with the bits past s 0
+abbrev pub StrictBitmap : List Bool → List ℕ → Type 0
+StrictBitmap s b = StrictBitString None any_size s b
+
 -- the least form of a quantity
 abbrev pub StrictQuantity : ℕ → List ℕ → Type 0
 StrictQuantity n q = IsShortest (IsCounted (StandsFor unsigned) n) q
@@ -48,7 +52,7 @@ StrictNeed (default d) f S Rest s ps b = ByBit (first_bit s) (λ v c. S v c × (
 -- or as many as the place after the last unknown one if these are more; s: the bits of the known ones
 abbrev pub StrictExtension : Bool → Additions → (List Bool → Places → List ℕ → Type 0) → Places → List Unknown → List ℕ → Type 0
 StrictExtension false more S added us e = (added ≡ all_absent more) × (us ≡ []) × (e ≡ [])
-StrictExtension true more S added us e = (s : List Bool) × (z : List Bool) × (m : List ℕ) × (a : List ℕ) × (u : List ℕ) × (e ≡ m ++ (a ++ u)) × StrictCounted StrictBits (s ++ z) m
+StrictExtension true more S added us e = (s : List Bool) × (z : List Bool) × (m : List ℕ) × (a : List ℕ) × (u : List ℕ) × (e ≡ m ++ (a ++ u)) × StrictBitmap (s ++ z) m
     × (length s ≡ addition_count more) × (length (s ++ z) ≡ max (addition_count more) (after_last us)) × (all_false (s ++ z) ≡ false) × (all_false (drop 65536 (s ++ z)) ≡ true) × S s added a × SpellsUnknown (StrictCounted IsItself) (addition_count more) z us u
 
 -- as SpellsChosen, with a length in its least form

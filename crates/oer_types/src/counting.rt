@@ -1,7 +1,8 @@
 //! How many parts a type has.
 ghost use Rattle.std.specs.Prelude.{◌≡◌, length, map};
 ghost use Rattle.oer_types.specs.AsnType.{no_alternatives};
-ghost use Rattle.oer_types.specs.Constraints.{HasSizeLimit, HasTagNumber};
+ghost use Rattle.oer_units.specs.Laws.{HasTagNumber};
+ghost use Rattle.oer_types.specs.Constraints.{HasSizeLimit};
 ghost use Rattle.oer_types.specs.Nodes.{additions_nodes, alternatives_nodes, fields_nodes, type_nodes};
 ghost use Rattle.oer_types.specs.Counting.{AdditionsHaveRanges, AlternativesHaveRanges, FieldsHaveRanges, HasRanges, Leaves};
 ghost use Rattle.oer_types.specs.ShapeView.{additions_of, fields_of, named_number, root_of, type_of};
@@ -14,7 +15,7 @@ use oer_units::Tag;
 /// included, and each item of an enumeration. None where there are more; it counts no further.
 #[cycle(counting)]
 #[tactic(auto, using(crate::proofs::Shapes::shapes))]
-pub(crate) fn parts_left(shape: &Shape, left: u16) -> Option<u16>
+pub fn parts_left(shape: &Shape, left: u16) -> Option<u16>
     ensures { Leaves result left (type_nodes (type_of shape.now)) (HasRanges (type_of shape.now)) }
 {
     if left == 0 {

@@ -9,7 +9,7 @@ use crate::shape::{Addition, Alt, Field, Shape};
 /// Whether the type has no more than so many levels. It looks no deeper.
 #[cycle(depth)]
 #[tactic(auto, using(crate::proofs::Shapes::shapes))]
-pub(crate) fn is_within_depth(shape: &Shape, levels: u8) -> bool
+pub fn is_within_depth(shape: &Shape, levels: u8) -> bool
     requires { 0 < levels }
     ensures { IsTrue result ↔ depth (type_of shape.now) ≤ levels }
 {

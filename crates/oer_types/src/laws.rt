@@ -3,7 +3,7 @@
 //! They speak of every type that keeps the limits of well-formed types, and of every value.
 
 ghost use Rattle.oer_types.specs.Headline.{Headline};
-ghost use Rattle.oer_types.specs.Laws.{ReadsEncodings, ReadsInside, ReadsEach, OneReading, OneCanonical, CanonicalTellsFilled, CanonicalEncodes, FilledTwice, FilledFits, CanonicalGiven, CanonicalComputed, EqualOctets, CanonicalStays, RewriteTwice, CheckTells, OlderSequence, OlderChoice, RelayedSequence, RelayedChoice, PartsBounded, FindsParts, MissesParts, KeepsUnknown};
+ghost use Rattle.oer_types.specs.Laws.{ReadsEncodings, ReadsInside, ReadsEach, OneReading, OneCanonical, CanonicalTellsFilled, CanonicalEncodes, FilledTwice, FilledFits, NoFaultFound, FirstFaultFound, OneFirstFault, FaultlessIsWellFormed, WellFormedDefaults, CanonicalGiven, CanonicalComputed, EqualOctets, CanonicalStays, RewriteTwice, CheckTells, OlderSequence, OlderChoice, RelayedSequence, RelayedChoice, PartsBounded, FindsParts, MissesParts, KeepsUnknown};
 ghost use Rattle.oer_types.specs.Examples.{Booleans, Integers, IntegerForms, Enumerations, OctetStrings, BitStrings, ObjectIds, Strings, Sequences, Extensions, UnknownAdditions, Lists, Choices, Checkings, Farthest, PathsFollowed, Boundaries};
 
 /// For every well-formed type: values that fit have the same canonical octets exactly where they are
@@ -48,6 +48,20 @@ pub fn canonical_encodes()
 pub fn filling()
     ensures fits { FilledFits }
     ensures twice { FilledTwice }
+{}
+
+/// Of a type with faults the one of least number is found, and there is one such fault. Of a type
+/// without none is found, and it is well-formed where its numbers are in their ranges.
+pub fn first_fault()
+    ensures none { NoFaultFound }
+    ensures first { FirstFaultFound }
+    ensures one { OneFirstFault }
+    ensures well_formed { FaultlessIsWellFormed }
+{}
+
+/// The defaults in a well-formed type fit their components' types.
+pub fn defaults_fit()
+    ensures fit { WellFormedDefaults }
 {}
 
 /// A value has no more parts, and holds no more octets, than its type and its encoding allow.

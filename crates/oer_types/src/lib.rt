@@ -21,6 +21,8 @@ mod value;
 
 pub use bits::Bits;
 pub use calls::{filled, fits, same_filled};
+pub use counting::parts_left;
+pub use depth::is_within_depth;
 pub use fault::SchemaFault;
 pub use fill::same_filled_at;
 pub use form::Form;

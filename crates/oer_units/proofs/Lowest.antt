@@ -31,7 +31,7 @@ pub wide_bits : (z : ℤ) → FitsSigned w64 z → FitsSigned w128 z
 wide_bits z h = omega (arith, ints)
 
 -- what is added above makes no difference
-low_above : (k m j : ℕ) → big_endian k (m + 256 ^ k * j) ≡ big_endian k m
+pub low_above : (k m j : ℕ) → big_endian k (m + 256 ^ k * j) ≡ big_endian k m
 low_above zero m j = refl
 low_above (suc k) m j =
     let t : ℕ = 256 ^ k * j in

@@ -15,7 +15,7 @@ use Rattle.oer_units.specs.Reading.{octet}
 use Rattle.std.specs.Io.KnownBytes.{Consumes, IsAtEnd}
 use Rattle.oer_units.specs.Fixed.{group_as}
 use Rattle.oer_units.specs.ReadingSteps.{allow_at}
-use Rattle.oer_units.specs.Reads.{Took, Span, place, named, seen, Exactly, State, Reads, Leads}
+use Rattle.oer_units.specs.Reads.{Took, Span, place, named, seen, Exactly, Made, State, Reads, Leads}
 use Rattle.oer_units.proofs.ReadSteps.{Reads-then, Reads-stop, Reads-give, Reads-map, Reads-same, Reads-refused, Reads-memory}
 
 pub group_over : (n : ℕ) (xs : List ℕ) (left : ℕ) → left < n → group n (at xs left) ≡ refused Limit xs
@@ -99,7 +99,7 @@ next_refused k n s s' old e f whole is le p r =
     let here : Reads (group (suc n)) s (Err e) s' = Reads-same (first_and n) (group (suc n)) s s' (Err e) (λ xs. group_step n xs (s.bound.end - s.bound.taken) (omega arith)) step in
     p (Err e) s' (subst (λ (j : ℕ). Reads (group j) s (Err e) s') (sym is) here)
 
-group_zero : (xs : List ℕ) (left : ℕ) → give [] (at xs left) ≡ group 0 (at xs left)
+pub group_zero : (xs : List ℕ) (left : ℕ) → give [] (at xs left) ≡ group 0 (at xs left)
 unfolding give
 group_zero xs left = sym (group_there 0 xs left (omega arith) (omega arith) ∙ ap (λ (l : ℕ). got [] (at xs l)) (omega arith))
 
@@ -188,6 +188,10 @@ exact_at (Some xs) (Some ys) t b b' room h end taken =
 pub fill_exact : (known new : Option (List ℕ)) (t : List ℕ) (n : ℕ) (b b' : Span) → length t ≡ n → n ≤ b.end - b.taken → Consumes known new t → b'.end ≡ b.end → b'.taken ≡ b.taken + n → Exactly (group n) known b (Ok t) new b'
 fill_exact known new t n b b' e room h end taken =
     subst (λ (k : ℕ). Exactly (group k) known b (Ok t) new b') e (exact_at known new t b b' (omega arith) h end (omega arith))
+
+-- so they are a group, whatever follows them
+pub fill_made : (t : List ℕ) (n : ℕ) (b b' : Span) → AllByRecursion (λ x. x < 256) t → length t ≡ n → n ≤ b.end - b.taken → b'.end ≡ b.end → b'.taken ≡ b.taken + n → Made (group n) b (Ok t) b'
+fill_made t n b b' fits e room end taken = (t, fits, omega arith, λ rest. fill_exact (Some (t ++ rest)) (Some rest) t n b b' e room refl end taken)
 
 -- the first n of these octets are octets
 pub fits_take : (n : ℕ) (xs : List ℕ) → ((k : ℕ) → get_or xs k 0 < 256) → AllByRecursion (λ x. x < 256) (take n xs)

@@ -1,5 +1,5 @@
 -- Open types.
-use Rattle.std.proofs.Common.{◌≡◌, ℕ, zero, suc, ◌+◌, ◌-◌, ◌<◌, ◌≤◌, Bool, true, false, List, Option, Some, None, Ok, Err, arith, refl, sym, ap, ◌∙◌, subst}
+use Rattle.std.proofs.Common.{◌≡◌, ℕ, zero, suc, ◌+◌, ◌-◌, ◌<◌, ◌≤◌, Bool, true, false, List, ◌++◌, Option, Some, None, Ok, Err, arith, refl, sym, ap, ◌∙◌, subst}
 use Rattle.std.proofs.lemmas.Bool.{le-leb}
 use Rattle.oer_units.specs.declared.fault.Why.{Why}
 use Rattle.oer_units.specs.declared.fault.Why.TheVariants.{Device, Limit, Window}
@@ -67,7 +67,7 @@ exact_short {A} n r s (Some xs) (Some ys) b' x e k le why some h = λ d m.
 
 -- An open type as the code reads it: the window is entered, its content is read, and it is left.
 within_stop : {A : Type 0} (n : ℕ) (r : Reader A) (s s' : State) (e : ReadFault) → n ≤ s.bound.end - s.bound.taken → Reads r (entered n s) (Err e) s' → Reads (filled_by n r) s (Err e) s'
-within_stop n r s s' e le p = record { reader = p.reader; kept = tt; limit = p.limit; within = λ h. let start : s.bound.taken ≤ s.bound.taken + n = omega arith in let inner : s'.bound.taken ≤ s.bound.taken + n = p.within start in omega arith; count = p.count; fault = p.fault; took = p.took; exact = exact_stop n r s s.known s'.known s'.bound e le p.exact }
+within_stop n r s s' e le p = record { reader = p.reader; kept = tt; limit = p.limit; within = λ h. let start : s.bound.taken ≤ s.bound.taken + n = omega arith in let inner : s'.bound.taken ≤ s.bound.taken + n = p.within start in omega arith; count = p.count; fault = p.fault; made = tt; took = p.took; exact = exact_stop n r s s.known s'.known s'.bound e le p.exact }
 
 within_got : {A : Type 0} (n : ℕ) (r : Reader A) (s s' : State) (x : A) → n ≤ s.bound.end - s.bound.taken → Reads r (entered n s) (Ok x) s' → s'.bound.taken ≡ s'.bound.end → Reads (filled_by n r) s (Ok x) (returned s.bound.end s.bound.inside s')
 within_got n r s s' x le p filled = record {
@@ -77,6 +77,7 @@ within_got n r s s' x le p filled = record {
   within = λ h. let start : s.bound.taken ≤ s.bound.taken + n = omega arith in let inner : s'.bound.taken ≤ s.bound.taken + n = p.within start in omega arith;
   count = p.count;
   fault = tt;
+  made = (p.made.0, p.made.1, p.made.2, λ rest. exact_got n r s (Some (p.made.0 ++ rest)) (Some rest) s'.bound x le p.kept.end filled (p.made.3 rest));
   took = p.took;
   exact = exact_got n r s s.known s'.known s'.bound x le p.kept.end filled p.exact;
 }
@@ -93,6 +94,7 @@ within_short n r s s' x e le p less why taken = record {
   within = λ h. let start : s.bound.taken ≤ s.bound.taken + n = omega arith in let inner : s'.bound.taken ≤ s.bound.taken + n = p.within start in omega arith;
   count = p.count ∙ count_window s.failed e.why why;
   fault = taken;
+  made = tt;
   took = p.took;
   exact = exact_short n r s s.known s'.known s'.bound x e (s'.bound.end - s'.bound.taken - 1) le why (omega arith) p.exact;
 }

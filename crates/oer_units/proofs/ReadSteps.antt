@@ -7,7 +7,7 @@ use Rattle.oer_units.specs.declared.fault.Why.{Why}
 use Rattle.oer_units.specs.declared.fault.Why.TheVariants.{Device, Memory}
 use Rattle.oer_units.specs.declared.fault.ReadFault.{ReadFault}
 use Rattle.oer_units.specs.Reader.{Place, Outcome, got, refused, Reader, then_read, bind, give, refuse}
-use Rattle.oer_units.specs.Reads.{Span, place, named, renamed, seen, count_after, counted, Took, Gives, Exactly, Keeps, State, Reads}
+use Rattle.oer_units.specs.Reads.{Span, place, named, renamed, seen, count_after, counted, Took, Gives, Exactly, Made, Keeps, State, Reads}
 
 pub Keeps-refl : (b : Span) → Keeps b b
 Keeps-refl b = record { end = refl; limit = refl; inside = refl; grows = omega arith }
@@ -58,6 +58,17 @@ kept_then : {B : Type 0} (a b c : Span) (result : Result B ReadFault) → Keeps 
 kept_then a b c (Ok x) p q = Keeps-then a b c p q
 kept_then a b c (Err e) p q = tt
 
+made_then : {A B : Type 0} (m : Reader A) (f : A → Reader B) (b b' b'' : Span) (x : A) (result : Result B ReadFault) → b'.inside ≡ b.inside → Made m b (Ok x) b' → Made (f x) b' result b'' → Made (bind m f) b result b''
+made_then m f b b' b'' x (Err e) i p q = tt
+made_then m f b b' b'' x (Ok y) i p q = (
+  p.0 ++ q.0,
+  All-append _ p.0 q.0 p.1 q.1,
+  (let h = p.2 in let k = q.2 in omega (arith, length-append p.0 q.0)),
+  λ rest.
+      let whole : p.0 ++ (q.0 ++ rest) ≡ (p.0 ++ q.0) ++ rest = sym (append_assoc p.0 q.0 rest) in
+      subst (λ (l : List ℕ). Exactly (bind m f) (Some l) b (Ok y) (Some rest) b'') whole (Exactly-then m f (Some (p.0 ++ (q.0 ++ rest))) (Some (q.0 ++ rest)) (Some rest) b b' b'' x (Ok y) i (p.3 (q.0 ++ rest)) (q.3 rest)),
+)
+
 -- a step, and what follows it
 pub Reads-then : {A B : Type 0} (m : Reader A) (f : A → Reader B) (s s' s'' : State) (x : A) (result : Result B ReadFault) → Reads m s (Ok x) s' → Reads (f x) s' result s'' → Reads (bind m f) s result s''
 Reads-then m f s s' s'' x result p q = record {
@@ -67,13 +78,14 @@ Reads-then m f s s' s'' x result p q = record {
   within = λ h. let a : s'.bound.taken ≤ s.bound.end = p.within h in let e : s'.bound.end ≡ s.bound.end = p.kept.end in let b : s'.bound.taken ≤ s'.bound.end = omega arith in let d : s''.bound.taken ≤ s'.bound.end = q.within b in omega arith;
   count = subst (λ n. s''.failed ≡ counted n result) p.count q.count;
   fault = q.fault;
+  made = made_then m f s.bound s'.bound s''.bound x result p.kept.inside p.made q.made;
   took = Took-then _ _ _ _ _ _ p.took q.took (λ (t u : List ℕ) (h : s.bound.taken + length t ≡ s'.bound.taken) (k : s'.bound.taken + length u ≡ s''.bound.taken). omega (arith, length-append t u));
   exact = Exactly-then m f s.known s'.known s''.known s.bound s'.bound s''.bound x result p.kept.inside p.exact q.exact;
 }
 
 -- a step that is refused
 pub Reads-stop : {A B : Type 0} (m : Reader A) (f : A → Reader B) (s s' : State) (e : ReadFault) → Reads m s (Err e) s' → Reads (bind m f) s (Err e) s'
-Reads-stop m f s s' e p = record { reader = p.reader; kept = tt; limit = p.limit; within = p.within; count = p.count; fault = p.fault; took = p.took; exact = Exactly-stop m f s.known s'.known s.bound s'.bound e p.exact }
+Reads-stop m f s s' e p = record { reader = p.reader; kept = tt; limit = p.limit; within = p.within; count = p.count; fault = p.fault; made = tt; took = p.took; exact = Exactly-stop m f s.known s'.known s.bound s'.bound e p.exact }
 
 Exactly-done : {A : Type 0} (x : A) (known : Option (List ℕ)) (b : Span) → Exactly (give x) known b (Ok x) known b
 unfolding give
@@ -88,6 +100,7 @@ Reads-give x s = record {
   within = λ h. h;
   count = refl;
   fault = tt;
+  made = ([], tt, omega arith, λ rest. Exactly-done x (Some rest) s.bound);
   took = Took-none s.known _ (omega arith);
   exact = Exactly-done x s.known s.bound;
 }
@@ -102,9 +115,13 @@ exact_same r r' None known' b b' result same h = tt
 exact_same r r' (Some xs) None b b' result same h = absurd h
 exact_same {A} r r' (Some xs) (Some ys) b b' result same h = subst (λ (o : Outcome A). Gives (renamed b.inside o) result ys b') (same xs) h
 
+made_same : {A : Type 0} (r r' : Reader A) (b b' : Span) (result : Result A ReadFault) → ((xs : List ℕ) → r (place xs b) ≡ r' (place xs b)) → Made r b result b' → Made r' b result b'
+made_same r r' b b' (Ok x) same h = (h.0, h.1, h.2, λ rest. exact_same r r' (Some (h.0 ++ rest)) (Some rest) b b' (Ok x) same (h.3 rest))
+made_same r r' b b' (Err e) same h = tt
+
 -- a reader that agrees with another one at the places in question
 pub Reads-same : {A : Type 0} (r r' : Reader A) (s s' : State) (result : Result A ReadFault) → ((xs : List ℕ) → r (place xs s.bound) ≡ r' (place xs s.bound)) → Reads r s result s' → Reads r' s result s'
-Reads-same r r' s s' result same h = record { reader = h.reader; kept = h.kept; limit = h.limit; within = h.within; count = h.count; fault = h.fault; took = h.took; exact = exact_same r r' s.known s'.known s.bound s'.bound result same h.exact }
+Reads-same r r' s s' result same h = record { reader = h.reader; kept = h.kept; limit = h.limit; within = h.within; count = h.count; fault = h.fault; made = made_same r r' s.bound s'.bound result same h.made; took = h.took; exact = exact_same r r' s.known s'.known s.bound s'.bound result same h.exact }
 
 -- ---- refusals at a place
 
@@ -126,6 +143,7 @@ Reads-refused A why e s other is taken = record {
   within = λ h. h;
   count = count_kept s.failed e.why other;
   fault = taken;
+  made = tt;
   took = Took-none s.known _ (omega arith);
   exact = Exactly-refused A why e s.known s.bound is;
 }
@@ -143,6 +161,7 @@ Reads-memory r e s is taken = record {
   within = λ h. h;
   count = count_kept s.failed e.why (λ (d : e.why ≡ Device). cc);
   fault = taken;
+  made = tt;
   took = Took-none s.known _ (omega arith);
   exact = Exactly-memory r e s.known s.bound is;
 }
@@ -156,6 +175,7 @@ Reads-memory_after m r s s' x e p is taken = record {
   within = p.within;
   count = p.count ∙ count_kept s.failed e.why (λ (d : e.why ≡ Device). cc);
   fault = taken;
+  made = tt;
   took = p.took;
   exact = after r e s.known s'.known s.bound s'.bound p.exact is;
 } where

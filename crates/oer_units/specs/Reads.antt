@@ -68,6 +68,11 @@ Exactly r None b result new b' = ⊤
 Exactly r (Some xs) b result None b' = ⊥
 Exactly r (Some xs) b result (Some ys) b' = Gives (renamed b.inside (r (place xs b))) result ys b'
 
+-- At Ok there are octets that r reads as the answer, whatever follows them: those that were taken, whether they were known before or not.
+abbrev pub Made : {A : Type 0} → Reader A → Span → Result A ReadFault → Span → Type 0
+Made r b (Ok x) b' = (t : List ℕ) × AllByRecursion (λ y. y < 256) t × (b.taken + length t ≡ b'.taken) × ((rest : List ℕ) → Exactly r (Some (t ++ rest)) b (Ok x) (Some rest) b')
+Made r b (Err e) b' = ⊤
+
 -- what stays of a bound while octets are taken
 pub record Keeps (b b' : Span) : Type 0 where
   pub end : b'.end ≡ b.end
@@ -97,6 +102,7 @@ pub record Reads {A : Type 0} (r : Reader A) (old : State) (result : Result A Re
   pub within : old.bound.taken ≤ old.bound.end → new.bound.taken ≤ old.bound.end
   pub count : new.failed ≡ counted old.failed result
   pub fault : IfErr result (λ e. e.taken ≡ new.bound.taken)
+  pub made : Made r old.bound result new.bound
   -- where its octets are known
   pub took : Took old.known new.known (λ t. old.bound.taken + length t ≡ new.bound.taken)
   pub exact : Exactly r old.known old.bound result new.known new.bound

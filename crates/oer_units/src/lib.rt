@@ -19,8 +19,8 @@ mod writing_tests;
 
 pub use fault::{ReadFault, SinkFault, Why};
 pub use reading::{
-    enumerated, length, octet, octets, signed_counted, signed_fixed, subidentifier, tag,
-    unsigned_counted, unsigned_fixed,
+    enumerated, length, octet, octets, octets_into, signed_counted, signed_fixed, subidentifier,
+    tag, unsigned_counted, unsigned_fixed,
 };
 pub use stream::{Metered, Sink, Source};
 pub use tagging::{Class, Tag};

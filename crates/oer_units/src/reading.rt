@@ -1,5 +1,5 @@
 //! Readers of one unit each.
-ghost use Rattle.std.specs.Prelude.{◌≡◌, ◌≤◌, ◌<◌, ◌-◌, ◌+◌, ◌*◌, ◌/◌, ◌^◌, false, drop, take, IfOk, OnOk, vec_len};
+ghost use Rattle.std.specs.Prelude.{◌≡◌, ◌≤◌, ◌<◌, ◌-◌, ◌+◌, ◌*◌, ◌/◌, ◌^◌, false, drop, take, length, IfOk, OnOk, vec_len};
 ghost use Rattle.oer_units.specs.Reader.{group};
 ghost use Rattle.oer_units.specs.Numbers.{natural, signed};
 ghost use Rattle.oer_units.specs.Reading.{octet as octet_at, counted_length, counted_number, number as number_read, is_int128, is_int64, enumerated as enumerated_at, subidentifier as subidentifier_at, long_number, class_of, tag as tag_at};
@@ -80,11 +80,60 @@ pub fn octets<R: Source>(alloc: Global, w: &mut Window<R>, n: u64) -> Result<Vec
     Ok(octets)
 }
 
+/// The next octets, as many as `into` holds. At a refusal it may be filled in part. No memory is
+/// taken.
+pub fn octets_into<R: Source>(w: &mut Window<R>, into: &mut [u8]) -> Result<(), ReadFault>
+    ensures bound { Keeps (bound_of w.old) (bound_of w.new) }
+    ensures memory { TakesNoMemory result }
+    ensures reads { Reads (group (length into.old)) (state R.remaining R.failed w.old)
+        (seen (λ _. into.new) result) (state R.remaining R.failed w.new) }
+{
+    w.allow(into.len() as u128)?;
+    w.fill_all(into)
+}
+
 // What an octet adds to the size of a number: below 0 its complement.
 fn digit(is_below: bool, octet: u8) -> u8
     ensures { result ≡ digit_of is_below octet }
 {
     if is_below { 255 - octet } else { octet }
+}
+
+// The size of a number that goes on from `value` in these octets; `u128::MAX` for a greater one.
+fn size_of(octets: &[u8], is_below: bool, value: u128) -> u128
+    ensures value { result ≡ size_after is_below value octets.now }
+    ensures room { result + 1 ≤ (value + 1) * 256 ^ length octets.now }
+{
+    let mut size = value;
+    for octet in octets {
+        let more = digit(is_below, *octet) as u128;
+        size = size.saturating_mul(256).saturating_add(more);
+    }
+    size
+}
+
+// How many octets of a number are read at once.
+const AT_ONCE: usize = 16;
+
+// The size of a number that goes on from `value` in a few octets, which are read at once.
+fn short_size_from<R: Source>(
+    w: &mut Window<R>,
+    count: usize,
+    is_below: bool,
+    value: u128,
+) -> Result<u128, ReadFault>
+    requires few { count ≤ 16 }
+    requires room { count ≤ left_of (bound_of w.old) }
+    ensures bound { Keeps (bound_of w.old) (bound_of w.new) }
+    ensures memory { TakesNoMemory result }
+    ensures size { IfOk result (λ n. n + 1 ≤ (value + 1) * 256 ^ count) }
+    ensures reads { Reads (group_as count (size_after is_below value)) (state R.remaining R.failed w.old) result
+        (state R.remaining R.failed w.new) }
+{
+    let mut buffer = [0u8; AT_ONCE];
+    let octets = &mut buffer[..count];
+    w.fill_all(octets)?;
+    Ok(size_of(octets, is_below, value))
 }
 
 // The size of a number that goes on from `value` in `count` octets; `u128::MAX` for a greater one.
@@ -101,6 +150,9 @@ fn size_from<R: Source>(
     ensures reads { Reads (group_as count (size_after is_below value)) (state R.remaining R.failed w.old) result
         (state R.remaining R.failed w.new) }
 {
+    if count <= AT_ONCE as u64 {
+        return short_size_from(w, count as usize, is_below, value);
+    }
     let mut size = value;
     for _step in 0..count {
         let octet = w.next()?;

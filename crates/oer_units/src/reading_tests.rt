@@ -1,7 +1,7 @@
 use crate::fault::{ReadFault, Why};
 use crate::reading::{
-    enumerated, length, octet, octets, signed_counted, signed_fixed, subidentifier, tag,
-    unsigned_counted, unsigned_fixed,
+    enumerated, length, octet, octets, octets_into, signed_counted, signed_fixed, subidentifier,
+    tag, unsigned_counted, unsigned_fixed,
 };
 use crate::stream::{Metered, Source};
 use crate::tagging::{Class, Tag};
@@ -164,6 +164,10 @@ fn octets_of_a_group(rt: HostRuntime) {
         Err(_) => assert!(rt; false),
     }
     assert_eq!(rt; w.taken(), 2);
+    let mut last = [0u8; 1];
+    assert_eq!(rt; octets_into(&mut w, &mut last), Ok(()));
+    assert_eq!(rt; last, [0x63]);
+    assert_eq!(rt; octets_into(&mut w, &mut last), fault(3, Why::Limit));
 }
 
 #[test]

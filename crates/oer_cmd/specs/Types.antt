@@ -1,0 +1,40 @@
+-- The type that the options name.
+use Rattle.std.specs.Prelude.{List, Option, Some, None}
+use Rattle.clap.specs.Words.{Text}
+use Rattle.oer_types.specs.AsnType.{AsnType}
+use Rattle.oer_text.specs.Grammar.{IsDefined, Spells, SpellsAll}
+use Rattle.oer_text.specs.Reading.{Known}
+use Rattle.oer_cmd.specs.declared.options.Options.{Options}
+use Rattle.oer_cmd.specs.declared.type_text.TypeText.{TypeText}
+use Rattle.oer_cmd.specs.declared.type_text.TypeText.TheVariants.{One, Named}
+use Rattle.oer_cmd.specs.Words.{behind}
+
+-- the text spells definitions, among which the Name has the type
+abbrev pub Defines : Text → Text → AsnType → Type 0
+Defines text name T = (definitions : List Known) × SpellsAll definitions text × IsDefined name T definitions
+
+-- the texts of `--type`, `--types` and `--name`
+pub record Texts : Type 0 where
+  pub one : Option Text
+  pub types : Option Text
+  pub name : Option Text
+
+abbrev pub IsNamed : Option Text → Option Text → Option Text → AsnType → Type 0
+IsNamed (Some text) None None T = Spells T text
+IsNamed None (Some text) (Some name) T = Defines text name T
+IsNamed one types name T = ⊥
+
+-- the type is the one that the text of `--type` spells, or that the Name of `--name` has among the definitions of `--types`
+abbrev pub SpelledBy : Texts → AsnType → Type 0
+SpelledBy t T = IsNamed t.one t.types t.name T
+
+-- no texts of these options name a type
+abbrev pub NamesNone : Texts → Type 0
+NamesNone t = (T : AsnType) → SpelledBy t T → ⊥
+
+abbrev pub texts_of : Options → Texts
+texts_of o = record { one = behind o.type_text; types = behind o.types; name = behind o.name }
+
+abbrev pub texts_at : TypeText → Texts
+texts_at (One text) = record { one = Some text.now; types = None; name = None }
+texts_at (Named types name) = record { one = None; types = Some types.now; name = Some name.now }

@@ -1,0 +1,78 @@
+//! The type that the options name.
+ghost use Rattle.std.specs.Prelude.{◌≡◌, IfOk, MatchResult};
+ghost use Rattle.oer_types.specs.Schema.{the_type};
+ghost use Rattle.oer_text.specs.Grammar.{IsDefined, IsNew, Spells, SpellsAll};
+ghost use Rattle.oer_text.specs.Views.{knowns};
+ghost use Rattle.oer_cmd.specs.Types.{NamesNone, texts_at, texts_of};
+
+use crate::fault::Fault;
+use crate::options::Options;
+use oer_text::{Types, parse_type, parse_types};
+use oer_types::Schema;
+use std::alloc::Global;
+
+/// Where the type stands.
+#[derive(Clone, Copy)]
+pub enum TypeText<'a> {
+    /// In the text of one type.
+    One(&'a str),
+    /// Among definitions, under a Name.
+    Named { types: &'a str, name: &'a str },
+}
+
+/// Where the options say that the type stands: in the text of `--type`, or among the definitions of
+/// `--types` under the Name of `--name`. It is refused as `OneType` where neither `--type` nor
+/// `--types` is given or both are, as `NoTypes` where `--name` is given beside `--type`, and as
+/// `NoName` where it isn't beside `--types`.
+pub fn type_text(options: Options<'_>) -> Result<TypeText<'_>, Fault<'_>>
+    ensures { MatchResult result (λ text. texts_at text ≡ texts_of options.entry)
+        (λ _. NamesNone (texts_of options.entry)) }
+{
+    if let Some(text) = options.type_text {
+        if options.types.is_some() {
+            return Err(Fault::OneType);
+        }
+        if options.name.is_some() {
+            return Err(Fault::NoTypes);
+        }
+        return Ok(TypeText::One(text));
+    }
+    let Some(types) = options.types else {
+        return Err(Fault::OneType);
+    };
+    let Some(name) = options.name else {
+        return Err(Fault::NoName);
+    };
+    Ok(TypeText::Named { types, name })
+}
+
+/// The type that the text spells; refused as `Type`, or as `Memory`.
+pub fn one_type(alloc: Global, text: &str) -> Result<Schema, Fault<'_>>
+    ensures { IfOk result (λ schema. Spells (the_type schema) text.now) }
+{
+    match parse_type(alloc, text) {
+        Ok(schema) => Ok(schema),
+        Err(fault) => Err(Fault::of_text(fault)),
+    }
+}
+
+/// The definitions that the text spells; refused as `Type`, or as `Memory`.
+pub fn definitions(alloc: Global, text: &str) -> Result<Types, Fault<'_>>
+    ensures { IfOk result (λ types. SpellsAll (knowns types) text.now) }
+{
+    match parse_types(alloc, text) {
+        Ok(types) => Ok(types),
+        Err(fault) => Err(Fault::of_text(fault)),
+    }
+}
+
+/// The type that the Name has among the definitions; refused as `Unnamed` where none has it.
+pub fn named_type<'t, 'a>(types: &'t Types, name: &'a str) -> Result<&'t Schema, Fault<'a>>
+    ensures { MatchResult result (λ schema. IsDefined name.now (the_type schema.now) (knowns types.now))
+        (λ _. IsNew name.now (knowns types.now)) }
+{
+    match types.get(name) {
+        Some(schema) => Ok(schema),
+        None => Err(Fault::Unnamed(name)),
+    }
+}

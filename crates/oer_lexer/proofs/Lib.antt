@@ -1,0 +1,6 @@
+pub mod Boundaries
+pub mod ByteSteps
+pub mod Chars
+pub mod LexComplete
+pub mod LexSound
+pub mod Turns

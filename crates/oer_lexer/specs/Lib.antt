@@ -1,0 +1,5 @@
+pub mod Characters
+pub mod FallsInto
+pub mod Laws
+pub mod Lexing
+pub mod Token

@@ -1,0 +1,12 @@
+//! The tokens of the notation of types.
+#![tactic(auto)]
+
+pub mod laws;
+mod lengths;
+mod lexing;
+#[cfg(test)]
+mod tests;
+mod token;
+
+pub use lexing::{Tokens, lex};
+pub use token::{Kind, Sign, Spot, Token};

@@ -1,0 +1,20 @@
+//! Values are read from their Basic-OER encodings (X.696), and these are rewritten as canonical ones.
+#![tactic(auto)]
+
+mod bit_strings;
+mod fault;
+mod front;
+pub mod laws;
+mod numbers;
+mod parts;
+mod preamble;
+mod rewriting;
+mod sizes;
+mod strings;
+#[cfg(test)]
+mod tests;
+mod value;
+
+pub use fault::RewriteFault;
+pub use front::read;
+pub use rewriting::rewrite;

@@ -1,0 +1,212 @@
+//! OCTET STRING, character strings and OBJECT IDENTIFIER.
+ghost use Rattle.std.specs.Prelude.{◌≡◌, ◌≤◌, ◌<◌, ◌-◌, ◌+◌, ℕ, IfOk, MatchOption, false, true, length, string_bytes};
+ghost use Rattle.std.specs.Str.{chars, is_utf8};
+ghost use Rattle.oer_units.specs.Reading.{counted_octets as counted_octets_at, arcs_of as the_arcs, subidentifiers as subidentifiers_at};
+ghost use Rattle.oer_units.specs.Reads.{Reads, bound_of, left_of, seen, state};
+ghost use Rattle.oer_types.specs.AsnType.{printable, octet_string as octet_string_type, object_id as object_id_type, restricted_string, utf8_string};
+ghost use Rattle.oer_types.specs.Constraints.{all_characters, fixed as fixed_size, is_character};
+ghost use Rattle.oer_types.specs.Reading.{read_octets, read_value};
+ghost use Rattle.oer_types.specs.ValueView.{value_of};
+ghost use Rattle.oer_reader.specs.AlphabetView.{alphabet_of};
+
+use crate::sizes::{allows, fixed};
+use oer_types::{Size, Value};
+use oer_units::{ReadFault, Source, Why, Window, length, octets, subidentifier};
+use std::alloc::{AllocError, Global};
+
+/// The character strings that have one octet for each character.
+#[derive(Clone, Copy)]
+pub(crate) enum Alphabet {
+    Ia5,
+    Visible,
+    Numeric,
+    Printable,
+}
+
+/// A length, and that many octets.
+pub(crate) fn counted_octets<R: Source>(
+    alloc: Global,
+    w: &mut Window<R>,
+) -> Result<Vec<u8>, ReadFault>
+    ensures { Reads counted_octets_at (state R.remaining R.failed w.old) (seen (λ v. v.items) result)
+        (state R.remaining R.failed w.new) }
+{
+    let count = length(w)?;
+    octets(alloc, w, count)
+}
+
+// As many octets as the one size says, or else as a length says that the size allows.
+fn sized_octets<R: Source>(
+    alloc: Global,
+    size: Size,
+    w: &mut Window<R>,
+) -> Result<Vec<u8>, ReadFault>
+    ensures { Reads (read_octets (fixed_size size) size) (state R.remaining R.failed w.old) (seen (λ v. v.items) result)
+        (state R.remaining R.failed w.new) }
+{
+    if let Some(count) = fixed(size) {
+        return octets(alloc, w, count);
+    }
+    let count = length(w)?;
+    if !allows(size, u128::from(count)) {
+        return Err(w.fault(Why::Size));
+    }
+    octets(alloc, w, count)
+}
+
+/// An OCTET STRING (X.696, 14).
+pub(crate) fn read_octet_string<R: Source>(
+    alloc: Global,
+    size: Size,
+    w: &mut Window<R>,
+) -> Result<Value, ReadFault>
+    ensures { Reads (read_value (octet_string_type size)) (state R.remaining R.failed w.old) (seen value_of result)
+        (state R.remaining R.failed w.new) }
+{
+    let octets = sized_octets(alloc, size, w)?;
+    Ok(Value::Octets(octets))
+}
+
+/// A character string with one octet for each character (X.696, 27).
+pub(crate) fn read_text<R: Source>(
+    alloc: Global,
+    kind: Alphabet,
+    size: Size,
+    w: &mut Window<R>,
+) -> Result<Value, ReadFault>
+    ensures { Reads (read_value (restricted_string (alphabet_of kind) size)) (state R.remaining R.failed w.old)
+        (seen value_of result) (state R.remaining R.failed w.new) }
+{
+    let octets = sized_octets(alloc, size, w)?;
+    if !are_characters(kind, &octets) {
+        return Err(w.fault(Why::Character));
+    }
+    let Some(text) = decoded(octets) else {
+        return Err(w.fault(Why::Character));
+    };
+    Ok(Value::Text(text))
+}
+
+// Whether each octet is a character of the kind.
+fn are_characters(kind: Alphabet, octets: &[u8]) -> bool
+    ensures { result ≡ all_characters (alphabet_of kind) octets.now }
+{
+    for octet in octets {
+        if !is_in_alphabet(kind, *octet) {
+            return false;
+        }
+    }
+    true
+}
+
+fn is_in_alphabet(kind: Alphabet, octet: u8) -> bool
+    ensures { result ≡ is_character (alphabet_of kind) octet }
+{
+    match kind {
+        Alphabet::Ia5 => octet <= 127,
+        Alphabet::Visible => 32 <= octet && octet <= 126,
+        Alphabet::Numeric => 48 <= octet && octet <= 57 || octet == 32,
+        Alphabet::Printable => is_printable(octet),
+    }
+}
+
+// A letter, a digit, a space or one of ' ( ) + , - . / : = ? (X.680, 41.4).
+fn is_printable(octet: u8) -> bool
+    ensures { result ≡ is_character printable octet }
+{
+    matches!(octet, b'A'..=b'Z' | b'a'..=b'z' | b'0'..=b'9' | b' ' | b'\'' | b'(' | b')')
+        || matches!(octet, b'+' | b',' | b'-' | b'.' | b'/' | b':' | b'=' | b'?')
+}
+
+/// A UTF8String (X.696, 27). Its size counts characters.
+pub(crate) fn read_utf8<R: Source>(
+    alloc: Global,
+    size: Size,
+    w: &mut Window<R>,
+) -> Result<Value, ReadFault>
+    ensures { Reads (read_value (utf8_string size)) (state R.remaining R.failed w.old) (seen value_of result)
+        (state R.remaining R.failed w.new) }
+{
+    let octets = counted_octets(alloc, w)?;
+    let Some(text) = decoded(octets) else {
+        return Err(w.fault(Why::Character));
+    };
+    if !allows(size, u128::from(characters_in(text.as_str()))) {
+        return Err(w.fault(Why::Size));
+    }
+    Ok(Value::Text(text))
+}
+
+// The octets as text, where they are UTF-8.
+fn decoded(octets: Vec<u8>) -> Option<String>
+    ensures { MatchOption result (is_utf8 octets.items ≡ false)
+        (λ t. (is_utf8 octets.items ≡ true) × (string_bytes t ≡ octets.items)) }
+{
+    match String::from_utf8(octets) {
+        Ok(text) => Some(text),
+        Err(_) => None,
+    }
+}
+
+fn characters_in(text: &str) -> u64
+    ensures { result ≡ length (chars text.now) }
+{
+    text.chars().count() as u64
+}
+
+/// An OBJECT IDENTIFIER (X.696, 21; X.690, 8.19): its arcs.
+pub(crate) fn read_object_id<R: Source>(
+    alloc: Global,
+    w: &mut Window<R>,
+) -> Result<Value, ReadFault>
+    ensures { Reads (read_value object_id_type) (state R.remaining R.failed w.old) (seen value_of result)
+        (state R.remaining R.failed w.new) }
+{
+    let content = length(w)?;
+    if content == 0 {
+        return Err(w.fault(Why::ObjectId));
+    }
+    let numbers = subidentifiers(alloc, content, w)?;
+    let Ok(arcs) = arcs_of(alloc, &numbers) else {
+        return Err(w.fault(Why::Memory));
+    };
+    Ok(Value::Oid(arcs))
+}
+
+// The subidentifiers in so many octets.
+fn subidentifiers<R: Source>(
+    alloc: Global,
+    content: u64,
+    w: &mut Window<R>,
+) -> Result<Vec<u128>, ReadFault>
+    requires { content ≤ left_of (bound_of w.old) }
+    ensures { Reads (subidentifiers_at content content) (state R.remaining R.failed w.old) (seen (λ v. v.items) result)
+        (state R.remaining R.failed w.new) }
+{
+    let mut numbers = Vec::new(alloc);
+    let end = w.taken() + content;
+    for turn in 0..content {
+        if end <= w.taken() {
+            return Ok(numbers);
+        }
+        let number = subidentifier(w, end - w.taken())?;
+        if numbers.push(number).is_err() {
+            return Err(w.fault(Why::Memory));
+        }
+    }
+    Ok(numbers)
+}
+
+// The arcs: the first subidentifier holds two of them.
+fn arcs_of(alloc: Global, numbers: &[u128]) -> Result<Vec<u128>, AllocError>
+    ensures { IfOk result (λ v. v.items ≡ the_arcs numbers.now) }
+{
+    let mut arcs = Vec::new(alloc);
+    if let [first, rest @ ..] = numbers {
+        let root = (*first / 40).min(2);
+        arcs.push(root)?;
+        arcs.push(*first - 40 * root)?;
+        arcs.extend_from_slice(rest)?;
+    }
+    Ok(arcs)
+}

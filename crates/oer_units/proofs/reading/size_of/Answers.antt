@@ -1,0 +1,27 @@
+use Rattle.std.proofs.Common.{◌≡◌, ◌+◌, ◌*◌, ◌≤◌, ◌^◌, ◌∙◌, ℕ, List, arith, refl, sym, ap, subst, length, drop}
+use Rattle.oer_units.proofs.ReadNumbers.{size_at, size_room, size_end}
+use Rattle.oer_units.proofs.reading.size_of.Goals as goal
+
+pub loop-octet-init : goal.loop-octet-init
+loop-octet-init c = record { room = omega arith; same = refl }
+
+pub loop-octet-preserved : goal.loop-octet-preserved
+loop-octet-preserved c =
+    let digit_is = c.digit-more.ensures in
+    let product = c.saturating_mul.ensures in
+    let sum = c.saturating_add-size.ensures in
+    record {
+      room = size_room (c.args.value + 1) c.loop-octet.size c.digit-more.result _ c.loop-octet.octet-index c.loop-octet.invariant.room (omega arith) (omega arith);
+      same = size_at c.args.is_below c.loop-octet.size _ c.args.octets.now c.loop-octet.octet-index _ c.loop-octet-test.true refl (omega arith) ∙ c.loop-octet.invariant.same;
+    }
+
+pub returns-clause-value : goal.returns-clause-value
+returns-clause-value c = size_end c.args.is_below c.loop-octet.size c.args.value c.args.octets.now c.loop-octet.octet-index c.loop-octet-test.false c.loop-octet.invariant.same
+
+pub returns-clause-room : goal.returns-clause-room
+returns-clause-room c =
+    let test = c.loop-octet-test.false in
+    let end = c.loop-octet.auto.octet-index-end in
+    let done : c.loop-octet.octet-index ≡ length c.args.octets.now = omega arith in
+    let P = λ (k : ℕ). c.loop-octet.size + 1 ≤ (c.args.value + 1) * 256 ^ k in
+    subst P done c.loop-octet.invariant.room

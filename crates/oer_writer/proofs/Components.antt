@@ -1,0 +1,272 @@
+-- The canonical octets of components, elements and alternatives, one after another.
+use Rattle.std.proofs.Common.{◌≡◌, ℕ, suc, ◌+◌, ◌<◌, ◌≤◌, List, [], ◌∷◌, ◌++◌, length, drop, get_or, map, Bool, true, false, ◌||◌, if◌then◌else◌, Option, Some, None, option_map, Vec, Box, Global, arith, refl, sym, ap, ap₂, ◌∙◌, append-nil, length-append}
+use Rattle.std.proofs.lemmas.Bool.{false≢true}
+use Rattle.std.proofs.lemmas.List.{drop_more, drop_all, length-map}
+use Rattle.oer_units.specs.Least.{counted, tag_octets, unsigned_octets}
+use Rattle.oer_units.specs.declared.tagging.Tag.{Tag}
+use Rattle.oer_types.specs.AsnType.{AsnType, Need, must, may, default, Fields, Additions, Alternatives, no_fields, field, no_additions, addition, no_alternatives, sequence, extensible_sequence, sequence_of, choice}
+use Rattle.oer_types.specs.AsnValue.{AsnValue, Places, Unknown, no_places, absent, present, seq, chosen}
+use Rattle.oer_types.specs.Bits.{padded}
+use Rattle.oer_types.specs.Canonical.{any_present, any_unknown, bitmap_octets, canonical_octets, count, extension_octets, same, trimmed, trimmed_additions, unknown_marks, unknown_octets}
+use Rattle.oer_types.specs.Constraints.{addition_count, has_tag, same_tag}
+use Rattle.oer_types.specs.Filling.{filled, map_values}
+use Rattle.oer_types.specs.ShapeView.{additions_of, fields_of, later_of, root_of, choice_with, seen_field, seen_addition, need_of, type_of}
+use Rattle.oer_types.specs.ValueView.{places_of, places_from, unknown_of, value_of, values_of, values_from}
+use Rattle.oer_types.specs.declared.shape.Addition.{Addition}
+use Rattle.oer_types.specs.declared.shape.Alt.{Alt}
+use Rattle.oer_types.specs.declared.shape.Field.{Field}
+use Rattle.oer_types.specs.declared.shape.Shape.{Shape, Sequence, SequenceOf, Choice}
+use Rattle.oer_types.specs.declared.size.Size.{Size}
+use Rattle.oer_types.specs.declared.value.Unknown as rust_unknown
+use Rattle.oer_types.specs.declared.value.Value.{Value, Seq, List as Elements, Chosen}
+use Rattle.oer_types.proofs.Shapes.{type_of-Sequence, type_of-SequenceOf, type_of-Choice}
+use Rattle.oer_types.proofs.Values.{value_of-Seq, value_of-List, value_of-Chosen}
+use Rattle.oer_writer.specs.Parts.{chosen_octets, counted_place, field_bits, field_octets, first_bits, kept_place, known_bits, known_octets, place_octets_of, values_octets}
+use Rattle.oer_writer.proofs.Places.{counted_additions}
+
+-- ---- the root
+
+field_first : (n : List ℕ) (need : Need) (T : AsnType) (fs : Fields) (p : Option AsnValue) (ps : List (Option AsnValue)) → field_octets (field n need T fs) (places_from (p ∷ ps)) ≡ place_octets_of T (kept_place need T p) ++ field_octets fs (places_from ps)
+field_first n must T fs None ps = refl
+field_first n may T fs None ps = refl
+field_first n (default d) T fs None ps = refl
+field_first n must T fs (Some v) ps = refl
+field_first n may T fs (Some v) ps = refl
+field_first n (default d) T fs (Some v) ps = by (same (filled T v) (filled T d)) refl
+  where
+    by : (b : Bool) → same (filled T v) (filled T d) ≡ b → field_octets (field n (default d) T fs) (present v (places_from ps)) ≡ place_octets_of T (kept_place (default d) T (Some v)) ++ field_octets fs (places_from ps)
+    by true e = rw (e) refl
+    by false e = rw (e) refl
+
+pub field_step : (xs : List Field) (i : ℕ) (x : Field) (ps qs : List (Option Value)) (p : Option Value) → i < length xs → x ≡ get_or xs i x → ps ≡ p ∷ qs → field_octets (fields_of (drop i xs)) (places_of ps) ≡ place_octets_of (type_of x.shape) (kept_place (need_of x.need) (type_of x.shape) (option_map value_of p)) ++ field_octets (fields_of (drop (i + 1) xs)) (places_of qs)
+field_step xs i x ps qs p h is e =
+    let rest = drop (i + 1) xs in
+    ap (λ l. field_octets (fields_of l) (places_of ps)) (drop_more xs i x h ∙ ap (λ y. y ∷ rest) (sym is)) ∙ ap (λ l. field_octets (fields_of (x ∷ rest)) (places_of l)) e
+    ∙ field_first (seen_field x).name (seen_field x).need (seen_field x).type (fields_of rest) (option_map value_of p) (map (option_map value_of) qs)
+
+pub field_none : (xs : List Field) (ps : List (Option Value)) → ps ≡ [] → field_octets (fields_of xs) (places_of ps) ≡ []
+field_none xs ps e = ap (λ l. field_octets (fields_of xs) (places_of l)) e ∙ none xs
+  where
+    none : (xs : List Field) → field_octets (fields_of xs) no_places ≡ []
+    none [] = refl
+    none (x ∷ xs) = refl
+
+no_field : (ps : Places) → field_octets no_fields ps ≡ []
+no_field ps = refl
+
+pub field_end : (xs : List Field) (i : ℕ) (ps : List (Option Value)) → length xs ≤ i → field_octets (fields_of (drop i xs)) (places_of ps) ≡ []
+field_end xs i ps h = ap (λ l. field_octets (fields_of l) (places_of ps)) (drop_all i xs h) ∙ no_field (places_of ps)
+
+-- ---- additions
+
+known_first : (n : List ℕ) (T : AsnType) (more : Additions) (p : Option AsnValue) (ps : List (Option AsnValue)) → known_octets (addition n T more) (places_from (p ∷ ps)) ≡ counted_place T p ++ known_octets more (places_from ps)
+known_first n T more None ps = refl
+known_first n T more (Some v) ps = refl
+
+pub known_step : (xs : List Addition) (i : ℕ) (x : Addition) (ps qs : List (Option Value)) (p : Option Value) → i < length xs → x ≡ get_or xs i x → ps ≡ p ∷ qs → known_octets (additions_of (drop i xs)) (places_of ps) ≡ counted_place (type_of x.shape) (option_map value_of p) ++ known_octets (additions_of (drop (i + 1) xs)) (places_of qs)
+known_step xs i x ps qs p h is e =
+    let rest = drop (i + 1) xs in
+    ap (λ l. known_octets (additions_of l) (places_of ps)) (drop_more xs i x h ∙ ap (λ y. y ∷ rest) (sym is)) ∙ ap (λ l. known_octets (additions_of (x ∷ rest)) (places_of l)) e
+    ∙ known_first (seen_addition x).name (seen_addition x).type (additions_of rest) (option_map value_of p) (map (option_map value_of) qs)
+
+pub known_none : (xs : List Addition) (ps : List (Option Value)) → ps ≡ [] → known_octets (additions_of xs) (places_of ps) ≡ []
+known_none xs ps e = ap (λ l. known_octets (additions_of xs) (places_of l)) e ∙ none xs
+  where
+    none : (xs : List Addition) → known_octets (additions_of xs) no_places ≡ []
+    none [] = refl
+    none (x ∷ xs) = refl
+
+no_addition : (ps : Places) → known_octets no_additions ps ≡ []
+no_addition ps = refl
+
+pub known_end : (xs : List Addition) (i : ℕ) (ps : List (Option Value)) → length xs ≤ i → known_octets (additions_of (drop i xs)) (places_of ps) ≡ []
+known_end xs i ps h = ap (λ l. known_octets (additions_of l) (places_of ps)) (drop_all i xs h) ∙ no_addition (places_of ps)
+
+-- ---- elements
+
+pub values_step : (T : AsnType) (vs : List Value) (i : ℕ) (v : Value) → i < length vs → v ≡ get_or vs i v → values_octets T (values_of (drop i vs)) ≡ canonical_octets T (value_of v) ++ values_octets T (values_of (drop (i + 1) vs))
+values_step T vs i v h e = ap (λ x. values_octets T (values_of x)) (drop_more vs i v h ∙ ap (λ x. x ∷ drop (i + 1) vs) (sym e))
+
+pub values_end : (T : AsnType) (vs : List Value) (i : ℕ) → length vs ≤ i → values_octets T (values_of (drop i vs)) ≡ []
+values_end T vs i h = ap (λ x. values_octets T (values_of x)) (drop_all i vs h)
+
+count_values : (f : AsnValue → AsnValue) (vs : List AsnValue) → count (map_values f (values_from vs)) ≡ length vs
+count_values f [] = refl
+count_values f (v ∷ vs) = ap suc (count_values f vs)
+
+pub count_of : (T : AsnType) (vs : List Value) → count (map_values (trimmed T) (values_of vs)) ≡ length vs
+count_of T vs = count_values (trimmed T) (map value_of vs) ∙ length-map vs value_of
+
+-- ---- alternatives
+
+root_first : (x : Alt) (xs : List Alt) (t : Tag) (v : AsnValue) → chosen_octets (root_of (x ∷ xs) no_alternatives) t v ≡ (if same_tag x.tag t then canonical_octets (type_of x.shape) v else chosen_octets (root_of xs no_alternatives) t v)
+root_first x xs t v = by (same_tag x.tag t) refl
+  where
+    by : (b : Bool) → same_tag x.tag t ≡ b → chosen_octets (root_of (x ∷ xs) no_alternatives) t v ≡ (if same_tag x.tag t then canonical_octets (type_of x.shape) v else chosen_octets (root_of xs no_alternatives) t v)
+    by true e = rw (e) refl
+    by false e = rw (e) refl
+
+later_first : (x : Alt) (xs : List Alt) (t : Tag) (v : AsnValue) → chosen_octets (later_of (x ∷ xs)) t v ≡ (if same_tag x.tag t then counted (canonical_octets (type_of x.shape) v) else chosen_octets (later_of xs) t v)
+later_first x xs t v = by (same_tag x.tag t) refl
+  where
+    by : (b : Bool) → same_tag x.tag t ≡ b → chosen_octets (later_of (x ∷ xs)) t v ≡ (if same_tag x.tag t then counted (canonical_octets (type_of x.shape) v) else chosen_octets (later_of xs) t v)
+    by true e = rw (e) refl
+    by false e = rw (e) refl
+
+pub root_found : (xs : List Alt) (i : ℕ) (x : Alt) (t : Tag) (v : AsnValue) → i < length xs → x ≡ get_or xs i x → same_tag x.tag t ≡ true → chosen_octets (root_of (drop i xs) no_alternatives) t v ≡ canonical_octets (type_of x.shape) v
+root_found xs i x t v h is e =
+    let rest = drop (i + 1) xs in
+    ap (λ l. chosen_octets (root_of l no_alternatives) t v) (drop_more xs i x h ∙ ap (λ y. y ∷ rest) (sym is)) ∙ root_first x rest t v
+    ∙ ap (λ b. if b then canonical_octets (type_of x.shape) v else chosen_octets (root_of rest no_alternatives) t v) e
+
+pub root_passed : (xs : List Alt) (i : ℕ) (x : Alt) (t : Tag) (v : AsnValue) → i < length xs → x ≡ get_or xs i x → same_tag x.tag t ≡ false → chosen_octets (root_of (drop i xs) no_alternatives) t v ≡ chosen_octets (root_of (drop (i + 1) xs) no_alternatives) t v
+root_passed xs i x t v h is e =
+    let rest = drop (i + 1) xs in
+    ap (λ l. chosen_octets (root_of l no_alternatives) t v) (drop_more xs i x h ∙ ap (λ y. y ∷ rest) (sym is)) ∙ root_first x rest t v
+    ∙ ap (λ b. if b then canonical_octets (type_of x.shape) v else chosen_octets (root_of rest no_alternatives) t v) e
+
+pub later_found : (xs : List Alt) (i : ℕ) (x : Alt) (t : Tag) (v : AsnValue) → i < length xs → x ≡ get_or xs i x → same_tag x.tag t ≡ true → chosen_octets (later_of (drop i xs)) t v ≡ counted (canonical_octets (type_of x.shape) v)
+later_found xs i x t v h is e =
+    let rest = drop (i + 1) xs in
+    ap (λ l. chosen_octets (later_of l) t v) (drop_more xs i x h ∙ ap (λ y. y ∷ rest) (sym is)) ∙ later_first x rest t v
+    ∙ ap (λ b. if b then counted (canonical_octets (type_of x.shape) v) else chosen_octets (later_of rest) t v) e
+
+pub later_passed : (xs : List Alt) (i : ℕ) (x : Alt) (t : Tag) (v : AsnValue) → i < length xs → x ≡ get_or xs i x → same_tag x.tag t ≡ false → chosen_octets (later_of (drop i xs)) t v ≡ chosen_octets (later_of (drop (i + 1) xs)) t v
+later_passed xs i x t v h is e =
+    let rest = drop (i + 1) xs in
+    ap (λ l. chosen_octets (later_of l) t v) (drop_more xs i x h ∙ ap (λ y. y ∷ rest) (sym is)) ∙ later_first x rest t v
+    ∙ ap (λ b. if b then counted (canonical_octets (type_of x.shape) v) else chosen_octets (later_of rest) t v) e
+
+by_root : (x : Alt) (xs : List Alt) (after : Alternatives) (t : Tag) (v : AsnValue) (b : Bool) → same_tag x.tag t ≡ b → chosen_octets (root_of (x ∷ xs) after) t v ≡ (if b then canonical_octets (type_of x.shape) v else chosen_octets (root_of xs after) t v)
+by_root x xs after t v true e = rw (e) refl
+by_root x xs after t v false e = rw (e) refl
+
+in_root : (xs : List Alt) (after : Alternatives) (t : Tag) (v : AsnValue) → has_tag t (root_of xs no_alternatives) ≡ true → chosen_octets (root_of xs after) t v ≡ chosen_octets (root_of xs no_alternatives) t v
+in_root [] after t v h = absurd (false≢true h)
+in_root (x ∷ xs) after t v h = by (same_tag x.tag t) refl (in_root xs after t v)
+  where
+    by : (b : Bool) → same_tag x.tag t ≡ b → (has_tag t (root_of xs no_alternatives) ≡ true → chosen_octets (root_of xs after) t v ≡ chosen_octets (root_of xs no_alternatives) t v) → chosen_octets (root_of (x ∷ xs) after) t v ≡ chosen_octets (root_of (x ∷ xs) no_alternatives) t v
+    by true e k = by_root x xs after t v true e ∙ sym (by_root x xs no_alternatives t v true e)
+    by false e k = by_root x xs after t v false e ∙ k (ap (λ b. b || has_tag t (root_of xs no_alternatives)) (sym e) ∙ h) ∙ sym (by_root x xs no_alternatives t v false e)
+
+past_root : (xs : List Alt) (after : Alternatives) (t : Tag) (v : AsnValue) → has_tag t (root_of xs no_alternatives) ≡ false → chosen_octets (root_of xs after) t v ≡ chosen_octets after t v
+past_root [] after t v h = refl
+past_root (x ∷ xs) after t v h = by (same_tag x.tag t) refl (past_root xs after t v)
+  where
+    by : (b : Bool) → same_tag x.tag t ≡ b → (has_tag t (root_of xs no_alternatives) ≡ false → chosen_octets (root_of xs after) t v ≡ chosen_octets after t v) → chosen_octets (root_of (x ∷ xs) after) t v ≡ chosen_octets after t v
+    by true e k = absurd (false≢true (sym h ∙ ap (λ b. b || has_tag t (root_of xs no_alternatives)) e))
+    by false e k = by_root x xs after t v false e ∙ k (ap (λ b. b || has_tag t (root_of xs no_alternatives)) (sym e) ∙ h)
+
+-- ---- whole values
+
+pub at_sequence : (shape : Shape) (v : Value) (root : Vec Field Global) (places added : Vec (Option Value) Global) (more : Vec rust_unknown.Unknown Global) (fs : List Field) (ps : List (Option Value)) → shape ≡ Sequence root None → v ≡ Seq places added more → fs ≡ root.items → ps ≡ places.items
+    → canonical_octets (type_of shape) (value_of v) ≡ padded (first_bits None ++ field_bits (fields_of fs) (places_of ps)) ++ field_octets (fields_of fs) (places_of ps)
+at_sequence shape v root places added more fs ps e f a b =
+    ap (λ x. canonical_octets (type_of x) (value_of v)) e ∙ ap (λ x. canonical_octets (type_of (Sequence root None)) (value_of x)) f
+    ∙ ap (λ T. canonical_octets T (value_of (Seq places added more))) (type_of-Sequence root None) ∙ ap (canonical_octets (sequence (fields_of root.items))) (value_of-Seq places added more)
+    ∙ ap₂ (λ gs qs. padded (field_bits (fields_of gs) (places_of qs)) ++ field_octets (fields_of gs) (places_of qs)) (sym a) (sym b)
+
+present_same : (more : Additions) (ps : Places) → any_present (trimmed_additions more ps) ≡ any_present ps
+present_same no_additions ps = refl
+present_same (addition n T more) no_places = refl
+present_same (addition n T more) (absent ps) = present_same more ps
+present_same (addition n T more) (present v ps) = refl
+
+extended_is : (fs : Fields) (more : Additions) (ps qs : Places) (us : List Unknown) (x : Bool) (n : ℕ) → x ≡ (any_present qs || any_unknown us) → n ≡ addition_count more
+    → canonical_octets (extensible_sequence fs more) (seq ps qs us) ≡ padded (first_bits (Some x) ++ field_bits fs ps) ++ (field_octets fs ps ++ extension_octets x (bitmap_octets (known_bits more qs ++ unknown_marks n us) ++ (known_octets more qs ++ unknown_octets us)))
+extended_is fs more ps qs us x n e c =
+    ap (λ b. padded ((b || any_unknown us) ∷ field_bits fs ps) ++ (field_octets fs ps ++ extension_octets (b || any_unknown us) (bitmap_octets (known_bits more qs ++ unknown_marks (addition_count more) us) ++ (known_octets more qs ++ unknown_octets us)))) (present_same more qs)
+    ∙ ap₂ (λ b m. padded (b ∷ field_bits fs ps) ++ (field_octets fs ps ++ extension_octets b (bitmap_octets (known_bits more qs ++ unknown_marks m us) ++ (known_octets more qs ++ unknown_octets us)))) (sym e) (sym c)
+
+pub at_extended : (shape : Shape) (v : Value) (root : Vec Field Global) (additions : Vec Addition Global) (places added : Vec (Option Value) Global) (more : Vec rust_unknown.Unknown Global) (fs : List Field) (ps : List (Option Value)) (xs : List Addition) (qs : List (Option Value)) (us : List rust_unknown.Unknown) (x : Bool)
+    → shape ≡ Sequence root (Some additions) → v ≡ Seq places added more → fs ≡ root.items → ps ≡ places.items → xs ≡ additions.items → qs ≡ added.items → us ≡ more.items → x ≡ (any_present (places_of qs) || any_unknown (map unknown_of us))
+    → canonical_octets (type_of shape) (value_of v) ≡ padded (first_bits (Some x) ++ field_bits (fields_of fs) (places_of ps)) ++ (field_octets (fields_of fs) (places_of ps) ++ extension_octets x (bitmap_octets (known_bits (additions_of xs) (places_of qs) ++ unknown_marks (length xs) (map unknown_of us)) ++ (known_octets (additions_of xs) (places_of qs) ++ unknown_octets (map unknown_of us))))
+at_extended shape v root additions places added more fs ps xs qs us x e f a b g h i k =
+    ap (λ y. canonical_octets (type_of y) (value_of v)) e ∙ ap (λ y. canonical_octets (type_of (Sequence root (Some additions))) (value_of y)) f
+    ∙ ap (λ T. canonical_octets T (value_of (Seq places added more))) (type_of-Sequence root (Some additions)) ∙ ap (canonical_octets (extensible_sequence (fields_of root.items) (additions_of additions.items))) (value_of-Seq places added more)
+    ∙ ap₂ (λ gs qs. canonical_octets (extensible_sequence (fields_of gs) (additions_of additions.items)) (seq (places_of qs) (places_of added.items) (map unknown_of more.items))) (sym a) (sym b)
+    ∙ ap₂ (λ ys qs. canonical_octets (extensible_sequence (fields_of fs) (additions_of ys)) (seq (places_of ps) (places_of qs) (map unknown_of more.items))) (sym g) (sym h)
+    ∙ ap (λ vs. canonical_octets (extensible_sequence (fields_of fs) (additions_of xs)) (seq (places_of ps) (places_of qs) (map unknown_of vs))) (sym i)
+    ∙ extended_is (fields_of fs) (additions_of xs) (places_of ps) (places_of qs) (map unknown_of us) x (length xs) k (sym (counted_additions xs))
+
+pub at_list : (shape : Shape) (v : Value) (size : Size) (item : Box Shape Global) (values : Vec Value Global) (s : Shape) (vs : List Value) (n : ℕ) → shape ≡ SequenceOf size item → v ≡ Elements values → s ≡ item.value → vs ≡ values.items → n ≡ length values.items
+    → canonical_octets (type_of shape) (value_of v) ≡ counted (unsigned_octets n) ++ values_octets (type_of s) (values_of vs)
+at_list shape v size item values s vs n e f a b c =
+    ap (λ y. canonical_octets (type_of y) (value_of v)) e ∙ ap (λ y. canonical_octets (type_of (SequenceOf size item)) (value_of y)) f
+    ∙ ap (λ T. canonical_octets T (value_of (Elements values))) (type_of-SequenceOf size item) ∙ ap (canonical_octets (sequence_of size (type_of item.value))) (value_of-List values)
+    ∙ ap (λ k. counted (unsigned_octets k) ++ values_octets (type_of item.value) (values_of values.items)) (count_of (type_of item.value) values.items ∙ sym c)
+    ∙ ap₂ (λ T ws. counted (unsigned_octets n) ++ values_octets (type_of T) (values_of ws)) (sym a) (sym b)
+
+-- by the type that the shape stands for
+choice_octets : (T : AsnType) (shape : Shape) (v : Value) (root : Vec Alt Global) (additions : Option (Vec Alt Global)) (t : Tag) (inner : Box Value Global) → shape ≡ Choice root additions → choice_with root.items additions ≡ T → v ≡ Chosen t inner → canonical_octets (type_of shape) (value_of v) ≡ canonical_octets T (chosen t (value_of inner.value))
+choice_octets T shape v root additions t inner e w f =
+    ap (λ y. canonical_octets (type_of y) (value_of v)) e ∙ ap (λ y. canonical_octets (type_of (Choice root additions)) (value_of y)) f
+    ∙ ap (λ T. canonical_octets T (value_of (Chosen t inner))) (type_of-Choice root additions ∙ w) ∙ ap (canonical_octets T) (value_of-Chosen t inner)
+
+pub at_root : (shape : Shape) (v : Value) (root : Vec Alt Global) (additions : Option (Vec Alt Global)) (t : Tag) (inner : Box Value Global) (xs : List Alt) (x : Value) → shape ≡ Choice root additions → v ≡ Chosen t inner → xs ≡ root.items → x ≡ inner.value → has_tag t (root_of xs no_alternatives) ≡ true
+    → canonical_octets (type_of shape) (value_of v) ≡ tag_octets t ++ chosen_octets (root_of xs no_alternatives) t (value_of x)
+at_root shape v root None t inner xs x e f a b h =
+    choice_octets (choice false (root_of root.items no_alternatives)) shape v root None t inner e refl f
+    ∙ ap₂ (λ ys y. tag_octets t ++ chosen_octets (root_of ys no_alternatives) t (value_of y)) (sym a) (sym b)
+at_root shape v root (Some more) t inner xs x e f a b h =
+    choice_octets (choice true (root_of root.items (later_of more.items))) shape v root (Some more) t inner e refl f
+    ∙ ap₂ (λ ys y. tag_octets t ++ chosen_octets (root_of ys (later_of more.items)) t (value_of y)) (sym a) (sym b)
+    ∙ ap (λ l. tag_octets t ++ l) (in_root xs (later_of more.items) t (value_of x) h)
+
+pub at_none : (shape : Shape) (v : Value) (root : Vec Alt Global) (t : Tag) (inner : Box Value Global) (xs : List Alt) → shape ≡ Choice root None → v ≡ Chosen t inner → xs ≡ root.items → has_tag t (root_of xs no_alternatives) ≡ false
+    → canonical_octets (type_of shape) (value_of v) ≡ tag_octets t
+at_none shape v root t inner xs e f a h =
+    choice_octets (choice false (root_of root.items no_alternatives)) shape v root None t inner e refl f
+    ∙ ap (λ ys. tag_octets t ++ chosen_octets (root_of ys no_alternatives) t (value_of inner.value)) (sym a)
+    ∙ ap (λ l. tag_octets t ++ l) (past_root xs no_alternatives t (value_of inner.value) h) ∙ append-nil (tag_octets t)
+
+pub at_later : (shape : Shape) (v : Value) (root more : Vec Alt Global) (t : Tag) (inner : Box Value Global) (xs ys : List Alt) (x : Value) → shape ≡ Choice root (Some more) → v ≡ Chosen t inner → xs ≡ root.items → ys ≡ more.items → x ≡ inner.value → has_tag t (root_of xs no_alternatives) ≡ false
+    → canonical_octets (type_of shape) (value_of v) ≡ tag_octets t ++ chosen_octets (later_of ys) t (value_of x)
+at_later shape v root more t inner xs ys x e f a b g h =
+    choice_octets (choice true (root_of root.items (later_of more.items))) shape v root (Some more) t inner e refl f
+    ∙ ap₂ (λ zs y. tag_octets t ++ chosen_octets (root_of zs (later_of y)) t (value_of inner.value)) (sym a) (sym b)
+    ∙ ap (λ y. tag_octets t ++ chosen_octets (root_of xs (later_of ys)) t (value_of y)) (sym g)
+    ∙ ap (λ l. tag_octets t ++ l) (past_root xs (later_of ys) t (value_of x) h)
+
+-- ---- lengths of the same
+
+pub length-two : (whole a b : List ℕ) → whole ≡ a ++ b → length whole ≡ length a + length b
+length-two whole a b e = ap length e ∙ length-append a b
+
+pub length-extended : (whole p f b k u : List ℕ) (x : Bool) → whole ≡ p ++ (f ++ extension_octets x (b ++ (k ++ u))) → x ≡ true → length whole ≡ length p + (length f + (length b + (length k + length u)))
+length-extended whole p f b k u x e t =
+    omega (arith, ap length (e ∙ ap (λ y. p ++ (f ++ extension_octets y (b ++ (k ++ u)))) t), length-append p (f ++ (b ++ (k ++ u))), length-append f (b ++ (k ++ u)), length-append b (k ++ u), length-append k u)
+
+pub length-least : (whole p f e : List ℕ) (x : Bool) → whole ≡ p ++ (f ++ extension_octets x e) → length p + length f ≤ length whole
+length-least whole p f e x is = omega (arith, ap length is, length-append p (f ++ extension_octets x e), length-append f (extension_octets x e))
+
+pub length-closed : (whole p f e : List ℕ) (x : Bool) → whole ≡ p ++ (f ++ extension_octets x e) → x ≡ false → length whole ≡ length p + length f
+length-closed whole p f e x is t = omega (arith, ap length (is ∙ ap (λ y. p ++ (f ++ extension_octets y e)) t), length-append p (f ++ []), length-append f [])
+
+pub field_len : (xs : List Field) (i : ℕ) (x : Field) (ps qs : List (Option Value)) (p : Option Value) → i < length xs → x ≡ get_or xs i x → ps ≡ p ∷ qs → length (field_octets (fields_of (drop i xs)) (places_of ps)) ≡ length (place_octets_of (type_of x.shape) (kept_place (need_of x.need) (type_of x.shape) (option_map value_of p))) + length (field_octets (fields_of (drop (i + 1) xs)) (places_of qs))
+field_len xs i x ps qs p h is e = length-two (field_octets (fields_of (drop i xs)) (places_of ps)) (place_octets_of (type_of x.shape) (kept_place (need_of x.need) (type_of x.shape) (option_map value_of p))) (field_octets (fields_of (drop (i + 1) xs)) (places_of qs)) (field_step xs i x ps qs p h is e)
+
+pub known_len : (xs : List Addition) (i : ℕ) (x : Addition) (ps qs : List (Option Value)) (p : Option Value) → i < length xs → x ≡ get_or xs i x → ps ≡ p ∷ qs → length (known_octets (additions_of (drop i xs)) (places_of ps)) ≡ length (counted_place (type_of x.shape) (option_map value_of p)) + length (known_octets (additions_of (drop (i + 1) xs)) (places_of qs))
+known_len xs i x ps qs p h is e = length-two (known_octets (additions_of (drop i xs)) (places_of ps)) (counted_place (type_of x.shape) (option_map value_of p)) (known_octets (additions_of (drop (i + 1) xs)) (places_of qs)) (known_step xs i x ps qs p h is e)
+
+pub values_len : (T : AsnType) (vs : List Value) (i : ℕ) (v : Value) → i < length vs → v ≡ get_or vs i v → length (values_octets T (values_of (drop i vs))) ≡ length (canonical_octets T (value_of v)) + length (values_octets T (values_of (drop (i + 1) vs)))
+values_len T vs i v h e = length-two (values_octets T (values_of (drop i vs))) (canonical_octets T (value_of v)) (values_octets T (values_of (drop (i + 1) vs))) (values_step T vs i v h e)
+
+-- a value of a CHOICE begins with its tag
+pub tag_least : (shape : Shape) (v : Value) (root : Vec Alt Global) (additions : Option (Vec Alt Global)) (t : Tag) (inner : Box Value Global) → shape ≡ Choice root additions → v ≡ Chosen t inner → length (tag_octets t) ≤ length (canonical_octets (type_of shape) (value_of v))
+tag_least shape v root None t inner e f =
+    let o = chosen_octets (root_of root.items no_alternatives) t (value_of inner.value) in
+    let len = length-two (canonical_octets (type_of shape) (value_of v)) (tag_octets t) o (choice_octets (choice false (root_of root.items no_alternatives)) shape v root None t inner e refl f) in
+    omega (arith, len)
+tag_least shape v root (Some more) t inner e f =
+    let o = chosen_octets (root_of root.items (later_of more.items)) t (value_of inner.value) in
+    let len = length-two (canonical_octets (type_of shape) (value_of v)) (tag_octets t) o (choice_octets (choice true (root_of root.items (later_of more.items))) shape v root (Some more) t inner e refl f) in
+    omega (arith, len)
+
+pub tag_is : (b x : Bool) (t : Tag) (xs ys zs : List Alt) → b ≡ has_tag t (root_of xs no_alternatives) → xs ≡ ys → zs ≡ ys → b ≡ x → has_tag t (root_of zs no_alternatives) ≡ x
+tag_is b x t xs ys zs is e f on = ap (λ l. has_tag t (root_of l no_alternatives)) (f ∙ sym e) ∙ sym is ∙ on
+
+-- a value of a CHOICE begins with its tag
+pub tag_first : (shape : Shape) (v : Value) (root : Vec Alt Global) (additions : Option (Vec Alt Global)) (t : Tag) (inner : Box Value Global) → shape ≡ Choice root additions → v ≡ Chosen t inner → (rest : List ℕ) × (canonical_octets (type_of shape) (value_of v) ≡ tag_octets t ++ rest)
+tag_first shape v root None t inner e f = (chosen_octets (root_of root.items no_alternatives) t (value_of inner.value), choice_octets (choice false (root_of root.items no_alternatives)) shape v root None t inner e refl f)
+tag_first shape v root (Some more) t inner e f = (chosen_octets (root_of root.items (later_of more.items)) t (value_of inner.value), choice_octets (choice true (root_of root.items (later_of more.items))) shape v root (Some more) t inner e refl f)

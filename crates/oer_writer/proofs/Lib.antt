@@ -1,0 +1,9 @@
+pub mod Steps
+pub mod Numbers
+pub mod PackSteps
+pub mod Places
+pub mod Views
+pub mod Components
+pub mod Sizes
+pub mod WholeValues
+pub mod Compared

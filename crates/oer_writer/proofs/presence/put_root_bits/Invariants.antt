@@ -1,0 +1,9 @@
+use Rattle.std.proofs.Common.{drop}
+use Rattle.oer_types.specs.ShapeView.{fields_of}
+use Rattle.oer_types.specs.ValueView.{places_of}
+use Rattle.oer_writer.specs.Parts.{field_bits}
+use Rattle.oer_writer.proofs.PackSteps.{Through}
+use Rattle.oer_writer.proofs.presence.put_root_bits.Given as goal
+
+abbrev pub invariant-loop-field : goal.invariant-loop-field
+invariant-loop-field g l = Through l.fn.done (field_bits (fields_of l.fields) (places_of l.places)) l.fn.packer (g.W.Sink.contents l.fn.w) (g.W.Sink.failed l.fn.w) l.done (g.W.Sink.contents l.w) (g.W.Sink.failed l.w) l.packer (field_bits (fields_of (drop l.field-index l.fields)) (places_of l.rest))

@@ -1,0 +1,5 @@
+pub mod Wrote
+pub mod Parts
+pub mod Packing
+pub mod Write
+pub mod Comparing

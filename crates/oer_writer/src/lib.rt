@@ -1,0 +1,20 @@
+//! Canonical octets of a value, straight to a sink.
+#![tactic(auto)]
+
+mod calls;
+mod comparison;
+mod fault;
+mod leaf;
+mod measure;
+mod packer;
+pub mod parts;
+mod presence;
+mod put;
+mod slice;
+mod whole;
+
+pub use calls::{length, write};
+pub use fault::WriteFault;
+
+#[cfg(test)]
+mod tests;

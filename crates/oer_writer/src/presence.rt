@@ -1,0 +1,268 @@
+//! Which components are there, and their bits.
+ghost use Rattle.std.specs.Prelude.{◌≡◌, ◌↔◌, ◌≤◌, ◌<◌, ◌*◌, ◌++◌, ◌||◌, ◌∷◌, [], IsTrue, Option, Some, None, List, Bool, false, true, length, map, option_map, replicate};
+ghost use Rattle.oer_types.specs.AsnType.{no_alternatives};
+ghost use Rattle.oer_types.specs.Canonical.{any_present, any_unknown, bitmap_octets, unknown_marks, unknown_octets};
+ghost use Rattle.oer_types.specs.Bits.{padded};
+ghost use Rattle.oer_types.specs.Constraints.{has_tag, same_tag};
+ghost use Rattle.oer_types.specs.ShapeView.{additions_of, fields_of, need_of, root_of, type_of};
+ghost use Rattle.oer_types.specs.ValueView.{places_of, unknown_of, value_of};
+ghost use Rattle.oer_writer.specs.Packing.{IsReady, Packs};
+ghost use Rattle.oer_writer.specs.Parts.{field_bits, first_bits, kept_place, known_bits, place_bit};
+ghost use Rattle.oer_writer.specs.Wrote.{Wrote};
+
+use crate::fault::WriteFault;
+use crate::leaf::{put_bits_head, unused_bits};
+use crate::packer::Packer;
+use crate::slice::put_counted;
+use oer_types::{Addition, Alt, Field, Need, Unknown, Value, same_filled_at};
+use oer_units::{Sink, Tag};
+
+// The component, where it is there and isn't equal to its default after both are filled.
+pub(crate) fn kept<'a>(field: &Field, place: &'a Option<Value>) -> Option<&'a Value>
+    ensures { option_map (λ v. value_of v.now) result ≡ kept_place (need_of field.now.need) (type_of field.now.shape) (option_map value_of place.now) }
+{
+    let Some(value) = place else {
+        return None;
+    };
+    match &field.need {
+        Need::Must | Need::May => Some(value),
+        Need::Default(default) => {
+            if same_filled_at(&field.shape, value, default) {
+                None
+            } else {
+                Some(value)
+            }
+        }
+    }
+}
+
+// Takes the presence bit of a component, where it may be absent.
+fn put_place_bit<W: Sink>(
+    field: &Field,
+    place: &Option<Value>,
+    packer: &mut Packer,
+    done: u64,
+    w: &mut W,
+) -> Result<u64, WriteFault>
+    requires { IsReady packer.old }
+    ensures { Packs (place_bit (need_of field.now.need) (kept_place (need_of field.now.need) (type_of field.now.shape) (option_map value_of place.now))) packer.old packer.new done (W.contents w.old) (W.failed w.old) result (W.contents w.new) (W.failed w.new) }
+{
+    let is_kept = kept(field, place).is_some();
+    match field.need {
+        Need::Must => Ok(done),
+        Need::May => packer.put(is_kept, done, w),
+        Need::Default(_) => packer.put(is_kept, done, w),
+    }
+}
+
+// Takes the presence bits of a root (X.696, 16.2).
+pub(crate) fn put_root_bits<W: Sink>(
+    fields: &[Field],
+    places: &[Option<Value>],
+    packer: &mut Packer,
+    done: u64,
+    w: &mut W,
+) -> Result<u64, WriteFault>
+    requires { IsReady packer.old }
+    ensures { Packs (field_bits (fields_of fields.now) (places_of places.now)) packer.old packer.new done (W.contents w.old) (W.failed w.old) result (W.contents w.new) (W.failed w.new) }
+{
+    let mut done = done;
+    let mut rest = places;
+    for field in fields {
+        let Some((place, more)) = rest.split_first() else {
+            return Ok(done);
+        };
+        done = put_place_bit(field, place, packer, done, w)?;
+        rest = more;
+    }
+    Ok(done)
+}
+
+// Takes the bits of the additions that the type knows (X.696, 16.4).
+pub(crate) fn put_known_bits<W: Sink>(
+    additions: &[Addition],
+    places: &[Option<Value>],
+    packer: &mut Packer,
+    done: u64,
+    w: &mut W,
+) -> Result<u64, WriteFault>
+    requires { IsReady packer.old }
+    ensures { Packs (known_bits (additions_of additions.now) (places_of places.now)) packer.old packer.new done (W.contents w.old) (W.failed w.old) result (W.contents w.new) (W.failed w.new) }
+{
+    let mut done = done;
+    let mut rest = places;
+    for _ in additions {
+        let Some((place, more)) = rest.split_first() else {
+            return Ok(done);
+        };
+        done = packer.put(place.is_some(), done, w)?;
+        rest = more;
+    }
+    Ok(done)
+}
+
+// Takes bits that are zero, and one that is set.
+fn put_mark<W: Sink>(
+    count: usize,
+    packer: &mut Packer,
+    done: u64,
+    w: &mut W,
+) -> Result<u64, WriteFault>
+    requires { IsReady packer.old }
+    ensures { Packs (replicate count false ++ true ∷ []) packer.old packer.new done (W.contents w.old) (W.failed w.old) result (W.contents w.new) (W.failed w.new) }
+{
+    let mut sum = done;
+    for _ in 0..count {
+        sum = packer.put(false, sum, w)?;
+    }
+    packer.put(true, sum, w)
+}
+
+// Takes the bits of the additions that the type doesn't know, from the place `next` on.
+pub(crate) fn put_unknown_bits<W: Sink>(
+    next: usize,
+    unknown: &[Unknown],
+    packer: &mut Packer,
+    done: u64,
+    w: &mut W,
+) -> Result<u64, WriteFault>
+    requires { IsReady packer.old }
+    ensures { Packs (unknown_marks next (map unknown_of unknown.now)) packer.old packer.new done (W.contents w.old) (W.failed w.old) result (W.contents w.new) (W.failed w.new) }
+{
+    let mut done = done;
+    let mut next = next;
+    for one in unknown {
+        let place = one.place as usize;
+        done = put_mark(place.saturating_sub(next), packer, done, w)?;
+        next = place + 1;
+    }
+    Ok(done)
+}
+
+// How many bits they are.
+pub(crate) fn count_unknown_bits(next: usize, unknown: &[Unknown]) -> u128
+    ensures value { result ≡ length (unknown_marks next (map unknown_of unknown.now)) }
+    ensures most { result ≤ 65536 * length unknown.now }
+{
+    let mut count = 0u128;
+    let mut next = next;
+    for one in unknown {
+        let place = one.place as usize;
+        count += place.saturating_sub(next) as u128 + 1;
+        next = place + 1;
+    }
+    count
+}
+
+// Takes the extension bit, where the type has one.
+fn put_first_bit<W: Sink>(
+    first: Option<bool>,
+    packer: &mut Packer,
+    done: u64,
+    w: &mut W,
+) -> Result<u64, WriteFault>
+    requires { IsReady packer.old }
+    ensures { Packs (first_bits first) packer.old packer.new done (W.contents w.old) (W.failed w.old) result (W.contents w.new) (W.failed w.new) }
+{
+    match first {
+        None => Ok(done),
+        Some(bit) => packer.put(bit, done, w),
+    }
+}
+
+// Writes a preamble (X.696, 16.2).
+pub(crate) fn put_preamble<W: Sink>(
+    first: Option<bool>,
+    fields: &[Field],
+    places: &[Option<Value>],
+    done: u64,
+    w: &mut W,
+) -> Result<u64, WriteFault>
+    ensures { Wrote done (padded (first_bits first ++ field_bits (fields_of fields.now) (places_of places.now))) (W.contents w.old) (W.failed w.old) result (W.contents w.new) (W.failed w.new) }
+{
+    let mut packer = Packer::new();
+    let done = put_first_bit(first, &mut packer, done, w)?;
+    let done = put_root_bits(fields, places, &mut packer, done, w)?;
+    packer.finish(done, w)
+}
+
+// Writes the bits of a bitmap.
+fn put_marks<W: Sink>(
+    additions: &[Addition],
+    added: &[Option<Value>],
+    unknown: &[Unknown],
+    done: u64,
+    w: &mut W,
+) -> Result<u64, WriteFault>
+    ensures { Wrote done (padded (known_bits (additions_of additions.now) (places_of added.now) ++ unknown_marks (length additions.now) (map unknown_of unknown.now))) (W.contents w.old) (W.failed w.old) result (W.contents w.new) (W.failed w.new) }
+{
+    let mut packer = Packer::new();
+    let done = put_known_bits(additions, added, &mut packer, done, w)?;
+    let done = put_unknown_bits(additions.len(), unknown, &mut packer, done, w)?;
+    packer.finish(done, w)
+}
+
+// Writes the bitmap of the additions (X.696, 16.4).
+pub(crate) fn put_bitmap<W: Sink>(
+    additions: &[Addition],
+    added: &[Option<Value>],
+    unknown: &[Unknown],
+    done: u64,
+    w: &mut W,
+) -> Result<u64, WriteFault>
+    ensures { Wrote done (bitmap_octets (known_bits (additions_of additions.now) (places_of added.now) ++ unknown_marks (length additions.now) (map unknown_of unknown.now))) (W.contents w.old) (W.failed w.old) result (W.contents w.new) (W.failed w.new) }
+{
+    let known = additions.len().min(added.len()) as u128;
+    let count = known + count_unknown_bits(additions.len(), unknown);
+    let Ok(length) = u64::try_from((count + 7) / 8 + 1) else {
+        return Err(WriteFault::TooLong);
+    };
+    let done = put_bits_head(length, unused_bits(count), done, w)?;
+    put_marks(additions, added, unknown, done, w)
+}
+
+// Whether an addition is there.
+pub(crate) fn is_extended(added: &[Option<Value>], unknown: &[Unknown]) -> bool
+    ensures { result ≡ (any_present (places_of added.now) || any_unknown (map unknown_of unknown.now)) }
+{
+    for place in added {
+        if place.is_some() {
+            return true;
+        }
+    }
+    !unknown.is_empty()
+}
+
+// Writes the additions that the type doesn't know, each after its length (X.696, 16.5).
+pub(crate) fn put_unknown<W: Sink>(
+    unknown: &[Unknown],
+    done: u64,
+    w: &mut W,
+) -> Result<u64, WriteFault>
+    ensures { Wrote done (unknown_octets (map unknown_of unknown.now)) (W.contents w.old) (W.failed w.old) result (W.contents w.new) (W.failed w.new) }
+{
+    let mut done = done;
+    for one in unknown {
+        done = put_counted(&one.octets, done, w)?;
+    }
+    Ok(done)
+}
+
+// Whether the tags are the same.
+pub(crate) fn is_tag(one: Tag, other: Tag) -> bool
+    ensures { result ≡ same_tag one other }
+{
+    one == other
+}
+
+// Whether an alternative has the tag.
+pub(crate) fn contains_tag(alternatives: &[Alt], tag: Tag) -> bool
+    ensures { result ≡ has_tag tag (root_of alternatives.now no_alternatives) }
+{
+    for alternative in alternatives {
+        if is_tag(alternative.tag, tag) {
+            return true;
+        }
+    }
+    false
+}
