@@ -1,153 +1,90 @@
-//! Units that are read and written many times, to be measured: `oer_bench TASK TURNS`.
+//! Units, values and types, many times over, to be measured:
+//!
+//! - `oer_bench TASK TURNS`: units;
+//! - `oer_bench TASK TURNS TYPES`: the text of a file;
+//! - `oer_bench TASK TURNS TYPES NAME OCTETS`: the octets of a file, under a type of the text.
 #![tactic(auto)]
 
-use oer_units::{
-    Metered, Window, length, octets, put_length, signed_counted, tag, unsigned_counted,
-};
+mod pieces;
+mod units;
+mod values;
+
+use oer_text::parse_types;
 use std::alloc::Global;
+use std::fs;
 use std::process::ExitCode;
 
-/// How many units a turn has.
-const UNITS: u64 = 1000;
-
-/// How many octets `octets` reads in a turn.
-const MEBIBYTE: u64 = 1_048_576;
-
-/// The octets of a unit, as often as a turn has units, and octets after them.
-fn units(alloc: Global, unit: &[u8]) -> Option<Vec<u8>> {
-    let mut list = Vec::new(alloc);
-    for _ in 0..UNITS {
-        list.extend_from_slice(unit).ok()?;
-    }
-    for _ in 0..UNITS {
-        list.push(0).ok()?;
-    }
-    Some(list)
-}
-
-/// The sum of the lengths of a turn.
-fn lengths(list: &[u8]) -> u64 {
-    let mut reader = Metered::new(list);
-    let mut w = Window::new(&mut reader, u64::MAX);
+/// The turns of a task on units.
+fn on_units(alloc: Global, task: &str, turns: u32) -> Option<u64> {
+    let list = units::list_of(alloc, task)?;
     let mut sum = 0u64;
-    for _ in 0..UNITS {
-        if let Ok(n) = length(&mut w) {
-            sum = sum.wrapping_add(n);
-        }
+    for _ in 0..turns {
+        sum = sum.wrapping_add(units::turn(alloc, task, list.as_slice()));
     }
-    sum
+    Some(sum)
 }
 
-/// The sum of the unsigned numbers of a turn.
-fn unsigned(list: &[u8]) -> u64 {
-    let mut reader = Metered::new(list);
-    let mut w = Window::new(&mut reader, u64::MAX);
-    let mut sum = 0i128;
-    for _ in 0..UNITS {
-        if let Ok(n) = unsigned_counted(&mut w) {
-            sum = sum.wrapping_add(n);
-        }
-    }
-    (sum % 1_000_000).unsigned_abs() as u64
-}
-
-/// The sum of the signed numbers of a turn.
-fn signed(list: &[u8]) -> u64 {
-    let mut reader = Metered::new(list);
-    let mut w = Window::new(&mut reader, u64::MAX);
-    let mut sum = 0i128;
-    for _ in 0..UNITS {
-        if let Ok(n) = signed_counted(&mut w) {
-            sum = sum.wrapping_add(n);
-        }
-    }
-    (sum % 1_000_000).unsigned_abs() as u64
-}
-
-/// The sum of the tag numbers of a turn.
-fn tags(list: &[u8]) -> u64 {
-    let mut reader = Metered::new(list);
-    let mut w = Window::new(&mut reader, u64::MAX);
-    let mut sum = 0u64;
-    for _ in 0..UNITS {
-        if let Ok(t) = tag(&mut w) {
-            sum = sum.wrapping_add(u64::from(t.number));
-        }
-    }
-    sum
-}
-
-/// How many octets a turn of lengths has when it is written.
-fn written(alloc: Global) -> u64 {
-    let mut sink = Metered::new(Vec::new(alloc));
-    for n in 0..UNITS {
-        if put_length(n, &mut sink).is_err() {
-            return 0;
-        }
-    }
-    sink.into_inner().len() as u64
-}
-
-/// How many octets were read at once.
-fn many(alloc: Global, list: &[u8]) -> u64 {
-    let mut reader = Metered::new(list);
-    let mut w = Window::new(&mut reader, u64::MAX);
-    match octets(alloc, &mut w, MEBIBYTE) {
-        Ok(read) => read.len() as u64,
-        Err(_) => 0,
-    }
-}
-
-/// What a turn reads.
-fn list_of(alloc: Global, task: &str) -> Option<Vec<u8>> {
+/// The turns of a task on a text.
+fn on_text(alloc: Global, task: &str, text: &str, turns: u32) -> Option<u64> {
     match task {
-        "length" => units(alloc, &[0x81, 0x85]),
-        "unsigned" => units(alloc, &[0x02, 0x01, 0x05]),
-        "signed" => units(alloc, &[0x02, 0xff, 0x05]),
-        "tag" => units(alloc, &[0xbf, 0x81, 0x48]),
-        "octets" => {
-            let mut list = Vec::new(alloc);
-            list.resize(MEBIBYTE as usize, 7).ok()?;
-            Some(list)
-        }
-        _ => Some(Vec::new(alloc)),
+        "new" => values::turns_new(alloc, text, turns),
+        _ => Some(values::turns_parse(alloc, text, turns)),
     }
 }
 
-/// One turn.
-fn turn(alloc: Global, task: &str, list: &[u8]) -> u64 {
-    match task {
-        "length" => lengths(list),
-        "unsigned" => unsigned(list),
-        "signed" => signed(list),
-        "tag" => tags(list),
-        "octets" => many(alloc, list),
-        _ => written(alloc),
+/// The turns of a task on octets of the type with the name.
+fn on_octets(
+    alloc: Global,
+    task: &str,
+    text: &str,
+    name: &str,
+    octets: &[u8],
+    turns: u32,
+) -> Option<u64> {
+    let types = parse_types(alloc, text).ok()?;
+    values::turns_on(alloc, task, types.get(name)?, octets, turns)
+}
+
+/// What the words ask for, if they are understood and the files are there.
+fn asked(rt: &HostRuntime, words: &[String]) -> Option<u64> {
+    let alloc = rt.alloc();
+    let [_, task, turns, files @ ..] = words else {
+        return None;
+    };
+    let turns = turns.parse::<u32>().ok()?;
+    match files {
+        [] => on_units(alloc, task.as_str(), turns),
+        [text] => {
+            let text = fs::read_to_string(rt, text.as_str()).ok()?;
+            on_text(alloc, task.as_str(), text.as_str(), turns)
+        }
+        [text, name, octets] => {
+            let text = fs::read_to_string(rt, text.as_str()).ok()?;
+            let octets = fs::read(rt, octets.as_str()).ok()?;
+            on_octets(
+                alloc,
+                task.as_str(),
+                text.as_str(),
+                name.as_str(),
+                &octets,
+                turns,
+            )
+        }
+        _ => None,
     }
 }
 
 fn main(rt: HostRuntime) -> ExitCode {
-    let alloc = rt.alloc();
     let failed = ExitCode::from(3);
     let Ok(words) = std::env::args(&rt) else {
         return failed;
     };
-    let Ok(words) = words.collect::<Vec<String>>(alloc) else {
+    let Ok(words) = words.collect::<Vec<String>>(rt.alloc()) else {
         return failed;
     };
-    let (Some(task), Some(turns)) = (words.get(1), words.get(2)) else {
+    let Some(sum) = asked(&rt, words.as_slice()) else {
         return failed;
     };
-    let Ok(turns) = turns.parse::<u32>() else {
-        return failed;
-    };
-    let Some(list) = list_of(alloc, task) else {
-        return failed;
-    };
-    let mut sum = 0u64;
-    for _ in 0..turns {
-        sum = sum.wrapping_add(turn(alloc, task, list.as_slice()));
-    }
     if println!(rt; "{sum}").is_err() {
         return failed;
     }
