@@ -21,7 +21,7 @@ use Rattle.oer_text.proofs.CompleteItems.{pass_end, pass_comma, pass_dots, go_en
 use Rattle.oer_text.proofs.CompleteNumbers.{bounds_given, bracketed_given, string_size_given, list_size_given}
 use Rattle.oer_text.proofs.CompleteValues.{no_sign, need_given}
 use Rattle.oer_text.proofs.Definitions.{some_depth, named_taken}
-use Rattle.oer_text.proofs.Ranges.{some_node}
+use Rattle.oer_text.proofs.SpeltWidths.{some_node}
 use Rattle.oer_text.proofs.NamesGiven.{find_given, start_name, start_word_of}
 use Rattle.oer_text.proofs.WordTable.{word_of}
 

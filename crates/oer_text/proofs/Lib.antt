@@ -19,8 +19,7 @@ pub mod PrintedParts
 pub mod PrintedText
 pub mod PrintedTokens
 pub mod PrintedValues
-pub mod PrintedWidths
-pub mod Ranges
+pub mod SpeltWidths
 pub mod Sound
 pub mod SoundAll
 pub mod SoundNumbers

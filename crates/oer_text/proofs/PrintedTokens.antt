@@ -7,24 +7,22 @@ use Rattle.oer_lexer.specs.Token.{Token, sign}
 use Rattle.oer_lexer.specs.declared.token.Sign.TheVariants.{Comma}
 use Rattle.oer_types.specs.AsnType.{Need, must, may, default, ia5, visible, numeric, printable, AsnType, boolean, null, integer, enumerated, bit_string, octet_string, object_id, restricted_string, utf8_string, sequence, extensible_sequence, sequence_of, choice, Fields, no_fields, field, Additions, no_additions, addition, Alternatives, no_alternatives, alternative, later}
 use Rattle.oer_types.specs.Fits.{Fits, DefaultFits, DefaultsFit, FieldDefaultsFit, AdditionDefaultsFit, AlternativeDefaultsFit}
-use Rattle.oer_types.specs.Laws.{AreLater as AllLater, WellFormedDefaults}
+use Rattle.oer_types.specs.Laws.{WellFormedDefaults}
 use Rattle.oer_types.specs.WellFormed.{AnyOf, Repeats, Somewhere, InFields, InAdditions, InAlternatives, HasNoItems, IsWellFormed, is_identifier, names, item_names, field_names, addition_names, alternative_names}
+use Rattle.oer_types.specs.Widths.{AreLater as AllLater, AreInOrder, HasWidths, FieldsHaveWidths, AdditionsHaveWidths, AlternativesHaveWidths}
 use Rattle.oer_types.specs.declared.fault.SchemaFault.TheVariants.{BadName, RepeatedName, NoItems}
 use Rattle.oer_units.specs.Laws.{HasTagNumber}
 use Rattle.oer_units.specs.declared.tagging.Tag.{Tag}
-use Rattle.oer_text.specs.Grammar.{AreDefinitions, one_definition, more_definitions, AreWellFormed, Spells, IsNeed, needed, optional, with_default, plain_addition, in_brackets, IsType, boolean_type, null_type, object_id_type, integer_type, enumerated_type, octet_string_type, bit_string_type, restricted_string_type, utf8_string_type, empty_sequence_type, sequence_type, extensible_sequence_type, sequence_of_type, choice_type, AreComponents, no_components, component, components_marker, AreAdditions, none_added, added, AreAlternatives, none_left, an_alternative, alternatives_marker, AreLater, none_later, a_later}
-use Rattle.oer_text.specs.Laws.{AreReadAgain, ParseAllSound, ParseComplete, ParseSound}
-use Rattle.oer_text.specs.Parsing.{parse, parse_all}
+use Rattle.oer_text.specs.Grammar.{Spells, IsNeed, needed, optional, with_default, plain_addition, in_brackets, IsType, boolean_type, null_type, object_id_type, integer_type, enumerated_type, octet_string_type, bit_string_type, restricted_string_type, utf8_string_type, empty_sequence_type, sequence_type, extensible_sequence_type, sequence_of_type, choice_type, AreComponents, no_components, component, components_marker, AreAdditions, none_added, added, AreAlternatives, none_left, an_alternative, alternatives_marker, AreLater, none_later, a_later}
+use Rattle.oer_text.specs.Laws.{ParseComplete}
+use Rattle.oer_text.specs.Parsing.{parse}
 use Rattle.oer_text.specs.Printing.{printed, spaced, after_commas, marker, marker_if, need_tokens, type_tokens, field_parts, addition_parts, root_parts, later_parts, has_notation, need_has_notation, have_notation, additions_have_notation, alternatives_have_notation}
 use Rattle.oer_text.specs.Reading.{Known}
 use Rattle.oer_text.specs.Values.{items_of}
-use Rattle.oer_text.specs.Widths.{AreInOrder, HasWidths, FieldsHaveWidths, AdditionsHaveWidths, AlternativesHaveWidths}
-use Rattle.oer_text.proofs.Complete.{few}
 use Rattle.oer_text.proofs.PrintedNumbers.{AllIds, ids, split_ids, id_given, worded}
 use Rattle.oer_text.proofs.PrintedParts.{bounds_given, size_given, items_given, tag_given}
 use Rattle.oer_text.proofs.PrintedText.{AreTokens, no_tokens, plain, single, both, falls_into}
 use Rattle.oer_text.proofs.PrintedValues.{value_given}
-use Rattle.oer_text.proofs.PrintedWidths.{AllHaveWidths, one_more, type_widths}
 
 -- ---- what well-formed types don't have
 
@@ -210,8 +208,8 @@ mutual
       let u = types_given T (narrow c (λ Q q. inl q)) d.0 h.1 p.0 in
       later_step place name t T more a.0 h.0 u (later_given more (place + 1) a.1 (narrow c (λ Q q. inr q)) d.1 h.2 o p.1)
 
-type_given : (T : AsnType) → IsWellFormed T → DefaultsFit T → HasWidths T → has_notation T ≡ true → Printed T
-type_given T w d h n = types_given T (record { named = w.faultless BadName; once = w.faultless RepeatedName; some = w.faultless NoItems }) d h n
+type_given : (T : AsnType) → IsWellFormed T → DefaultsFit T → has_notation T ≡ true → Printed T
+type_given T w d n = types_given T (record { named = w.faultless BadName; once = w.faultless RepeatedName; some = w.faultless NoItems }) d w.widths n
 
 -- ---- the text
 
@@ -219,25 +217,11 @@ given_text : (b : Bool) (x text : List ℕ) → cond b (Some x) None ≡ Some te
 given_text true x text e = (refl, cc)
 given_text false x text e = absurd (cc)
 
-printed_spells : (T : AsnType) (text : List ℕ) → IsWellFormed T → DefaultsFit T → HasWidths T → printed T ≡ Some text → Spells T text
-printed_spells T text w d h e =
+printed_spells : (T : AsnType) (text : List ℕ) → IsWellFormed T → DefaultsFit T → printed T ≡ Some text → Spells T text
+printed_spells T text w d e =
     let g = given_text (has_notation T) (spaced (type_tokens T)) text e in
-    let t = type_given T w d h g.0 in
+    let t = type_given T w d g.0 in
     (type_tokens T, subst (λ bs. FallsInto bs (type_tokens T)) g.1 (falls_into t.1), t.0)
 
-pub printed_read : ParseComplete → WellFormedDefaults → (T : AsnType) (text : List ℕ) → IsWellFormed T → HasWidths T → printed T ≡ Some text → parse text ≡ Ok T
-printed_read complete fit T text w h e = complete text T (printed_spells T text w (fit T w) h e) w
-
-pub read_again : ParseSound → ParseComplete → WellFormedDefaults → (bs text : List ℕ) (T : AsnType) → parse bs ≡ Ok T → printed T ≡ Some text → parse text ≡ Ok T
-read_again sound complete fit bs text T h e =
-    let s = sound bs T h in
-    printed_read complete fit T text s.1 (type_widths [] tt s.0.2 (few T s.1)) e
-
-definitions_again : ParseComplete → WellFormedDefaults → {known ks : List Known} {ts : List Token} → AreDefinitions known ks ts → AllHaveWidths known → AreWellFormed ks → AreReadAgain ks
-definitions_again complete fit (one_definition {known} {w} {T} n e d) a f = (λ text p. printed_read complete fit T text f.0 (type_widths known a d (few T f.0)) p, tt)
-definitions_again complete fit (more_definitions {known} {ks} {w} {T} n e d r) a f =
-    let h = type_widths known a d (few T f.0) in
-    (λ text p. printed_read complete fit T text f.0 h p, definitions_again complete fit r (one_more known (record { name = w; type = T }) a h) f.1)
-
-pub read_all_again : ParseAllSound → ParseComplete → WellFormedDefaults → (bs : List ℕ) (ks : List Known) → parse_all bs ≡ Ok ks → AreReadAgain ks
-read_all_again sound complete fit bs ks h = let s = sound bs ks h in definitions_again complete fit s.0.2 tt s.1
+pub printed_read : ParseComplete → WellFormedDefaults → (T : AsnType) (text : List ℕ) → IsWellFormed T → printed T ≡ Some text → parse text ≡ Ok T
+printed_read complete fit T text w e = complete text T (printed_spells T text w (fit T w) e) w

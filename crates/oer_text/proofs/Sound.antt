@@ -18,8 +18,8 @@ use Rattle.oer_text.specs.declared.fault.TextFault.{TextFault}
 use Rattle.oer_text.specs.declared.fault.TextWhy.{TextWhy}
 use Rattle.oer_text.specs.declared.fault.TextWhy.TheVariants as why
 use Rattle.oer_text.specs.declared.word.TypeWord.{TypeWord}
-use Rattle.oer_text.proofs.Ranges.{AllHaveRanges, type_ranges, few_nodes}
 use Rattle.oer_text.proofs.SoundParts.{word_type_took}
+use Rattle.oer_text.proofs.SpeltWidths.{AllHaveWidths, type_widths, few_nodes}
 use Rattle.oer_text.proofs.Took.{bind_ok, chosen, same_ok, Took, after, ends, answered, take_first, part_took, unmoved}
 use Rattle.oer_text.proofs.WordTable.{word_of, Begun, begun, find_sound}
 
@@ -85,8 +85,8 @@ definition_took known s r h =
     let f = faultless_ok (first_fault t.0.0) t.0.0 _ t.0.1 r t.2 in
     subst (Defines known s) f.1 (record { took = recounted max_parts (type_took known max_depth (with_parts max_parts s) t.0 t.1); faultless = f.0 })
 
-pub definition_well : NoFaultFound → FaultlessIsWellFormed → (known : List Known) → AllHaveRanges known → (s : State) (r : AsnType × State) → Defines known s r → IsWellFormed r.0
-definition_well none well known all s r d = (well r.0 (type_ranges known all d.took.holds (few_nodes none r.0 d.faultless))).0 d.faultless
+pub definition_well : NoFaultFound → FaultlessIsWellFormed → (known : List Known) → AllHaveWidths known → (s : State) (r : AsnType × State) → Defines known s r → IsWellFormed r.0
+definition_well none well known all s r d = (well r.0 (type_widths known all d.took.holds (few_nodes none r.0 d.faultless))).0 d.faultless
 
 end_by_ok : (w : TextWhy) (stop : TextFault) (u : Unit {0}) → end_by w stop ≡ Ok u → w ≡ why.Syntax
 end_by_ok why.Syntax stop u h = refl

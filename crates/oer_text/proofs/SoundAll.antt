@@ -5,16 +5,16 @@ use Rattle.oer_lexer.specs.Lexing.{lex}
 use Rattle.oer_lexer.specs.Token.{Token, word, number, bits, digits, text, sign}
 use Rattle.oer_lexer.specs.declared.token.Sign.TheVariants.{Assign}
 use Rattle.oer_types.specs.AsnType.{AsnType}
-use Rattle.oer_types.specs.Counting.{HasRanges}
 use Rattle.oer_types.specs.Laws.{FaultlessIsWellFormed, NoFaultFound}
 use Rattle.oer_types.specs.WellFormed.{IsWellFormed}
+use Rattle.oer_types.specs.Widths.{HasWidths}
 use Rattle.oer_text.specs.Grammar.{SpellsAll, AreWellFormed, IsType, IsName, IsNew, AreDefinitions, one_definition, more_definitions}
 use Rattle.oer_text.specs.Parsing.{start, definition_at, end_of, is_known, name_by, name_at, entry_at, is_last, entries_more, parse_all}
 use Rattle.oer_text.specs.Reading.{Known, find}
 use Rattle.oer_text.specs.State.{State, first, bump, skip_sign}
 use Rattle.oer_text.specs.Words.{is_name}
-use Rattle.oer_text.proofs.Ranges.{AllHaveRanges, type_ranges, few_nodes}
 use Rattle.oer_text.proofs.Sound.{definition_took, definition_well, all_taken}
+use Rattle.oer_text.proofs.SpeltWidths.{AllHaveWidths, one_more, type_widths, few_nodes}
 use Rattle.oer_text.proofs.Took.{bind_ok, chosen, same_ok, Took, both, turned, after, answered, take_first, skip_sign_took}
 use Rattle.oer_text.proofs.WordTable.{name_sound, find_none}
 
@@ -52,9 +52,9 @@ IsEntry known k ts = (us : List Token) × (ts ≡ word k.name ∷ sign Assign �
 record Entered (known : List Known) (s : State) (r : Known × State) : Type 0 where
   took : Took s r.1 (IsEntry known r.0)
   well : IsWellFormed r.0.type
-  ranges : HasRanges r.0.type
+  widths : HasWidths r.0.type
 
-entry_took : NoFaultFound → FaultlessIsWellFormed → (known : List Known) → AllHaveRanges known → (s : State) (r : Known × State) → entry_at known s ≡ Ok r → Entered known s r
+entry_took : NoFaultFound → FaultlessIsWellFormed → (known : List Known) → AllHaveWidths known → (s : State) (r : Known × State) → entry_at known s ≡ Ok r → Entered known s r
 unfolding entry_at
 entry_took none well known all s r h =
     let n = bind_ok (name_at known s) _ r h in
@@ -65,11 +65,7 @@ entry_took none well known all s r h =
     let k : Known = record { name = n.0.0; type = t.0.0 } in
     let y = after (sign Assign) (λ ts. (us : List Token) × (ts ≡ sign Assign ∷ us) × IsType known t.0.0 us) (skip_sign_took Assign n.0.1 a.0 a.1) d.took (λ b e. (b, refl, e)) in
     let z = both (IsEntry known k) p y (λ x y e f. (f.0, ap₂ (λ x y. x ++ y) e.0 f.1, e.1, e.2, f.2)) in
-    subst (Entered known s) (same_ok (k, t.0.1) r t.2) (record { took = z; well = definition_well none well known all a.0.1 t.0 d; ranges = type_ranges known all d.took.holds (few_nodes none t.0.0 d.faultless) })
-
-one_more : (known : List Known) (k : Known) → AllHaveRanges known → HasRanges k.type → AllHaveRanges (known ++ k ∷ [])
-one_more [] k all h = (h, tt)
-one_more (x ∷ known) k all h = (all.0, one_more known k all.1 h)
+    subst (Entered known s) (same_ok (k, t.0.1) r t.2) (record { took = z; well = definition_well none well known all a.0.1 t.0 d; widths = type_widths known all d.took.holds (few_nodes none t.0.0 d.faultless) })
 
 record AllEntered (known : List Known) (s : State) (ks : List Known) : Type 0 where
   more : List Known
@@ -79,7 +75,7 @@ record AllEntered (known : List Known) (s : State) (ks : List Known) : Type 0 wh
   over : end_of last ≡ Ok tt
   well : AreWellFormed more
 
-entries_took : NoFaultFound → FaultlessIsWellFormed → (n : ℕ) (known : List Known) → AllHaveRanges known → (s : State) (ks : List Known) → entries_more n known s ≡ Ok ks → AllEntered known s ks
+entries_took : NoFaultFound → FaultlessIsWellFormed → (n : ℕ) (known : List Known) → AllHaveWidths known → (s : State) (ks : List Known) → entries_more n known s ≡ Ok ks → AllEntered known s ks
 unfolding entries_more
 entries_took none well zero known all s ks h = absurd (cc)
 entries_took none well (suc n) known all s ks h =
@@ -98,7 +94,7 @@ entries_took none well (suc n) known all s ks h =
             well = (t.well, tt);
           })
       | inr p ↦ (
-          let m = entries_took none well n (known ++ k ∷ []) (one_more known k all t.ranges) e.0.1 ks p.1 in
+          let m = entries_took none well n (known ++ k ∷ []) (one_more known k all t.widths) e.0.1 ks p.1 in
           record {
             more = k ∷ m.more;
             are = m.are ∙ append_assoc known (k ∷ []) m.more;

@@ -6,7 +6,6 @@ use Rattle.oer_text.specs.Grammar.{Spells, SpellsAll, AreWellFormed}
 use Rattle.oer_text.specs.Parsing.{parse, parse_all}
 use Rattle.oer_text.specs.Printing.{printed}
 use Rattle.oer_text.specs.Reading.{Known}
-use Rattle.oer_text.specs.Widths.{HasWidths}
 use Rattle.oer_text.specs.declared.fault.TextFault.{TextFault}
 
 -- What is read of a text is a well-formed type that the text spells.
@@ -37,19 +36,6 @@ ParseAllRefuses = (bs : List ℕ) (e : TextFault) → parse_all bs ≡ Err e →
 abbrev pub OneType : Type 0
 OneType = (bs : List ℕ) (T U : AsnType) → Spells T bs → Spells U bs → IsWellFormed T → IsWellFormed U → T ≡ U
 
--- What is printed of a well-formed type, whose numbers are those that a `Shape` holds, is read as this type.
+-- What is printed of a well-formed type is read as this type.
 abbrev pub PrintedIsRead : Type 0
-PrintedIsRead = (T : AsnType) (text : List ℕ) → IsWellFormed T → HasWidths T → printed T ≡ Some text → parse text ≡ Ok T
-
--- What is printed of a type that was read of a text is read as this type again.
-abbrev pub ReadAgain : Type 0
-ReadAgain = (bs text : List ℕ) (T : AsnType) → parse bs ≡ Ok T → printed T ≡ Some text → parse text ≡ Ok T
-
--- what is printed of each of the types is read as this type
-abbrev pub AreReadAgain : List Known → Type 0
-AreReadAgain [] = Unit {0}
-AreReadAgain (k ∷ ks) = ((text : List ℕ) → printed k.type ≡ Some text → parse text ≡ Ok k.type) × AreReadAgain ks
-
--- So it is of the types of definitions that were read.
-abbrev pub ReadAllAgain : Type 0
-ReadAllAgain = (bs : List ℕ) (ks : List Known) → parse_all bs ≡ Ok ks → AreReadAgain ks
+PrintedIsRead = (T : AsnType) (text : List ℕ) → IsWellFormed T → printed T ≡ Some text → parse text ≡ Ok T

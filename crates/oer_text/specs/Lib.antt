@@ -10,4 +10,3 @@ pub mod Values
 pub mod Views
 pub mod Words
 pub mod Refusing
-pub mod Widths

@@ -1,6 +1,6 @@
 //! What holds of the notation. Each function does nothing; its contract is the law.
 
-ghost use Rattle.oer_text.specs.Laws.{ParseSound, ParseAllSound, ParseComplete, ParseAllComplete, ParseRefuses, ParseAllRefuses, OneType, PrintedIsRead, ReadAgain, ReadAllAgain};
+ghost use Rattle.oer_text.specs.Laws.{ParseSound, ParseAllSound, ParseComplete, ParseAllComplete, ParseRefuses, ParseAllRefuses, OneType, PrintedIsRead};
 
 use oer_lexer::laws::{lex_complete, lex_sound};
 use oer_types::laws::{defaults_fit, first_fault};
@@ -28,14 +28,10 @@ pub fn complete()
     first_fault();
 }
 
-/// What is printed of a well-formed type is read as the same type, where its numbers are those that a
-/// `Shape` holds. So is what is printed of a type that was read, alone or from definitions.
+/// What is printed of a well-formed type is read as the same type.
 pub fn printing()
-    ensures typed { PrintedIsRead }
-    ensures again { ReadAgain }
-    ensures all_again { ReadAllAgain }
+    ensures { PrintedIsRead }
 {
-    sound();
     complete();
     defaults_fit();
 }

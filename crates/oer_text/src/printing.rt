@@ -1,10 +1,11 @@
 //! The text of a type.
-ghost use Rattle.std.specs.Prelude.{◌≡◌, ◌↔◌, [], ◌∷◌, IfOk, map, Err, Some, None, string_bytes};
+ghost use Rattle.std.specs.Prelude.{◌≡◌, ◌↔◌, [], ◌∷◌, IfOk, map, Ok, Err, Some, None, string_bytes};
 ghost use Rattle.oer_types.specs.AsnType.{enumerated, no_alternatives};
 ghost use Rattle.oer_lexer.specs.Token.{sign, word};
 ghost use Rattle.oer_lexer.specs.declared.token.Sign.TheVariants.{OpenBrace};
 ghost use Rattle.oer_types.specs.Schema.{the_type};
 ghost use Rattle.oer_types.specs.ShapeView.{additions_of, fields_of, named_number, need_of, root_of, seen_alternative, seen_field, type_of};
+ghost use Rattle.oer_text.specs.Parsing.{parse};
 ghost use Rattle.oer_text.specs.Printer.{Puts, alternative_part, comma_unless, field_part, joined_from, marker_behind};
 ghost use Rattle.oer_text.specs.Printing.{addition_parts, after_commas, field_parts, item_tokens, joined, need_tokens, printed, root_parts, size_tokens, type_tokens};
 ghost use Rattle.oer_text.specs.Values.{items_of};
@@ -12,6 +13,7 @@ ghost use Rattle.oer_text.specs.declared.fault.PrintFault.TheVariants.{NoNotatio
 
 use crate::constraint::{put_bounds, put_item, put_size, put_tag};
 use crate::fault::PrintFault;
+use crate::laws;
 use crate::literal::put_value;
 use crate::printable::has_notation;
 use crate::printer::{Edge, Printer};
@@ -22,9 +24,10 @@ use std::alloc::{AllocError, Global};
 /// The text of a type in the notation, on one line: every number of an item and every tag is in it,
 /// and no Name. `NoNotation` where a default is of constructed type, is an enumeration number that
 /// no item has, or is a text with a character below U+0020; this is found before any memory is
-/// taken. `Memory` where a growth was refused.
+/// taken. `Memory` where a growth was refused. `parse_type` reads what was printed as the same type.
 pub fn print_type(alloc: Global, schema: &Schema) -> Result<String, PrintFault>
     ensures text { IfOk result (λ s. printed (the_type schema.now) ≡ Some (string_bytes s)) }
+    ensures again { IfOk result (λ s. parse (string_bytes s) ≡ Ok (the_type schema.now)) }
     ensures none { result ≡ Err NoNotation ↔ printed (the_type schema.now) ≡ None }
 {
     if !has_notation(schema.shape()) {
@@ -35,6 +38,7 @@ pub fn print_type(alloc: Global, schema: &Schema) -> Result<String, PrintFault>
         last: Edge::Other,
     };
     put_type(alloc, schema.shape(), &mut printer)?;
+    laws::printing();
     Ok(printer.out)
 }
 

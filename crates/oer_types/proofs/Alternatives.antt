@@ -1,14 +1,15 @@
 -- The alternatives of a CHOICE: its root and its additions.
-use Rattle.std.proofs.Common.{◌≡◌, ◌↔◌, ℕ, suc, ◌+◌, ◌-◌, ◌<◌, ◌≤◌, max, not, List, [], ◌∷◌, ◌++◌, Bool, true, false, ◌||◌, IsTrue, string_bytes, append-nil, Option, Some, None, Vec, Global, refl, sym, ap, ap₂, ◌∙◌, arith}
-use Rattle.oer_types.specs.AsnType.{AsnType, Alternatives, no_alternatives}
+use Rattle.std.proofs.Common.{◌≡◌, ℕ, suc, ◌+◌, ◌-◌, ◌<◌, ◌≤◌, max, not, List, [], ◌∷◌, ◌++◌, Bool, true, false, ◌||◌, string_bytes, append-nil, Option, Some, None, Vec, Global, refl, sym, ap, ap₂, ◌∙◌, arith}
+use Rattle.oer_types.specs.AsnType.{AsnType, no_alternatives}
 use Rattle.oer_types.specs.Nodes.{alternatives_nodes, type_nodes}
 use Rattle.std.specs.Str.{bytes_eq}
 use Rattle.oer_units.specs.declared.tagging.Tag.{Tag}
 use Rattle.oer_types.specs.Constraints.{has_tag, same_tag}
-use Rattle.oer_types.specs.Counting.{AlternativesHaveRanges, Leaves}
+use Rattle.oer_types.specs.Counting.{Leaves}
 use Rattle.oer_types.specs.FaultTest.{any_bad_name, contains_name, has_repeated_tag, in_alternatives, somewhere, tags_repeat}
 use Rattle.oer_types.specs.ShapeView.{type_of, additions_of, fields_of, later_of, root_of, choice_with, sequence_with, known_additions, known_later}
 use Rattle.oer_types.specs.WellFormed.{addition_names, alternative_names, alternatives_depth, depth, field_names, is_identifier, names}
+use Rattle.oer_types.specs.Widths.{AreInOrder, AreLater, AlternativesHaveWidths}
 use Rattle.oer_types.specs.declared.shape.Addition.{Addition}
 use Rattle.oer_types.specs.declared.shape.Field.{Field}
 use Rattle.oer_types.specs.declared.shape.Alt.{Alt}
@@ -96,21 +97,41 @@ somewhere_in_root q xs None h = or_right (q (choice_with xs None)) (in_alternati
 somewhere_in_root q xs (Some more) h =
     or_right (q (choice_with xs (Some more))) (in_alternatives q (root_of xs (later_of more.items))) (choice_faults q xs more.items ∙ ap (λ b. b || in_alternatives q (root_of more.items no_alternatives)) h)
 
-pub later_ranges : (ys : List Alt) → AlternativesHaveRanges (root_of ys no_alternatives) → AlternativesHaveRanges (later_of ys)
-later_ranges [] h = tt
-later_ranges (y ∷ ys) h = (h.0, h.1, later_ranges ys h.2)
+later_widths : (ys : List Alt) → AlternativesHaveWidths (root_of ys no_alternatives) → AlternativesHaveWidths (later_of ys)
+later_widths [] h = tt
+later_widths (y ∷ ys) h = (h.0, h.1, later_widths ys h.2)
 
-pub choice_ranges : (xs ys : List Alt) → AlternativesHaveRanges (root_of xs no_alternatives) → AlternativesHaveRanges (root_of ys no_alternatives) → AlternativesHaveRanges (root_of xs (later_of ys))
-choice_ranges [] ys h k = later_ranges ys k
-choice_ranges (x ∷ xs) ys h k = (h.0, h.1, choice_ranges xs ys h.2 k)
+choice_widths : (xs ys : List Alt) → AlternativesHaveWidths (root_of xs no_alternatives) → AlternativesHaveWidths (root_of ys no_alternatives) → AlternativesHaveWidths (root_of xs (later_of ys))
+choice_widths [] ys h k = later_widths ys k
+choice_widths (x ∷ xs) ys h k = (h.0, h.1, choice_widths xs ys h.2 k)
+
+are_later : (ys : List Alt) → AreLater (later_of ys)
+are_later [] = tt
+are_later (y ∷ ys) = are_later ys
+
+-- a root is in order, and what follows the marker too
+pub root_order : (xs : List Alt) → AreInOrder false (root_of xs no_alternatives)
+root_order [] = tt
+root_order (x ∷ xs) = root_order xs
+
+choice_order : (xs ys : List Alt) → AreInOrder true (root_of xs (later_of ys))
+choice_order [] [] = tt
+choice_order [] (y ∷ ys) = (refl, are_later ys)
+choice_order (x ∷ xs) ys = choice_order xs ys
 
 -- a root alone has fewer parts than the type
 pub root_parts : (xs : List Alt) (a : Option (Vec Alt Global)) → alternatives_nodes (root_of xs no_alternatives) < type_nodes (choice_with xs a)
 root_parts xs None = omega arith
 root_parts xs (Some more) = let e = choice_nodes xs more.items in omega arith
 
-pub choice_leaves : (xs ys : List Alt) (left rest : ℕ) (r : Option ℕ) → 1 ≤ left → rest + alternatives_nodes (root_of xs no_alternatives) ≡ left - 1 → AlternativesHaveRanges (root_of xs no_alternatives)
-    → Leaves r rest (alternatives_nodes (root_of ys no_alternatives)) (AlternativesHaveRanges (root_of ys no_alternatives))
-    → Leaves r left (suc (alternatives_nodes (root_of xs (later_of ys)))) (AlternativesHaveRanges (root_of xs (later_of ys)))
+-- what is left after a choice without a marker
+pub root_leaves : (xs : List Alt) (left rest : ℕ) → 1 ≤ left → rest + alternatives_nodes (root_of xs no_alternatives) ≡ left - 1 → AlternativesHaveWidths (root_of xs no_alternatives)
+    → Leaves (Some rest) left (suc (alternatives_nodes (root_of xs no_alternatives))) (AreInOrder false (root_of xs no_alternatives) × AlternativesHaveWidths (root_of xs no_alternatives))
+root_leaves xs left rest l e h = (omega arith, (root_order xs, h))
+
+-- and after one with a marker
+pub choice_leaves : (xs ys : List Alt) (left rest : ℕ) (r : Option ℕ) → 1 ≤ left → rest + alternatives_nodes (root_of xs no_alternatives) ≡ left - 1 → AlternativesHaveWidths (root_of xs no_alternatives)
+    → Leaves r rest (alternatives_nodes (root_of ys no_alternatives)) (AlternativesHaveWidths (root_of ys no_alternatives))
+    → Leaves r left (suc (alternatives_nodes (root_of xs (later_of ys)))) (AreInOrder true (root_of xs (later_of ys)) × AlternativesHaveWidths (root_of xs (later_of ys)))
 choice_leaves xs ys left rest None l e h k = let n = choice_nodes xs ys in omega arith
-choice_leaves xs ys left rest (Some r) l e h k = let n = choice_nodes xs ys in (omega arith, choice_ranges xs ys h k.1)
+choice_leaves xs ys left rest (Some r) l e h k = let n = choice_nodes xs ys in (omega arith, (choice_order xs ys, choice_widths xs ys h k.1))

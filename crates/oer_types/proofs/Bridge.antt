@@ -1,7 +1,7 @@
 -- The least forms of a type's numbers and strings.
-use Rattle.std.proofs.Common.{◌≡◌, ℕ, suc, ◌+◌, ◌-◌, ◌*◌, ◌/◌, ◌%◌, ◌^◌, ◌<◌, ◌≤◌, ⊎_elim, if◌then◌else◌, ℤ, pos, negsuc, ◌-ℤ◌, List, [], ◌∷◌, ◌++◌, length, refl, ap, ap₂, ◌∙◌, subst, arith, length-append}
+use Rattle.std.proofs.Common.{◌≡◌, ℕ, suc, ◌-◌, ◌^◌, ◌≤◌, ℤ, pos, negsuc, List, ◌++◌, length, refl, ap, ap₂, ◌∙◌, subst, arith, length-append}
 use Rattle.oer_units.specs.Least.{big_endian, octets_needed, unsigned_octets, signed_octets, length_octets, counted}
-use Rattle.oer_units.specs.Numbers.{unsigned, signed, natural}
+use Rattle.oer_units.specs.Numbers.{signed, natural}
 use Rattle.oer_units.specs.Octets.{IsOctets, IsShortest}
 use Rattle.oer_units.specs.Spelling.{IsLength, IsCounted, StandsFor}
 use Rattle.oer_units.proofs.Leasts.{octets_from, unsigned_is, signed_is, len_only, len_exists, len_small, number_exists, few_octets, natural_to, natural_from, signed_to, signed_from, signed_few, fixed_shortest}

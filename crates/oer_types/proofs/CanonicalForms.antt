@@ -1,5 +1,5 @@
 -- Canonical octets, without what is said of fits and octets.
-use Rattle.std.proofs.Common.{◌≡◌, ℕ, List}
+use Rattle.std.proofs.Common.{ℕ, List}
 use Rattle.oer_units.specs.Octets.{IsOctets}
 use Rattle.oer_types.proofs.Fitting.{enc_fits}
 use Rattle.oer_types.proofs.StrictEnc.{HasCanonicalForm, strict_within}

@@ -1,5 +1,5 @@
 -- Checkers, and what they tell of the octets taken.
-use Rattle.std.proofs.Common.{◌≡◌, ℕ, zero, suc, ◌+◌, ◌-◌, ◌^◌, ◌<◌, ◌≤◌, List, [], ◌∷◌, ◌++◌, length, take, Bool, true, false, not, ◌&&◌, leb, refl, ap, ap₂, sym, ◌∙◌, subst, append_assoc, arith, length-append, take_at}
+use Rattle.std.proofs.Common.{◌≡◌, ℕ, zero, suc, ◌-◌, ◌^◌, ◌<◌, List, [], ◌∷◌, ◌++◌, length, take, Bool, true, false, not, ◌&&◌, leb, refl, ap, ap₂, sym, ◌∙◌, subst, append_assoc, arith, length-append, take_at}
 use Rattle.oer_units.specs.Lawful.{Lawful}
 use Rattle.oer_units.specs.Octets.{IsOctets}
 use Rattle.oer_units.specs.Reader.{Place, at, Outcome, got, refused, Reader, give, refuse, bind, then_read, guard, within, bounded, filled_by, open_by, leave, leave_at, named_inside}

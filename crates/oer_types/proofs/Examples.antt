@@ -1,5 +1,5 @@
 -- The worked examples, by computation.
-use Rattle.std.proofs.Common.{◌≡◌, ⊎_elim, ◌-◌, ◌*◌, ◌^◌, suc, List, [], ◌∷◌, None, negsuc, refl, ap, arith}
+use Rattle.std.proofs.Common.{◌≡◌, ⊎_elim, ◌-◌, ◌*◌, ◌^◌, suc, [], ◌∷◌, None, negsuc, refl, ap, arith}
 use Rattle.std.proofs.lemmas.Bool.{cases_lt}
 use Rattle.std.specs.Char.{encode_utf8}
 use Rattle.std.specs.Str.{chars, is_utf8}

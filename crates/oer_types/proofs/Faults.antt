@@ -1,16 +1,17 @@
 -- The fault of least number, and what holds where there is none.
-use Rattle.std.proofs.Common.{◌≡◌, ◌⊎◌, ⊎_elim, inl, inr, ℕ, zero, suc, ◌+◌, ◌<◌, ◌≤◌, List, [], ◌∷◌, length, Bool, true, false, not, ◌||◌, ltb, if◌then◌else◌, Option, Some, None, refl, sym, ap, ◌∙◌, subst, arith}
+use Rattle.std.proofs.Common.{◌≡◌, ⊎_elim, ℕ, zero, suc, ◌<◌, ◌≤◌, List, [], ◌∷◌, Bool, true, false, not, ◌||◌, ltb, if◌then◌else◌, Option, Some, None, refl, sym, ap, ◌∙◌, subst, arith}
 use Rattle.std.specs.Option.{MatchOption}
-use Rattle.std.proofs.lemmas.Bool.{lt-ltb, cases_lt}
+use Rattle.std.proofs.lemmas.Bool.{le-leb, lt-ltb, cases_lt}
 use Rattle.oer_types.specs.AsnType.{Additions, Alternatives, AsnType, Fields, Need, addition, alternative, bit_string, boolean, choice, default, enumerated, extensible_sequence, field, integer, later, may, must, no_additions, no_alternatives, no_fields, null, object_id, octet_string, restricted_string, sequence, sequence_of, utf8_string}
-use Rattle.oer_types.specs.Constraints.{AdditionsKeepLimits, AlternativesKeepLimits, FieldsKeepLimits, KeepsLimits, addition_count, may_be_empty}
-use Rattle.oer_types.specs.Counting.{AdditionsHaveRanges, AlternativesHaveRanges, FieldsHaveRanges, HasRanges}
+use Rattle.oer_types.specs.Constraints.{AdditionsKeepLimits, AlternativesKeepLimits, FieldsKeepLimits, HasSizeLimit, KeepsLimits, addition_count, may_be_empty}
 use Rattle.oer_types.specs.FaultTest.{first_fault, first_in, has_empty_element, has_fault, has_misfit, any_misfit, is_misfit, in_additions, in_alternatives, in_fields, later_faults, somewhere}
 use Rattle.oer_types.specs.FitTest.{is_fit}
 use Rattle.oer_types.specs.Fits.{AdditionDefaultsFit, AlternativeDefaultsFit, DefaultFits, DefaultsFit, FieldDefaultsFit, Fits}
 use Rattle.oer_types.specs.Laws.{FaultlessIsWellFormed, FirstFaultFound, NoFaultFound, OneFirstFault}
 use Rattle.oer_types.specs.Nodes.{additions_nodes, alternatives_nodes, fields_nodes, type_nodes}
 use Rattle.oer_types.specs.WellFormed.{HasFault, IsFirstFault, IsWellFormed, fault_number}
+use Rattle.oer_types.specs.Widths.{AdditionsHaveWidths, AlternativesHaveWidths, FieldsHaveWidths, HasSizeWidths, HasWidths}
+use Rattle.oer_types.specs.declared.size.Size.{Size}
 use Rattle.oer_types.specs.declared.fault.SchemaFault.{SchemaFault}
 use Rattle.oer_types.specs.declared.fault.SchemaFault.TheVariants.{TooDeep, TooManyParts, BoundOrder, SizeOrder, BadName, RepeatedName, NoItems, RepeatedNumber, RepeatedTag, DefaultMisfit, EmptyElement}
 use Rattle.oer_types.proofs.FitTests.{fit_sound}
@@ -141,18 +142,21 @@ few_additions (addition name T more) = let n = few_additions more in let p = som
     some_node (utf8_string s) = omega arith
     some_node (octet_string s) = omega arith
 
--- the limits follow from the ranges of numbers, the number of parts, and that no element may be empty
+size_limit : (s : Size) → HasSizeWidths s → HasSizeLimit s
+size_limit s h = le-leb s.low 18446744073709551615 (omega arith)
+
+-- the limits follow from the widths of numbers, the number of parts, and that no element may be empty
 mutual
-  limits_from : (T : AsnType) → HasRanges T → type_nodes T ≤ 4096 → somewhere has_empty_element T ≡ false → KeepsLimits T
+  limits_from : (T : AsnType) → HasWidths T → type_nodes T ≤ 4096 → somewhere has_empty_element T ≡ false → KeepsLimits T
   limits_from boolean r n e = tt
   limits_from null r n e = tt
   limits_from (integer low high) r n e = tt
   limits_from (enumerated xs x) r n e = tt
-  limits_from (bit_string s) r n e = r
+  limits_from (bit_string s) r n e = size_limit s r
   limits_from object_id r n e = tt
-  limits_from (restricted_string kind s) r n e = r
-  limits_from (utf8_string s) r n e = r
-  limits_from (octet_string s) r n e = r
+  limits_from (restricted_string kind s) r n e = size_limit s r
+  limits_from (utf8_string s) r n e = size_limit s r
+  limits_from (octet_string s) r n e = size_limit s r
   limits_from (sequence fs) r n e = fields_limits fs r (omega arith) e
   limits_from (extensible_sequence fs more) r n e =
       let f = few_additions more in (
@@ -160,40 +164,40 @@ mutual
         additions_limits more r.1 (omega arith) (or_right (in_fields has_empty_element fs) (in_additions has_empty_element more) e),
         omega arith,
       )
-  limits_from (sequence_of s T) r n e = (or_left (may_be_empty T) (somewhere has_empty_element T) e, limits_from T r (omega arith) (or_right (may_be_empty T) (somewhere has_empty_element T) e))
-  limits_from (choice x more) r n e = alternatives_limits more r (omega arith) e
+  limits_from (sequence_of s T) r n e = (or_left (may_be_empty T) (somewhere has_empty_element T) e, limits_from T r.1 (omega arith) (or_right (may_be_empty T) (somewhere has_empty_element T) e))
+  limits_from (choice x more) r n e = alternatives_limits more r.1 (omega arith) e
 
-  fields_limits : (fs : Fields) → FieldsHaveRanges fs → fields_nodes fs ≤ 4096 → in_fields has_empty_element fs ≡ false → FieldsKeepLimits fs
+  fields_limits : (fs : Fields) → FieldsHaveWidths fs → fields_nodes fs ≤ 4096 → in_fields has_empty_element fs ≡ false → FieldsKeepLimits fs
   fields_limits no_fields r n e = tt
   fields_limits (field name need T fs) r n e =
       (limits_from T r.0 (omega arith) (or_left (somewhere has_empty_element T) (in_fields has_empty_element fs) e), fields_limits fs r.1 (omega arith) (or_right (somewhere has_empty_element T) (in_fields has_empty_element fs) e))
 
-  additions_limits : (more : Additions) → AdditionsHaveRanges more → additions_nodes more ≤ 4096 → in_additions has_empty_element more ≡ false → AdditionsKeepLimits more
+  additions_limits : (more : Additions) → AdditionsHaveWidths more → additions_nodes more ≤ 4096 → in_additions has_empty_element more ≡ false → AdditionsKeepLimits more
   additions_limits no_additions r n e = tt
   additions_limits (addition name T more) r n e =
       (limits_from T r.0 (omega arith) (or_left (somewhere has_empty_element T) (in_additions has_empty_element more) e), additions_limits more r.1 (omega arith) (or_right (somewhere has_empty_element T) (in_additions has_empty_element more) e))
 
-  alternatives_limits : (more : Alternatives) → AlternativesHaveRanges more → alternatives_nodes more ≤ 4096 → in_alternatives has_empty_element more ≡ false → AlternativesKeepLimits more
+  alternatives_limits : (more : Alternatives) → AlternativesHaveWidths more → alternatives_nodes more ≤ 4096 → in_alternatives has_empty_element more ≡ false → AlternativesKeepLimits more
   alternatives_limits no_alternatives r n e = tt
   alternatives_limits (alternative name t T more) r n e = (
-    limits_from T r.0 (omega arith) (or_left (somewhere has_empty_element T) (in_alternatives has_empty_element more) e),
+    limits_from T r.1 (omega arith) (or_left (somewhere has_empty_element T) (in_alternatives has_empty_element more) e),
     alternatives_limits more r.2 (omega arith) (or_right (somewhere has_empty_element T) (in_alternatives has_empty_element more) e),
-    r.1,
+    r.0,
   )
   alternatives_limits (later name t T more) r n e = (
-    limits_from T r.0 (omega arith) (or_left (somewhere has_empty_element T) (in_alternatives has_empty_element more) e),
+    limits_from T r.1 (omega arith) (or_left (somewhere has_empty_element T) (in_alternatives has_empty_element more) e),
     alternatives_limits more r.2 (omega arith) (or_right (somewhere has_empty_element T) (in_alternatives has_empty_element more) e),
-    r.1,
+    r.0,
   )
 
 few_parts : (n : ℕ) → ltb 4096 n ≡ false → n ≤ 4096
 few_parts n e = ⊎_elim (λ l. let on = lt-ltb 4096 n l in absurd (cc)) (λ g. g) (cases_lt 4096 n)
 
 -- where no fault is found
-pub well_formed : (T : AsnType) → HasRanges T → first_fault T ≡ None → IsWellFormed T
+pub well_formed : (T : AsnType) → HasWidths T → first_fault T ≡ None → IsWellFormed T
 well_formed T r e =
     let f = free T e in
-    record { faultless = λ g. no_fault T g (f g); limits = limits_from T r (few_parts (type_nodes T) (f TooManyParts)) (f EmptyElement) }
+    record { faultless = λ g. no_fault T g (f g); widths = r; limits = limits_from T r (few_parts (type_nodes T) (f TooManyParts)) (f EmptyElement) }
 
 only_none : (T : AsnType) (o : Option SchemaFault) → first_fault T ≡ o → ((f : SchemaFault) → HasFault T f → ⊥) → o ≡ None
 only_none T None e h = refl

@@ -1,14 +1,14 @@
 -- Filling, part by part.
-use Rattle.std.proofs.Common.{◌≡◌, ◌↔◌, ℕ, suc, ◌==◌, List, [], ◌∷◌, ◌++◌, length, map, Bool, true, false, not, ◌||◌, if◌then◌else◌, Option, Some, None, option_map, Vec, Global, IsTrue, eqb, ◌&&◌, refl, sym, ap, ap₂, ◌∙◌, arith, rules}
+use Rattle.std.proofs.Common.{◌≡◌, ◌↔◌, ℕ, ◌==◌, List, [], ◌∷◌, ◌++◌, length, map, Bool, true, false, not, ◌||◌, if◌then◌else◌, Option, Some, None, option_map, Vec, Global, IsTrue, eqb, ◌&&◌, refl, sym, ap, ◌∙◌, arith, rules}
 use denote.Enum.Bare.{sameb}
 use Rattle.std.proofs.lemmas.Grind.{common_steps}
 use Rattle.std.proofs.Math.Dec.{eqb-suc-zero}
 use Rattle.oer_units.specs.contracts.tagging.Class.{the_type}
 use Rattle.oer_units.specs.declared.tagging.Tag.{Tag}
 use Rattle.oer_types.specs.AsnType.{AsnType, Alternatives, Need, must, may, default, Fields, Additions, field, addition, no_alternatives}
-use Rattle.oer_types.specs.AsnValue.{AsnValue, Places, Unknown, Values, absent, chosen, items, no_places, no_values, present, seq, value}
+use Rattle.oer_types.specs.AsnValue.{AsnValue, Places, Values, absent, chosen, items, no_places, no_values, present, value}
 use Rattle.oer_types.specs.Constraints.{has_tag, same_tag}
-use Rattle.oer_types.specs.DefaultView.{default_of, with_default, place}
+use Rattle.oer_types.specs.DefaultView.{with_default, place}
 use Rattle.oer_types.specs.Filling.{filled, filled_additions, filled_alternative, filled_by_tag, filled_fields, map_values}
 use Rattle.oer_types.specs.ShapeView.{type_of, additions_from, fields_from, later_of, root_of, choice_with, SeenAddition, SeenField}
 use Rattle.oer_types.specs.ValueView.{attached, value_of, values_from, values_of, places_of}

@@ -1,6 +1,5 @@
 -- What is found by a path is what the path leads to.
-use Rattle.std.proofs.Common.{◌≡◌, ◌↔◌, ◌⊎◌, inl, inr, ⊎_elim, ℕ, List, [], ◌∷◌, ◌++◌, length, Bool, true, false, Option, Some, None, refl, ap, ap₂, sym, ◌∙◌, subst}
-use Rattle.oer_units.specs.Reader.{at}
+use Rattle.std.proofs.Common.{◌≡◌, ◌⊎◌, inl, inr, ℕ, List, [], ◌∷◌, ◌++◌, Bool, true, false, Option, Some, None, refl, ap, ap₂, sym, ◌∙◌, subst}
 use Rattle.oer_types.proofs.Pieces.{Child, KeptChild, Led, child_in, child_kept, kept, led, nothing_there, pieces, splits, typed, untyped}
 use Rattle.oer_types.proofs.Splitting.{split_read}
 use Rattle.oer_types.specs.AsnType.{AsnType}
@@ -9,7 +8,7 @@ use Rattle.oer_types.specs.Constraints.{KeepsLimits}
 use Rattle.oer_types.specs.Encoding.{IsSpelling}
 use Rattle.oer_types.specs.Fits.{DefaultsFit}
 use Rattle.oer_types.specs.Laws.{FindsParts, MissesParts}
-use Rattle.oer_types.specs.Parts.{Answer, IsSplit, LeadsTo, Part, Step, StopsAt, Within, absent_part, find_part, found, go_on, lookup, knows, knows_in, no_such_step, nothing_at, parts_in, read_parts}
+use Rattle.oer_types.specs.Parts.{Answer, IsSplit, LeadsTo, Part, Step, StopsAt, Within, find_part, found, go_on, lookup, knows, knows_in, no_such_step, nothing_at}
 
 -- octets whose parts can be found
 abbrev pub Whole : Option AsnType → List ℕ → Type 0

@@ -1,9 +1,8 @@
 -- What fits, part by part.
-use Rattle.std.proofs.Common.{◌≡◌, ℕ, suc, ◌==◌, List, [], ◌∷◌, length, map, Bool, true, false, not, ◌&&◌, ◌||◌, if◌then◌else◌, Option, Some, None, Vec, Global, refl, sym, ap, ap₂, ◌∙◌, arith, rules}
-use Rattle.std.proofs.lemmas.Grind.{common_steps}
+use Rattle.std.proofs.Common.{◌≡◌, suc, ◌==◌, List, [], ◌∷◌, length, map, Bool, true, false, ◌&&◌, ◌||◌, if◌then◌else◌, Option, Some, None, Vec, Global, refl, ap, ◌∙◌}
 use Rattle.std.proofs.Math.Dec.{eqb-suc-zero}
 use Rattle.oer_units.specs.declared.tagging.Tag.{Tag}
-use Rattle.oer_types.specs.AsnType.{AsnType, Alternatives, no_fields, no_additions, no_alternatives}
+use Rattle.oer_types.specs.AsnType.{Alternatives, no_fields, no_additions, no_alternatives}
 use Rattle.oer_types.specs.AsnValue.{AsnValue, chosen}
 use Rattle.oer_types.specs.Constraints.{addition_count, has_tag, same_tag}
 use Rattle.oer_types.specs.FitTest.{is_fit, fields_fit, additions_fit, alternative_fits, is_without, values_length}

@@ -1,15 +1,15 @@
 -- The test says which values fit.
-use Rattle.std.proofs.Common.{◌≡◌, ◌↔◌, ◌⊎◌, ⊎_elim, inl, inr, ℕ, suc, ◌+◌, ◌*◌, ◌^◌, ◌<◌, ◌≤◌, List, [], ◌∷◌, length, Bool, true, false, not, ◌&&◌, ◌||◌, leb, ltb, if◌then◌else◌, refl, sym, ap, ap₂, ◌∙◌, subst, arith}
+use Rattle.std.proofs.Common.{◌≡◌, ◌↔◌, ◌⊎◌, ⊎_elim, inl, inr, ℕ, suc, ◌+◌, ◌*◌, ◌^◌, ◌<◌, ◌≤◌, List, [], ◌∷◌, length, Bool, true, false, not, ◌&&◌, ◌||◌, leb, ltb, if◌then◌else◌, refl, sym, ap, ap₂, ◌∙◌, arith}
 use Rattle.std.proofs.lemmas.Bool.{lt-ltb, ltb-true, leb-true, le-leb, cases_lt}
 use Rattle.std.specs.Str.{is_utf8, chars}
 use Rattle.oer_units.specs.Octets.{IsOctets}
 use Rattle.oer_units.specs.Reading.{is_int64}
 use Rattle.oer_units.specs.declared.tagging.Tag.{Tag}
-use Rattle.oer_types.specs.AsnType.{Additions, Alternatives, AsnType, Fields, Need, addition, alternative, bit_string, boolean, choice, default, enumerated, extensible_sequence, field, integer, later, may, must, no_additions, no_alternatives, no_fields, null, object_id, octet_string, restricted_string, sequence, sequence_of, utf8_string}
+use Rattle.oer_types.specs.AsnType.{Additions, Alternatives, AsnType, Fields, addition, alternative, bit_string, boolean, choice, default, enumerated, extensible_sequence, field, integer, later, may, must, no_additions, no_alternatives, no_fields, null, object_id, octet_string, restricted_string, sequence, sequence_of, utf8_string}
 use Rattle.oer_types.specs.AsnValue.{AsnValue, Places, Unknown, Values, absent, bit_list, bool, chosen, enum, foreign, int, items, no_places, no_values, nothing, octets, oid, present, seq, text, unknown, value}
-use Rattle.oer_types.specs.Constraints.{addition_count, all_characters, has_number, has_tag, in_range, same_tag, size_fits}
+use Rattle.oer_types.specs.Constraints.{addition_count, all_characters, has_number, has_tag, same_tag, size_fits}
 use Rattle.oer_types.specs.Fits.{AllBelow, AllFit, AreArcs, Fits, FitsAdditions, FitsAlternative, FitsByTag, FitsFields, FitsUnknown, listed}
-use Rattle.oer_types.specs.FitTest.{all_below, first_arcs, arcs_fit, values_length, all_fit, may_be_absent, unknown_fit, is_without, is_fit, fields_fit, additions_fit, alternative_fits}
+use Rattle.oer_types.specs.FitTest.{all_below, first_arcs, arcs_fit, values_length, all_fit, unknown_fit, is_without, is_fit, fields_fit, additions_fit, alternative_fits}
 
 pub both : (a b : Bool) → (a && b) ≡ true → (a ≡ true) × (b ≡ true)
 both true b h = (refl, h)

@@ -1,5 +1,5 @@
 -- What has an encoding fits its type.
-use Rattle.std.proofs.Common.{◌≡◌, ℕ, zero, suc, ◌+◌, ◌-◌, ◌≤◌, ◌^◌, drop, inl, inr, List, [], ◌∷◌, ◌++◌, length, Bool, true, false, ◌&&◌, leb, eqb, if◌then◌else◌, Option, Some, None, refl, ap, sym, ◌∙◌, subst, arith, length-take-le, le-leb, eqb-true}
+use Rattle.std.proofs.Common.{◌≡◌, ℕ, zero, suc, ◌+◌, ◌-◌, ◌≤◌, drop, inl, inr, List, [], ◌∷◌, ◌++◌, length, Bool, true, false, ◌&&◌, leb, eqb, if◌then◌else◌, Option, Some, None, refl, ap, sym, ◌∙◌, subst, arith, length-take-le, le-leb, eqb-true}
 use Rattle.std.proofs.lemmas.List.{drop-drop}
 use Rattle.oer_units.specs.Octets.{IsOctets}
 use Rattle.oer_units.specs.Spelling.{IsCounted, IsJoined, IsTag, IsSubidentifier}

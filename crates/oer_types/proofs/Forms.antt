@@ -4,7 +4,7 @@ use Rattle.std.proofs.lemmas.Bool.{false≢true}
 use Rattle.std.proofs.lemmas.Int.{ints}
 use Rattle.oer_units.proofs.Ranges.{int_le-true, and_left, and_right, within_bits}
 use Rattle.oer_units.proofs.Spelling.{Within}
-use Rattle.oer_types.specs.Constraints.{low_from, high_to, signed_within, above, below, in_range, Form, unsigned_fixed, signed_fixed, unsigned_counted, signed_counted, form_of, unsigned_form, signed_form}
+use Rattle.oer_types.specs.Constraints.{low_from, high_to, above, below, in_range, Form, unsigned_fixed, signed_fixed, unsigned_counted, signed_counted, form_of, unsigned_form, signed_form}
 
 -- the number can be written in the form
 abbrev pub FitsForm : Form → ℤ → Type 0

@@ -1,5 +1,5 @@
 -- The headline.
-use Rattle.std.proofs.Common.{◌≡◌, ◌↔◌, ℕ, ◌+◌, ◌-◌, ◌^◌, ◌<◌, ◌≤◌, List, ◌++◌, length, refl, ap, sym, ◌∙◌, subst, arith}
+use Rattle.std.proofs.Common.{◌≡◌, ℕ, ◌-◌, ◌^◌, ◌<◌, ◌≤◌, List, ◌++◌, length, refl, ap, sym, ◌∙◌, subst, arith}
 use Rattle.oer_units.specs.Octets.{IsOctets}
 use Rattle.oer_units.specs.Reader.{Outcome, Place, at, bind, give, got, refused, then_read}
 use Rattle.oer_units.proofs.Closure.{got_place, got_value}
@@ -15,7 +15,6 @@ use Rattle.oer_types.specs.Canonical.{canonical_octets}
 use Rattle.oer_types.specs.Constraints.{KeepsLimits}
 use Rattle.oer_types.specs.Encoding.{Encodes}
 use Rattle.oer_types.specs.Headline.{Accepts, Headline, Rewrites}
-use Rattle.oer_types.specs.Laws.{rewritten}
 use Rattle.oer_types.specs.Reading.{read_value}
 use Rattle.oer_types.specs.Strict.{IsCanonical}
 

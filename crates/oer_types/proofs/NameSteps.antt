@@ -1,5 +1,5 @@
 -- What a shape's parts say of its type.
-use Rattle.std.proofs.Common.{◌≡◌, ◌==◌, List, [], ◌∷◌, length, Bool, true, false, Option, Some, None, Vec, Global, map, refl, sym, ap}
+use Rattle.std.proofs.Common.{◌≡◌, ◌==◌, List, [], ◌∷◌, length, Bool, true, Option, Some, None, Vec, Global, map, refl, sym}
 use Rattle.std.proofs.Math.Dec.{eqb-suc-zero}
 use Rattle.oer_types.specs.AsnType.{choice, enumerated}
 use Rattle.oer_types.specs.FaultTest.{any_misfit, has_misfit, has_no_items}

@@ -10,7 +10,8 @@ use Rattle.oer_types.specs.Bits.{first_bit, later_bits}
 use Rattle.oer_types.specs.Constraints.{has_tag, same_tag, addition_count}
 use Rattle.oer_types.specs.Encoding.{IsItself, SpellsUnknown, ByBit, ByTag, SpellsChosen, SpellsExtension, IsSpelling, SpellsAdditions, SpellsAlternative}
 use Rattle.oer_types.specs.Fits.{all_absent}
-use Rattle.oer_types.specs.Laws.{AreLater, with_additions, with_alternatives, OlderSequence, OlderChoice}
+use Rattle.oer_types.specs.Widths.{AreLater}
+use Rattle.oer_types.specs.Laws.{with_additions, with_alternatives, OlderSequence, OlderChoice}
 
 -- octets that are counted, whatever they spell
 counted_octets_of : {A : Type 0} (S : A → List ℕ → Type 0) (x : A) (b : List ℕ) → IsCounted S x b → (c : List ℕ) × IsCounted IsItself c b

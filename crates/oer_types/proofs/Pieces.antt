@@ -1,14 +1,14 @@
 -- The parts of a value, and the parts of an encoding that spell them.
-use Rattle.std.proofs.Common.{◌≡◌, ◌⊎◌, inl, inr, ⊎_elim, ℕ, zero, suc, ◌+◌, List, [], ◌∷◌, ◌++◌, length, drop, Bool, true, false, if◌then◌else◌, Option, Some, None, refl, ap, ap₂, sym, ◌∙◌, subst, arith}
+use Rattle.std.proofs.Common.{◌≡◌, inl, inr, ℕ, suc, List, [], ◌∷◌, ◌++◌, length, drop, Bool, true, false, if◌then◌else◌, Some, None, refl, ap, ap₂, sym, ◌∙◌, subst}
 use Rattle.oer_units.specs.Spelling.{IsCounted, IsJoined}
 use Rattle.oer_units.specs.declared.tagging.Tag.{Tag}
 use Rattle.oer_types.specs.AsnType.{Additions, Alternatives, AsnType, Fields, Need, addition, alternative, boolean, null, integer, enumerated, bit_string, object_id, restricted_string, utf8_string, octet_string, choice, default, extensible_sequence, field, later, may, must, no_additions, no_alternatives, no_fields, sequence, sequence_of}
 use Rattle.oer_types.specs.AsnValue.{AsnValue, Places, Unknown, Values, absent, chosen, foreign, items, no_places, no_values, present, seq, unknown, value}
 use Rattle.oer_types.specs.Bits.{first_bit, later_bits}
-use Rattle.oer_types.specs.Constraints.{KeepsLimits, FieldsKeepLimits, AdditionsKeepLimits, AlternativesKeepLimits, addition_count, has_tag, optional, same_tag}
-use Rattle.oer_types.specs.Encoding.{ByBit, ByNeed, ByTag, IsItself, IsSpelling, SpellsAdditions, SpellsAlternative, SpellsChosen, SpellsExtension, SpellsFields, SpellsUnknown}
+use Rattle.oer_types.specs.Constraints.{KeepsLimits, FieldsKeepLimits, AdditionsKeepLimits, AlternativesKeepLimits, addition_count, same_tag}
+use Rattle.oer_types.specs.Encoding.{ByBit, ByTag, IsItself, IsSpelling, SpellsAdditions, SpellsAlternative, SpellsExtension, SpellsFields, SpellsUnknown}
 use Rattle.oer_types.specs.Fits.{DefaultsFit, FieldDefaultsFit, AdditionDefaultsFit, AlternativeDefaultsFit, all_absent, listed}
-use Rattle.oer_types.specs.Parts.{Answer, AloneByTag, Holds, IsAlone, IsSplit, Part, SplitsAdditions, SplitsAlternative, SplitsExtension, SplitsFields, SplitsItems, SplitsUnknown, Starts, StartsByBit, StartsByNeed, Step, found, lookup, part, same_step, to_addition, to_chosen, to_component, to_item}
+use Rattle.oer_types.specs.Parts.{Answer, AloneByTag, Holds, IsAlone, IsSplit, Part, SplitsAdditions, SplitsAlternative, SplitsExtension, SplitsFields, SplitsItems, SplitsUnknown, StartsByBit, Step, found, lookup, part, same_step, to_addition, to_chosen, to_component, to_item}
 
 -- a value in a value, with what its component may be, or octets of which no type is known
 pub data Piece : Type 0 where

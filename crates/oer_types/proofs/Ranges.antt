@@ -1,13 +1,10 @@
 -- What the numbers of the program keep.
-use Rattle.std.proofs.Common.{◌≡◌, ◌↔◌, ℕ, suc, ◌+◌, ◌*◌, ◌<◌, ◌≤◌, ◌^◌, List, [], ◌∷◌, length, get_or, Bool, true, false, ◌&&◌, ◌||◌, leb, ltb, ℤ, pos, negsuc, int_le, FitsSigned, Option, Some, None, refl, sym, ap, ap₂, ◌∙◌, arith}
+use Rattle.std.proofs.Common.{◌≡◌, ℕ, suc, ◌<◌, ◌≤◌, ◌^◌, List, [], ◌∷◌, length, get_or, Bool, true, false, ◌&&◌, ltb, ℤ, pos, negsuc, int_le, FitsSigned, Option, refl, sym, ◌∙◌, arith}
 use Rattle.std.specs.Int.{w64, w128}
 use Rattle.std.proofs.lemmas.Int.{ints}
 use Rattle.std.proofs.lemmas.Bool.{le-leb, lt-ltb}
-use Rattle.std.specs.Str.{is_utf8, chars, IsUtf8}
-use Rattle.std.proofs.lemmas.Str.{is_utf8-from_IsUtf8}
 use Rattle.oer_units.specs.Reading.{is_int64}
-use Rattle.oer_types.specs.AsnType.{NamedNumber}
-use Rattle.oer_types.specs.Constraints.{above, below, in_range, has_number}
+use Rattle.oer_types.specs.Constraints.{above, below, in_range}
 use Rattle.oer_types.specs.FitTest.{all_below, first_arcs, arcs_fit}
 use Rattle.oer_types.proofs.FitTests.{and_true}
 

@@ -1,5 +1,5 @@
 -- What an older CHOICE relays is read by the newer one as the sender's value.
-use Rattle.std.proofs.Common.{◌≡◌, ℕ, suc, ◌⊎◌, inl, inr, ◌||◌, List, [], ◌++◌, Bool, true, false, refl, ap, sym, ◌∙◌, subst}
+use Rattle.std.proofs.Common.{◌≡◌, ℕ, ◌⊎◌, inl, inr, ◌||◌, List, [], ◌++◌, Bool, true, false, refl, ap, sym, ◌∙◌, subst}
 use Rattle.oer_units.specs.Spelling.{IsCounted, IsTag}
 use Rattle.oer_units.specs.declared.tagging.Tag.{Tag}
 use Rattle.oer_units.proofs.Closure.{is_one}
@@ -8,12 +8,13 @@ use Rattle.oer_types.proofs.Older.{none_older}
 use Rattle.oer_types.proofs.StrictEnc.{HasCanonicalForm, strict_within}
 use Rattle.oer_types.proofs.CanonicalForms.{form_of_canonical, canonical_octets_are, encodes_from}
 use Rattle.oer_types.specs.Constraints.{KeepsLimits}
-use Rattle.oer_types.specs.AsnType.{choice, Additions, no_additions, addition, Alternatives, no_alternatives, alternative, later}
+use Rattle.oer_types.specs.AsnType.{choice, Alternatives, no_alternatives, alternative, later}
 use Rattle.oer_types.specs.AsnValue.{AsnValue, chosen, foreign}
 use Rattle.oer_types.specs.Constraints.{has_tag, same_tag}
 use Rattle.oer_types.specs.Encoding.{IsItself, ByTag, IsSpelling, SpellsAlternative}
 use Rattle.oer_types.specs.Filling.{filled, filled_by_tag, filled_alternative}
-use Rattle.oer_types.specs.Laws.{AreLater, with_alternatives, RelayedChoice}
+use Rattle.oer_types.specs.Widths.{AreLater}
+use Rattle.oer_types.specs.Laws.{with_alternatives, RelayedChoice}
 
 -- counted content that may be counted anew
 abbrev Anew : (List ℕ → Type 0) → List ℕ → Type 0

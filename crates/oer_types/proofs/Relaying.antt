@@ -1,21 +1,21 @@
 -- Unknown parts stand unchanged in the canonical octets.
-use Rattle.std.proofs.Common.{◌≡◌, ◌⊎◌, inl, inr, ⊎_elim, ℕ, zero, suc, ◌+◌, ◌-◌, ◌≤◌, ◌<◌, List, [], ◌∷◌, ◌++◌, length, Bool, true, false, eqb, if◌then◌else◌, Option, Some, None, refl, ap, ap₂, sym, ◌∙◌, subst, arith, eqb-true, eq-eqb}
+use Rattle.std.proofs.Common.{◌≡◌, ◌⊎◌, inl, inr, ⊎_elim, ℕ, zero, suc, ◌+◌, ◌<◌, List, [], ◌∷◌, ◌++◌, Bool, true, false, eqb, if◌then◌else◌, Option, Some, None, refl, ap, ap₂, sym, ◌∙◌, subst, arith, eqb-true, eq-eqb}
 use Rattle.oer_units.specs.declared.tagging.Tag.{Tag}
 use Rattle.oer_types.proofs.Computed.{value_plain}
 use Rattle.oer_types.proofs.Finding.{led_to, same_found}
-use Rattle.oer_types.proofs.Pieces.{Child, KeptChild, Led, Piece, addition_pieces, alternative_pieces, child_in, child_kept, field_pieces, in_choice, in_items, in_seq, item_pieces, kept, led, nothing_there, piece, pieces, pieces_by_tag, raw, splits, typed, unknown_pieces, untyped}
+use Rattle.oer_types.proofs.Pieces.{Child, KeptChild, Led, Piece, addition_pieces, alternative_pieces, child_in, child_kept, field_pieces, item_pieces, kept, led, nothing_there, piece, pieces, pieces_by_tag, raw, splits, typed, unknown_pieces, untyped}
 use Rattle.oer_types.proofs.Same.{same-true}
 use Rattle.oer_types.proofs.StrictEnc.{strict_within}
 use Rattle.oer_types.proofs.Trimming.{trims_from_fills}
 use Rattle.oer_types.specs.AsnType.{Additions, Alternatives, AsnType, Fields, Need, addition, alternative, boolean, null, integer, enumerated, bit_string, object_id, restricted_string, utf8_string, octet_string, choice, default, extensible_sequence, field, later, may, must, no_additions, no_alternatives, no_fields, sequence, sequence_of}
-use Rattle.oer_types.specs.AsnValue.{AsnValue, Places, Unknown, Values, absent, bit_list, bool, chosen, enum, foreign, int, items, no_places, no_values, nothing, octets, oid, present, seq, text, unknown, value}
+use Rattle.oer_types.specs.AsnValue.{AsnValue, Places, Unknown, Values, absent, chosen, foreign, items, no_places, no_values, present, seq, unknown, value}
 use Rattle.oer_types.specs.Canonical.{same, trimmed, trimmed_additions, trimmed_alternative, trimmed_fields}
-use Rattle.oer_types.specs.Constraints.{KeepsLimits, addition_count, same_tag}
+use Rattle.oer_types.specs.Constraints.{KeepsLimits, same_tag}
 use Rattle.oer_types.specs.Encoding.{IsSpelling}
 use Rattle.oer_types.specs.Filling.{filled, filled_by_tag, map_values}
 use Rattle.oer_types.specs.Fits.{DefaultsFit}
 use Rattle.oer_types.specs.Laws.{KeepsUnknown}
-use Rattle.oer_types.specs.Parts.{Answer, EntersDefault, IsItsDefault, IsSplit, LeadsTo, Part, Step, Within, found, lookup, need_at, need_of, no_such_step, same_step, to_addition, to_chosen, to_component, to_item}
+use Rattle.oer_types.specs.Parts.{EntersDefault, IsSplit, Part, Step, Within, found, lookup, need_at, need_of, no_such_step, same_step, to_addition, to_chosen, to_component, to_item}
 
 -- by what a step leads to
 abbrev ByChild : Child → (AsnType → AsnValue → Type 0) → (List ℕ → Type 0) → Type 0

@@ -4,7 +4,7 @@ use Rattle.oer_types.specs.AsnType.{AsnType, integer, enumerated, bit_string, oc
 use Rattle.oer_types.specs.ShapeView.{SeenField, SeenAddition, SeenAlternative, shape_step, addition_step, alt_step, field_step, type_of, named_number, seen_field, seen_addition, seen_alternative, sequence_with, choice_with, fields_from, additions_from, root_from, later_from}
 use Rattle.oer_types.specs.declared.size.Size.{Size}
 use Rattle.oer_types.specs.declared.shape.Item.{Item}
-use Rattle.oer_types.specs.declared.shape.Field.{Field, fold-Field, fold_out-Field}
+use Rattle.oer_types.specs.declared.shape.Field.{Field, fold-Field}
 use Rattle.oer_types.specs.declared.shape.Addition.{Addition, fold-Addition}
 use Rattle.oer_types.specs.declared.shape.Alt.{Alt, fold-Alt}
 use Rattle.oer_types.specs.declared.shape.Shape.{Shape, Integer, Enumerated, BitString, OctetString, Ia5, Visible, Numeric, Printable, Utf8, Sequence, SequenceOf, Choice, the_lemmas}

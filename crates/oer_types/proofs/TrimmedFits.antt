@@ -1,5 +1,5 @@
 -- What is trimmed fits.
-use Rattle.std.proofs.Common.{◌≡◌, inl, inr, List, [], ◌∷◌, length, map, Bool, true, false, if◌then◌else◌, refl, sym, ap, ◌∙◌, subst}
+use Rattle.std.proofs.Common.{inl, inr, map, Bool, true, false, if◌then◌else◌, refl, sym, ap, ◌∙◌, subst}
 use Rattle.std.proofs.lemmas.List.{length-map}
 use Rattle.oer_units.specs.declared.tagging.Tag.{Tag}
 use Rattle.oer_types.proofs.FillFits.{Keeps, tag_keeps, all_keep, fill_listed}

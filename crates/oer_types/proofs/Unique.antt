@@ -1,5 +1,5 @@
 -- Lists of bits have one spelling.
-use Rattle.std.proofs.Common.{◌≡◌, ℕ, zero, suc, ◌+◌, ◌*◌, ◌/◌, ◌%◌, ◌^◌, ◌<◌, ◌≤◌, ◌⊎◌, List, [], ◌∷◌, ◌++◌, length, Bool, true, false, eqb, if◌then◌else◌, ◌-ℤ◌, refl, ap, ap₂, sym, ◌∙◌, subst, arith, length-append}
+use Rattle.std.proofs.Common.{◌≡◌, ℕ, zero, suc, ◌/◌, ◌%◌, ◌^◌, ◌<◌, List, [], ◌∷◌, ◌++◌, length, Bool, true, false, eqb, refl, ap, ap₂, sym, ◌∙◌, subst, arith, length-append}
 use Rattle.oer_units.specs.Octets.{IsOctets}
 use Rattle.oer_types.proofs.Parts.{length-bits_of}
 use Rattle.oer_types.specs.Bits.{bit, bits_of, all_false}

@@ -1,5 +1,5 @@
 -- A `Value`, level by level, beside what it stands for.
-use Rattle.std.proofs.Common.{◌≡◌, ℕ, suc, length, List, [], ◌∷◌, map, Option, Some, None, option_map, Vec, Box, Global, refl, ap, rules}
+use Rattle.std.proofs.Common.{◌≡◌, ℕ, List, [], ◌∷◌, map, Option, Some, None, Vec, Box, Global, refl, rules}
 use Rattle.oer_units.specs.declared.tagging.Tag.{Tag}
 use Rattle.oer_types.specs.AsnValue.{octets, seq, items, chosen, foreign, no_values, no_places}
 use Rattle.oer_types.specs.ValueView.{value_of, values_of, places_of, unknown_of}

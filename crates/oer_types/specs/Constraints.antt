@@ -1,5 +1,5 @@
 -- Sizes, bounds, characters and tags of types.
-use Rattle.std.specs.Prelude.{◌≡◌, ℕ, suc, ◌^◌, ◌<◌, ◌≤◌, List, [], ◌∷◌, Bool, true, false, ◌&&◌, ◌||◌, leb, eqb, if◌then◌else◌, ℤ, pos, neg_ℤ, ◌-ℤ◌, int_le, Option, Some, None}
+use Rattle.std.specs.Prelude.{◌≡◌, ℕ, suc, ◌^◌, ◌≤◌, List, [], ◌∷◌, Bool, true, false, ◌&&◌, ◌||◌, leb, eqb, if◌then◌else◌, ℤ, pos, neg_ℤ, ◌-ℤ◌, int_le, Option, Some, None}
 use Rattle.oer_units.specs.Laws.{HasTagNumber}
 use Rattle.oer_units.specs.Spelling.{class_number}
 use Rattle.oer_units.specs.declared.tagging.Tag.{Tag}

@@ -1,8 +1,7 @@
 -- The faults of types, as tests.
-use Rattle.std.specs.Prelude.{ℕ, ◌+◌, List, [], ◌∷◌, ◌++◌, Bool, true, false, not, ◌&&◌, ◌||◌, leb, ltb, if◌then◌else◌, int_lt, Option, Some, None}
+use Rattle.std.specs.Prelude.{ℕ, List, [], ◌∷◌, Bool, true, false, not, ◌||◌, ltb, if◌then◌else◌, int_lt, Option, Some, None}
 use Rattle.std.specs.Str.{bytes_eq}
-use Rattle.oer_units.specs.declared.tagging.Tag.{Tag}
-use Rattle.oer_types.specs.AsnType.{Additions, Alternatives, AsnType, Fields, NamedNumber, Need, addition, alternative, bit_string, boolean, choice, default, enumerated, extensible_sequence, field, integer, later, may, must, no_additions, no_alternatives, no_fields, null, object_id, octet_string, restricted_string, sequence, sequence_of, utf8_string}
+use Rattle.oer_types.specs.AsnType.{Additions, Alternatives, AsnType, Fields, NamedNumber, Need, addition, alternative, bit_string, choice, default, enumerated, extensible_sequence, field, integer, later, may, must, no_additions, no_alternatives, no_fields, octet_string, restricted_string, sequence, sequence_of, utf8_string}
 use Rattle.oer_types.specs.Constraints.{has_number, has_tag, may_be_empty}
 use Rattle.oer_types.specs.FitTest.{is_fit}
 use Rattle.oer_types.specs.Nodes.{type_nodes}

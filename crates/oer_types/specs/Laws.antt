@@ -4,13 +4,11 @@ use Rattle.oer_units.specs.Octets.{IsOctets}
 use Rattle.oer_units.specs.Reader.{Outcome, Place, Reader, at, bind, give, got, named_inside, refused}
 use Rattle.oer_units.specs.declared.fault.Why.{Why}
 use Rattle.oer_units.specs.declared.fault.Why.TheVariants.{End, Limit, Window}
-use Rattle.oer_units.specs.declared.tagging.Tag.{Tag}
 use Rattle.oer_types.specs.AsnType.{Additions, Alternatives, AsnType, Fields, addition, alternative, choice, extensible_sequence, later, no_additions, no_alternatives}
 use Rattle.oer_types.specs.AsnValue.{AsnValue}
 use Rattle.oer_types.specs.Canonical.{canonical_octets}
 use Rattle.oer_types.specs.Checking.{check_value}
 use Rattle.oer_types.specs.Constraints.{KeepsLimits}
-use Rattle.oer_types.specs.Counting.{HasRanges}
 use Rattle.oer_types.specs.Encoding.{Encodes}
 use Rattle.oer_types.specs.FaultTest.{first_fault}
 use Rattle.oer_types.specs.Filling.{filled}
@@ -20,6 +18,7 @@ use Rattle.oer_types.specs.Parts.{EntersDefault, StopsAt, Step, Within, find_par
 use Rattle.oer_types.specs.Reading.{read_value}
 use Rattle.oer_types.specs.Strict.{IsCanonical}
 use Rattle.oer_types.specs.WellFormed.{HasFault, IsFirstFault, IsWellFormed}
+use Rattle.oer_types.specs.Widths.{AreLater, HasWidths}
 use Rattle.oer_types.specs.declared.fault.SchemaFault.{SchemaFault}
 
 -- No encoding begins with t, and none is a front of t.
@@ -96,9 +95,9 @@ FirstFaultFound = (T : AsnType) (fault : SchemaFault) → (first_fault T ≡ Som
 abbrev pub OneFirstFault : Type 0
 OneFirstFault = (T : AsnType) (one other : SchemaFault) → IsFirstFault T one → IsFirstFault T other → one ≡ other
 
--- A type whose numbers are in their ranges is well-formed exactly where no fault is found.
+-- A type whose numbers have their widths is well-formed exactly where no fault is found.
 abbrev pub FaultlessIsWellFormed : Type 0
-FaultlessIsWellFormed = (T : AsnType) → HasRanges T → (first_fault T ≡ None) ↔ IsWellFormed T
+FaultlessIsWellFormed = (T : AsnType) → HasWidths T → (first_fault T ≡ None) ↔ IsWellFormed T
 
 -- The defaults in a well-formed type fit their components' types.
 abbrev pub WellFormedDefaults : Type 0
@@ -160,12 +159,6 @@ abbrev pub with_alternatives : Alternatives → Alternatives → Alternatives
 with_alternatives no_alternatives extra = extra
 with_alternatives (alternative name t T more) extra = alternative name t T (with_alternatives more extra)
 with_alternatives (later name t T more) extra = later name t T (with_alternatives more extra)
-
--- all of them after the extension marker
-abbrev pub AreLater : Alternatives → Type 0
-AreLater no_alternatives = Unit {0}
-AreLater (alternative name t T more) = ⊥
-AreLater (later name t T more) = AreLater more
 
 -- What U encodes is an encoding of the older type T too.
 abbrev pub IsOlder : AsnType → AsnType → Type 0

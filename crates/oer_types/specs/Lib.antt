@@ -15,6 +15,7 @@ pub mod ValueView
 pub mod ShapeView
 pub mod FormView
 pub mod Schema
+pub mod Widths
 pub mod WellFormed
 pub mod AlphabetView
 pub mod DefaultView

@@ -1,11 +1,11 @@
 -- Which types are well-formed: the faults of types, each by itself, and the one of least number.
-use Rattle.std.specs.Prelude.{◌≡◌, ℕ, suc, ◌<◌, ◌≤◌, ◌⊎◌, max, List, [], ◌∷◌, ◌++◌, Bool, true, false, ◌&&◌, ◌||◌, eqb, ℤ, ◌<ℤ◌, Option, Some, None}
+use Rattle.std.specs.Prelude.{◌≡◌, ℕ, suc, ◌<◌, ◌⊎◌, max, List, [], ◌∷◌, ◌++◌, Bool, true, false, ◌&&◌, ◌||◌, eqb, ℤ, ◌<ℤ◌, Option, Some, None}
 use Rattle.oer_units.specs.declared.tagging.Tag.{Tag}
-use Rattle.oer_types.specs.AsnType.{Additions, Alternatives, AsnType, Fields, NamedNumber, Need, addition, alternative, bit_string, boolean, choice, default, enumerated, extensible_sequence, field, integer, later, may, must, no_additions, no_alternatives, no_fields, null, object_id, octet_string, restricted_string, sequence, sequence_of, utf8_string}
-use Rattle.oer_types.specs.AsnValue.{AsnValue}
+use Rattle.oer_types.specs.AsnType.{Additions, Alternatives, AsnType, Fields, NamedNumber, Need, addition, alternative, bit_string, choice, default, enumerated, extensible_sequence, field, integer, later, may, must, no_additions, no_alternatives, no_fields, octet_string, restricted_string, sequence, sequence_of, utf8_string}
 use Rattle.oer_types.specs.Constraints.{KeepsLimits, is_within, may_be_empty}
 use Rattle.oer_types.specs.Fits.{Fits}
 use Rattle.oer_types.specs.Nodes.{type_nodes}
+use Rattle.oer_types.specs.Widths.{HasWidths}
 use Rattle.oer_types.specs.declared.size.Size.{Size}
 use Rattle.oer_types.specs.declared.fault.SchemaFault.{SchemaFault}
 use Rattle.oer_types.specs.declared.fault.SchemaFault.TheVariants.{TooDeep, TooManyParts, BoundOrder, SizeOrder, BadName, RepeatedName, NoItems, RepeatedNumber, RepeatedTag, DefaultMisfit, EmptyElement}
@@ -209,7 +209,8 @@ pub record IsFirstFault (T : AsnType) (fault : SchemaFault) : Type 0 where
   pub holds : HasFault T fault
   pub first : (other : SchemaFault) → fault_number other < fault_number fault → HasFault T other → ⊥
 
--- No fault holds; and the sizes, tag numbers and additions are within their limits, as those of every `Shape` are.
+-- No fault holds, and the numbers in the type have the widths of those in every `Shape`. The limits follow from both; they are what the laws on encodings ask for.
 pub record IsWellFormed (T : AsnType) : Type 0 where
   pub faultless : (fault : SchemaFault) → HasFault T fault → ⊥
+  pub widths : HasWidths T
   pub limits : KeepsLimits T

@@ -1,11 +1,12 @@
 //! How many parts a type has.
-ghost use Rattle.std.specs.Prelude.{◌≡◌, length, map};
+ghost use Rattle.std.specs.Prelude.{◌≡◌, ◌^◌, ◌<◌, FitsSigned, length, map};
+ghost use Rattle.std.specs.Int.{w64};
 ghost use Rattle.oer_types.specs.AsnType.{no_alternatives};
 ghost use Rattle.oer_units.specs.Laws.{HasTagNumber};
-ghost use Rattle.oer_types.specs.Constraints.{HasSizeLimit};
+ghost use Rattle.oer_types.specs.Counting.{Leaves};
 ghost use Rattle.oer_types.specs.Nodes.{additions_nodes, alternatives_nodes, fields_nodes, type_nodes};
-ghost use Rattle.oer_types.specs.Counting.{AdditionsHaveRanges, AlternativesHaveRanges, FieldsHaveRanges, HasRanges, Leaves};
 ghost use Rattle.oer_types.specs.ShapeView.{additions_of, fields_of, named_number, root_of, type_of};
+ghost use Rattle.oer_types.specs.Widths.{AdditionsHaveWidths, AlternativesHaveWidths, FieldsHaveWidths, HasBoundWidth, HasEndWidth, HasSizeWidths, HasWidths, HaveItemWidths};
 
 use crate::shape::{Addition, Alt, Field, Item, Shape};
 use crate::size::Size;
@@ -16,21 +17,22 @@ use oer_units::Tag;
 #[cycle(counting)]
 #[tactic(auto, using(crate::proofs::Shapes::shapes))]
 pub fn parts_left(shape: &Shape, left: u16) -> Option<u16>
-    ensures { Leaves result left (type_nodes (type_of shape.now)) (HasRanges (type_of shape.now)) }
+    ensures { Leaves result left (type_nodes (type_of shape.now)) (HasWidths (type_of shape.now)) }
 {
     if left == 0 {
         return None;
     }
     let left = left - 1;
     match shape {
+        Shape::Integer { low, high } => Some(bound_left(*high, bound_left(*low, left))),
         Shape::Enumerated { items, .. } => items_left(items, left),
-        Shape::BitString(size) => sized_left(*size, left),
-        Shape::OctetString(size) => sized_left(*size, left),
-        Shape::Ia5(size) => sized_left(*size, left),
-        Shape::Visible(size) => sized_left(*size, left),
-        Shape::Numeric(size) => sized_left(*size, left),
-        Shape::Printable(size) => sized_left(*size, left),
-        Shape::Utf8(size) => sized_left(*size, left),
+        Shape::BitString(size) => Some(size_left(*size, left)),
+        Shape::OctetString(size) => Some(size_left(*size, left)),
+        Shape::Ia5(size) => Some(size_left(*size, left)),
+        Shape::Visible(size) => Some(size_left(*size, left)),
+        Shape::Numeric(size) => Some(size_left(*size, left)),
+        Shape::Printable(size) => Some(size_left(*size, left)),
+        Shape::Utf8(size) => Some(size_left(*size, left)),
         Shape::Sequence { root, additions } => {
             let Some(left) = fields_left(root, left) else {
                 return None;
@@ -40,7 +42,7 @@ pub fn parts_left(shape: &Shape, left: u16) -> Option<u16>
                 Some(additions) => additions_left(additions, left),
             }
         }
-        Shape::SequenceOf { item, .. } => parts_left(item, left),
+        Shape::SequenceOf { size, item } => parts_left(item, size_left(*size, left)),
         Shape::Choice { root, additions } => {
             let Some(left) = alternatives_left(root, left) else {
                 return None;
@@ -55,20 +57,67 @@ pub fn parts_left(shape: &Shape, left: u16) -> Option<u16>
 }
 
 fn items_left(items: &[Item], left: u16) -> Option<u16>
-    ensures { Leaves result left (length (map named_number items.now)) (Unit {0}) }
+    ensures { Leaves result left (length (map named_number items.now)) (HaveItemWidths (map named_number items.now)) }
 {
-    if items.len() > left as usize {
-        return None;
+    let mut left = left;
+    for item in items {
+        if left == 0 {
+            return None;
+        }
+        left = number_left(item.number, left - 1);
     }
-    Some(left - items.len() as u16)
+    Some(left)
 }
 
-/// A string has no further parts.
-fn sized_left(size: Size, left: u16) -> Option<u16>
-    ensures { Leaves result left 0 (HasSizeLimit size) }
+/// An item's number is no part beside the item.
+fn number_left(number: i64, left: u16) -> u16
+    ensures same { result ≡ left }
+    ensures width { FitsSigned w64 number }
 {
-    let _ = size.low;
-    Some(left)
+    let _ = number;
+    left
+}
+
+/// A bound is no part.
+fn bound_left(bound: Option<i128>, left: u16) -> u16
+    ensures same { result ≡ left }
+    ensures width { HasBoundWidth bound }
+{
+    match bound {
+        Some(number) => {
+            let _ = number;
+            left
+        }
+        None => left,
+    }
+}
+
+/// A size is no part.
+fn size_left(size: Size, left: u16) -> u16
+    ensures same { result ≡ left }
+    ensures widths { HasSizeWidths size }
+{
+    end_left(size.high, low_left(size.low, left))
+}
+
+/// Nor is its lower end,
+fn low_left(low: u64, left: u16) -> u16
+    ensures same { result ≡ left }
+    ensures width { low < 2 ^ 64 }
+{
+    let _ = low;
+    left
+}
+
+/// nor its upper end.
+fn end_left(high: Option<u64>, left: u16) -> u16
+    ensures same { result ≡ left }
+    ensures width { HasEndWidth high }
+{
+    match high {
+        Some(number) => low_left(number, left),
+        None => left,
+    }
 }
 
 /// A tag is no part.
@@ -82,7 +131,7 @@ fn tag_left(tag: Tag, left: u16) -> u16
 
 #[cycle(counting)]
 fn fields_left(fields: &[Field], left: u16) -> Option<u16>
-    ensures { Leaves result left (fields_nodes (fields_of fields.now)) (FieldsHaveRanges (fields_of fields.now)) }
+    ensures { Leaves result left (fields_nodes (fields_of fields.now)) (FieldsHaveWidths (fields_of fields.now)) }
 {
     let mut left = left;
     for field in fields {
@@ -96,7 +145,7 @@ fn fields_left(fields: &[Field], left: u16) -> Option<u16>
 
 #[cycle(counting)]
 fn additions_left(additions: &[Addition], left: u16) -> Option<u16>
-    ensures { Leaves result left (additions_nodes (additions_of additions.now)) (AdditionsHaveRanges (additions_of additions.now)) }
+    ensures { Leaves result left (additions_nodes (additions_of additions.now)) (AdditionsHaveWidths (additions_of additions.now)) }
 {
     let mut left = left;
     for addition in additions {
@@ -111,7 +160,7 @@ fn additions_left(additions: &[Addition], left: u16) -> Option<u16>
 #[cycle(counting)]
 fn alternatives_left(alts: &[Alt], left: u16) -> Option<u16>
     ensures { Leaves result left (alternatives_nodes (root_of alts.now no_alternatives))
-        (AlternativesHaveRanges (root_of alts.now no_alternatives)) }
+        (AlternativesHaveWidths (root_of alts.now no_alternatives)) }
 {
     let mut left = left;
     for alt in alts {

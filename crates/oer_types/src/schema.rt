@@ -59,14 +59,14 @@ impl Schema {
 }
 
 ghost use Rattle.std.specs.Prelude.{◌≡◌, None, false};
-ghost use Rattle.oer_types.specs.Counting.{HasRanges};
 ghost use Rattle.oer_types.specs.FaultTest.{first_fault as spec_first_fault, first_in, has_fault, later_faults};
+ghost use Rattle.oer_types.specs.Widths.{HasWidths};
 ghost use Rattle.oer_types.specs.declared.fault.SchemaFault.TheVariants.{TooManyParts};
 
 /// Whether the type has more parts than it may have. Where it hasn't, its numbers are known.
 fn has_too_many_parts(shape: &Shape) -> bool
     ensures many { result ≡ has_fault TooManyParts (type_of shape.now) }
-    ensures ranges { result ≡ false → HasRanges (type_of shape.now) }
+    ensures widths { result ≡ false → HasWidths (type_of shape.now) }
 {
     match parts_left(shape, MAX_PARTS) {
         Some(_) => false,
@@ -77,7 +77,7 @@ fn has_too_many_parts(shape: &Shape) -> bool
 /// The fault of least number.
 fn first_fault(shape: &Shape) -> Option<SchemaFault>
     ensures first { result ≡ spec_first_fault (type_of shape.now) }
-    ensures ranges { result ≡ None → HasRanges (type_of shape.now) }
+    ensures widths { result ≡ None → HasWidths (type_of shape.now) }
 {
     if !is_within_depth(shape, MAX_DEPTH) {
         return Some(SchemaFault::TooDeep);

@@ -1,6 +1,7 @@
-use Rattle.std.proofs.Common.{◌≡◌, [], true, sym, ap, ◌∙◌}
+use Rattle.std.proofs.Common.{◌≡◌, [], true, sym, ap, subst, ◌∙◌}
 use Rattle.oer_types.specs.Schema.{the_type}
 use Rattle.oer_types.specs.ShapeView.{type_of}
+use Rattle.oer_types.specs.WellFormed.{IsWellFormed}
 use Rattle.oer_text.specs.Printer.{run, written}
 use Rattle.oer_text.specs.Printing.{has_notation, type_tokens}
 use Rattle.oer_text.specs.declared.printer.Edge.TheVariants.{Other}
@@ -15,3 +16,8 @@ returns-clause-text c =
     (c.in_ok-put_type.ensures
     ∙ ap (λ bs. run (bs, Other) (type_tokens (type_of c.shape-2.result.now))) c.new.ensures.bytes
     ∙ ap (λ s. run ([], Other) (type_tokens (type_of s))) c.shape-2.ensures.same)
+
+pub returns-clause-again : goal.returns-clause-again
+returns-clause-again c =
+    let w = subst (λ s. IsWellFormed (type_of s)) c.shape.ensures.same c.shape.ensures.well_formed in
+    c.printing.ensures (the_type c.args.schema.now) (written c.put_type.new.printer).0 w (returns-clause-text c)

@@ -1,5 +1,4 @@
-use Rattle.std.proofs.Common.{◌≡◌, ◌<◌, ◌-◌, ◌+◌, suc, ℕ, length, arith}
-use Rattle.oer_types.specs.Bits.{octets_for}
+use Rattle.std.proofs.Common.{◌≡◌, ◌-◌, suc, length, arith}
 use Rattle.oer_types.proofs.Packing.{nothing_unused, some_needed, cleared_last}
 use Rattle.oer_types.proofs.bits.clear_unused.Goals as goal
 

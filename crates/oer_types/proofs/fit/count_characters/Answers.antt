@@ -1,4 +1,4 @@
-use Rattle.std.proofs.Common.{rules, ap, length}
+use Rattle.std.proofs.Common.{rules}
 use Rattle.std.proofs.lemmas.Str.{chars_from_encodes}
 use Rattle.oer_types.proofs.fit.count_characters.Goals as goal
 

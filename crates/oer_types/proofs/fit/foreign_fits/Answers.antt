@@ -1,4 +1,4 @@
-use Rattle.std.proofs.Common.{◌≡◌, sym, ◌∙◌, true, ◌||◌, arith}
+use Rattle.std.proofs.Common.{arith}
 use Rattle.std.proofs.lemmas.Grind.{common_steps}
 use Rattle.oer_types.proofs.FitSteps.{tag_in_root}
 use Rattle.oer_types.proofs.fit.foreign_fits.Goals.{then-contains_tag-via-then-contains_tag, then-contains_tag-via-else-contains_tag+then-contains_tag-2}

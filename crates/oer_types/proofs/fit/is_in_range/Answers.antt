@@ -1,6 +1,5 @@
-use Rattle.std.proofs.Common.{◌≡◌, ◌&&◌, sym, ◌∙◌, arith}
+use Rattle.std.proofs.Common.{arith}
 use Rattle.std.proofs.lemmas.Grind.{common_steps}
-use Rattle.oer_types.specs.Constraints.{above, below, in_range}
 use Rattle.oer_types.proofs.Ranges.{is_128_bits}
 use Rattle.oer_types.proofs.fit.is_in_range.Goals as goal
 

@@ -1,4 +1,4 @@
-use Rattle.std.proofs.Common.{◌≡◌, ◌&&◌, sym, ◌∙◌, arith}
+use Rattle.std.proofs.Common.{arith}
 use Rattle.std.proofs.lemmas.Grind.{common_steps}
 use Rattle.oer_types.proofs.Ranges.{is_64_bits}
 use Rattle.oer_types.proofs.fit.number_fits.Goals as goal

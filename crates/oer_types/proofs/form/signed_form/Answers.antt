@@ -1,5 +1,4 @@
-use Rattle.std.proofs.Common.{◌≡◌, ◌∙◌, refl, sym}
-use Rattle.oer_types.specs.Constraints.{signed_form}
+use Rattle.std.proofs.Common.{refl, sym}
 use Rattle.oer_types.proofs.form.signed_form.Goals as goal
 
 pub returns-then-is_within : goal.returns-then-is_within

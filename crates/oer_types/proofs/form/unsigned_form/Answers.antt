@@ -1,5 +1,4 @@
-use Rattle.std.proofs.Common.{◌≡◌, ◌∙◌, refl, sym, true, false}
-use Rattle.oer_types.specs.Constraints.{unsigned_form}
+use Rattle.std.proofs.Common.{refl, sym}
 use Rattle.oer_types.proofs.form.unsigned_form.Goals as goal
 
 pub returns-then-is_to : goal.returns-then-is_to

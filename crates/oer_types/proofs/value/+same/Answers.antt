@@ -1,4 +1,4 @@
-use Rattle.std.proofs.Common.{rules, arith}
+use Rattle.std.proofs.Common.{arith}
 use Rattle.std.proofs.lemmas.Grind.{common_steps}
 use Rattle.oer_types.proofs.Values.{values_of-none, places_of-none}
 use Rattle.oer_types.proofs.value.+same.Goals as goal

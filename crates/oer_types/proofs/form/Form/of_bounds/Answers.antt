@@ -1,4 +1,4 @@
-use Rattle.std.proofs.Common.{◌≡◌, ◌∙◌, refl, sym}
+use Rattle.std.proofs.Common.{◌∙◌, refl, sym}
 use Rattle.oer_types.specs.Constraints.{form_of}
 use Rattle.oer_types.proofs.form.Form.of_bounds.Goals as goal
 

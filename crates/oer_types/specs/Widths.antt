@@ -1,8 +1,7 @@
--- The numbers in a type are those that a `Shape` holds, and alternatives behind the extension marker are the last.
+-- The numbers in a type have the widths of those in a `Shape`, and alternatives behind the extension marker are the last.
 use Rattle.std.specs.Prelude.{◌≡◌, ℕ, ◌^◌, ◌<◌, ℤ, FitsSigned, List, [], ◌∷◌, Bool, true, Option, Some, None}
 use Rattle.std.specs.Int.{w64, w128}
 use Rattle.oer_types.specs.AsnType.{Additions, Alternatives, AsnType, Fields, NamedNumber, addition, alternative, bit_string, boolean, choice, enumerated, extensible_sequence, field, integer, later, no_additions, no_alternatives, no_fields, null, object_id, octet_string, restricted_string, sequence, sequence_of, utf8_string}
-use Rattle.oer_types.specs.Laws.{AreLater}
 use Rattle.oer_types.specs.declared.size.Size.{Size}
 use Rattle.oer_units.specs.Laws.{HasTagNumber}
 
@@ -23,6 +22,12 @@ HasEndWidth (Some n) = n < 2 ^ 64
 -- the ends of a size have 64 bits
 abbrev pub HasSizeWidths : Size → Type 0
 HasSizeWidths s = (s.low < 2 ^ 64) × HasEndWidth s.high
+
+-- all of them after the extension marker
+abbrev pub AreLater : Alternatives → Type 0
+AreLater no_alternatives = Unit {0}
+AreLater (alternative name t T more) = ⊥
+AreLater (later name t T more) = AreLater more
 
 -- alternatives behind the marker are the last, and there are none without a marker
 abbrev pub AreInOrder : Bool → Alternatives → Type 0
