@@ -10,7 +10,9 @@ use Rattle.clap.specs.declared.parser.matches.ArgMatches.{ArgMatches}
 use Rattle.clap.specs.declared.parser.matches.ArgMatches.TheViews.{out-ArgMatches, out-SubCommand}
 use Rattle.clap.specs.declared.parser.matches.SubCommand.{SubCommand}
 use Rattle.clap.proofs.WalkLemmas.{first_value-rows, one_text-rows}
-use Rattle.oer_cmd.specs.Words.{HasShape, asked, given, given_number, oer, NumberOf}
+use Rattle.oer_cmd.specs.Words.{HasShape, IsTask, asked, given, given_number, oer, NumberOf}
+use Rattle.oer_cmd.specs.declared.options.Task.{Task}
+use Rattle.oer_cmd.specs.declared.options.Task.TheVariants.{Canon, Show}
 
 pub simple : is_simple oer ≡ true
 simple = refl
@@ -25,12 +27,18 @@ pub met : (words : List Text) (m : ArgMatches) (t : Text) (r : List Row) → sub
     → Some r ≡ option_map (λ p. p.1) (subcommand_rows_of m) → subcommand_of oer words ≡ Some (t, r)
 met words m t r same name rows = sym same ∙ both (out-ArgMatches m).subcommand t r (sym name) (sym rows)
 
-pub asked_is : (words : List Text) (t : Text) (r : List Row) → subcommand_of oer words ≡ Some (t, r) → asked words ≡ Some t
+asked_is : (words : List Text) (t : Text) (r : List Row) → subcommand_of oer words ≡ Some (t, r) → asked words ≡ Some t
 asked_is words t r e = ap (option_map (λ p. p.0)) e
 
 pub given_is : (words : List Text) (t id : Text) (m : ArgMatches) (o : Option Text) → subcommand_of oer words ≡ Some (t, rows_of (found_of m)) → o ≡ first_value (found_of m) id
     → given words id ≡ o
 given_is words t id m o e is = ap (option_and_then (λ p. Rattle.clap.specs.Walk.first_of id p.1)) e ∙ sym (first_value-rows (found_of m) id) ∙ sym is
+
+-- the task that a parse gave is that of the words
+pub task_is : (words : List Text) (t : Text) (m : ArgMatches) (task : Task) → subcommand_of oer words ≡ Some (t, rows_of (found_of m)) → IsTask (Some t) (first_value (found_of m)) task
+    → IsTask (asked words) (given words) task
+task_is words t m (Show hex) e is = (asked_is words _ _ e ∙ is.0, given_is words t _ m _ e (sym is.1))
+task_is words t m (Canon hex) e is = (asked_is words _ _ e ∙ is.0, given_is words t _ m _ e (sym is.1))
 
 pub number_is : (words : List Text) (t id : Text) (m : ArgMatches) → subcommand_of oer words ≡ Some (t, rows_of (found_of m))
     → given_number words id ≡ one_text (found_of m) id

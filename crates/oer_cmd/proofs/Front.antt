@@ -1,5 +1,5 @@
 -- From what the reader answers to the canonical octets of all that it had.
-use Rattle.std.proofs.Common.{◌≡◌, ℕ, suc, ◌≤◌, leb, arith, Bool, true, false, refl, List, [], ◌∷◌, ◌++◌, length, Option, Some, None, Err, sym, ap, ◌∙◌, subst, append-nil}
+use Rattle.std.proofs.Common.{◌≡◌, ℕ, suc, ◌≤◌, leb, arith, Bool, true, false, refl, List, [], ◌∷◌, ◌++◌, length, Option, Some, None, Ok, Err, sym, ap, ◌∙◌, subst, append-nil}
 use Rattle.std.proofs.lemmas.Bool.{le-leb}
 use Rattle.std.specs.Prelude.{IfSome}
 use Rattle.oer_units.specs.Reading.{octet}
@@ -8,10 +8,17 @@ use Rattle.oer_units.specs.declared.fault.Why.TheVariants.{Device, End, Memory}
 use Rattle.oer_units.specs.Reader.{at, bind, give, got, group, group_by, refused, then_read}
 use Rattle.oer_units.specs.Reads.{Span, renamed, Exactly, ReadsFront}
 use Rattle.oer_types.specs.AsnType.{AsnType}
+use Rattle.oer_types.specs.AsnValue.{AsnValue}
 use Rattle.oer_types.specs.Encoding.{Encodes}
 use Rattle.oer_types.specs.Strict.{IsCanonical}
 use Rattle.oer_reader.specs.Rewriting.{IsRewritten}
+use Rattle.oer_reader.specs.Front.{Told}
+use Rattle.serde_json.specs.Data.{Data}
+use Rattle.serde_json.specs.Written.{compact_text, has_float}
+use Rattle.oer_json.specs.Made.{made}
 use Rattle.oer_cmd.specs.Canon.{IsEmpty, MakesCanonical}
+use Rattle.oer_cmd.specs.Run.{IsShowLine, IsShown}
+use Rattle.oer_cmd.proofs.Floats.{made_none}
 
 -- the value is all that the reader had, and c are its canonical octets
 pub rewritten : (T : AsnType) (limit m n : ℕ) (known known' : Option (List ℕ)) (none d c : List ℕ) → IsRewritten T limit known known' (Some none) (Some d) (m, n) → none ≡ [] → c ≡ d → IsEmpty known' → IfSome known (λ b. MakesCanonical T limit b c)
@@ -48,3 +55,19 @@ none_by (Some (x ∷ xs)) (Some ys) b e is exact =
 -- At the end of what it told the reader had nothing left.
 pub none_left : (failed failed' : ℕ) (known known' : Option (List ℕ)) (e : ReadFault) → e.why ≡ End → ReadsFront octet 1 known failed (Err e) known' failed' → IsEmpty known
 none_left failed failed' known known' e is h = none_by known known' h.bound e is h.reads.exact
+
+-- the JSON is that of the value, which is all that the reader had
+pub shown_all : (T : AsnType) (limit : ℕ) (known known' : Option (List ℕ)) (v : AsnValue) (j : Data) → Told T limit known known' (Ok v) → IsEmpty known' → j ≡ made T v → IfSome known (IsShown T limit j)
+shown_all T limit None known' v j told end is = tt
+shown_all T limit (Some xs) None v j told end is = absurd told
+shown_all T limit (Some xs) (Some ys) v j told end is =
+    let all : xs ≡ told.0 = told.1 ∙ ap (λ (l : List ℕ). told.0 ++ l) end ∙ append-nil told.0 in
+    (v, subst (Encodes T v) (sym all) told.3.0, subst (λ (l : List ℕ). length l ≤ limit) (sym all) told.2, is)
+
+-- the text of that JSON
+line_at : (T : AsnType) (limit : ℕ) (j : Data) (line : List ℕ) → (has_float j ≡ false → line ≡ compact_text j) → (b : List ℕ) → IsShown T limit j b → IsShowLine T limit line b
+line_at T limit j line text b h = (j, h, text (ap has_float h.3 ∙ made_none T h.0))
+
+pub line_of : (T : AsnType) (limit : ℕ) (known : Option (List ℕ)) (j : Data) (line : List ℕ) → IfSome known (IsShown T limit j) → (has_float j ≡ false → line ≡ compact_text j) → IfSome known (IsShowLine T limit line)
+line_of T limit None j line h text = tt
+line_of T limit (Some b) j line h text = line_at T limit j line text b h

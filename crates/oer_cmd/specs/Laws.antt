@@ -5,10 +5,10 @@ use Rattle.oer_cmd.specs.Run.{texts_in}
 use Rattle.oer_cmd.specs.Types.{Texts}
 use Rattle.oer_cmd.specs.Words.{asked, given, given_number, oer}
 
--- the words are taken, and ask for `canon` with the type, the digits and the limit
-pub record AsksFor (words : List Text) (types : Texts) (hex_value limit_value : Option Text) : Type 0 where
+-- the words are taken, and ask for the task with the type, the digits and the limit
+pub record AsksFor (words : List Text) (name : Text) (types : Texts) (hex_value limit_value : Option Text) : Type 0 where
   pub takes : takes oer words ≡ true
-  pub task : asked words ≡ Some (codes "canon")
+  pub task : asked words ≡ Some name
   pub texts : texts_in words ≡ types
   pub hex : given words (codes "hex") ≡ hex_value
   pub limit : given_number words (codes "limit") ≡ limit_value
@@ -23,16 +23,20 @@ named t n = record { one = None; types = Some t; name = Some n }
 
 abbrev pub WithEqualSigns : Type 0
 WithEqualSigns = (t h : Text)
-    → AsksFor (codes "oer" ∷ codes "canon" ∷ (codes "--type=" ++ t) ∷ (codes "--hex=" ++ h) ∷ []) (one t) (Some h) (Some (codes "1048576"))
+    → AsksFor (codes "oer" ∷ codes "canon" ∷ (codes "--type=" ++ t) ∷ (codes "--hex=" ++ h) ∷ []) (codes "canon") (one t) (Some h) (Some (codes "1048576"))
 
 abbrev pub WithName : Type 0
 WithName = (t n h : Text)
-    → AsksFor (codes "oer" ∷ codes "canon" ∷ (codes "--types=" ++ t) ∷ (codes "--name=" ++ n) ∷ (codes "--hex=" ++ h) ∷ []) (named t n) (Some h) (Some (codes "1048576"))
+    → AsksFor (codes "oer" ∷ codes "canon" ∷ (codes "--types=" ++ t) ∷ (codes "--name=" ++ n) ∷ (codes "--hex=" ++ h) ∷ []) (codes "canon") (named t n) (Some h) (Some (codes "1048576"))
 
 abbrev pub WithoutDigits : Type 0
 WithoutDigits = (t : Text)
-    → AsksFor (codes "oer" ∷ codes "canon" ∷ (codes "--type=" ++ t) ∷ codes "--limit" ∷ codes "7" ∷ []) (one t) None (Some (codes "7"))
+    → AsksFor (codes "oer" ∷ codes "canon" ∷ (codes "--type=" ++ t) ∷ codes "--limit" ∷ codes "7" ∷ []) (codes "canon") (one t) None (Some (codes "7"))
 
 abbrev pub StoredRun : Type 0
-StoredRun = AsksFor (codes "oer" ∷ codes "canon" ∷ codes "--type" ∷ codes "INTEGER (0..MAX)" ∷ codes "--hex" ∷ codes "020005" ∷ [])
+StoredRun = AsksFor (codes "oer" ∷ codes "canon" ∷ codes "--type" ∷ codes "INTEGER (0..MAX)" ∷ codes "--hex" ∷ codes "020005" ∷ []) (codes "canon")
     (one (codes "INTEGER (0..MAX)")) (Some (codes "020005")) (Some (codes "1048576"))
+
+abbrev pub ShowHex : Type 0
+ShowHex = (t h : Text)
+    → AsksFor (codes "oer" ∷ codes "show" ∷ (codes "--hex=" ++ h) ∷ (codes "--type=" ++ t) ∷ codes "--limit=9" ∷ []) (codes "show") (one t) (Some h) (Some (codes "9"))

@@ -1,9 +1,12 @@
 -- The type that the options name.
-use Rattle.std.specs.Prelude.{List, Option, Some, None}
+use Rattle.std.specs.Prelude.{◌≢◌, List, Option, Some, None}
 use Rattle.clap.specs.Words.{Text}
 use Rattle.oer_types.specs.AsnType.{AsnType}
-use Rattle.oer_text.specs.Grammar.{IsDefined, Spells, SpellsAll}
+use Rattle.oer_types.specs.WellFormed.{IsWellFormed}
+use Rattle.oer_text.specs.Grammar.{AreWellFormed, IsDefined, Spells, SpellsAll}
 use Rattle.oer_text.specs.Reading.{Known}
+use Rattle.oer_cmd.specs.declared.fault.Fault.{Fault}
+use Rattle.oer_cmd.specs.declared.fault.Fault.TheVariants.{Memory, NoName, NoTypes, OneType}
 use Rattle.oer_cmd.specs.declared.options.Options.{Options}
 use Rattle.oer_cmd.specs.declared.type_text.TypeText.{TypeText}
 use Rattle.oer_cmd.specs.declared.type_text.TypeText.TheVariants.{One, Named}
@@ -31,6 +34,24 @@ SpelledBy t T = IsNamed t.one t.types t.name T
 -- no texts of these options name a type
 abbrev pub NamesNone : Texts → Type 0
 NamesNone t = (T : AsnType) → SpelledBy t T → ⊥
+
+-- why texts of `--type` and `--types` name no type, where with `--name` they name none
+abbrev pub lack_in : Option Text → Option Text → Fault
+lack_in None None = OneType
+lack_in None (Some text) = NoName
+lack_in (Some text) None = NoTypes
+lack_in (Some text) (Some texts) = OneType
+
+abbrev pub lack_of : Texts → Fault
+lack_of t = lack_in t.one t.types
+
+-- Unless memory ran out, the text spells no well-formed type.
+abbrev pub SpellsNone : Fault → Text → Type 0
+SpellsNone fault text = fault ≢ Memory → (T : AsnType) → Spells T text → IsWellFormed T → ⊥
+
+-- Unless memory ran out, the text spells no definitions whose types are all well-formed.
+abbrev pub DefinesNone : Fault → Text → Type 0
+DefinesNone fault text = fault ≢ Memory → (definitions : List Known) → SpellsAll definitions text → AreWellFormed definitions → ⊥
 
 abbrev pub texts_of : Options → Texts
 texts_of o = record { one = behind o.type_text; types = behind o.types; name = behind o.name }

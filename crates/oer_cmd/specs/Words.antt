@@ -3,6 +3,8 @@ use Rattle.std.specs.Prelude.{◌≡◌, ℕ, List, [], ◌∷◌, Option, Some,
 use Rattle.std.specs.Borrow.{Bor}
 use Rattle.std.specs.Str.Parse.{IsNumeral, digits_value, without_leading_plus}
 use Rattle.oer_cmd.specs.declared.options.Options.{Options}
+use Rattle.oer_cmd.specs.declared.options.Task.{Task}
+use Rattle.oer_cmd.specs.declared.options.Task.TheVariants.{Canon, Show}
 use Rattle.clap.specs.Words.{App, Rule, Text, first_of, new_app, new_rule, one_of, subcommand_of, with_rule, with_subcommand}
 use Rattle.clap.specs.Simple.{app_of, on_top}
 use Rattle.clap.specs.declared.builder.command.Command.{Command}
@@ -19,14 +21,19 @@ limit_rule = record (option_rule (codes "limit")) {
   defaults = codes "1048576" ∷ [];
 }
 
--- the command of one task
+-- the command of a task, with the options that all tasks have
 abbrev pub task_app : Text → App
-task_app name = with_rule (with_rule (with_rule (with_rule (with_rule (new_app name)
-    (option_rule (codes "type"))) (option_rule (codes "types"))) (option_rule (codes "name"))) (option_rule (codes "hex"))) limit_rule
+task_app name = with_rule (with_rule (with_rule (with_rule (new_app name)
+    (option_rule (codes "type"))) (option_rule (codes "types"))) (option_rule (codes "name"))) limit_rule
+
+-- a task on octets
+abbrev pub hex_app : Text → App
+hex_app name = with_rule (task_app name) (option_rule (codes "hex"))
 
 -- the whole command
 abbrev pub oer : App
-oer = with_subcommand (on_top (λ s. record s { subcommand_required = true }) (new_app (codes "oer"))) (task_app (codes "canon")).top
+oer = with_subcommand (with_subcommand (on_top (λ s. record s { subcommand_required = true }) (new_app (codes "oer")))
+    (hex_app (codes "show")).top) (hex_app (codes "canon")).top
 
 -- the task that the words name
 abbrev pub asked : List Text → Option Text
@@ -49,13 +56,17 @@ pub record NumberOf (text : Text) (n : ℕ) : Type 0 where
 abbrev pub behind : Option (Bor Text) → Option Text
 behind = option_map (λ s. s.now)
 
--- the options are those of the words, which ask for `canon`
+-- the task of that name, with the values of the options that not all tasks have
+abbrev pub IsTask : Option Text → (Text → Option Text) → Task → Type 0
+IsTask name value (Show hex) = (name ≡ Some (codes "show")) × (value (codes "hex") ≡ behind hex)
+IsTask name value (Canon hex) = (name ≡ Some (codes "canon")) × (value (codes "hex") ≡ behind hex)
+
+-- the options are those of the words
 pub record Asks (words : List Text) (o : Options) : Type 0 where
-  pub task : asked words ≡ Some (codes "canon")
+  pub task : IsTask (asked words) (given words) o.task
   pub type_text : given words (codes "type") ≡ behind o.type_text
   pub types : given words (codes "types") ≡ behind o.types
   pub name : given words (codes "name") ≡ behind o.name
-  pub hex : given words (codes "hex") ≡ behind o.hex
   -- the number that the value of `--limit` writes
   pub limit : (text : Text) × (given_number words (codes "limit") ≡ Some text) × NumberOf text o.limit
 

@@ -1,11 +1,15 @@
 //! The canonical octets of a value.
-ghost use Rattle.std.specs.Prelude.{IfOk, IfSome, OnOk};
+ghost use Rattle.std.specs.Prelude.{◌≡◌, ℕ, List, IfOk, IfSome, OnOk, string_bytes};
+ghost use Rattle.hex.specs.Hex.{decode_of};
 ghost use Rattle.oer_types.specs.Schema.{the_type};
 ghost use Rattle.oer_units.specs.Reading.{octet as octet_read};
 ghost use Rattle.oer_units.specs.Reads.{ReadsFront};
 ghost use Rattle.oer_cmd.specs.Canon.{IsEmpty, MakesCanonical};
+ghost use Rattle.oer_cmd.specs.Run.{IsCanonLine, OfOctets};
+ghost use Rattle.oer_cmd.specs.Words.{behind};
 
 use crate::fault::Fault;
+use crate::octets::decoded;
 use oer_reader::rewrite;
 use oer_types::Schema;
 use oer_units::{Metered, ReadFault, Source, Why, Window, octet};
@@ -20,8 +24,9 @@ fn octet_at_front<R: Source>(reader: &mut R) -> Result<u8, ReadFault>
     octet(&mut w)
 }
 
-// That the reader has no octet left after a value that took so many.
-fn check_end<'a, R: Source>(reader: &mut R, taken: u64) -> Result<(), Fault<'a>>
+/// That the reader has no octet left after a value that took so many. Refused as `Follows`, or by the
+/// reader.
+pub fn check_end<'a, R: Source>(reader: &mut R, taken: u64) -> Result<(), Fault<'a>>
     ensures { OnOk result (IsEmpty (R.remaining reader.old)) }
 {
     let fault = match octet_at_front(reader) {
@@ -34,11 +39,11 @@ fn check_end<'a, R: Source>(reader: &mut R, taken: u64) -> Result<(), Fault<'a>>
     }
 }
 
-/// The canonical octets of the one value of the type that the reader has left, which takes no more
-/// octets than the limit. Refused as `Read`, `Input` or `Memory` by the reader, as `Follows` where an
-/// octet follows the value, beyond the limit too, as `Memory` where the canonical octets find no room,
-/// and as `Output` where they are 2^64 or more.
-pub fn canonical<'a, R: Source>(
+// The canonical octets of the one value of the type that the reader has left, which takes no more
+// octets than the limit. Refused as `Read`, `Input` or `Memory` by the reader, as `Follows` where an
+// octet follows the value, beyond the limit too, as `Memory` where the canonical octets find no room,
+// and as `Output` where they are 2^64 or more.
+fn canonical<'a, R: Source>(
     alloc: Global,
     schema: &Schema,
     reader: &mut R,
@@ -54,4 +59,53 @@ pub fn canonical<'a, R: Source>(
     };
     check_end(reader, taken)?;
     Ok(sink.into_inner())
+}
+
+// The line for the octets that the reader has left.
+fn read_line<'a, R: Source>(
+    alloc: Global,
+    schema: &Schema,
+    reader: &mut R,
+    limit: u64,
+) -> Result<String, Fault<'a>>
+    ensures { IfOk result (λ line. IfSome (R.remaining reader.old)
+        (IsCanonLine (the_type schema.now) limit (string_bytes line))) }
+{
+    let octets = canonical(alloc, schema, reader, limit)?;
+    match hex::encode(alloc, octets) {
+        Ok(line) => Ok(line),
+        Err(_) => Err(Fault::Memory),
+    }
+}
+
+// The line for the octets that the digits spell.
+fn hex_line<'a>(
+    alloc: Global,
+    schema: &Schema,
+    digits: &str,
+    limit: u64,
+) -> Result<String, Fault<'a>>
+    ensures { IfOk result (λ line. (b : List ℕ) × (decode_of digits.now ≡ Ok b)
+        × IsCanonLine (the_type schema.now) limit (string_bytes line) b) }
+{
+    let octets = decoded(alloc, digits)?;
+    let mut reader = Metered::new(octets.as_slice());
+    read_line(alloc, schema, &mut reader, limit)
+}
+
+/// The line of `canon` for the octets that the options or the input give.
+pub fn canon_line<'a, R: Source>(
+    alloc: Global,
+    schema: &Schema,
+    hex: Option<&str>,
+    limit: u64,
+    input: &mut R,
+) -> Result<String, Fault<'a>>
+    ensures { IfOk result (λ line. OfOctets (behind hex.entry) (R.remaining input.old)
+        (IsCanonLine (the_type schema.now) limit (string_bytes line))) }
+{
+    match hex {
+        Some(digits) => hex_line(alloc, schema, digits, limit),
+        None => read_line(alloc, schema, input, limit),
+    }
 }

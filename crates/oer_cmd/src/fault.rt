@@ -1,5 +1,6 @@
 //! Why the program prints no line.
 ghost use Rattle.std.specs.Prelude.{◌≡◌, ◌≤◌};
+ghost use Rattle.oer_cmd.specs.Faults.{IsOfRead, IsOfRewrite, IsOfText, status_of};
 
 use oer_reader::RewriteFault;
 use oer_text::{TextFault, TextWhy};
@@ -47,7 +48,9 @@ pub enum Fault<'a> {
 
 impl<'a> Fault<'a> {
     /// The fault for a refusal of the notation.
-    pub fn of_text(fault: TextFault) -> Self {
+    pub fn of_text(fault: TextFault) -> Self
+        ensures { IsOfText fault result }
+    {
         match fault.why {
             TextWhy::Memory => Fault::Memory,
             _ => Fault::Type(fault),
@@ -55,7 +58,9 @@ impl<'a> Fault<'a> {
     }
 
     /// The fault for a refusal of the reader.
-    pub fn of_read(fault: ReadFault) -> Self {
+    pub fn of_read(fault: ReadFault) -> Self
+        ensures { IsOfRead fault result }
+    {
         match fault.why {
             Why::Device => Fault::Input,
             Why::Memory => Fault::Memory,
@@ -64,7 +69,9 @@ impl<'a> Fault<'a> {
     }
 
     /// The fault for a refusal to rewrite octets into memory.
-    pub fn of_rewrite(fault: RewriteFault) -> Self {
+    pub fn of_rewrite(fault: RewriteFault) -> Self
+        ensures { IsOfRewrite fault result }
+    {
         match fault {
             RewriteFault::Read(fault) => Fault::of_read(fault),
             RewriteFault::Write(WriteFault::Device { .. }) => Fault::Memory,
@@ -75,6 +82,7 @@ impl<'a> Fault<'a> {
     /// The status of the program: 1 where the octets are refused, 2 where the words are, 3 where
     /// the machine fails.
     pub fn status(self) -> u8
+        ensures status { result ≡ status_of self.entry }
         ensures fails { 1 ≤ result }
         ensures output { self.entry ≡ Fault.Output → result ≡ 3 }
     {

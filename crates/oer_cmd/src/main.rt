@@ -1,13 +1,16 @@
-//! Canonical octets at the command line.
+//! Values and their octets at the command line.
 #![tactic(auto)]
 
 mod canon;
+mod counted;
 #[cfg(test)]
 mod example;
 mod fault;
 pub mod laws;
+mod octets;
 mod options;
 mod run;
+mod show;
 #[cfg(test)]
 mod tests;
 mod type_text;

@@ -1,23 +1,32 @@
 //! What the words of the command line ask for.
 ghost use Rattle.std.specs.Prelude.{◌≡◌, List, Option, Some, None, false, true, IfOk, IfErr, IfSome, map, option_map, string_bytes};
-ghost use Rattle.clap.specs.Words.{kind_of, rule_of, takes};
+ghost use Rattle.clap.specs.Words.{first_value, found_of, kind_of, rule_of, takes};
 ghost use Rattle.clap.specs.declared.error.kind.ErrorKind.TheVariants.{OutOfMemory};
-ghost use Rattle.oer_cmd.specs.Words.{Asks, HasShape, oer, option_rule, task_app};
+ghost use Rattle.oer_cmd.specs.Words.{Asks, HasShape, IsTask, hex_app, oer, option_rule, task_app};
 
-use clap::{Arg, Command, Error};
+use clap::{Arg, ArgMatches, Command, Error};
 use std::alloc::{AllocError, Global};
 
-/// What the words ask `canon` for.
+/// What the words ask for, and the options that not all tasks have. `hex` are octets in hexadecimal
+/// digits; without them the octets come from the input.
+#[derive(Clone, Copy)]
+pub enum Task<'a> {
+    /// The JSON of a value.
+    Show { hex: Option<&'a str> },
+    /// The canonical octets of a value.
+    Canon { hex: Option<&'a str> },
+}
+
+/// What the words ask for, and with which options.
 #[derive(Clone, Copy)]
 pub struct Options<'a> {
+    pub task: Task<'a>,
     /// The text of one type.
     pub type_text: Option<&'a str>,
     /// The text of definitions.
     pub types: Option<&'a str>,
     /// The Name of a type among the definitions.
     pub name: Option<&'a str>,
-    /// The octets in hexadecimal digits; without them they come from the input.
-    pub hex: Option<&'a str>,
     /// How many octets the value may take.
     pub limit: u64,
 }
@@ -30,7 +39,7 @@ fn option<'a>(alloc: Global, id: &'a str) -> Arg<'a>
     Arg::new(alloc, id).long(id)
 }
 
-/// The subcommand of one task.
+/// The subcommand of a task, with the options that all tasks have.
 fn task_command<'a>(alloc: Global, name: &'a str) -> Result<Command<'a>, AllocError>
     ensures { IfOk result (HasShape (task_app name.entry.now)) }
 {
@@ -42,18 +51,43 @@ fn task_command<'a>(alloc: Global, name: &'a str) -> Result<Command<'a>, AllocEr
         .arg(option(alloc, "type"))?
         .arg(option(alloc, "types"))?
         .arg(option(alloc, "name"))?
-        .arg(option(alloc, "hex"))?
         .arg(limit)
+}
+
+/// The subcommand of a task on octets.
+fn hex_command<'a>(alloc: Global, name: &'a str) -> Result<Command<'a>, AllocError>
+    ensures { IfOk result (HasShape (hex_app name.entry.now)) }
+{
+    task_command(alloc, name)?.arg(option(alloc, "hex"))
 }
 
 /// The whole command.
 fn command<'a>(alloc: Global) -> Result<Command<'a>, AllocError>
     ensures { IfOk result (HasShape oer) }
 {
-    let canon = task_command(alloc, "canon")?;
+    let show = hex_command(alloc, "show")?;
+    let canon = hex_command(alloc, "canon")?;
     Command::new(alloc, "oer")
         .subcommand_required(true)
+        .subcommand(show)?
         .subcommand(canon)
+}
+
+/// The task of that name, with the options that not all tasks have.
+fn task_of<'a>(name: &str, found: &ArgMatches<'a>) -> Option<Task<'a>>
+    ensures { IfSome result (IsTask (Some name.now) (first_value (found_of found.now))) }
+{
+    if name == "show" {
+        return Some(Task::Show {
+            hex: found.get_str("hex"),
+        });
+    }
+    if name == "canon" {
+        return Some(Task::Canon {
+            hex: found.get_str("hex"),
+        });
+    }
+    None
 }
 
 /// What the words ask for, or what `clap` has to say to them.
@@ -67,21 +101,20 @@ pub fn parsed<'a>(alloc: Global, words: &'a [String]) -> Result<Options<'a>, Err
         Ok(matches) => matches,
         Err(error) => return Err(error),
     };
-    let Some((task, found)) = matches.subcommand() else {
+    let Some((name, found)) = matches.subcommand() else {
+        return Err(Error::from(AllocError));
+    };
+    let Some(task) = task_of(name, found) else {
         return Err(Error::from(AllocError));
     };
     let Some(limit) = found.get_one::<u64>("limit") else {
         return Err(Error::from(AllocError));
     };
-    if task == "canon" {
-        Ok(Options {
-            type_text: found.get_str("type"),
-            types: found.get_str("types"),
-            name: found.get_str("name"),
-            hex: found.get_str("hex"),
-            limit,
-        })
-    } else {
-        Err(Error::from(AllocError))
-    }
+    Ok(Options {
+        task,
+        type_text: found.get_str("type"),
+        types: found.get_str("types"),
+        name: found.get_str("name"),
+        limit,
+    })
 }

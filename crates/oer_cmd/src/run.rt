@@ -1,83 +1,40 @@
 //! The command.
-ghost use Rattle.std.specs.Prelude.{◌≡◌, ◌≤◌, ◌∷◌, [], ◌++◌, List, ℕ, true, map, IfErr, IfOk, IfSome, OnOk, string_bytes};
+ghost use Rattle.std.specs.Prelude.{◌≡◌, ◌≤◌, ◌∷◌, [], ◌++◌, true, map, IfErr, IfOk, OnOk, string_bytes};
 ghost use Rattle.std.specs.Io.KnownBytes.{Appends, Keeps};
-ghost use Rattle.hex.specs.Hex.{decode_of};
 ghost use Rattle.clap.specs.Words.{kind_of, takes};
 ghost use Rattle.clap.specs.declared.error.kind.ErrorKind.TheVariants.{OutOfMemory};
 ghost use Rattle.oer_types.specs.Schema.{the_type};
-ghost use Rattle.oer_cmd.specs.Run.{Answers, IsCanonLine, OfOctets, Prints};
+ghost use Rattle.oer_cmd.specs.Faults.{status_of};
+ghost use Rattle.oer_cmd.specs.Run.{Answers, IsLineOf, Prints};
 ghost use Rattle.oer_cmd.specs.Types.{texts_at, texts_of};
-ghost use Rattle.oer_cmd.specs.Words.{behind, oer};
+ghost use Rattle.oer_cmd.specs.Words.{oer};
 ghost use Rattle.oer_cmd.specs.declared.type_text.TypeText.TheVariants.{Named, One};
 
-use crate::canon::canonical;
+use crate::canon::canon_line;
 use crate::fault::Fault;
-use crate::options::{Options, parsed};
+use crate::options::{Options, Task, parsed};
+use crate::show::show_line;
 use crate::type_text::{TypeText, definitions, named_type, one_type, type_text};
 use clap::error::ErrorKind;
-use hex::FromHexError;
 use oer_types::Schema;
 use oer_units::{Metered, Source};
 use std::alloc::Global;
 use std::io::{Read, Write};
 
-// The octets that the digits spell.
-fn decoded<'a>(alloc: Global, digits: &str) -> Result<Vec<u8>, Fault<'a>>
-    ensures octets { IfOk result (λ b. decode_of digits.now ≡ Ok b.items) }
-    ensures refused { IfErr result (λ fault. fault ≡ Fault.Hex → (b : List ℕ) → decode_of digits.now ≡ Ok b → ⊥) }
-{
-    match hex::decode(alloc, digits) {
-        Ok(octets) => Ok(octets),
-        Err(FromHexError::OutOfMemory) => Err(Fault::Memory),
-        Err(_) => Err(Fault::Hex),
-    }
-}
-
-// The line of `canon` for the octets that the reader has left.
-fn canon_line<'a, R: Source>(
-    alloc: Global,
-    schema: &Schema,
-    reader: &mut R,
-    limit: u64,
-) -> Result<String, Fault<'a>>
-    ensures { IfOk result (λ line. IfSome (R.remaining reader.old)
-        (IsCanonLine (the_type schema.now) limit (string_bytes line))) }
-{
-    let octets = canonical(alloc, schema, reader, limit)?;
-    match hex::encode(alloc, octets) {
-        Ok(line) => Ok(line),
-        Err(_) => Err(Fault::Memory),
-    }
-}
-
-// The line of `canon` for the octets that the digits spell.
-fn hex_line<'a>(
-    alloc: Global,
-    schema: &Schema,
-    digits: &str,
-    limit: u64,
-) -> Result<String, Fault<'a>>
-    ensures { IfOk result (λ line. (b : List ℕ) × (decode_of digits.now ≡ Ok b)
-        × IsCanonLine (the_type schema.now) limit (string_bytes line) b) }
-{
-    let octets = decoded(alloc, digits)?;
-    let mut reader = Metered::new(octets.as_slice());
-    canon_line(alloc, schema, &mut reader, limit)
-}
-
-// The line of `canon` for the octets that the options or the input give.
+// The line of the task.
 fn line_of<'a, R: Source>(
     alloc: Global,
     schema: &Schema,
     options: Options<'a>,
     input: &mut R,
 ) -> Result<String, Fault<'a>>
-    ensures { IfOk result (λ line. OfOctets (behind options.entry.hex) (R.remaining input.old)
-        (IsCanonLine (the_type schema.now) options.entry.limit (string_bytes line))) }
+    ensures { IfOk result (λ line. IsLineOf options.entry.task (R.remaining input.old)
+        (the_type schema.now) options.entry.limit (string_bytes line)) }
 {
-    match options.hex {
-        Some(digits) => hex_line(alloc, schema, digits, options.limit),
-        None => canon_line(alloc, schema, input, options.limit),
+    let limit = options.limit;
+    match options.task {
+        Task::Show { hex } => show_line(alloc, schema, hex, limit, input),
+        Task::Canon { hex } => canon_line(alloc, schema, hex, limit, input),
     }
 }
 
@@ -88,7 +45,7 @@ fn line_of_one<'a, R: Source>(
     options: Options<'a>,
     input: &mut R,
 ) -> Result<String, Fault<'a>>
-    ensures { IfOk result (λ line. Answers (texts_at (One text.entry)) (behind options.entry.hex)
+    ensures { IfOk result (λ line. Answers (texts_at (One text.entry)) options.entry.task
         options.entry.limit (R.remaining input.old) (string_bytes line)) }
 {
     let schema = one_type(alloc, text)?;
@@ -103,7 +60,7 @@ fn line_of_named<'a, R: Source>(
     options: Options<'a>,
     input: &mut R,
 ) -> Result<String, Fault<'a>>
-    ensures { IfOk result (λ line. Answers (texts_at (Named types.entry name.entry)) (behind options.entry.hex)
+    ensures { IfOk result (λ line. Answers (texts_at (Named types.entry name.entry)) options.entry.task
         options.entry.limit (R.remaining input.old) (string_bytes line)) }
 {
     let types = definitions(alloc, types)?;
@@ -117,7 +74,7 @@ fn answer<'a, R: Source>(
     options: Options<'a>,
     input: &mut R,
 ) -> Result<String, Fault<'a>>
-    ensures { IfOk result (λ line. Answers (texts_of options.entry) (behind options.entry.hex)
+    ensures { IfOk result (λ line. Answers (texts_of options.entry) options.entry.task
         options.entry.limit (R.remaining input.old) (string_bytes line)) }
 {
     match type_text(options)? {
@@ -146,6 +103,7 @@ fn print_line<'a, W: Write>(output: &mut W, line: &str) -> Result<(), Fault<'a>>
 
 // Writes why there is no line. A failure to write it is ignored.
 fn report<E: Write>(fault: Fault<'_>, errors: &mut E) -> u8
+    ensures status { result ≡ status_of fault.entry }
     ensures fails { 1 ≤ result }
     ensures output { fault.entry ≡ Fault.Output → result ≡ 3 }
 {
@@ -155,7 +113,7 @@ fn report<E: Write>(fault: Fault<'_>, errors: &mut E) -> u8
 
 // Writes what `clap` says where it takes no words: help to the output with status 0, all else to the errors with status 2.
 fn refused<W: Write, E: Write>(error: &clap::Error, output: &mut W, errors: &mut E) -> u8
-    ensures memory { kind_of error.now ≡ OutOfMemory → 1 ≤ result }
+    ensures memory { kind_of error.now ≡ OutOfMemory → result ≡ 3 }
     ensures quiet { 1 ≤ result → result ≤ 2
         → Keeps (W.contents output.old) (W.contents output.new) }
 {
@@ -172,6 +130,7 @@ fn refused<W: Write, E: Write>(error: &clap::Error, output: &mut W, errors: &mut
     0
 }
 
+#[tactic(auto, using(crate::proofs::Lines::answers_words))]
 /// Runs the command: `words` begin with the program's name. The status of the program.
 pub fn run<R: Read, W: Write, E: Write>(
     alloc: Global,

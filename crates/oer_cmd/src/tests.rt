@@ -3,6 +3,7 @@ use crate::run::run;
 use std::alloc::Global;
 use std::io;
 use std::io::{Error, ErrorKind, Read, Write};
+use std::process::Abort;
 use std::test::Fail;
 
 /// A status; what is written, on the output where the status is 0 and else on the errors; the words
@@ -60,8 +61,24 @@ const LINES: &str = "0 | ff | --type=BOOLEAN | --hex=01
 2 | oer: hex refused | --type=INTEGER | --hex=0g
 2 | oer: hex refused | --types=A ::= BOOLEAN | --name=A | --hex=01 ";
 
+/// The same of `show`, whose input has seven octets `07`, too.
+const SHOWN: &str =
+    "0 | {\"a\":true,\"b\":8,\"c\":null} | --type=SEQUENCE {a BOOLEAN, b INTEGER (0..255) DEFAULT 7, c NULL OPTIONAL, ...} | --hex=60ff08
+0 | {\"#2\":\"09\",\"a\":true} | --type=SEQUENCE {a BOOLEAN, ..., x INTEGER (0..255), y BOOLEAN} | --hex=80ff0205200109
+0 | {\"#c5\":\"0102\"} | --type=CHOICE {a NULL, ..., b OCTET STRING} | --hex=85020102
+0 | \"A-?\" | --type=PrintableString | --hex=03412d3f
+0 | \"07070707070707\" | --type=OCTET STRING (SIZE(7))
+0 | [7,7] | --types=A ::= INTEGER (0..255) B ::= SEQUENCE OF A | --name=B | --hex=01020707
+1 | oer: LengthForm at 1 | --type=INTEGER | --hex=80
+1 | oer: Limit at 1 | --type=OCTET STRING | --limit=2 | --hex=0361
+1 | oer: octets follow the value at 1 | --type=BOOLEAN | --hex=0102
+1 | oer: octets follow the value at 2 | --type=INTEGER (0..65535) | --limit=2
+2 | oer: one of --type and --types | --hex=0
+2 | oer: hex refused | --type=INTEGER | --hex=0";
+
 /// Words after the program's name that are refused before any of that; the status of each is 2.
-const REFUSED_WORDS: &str = "show | --type=BOOLEAN
+const REFUSED_WORDS: &str = "print | --type=BOOLEAN
+show | --type=BOOLEAN | --json=true
 canon | --type=BOOLEAN | --limit=x
 canon | --type=BOOLEAN | --limit=18446744073709551616
 canon | --type=BOOLEAN | --type=NULL
@@ -100,23 +117,32 @@ pub fn line_of(alloc: Global, text: &str) -> Result<String, Fail> {
     Ok(line)
 }
 
+// What a run of the task writes, by a row of a table.
+fn answers<R: Abort>(rt: &R, alloc: Global, task: &str, row: &str) -> Result<(), Fail> {
+    let (status, rest) = row.split_once(" | ").expect(rt, "a status");
+    let (text, options) = rest.split_once(" | ").expect(rt, "a text");
+    let words = format!(in alloc; "{task} | {options}")?;
+    let line = line_of(alloc, text)?;
+    let ended = ran(alloc, words.as_str(), &[7u8; 7])?;
+    let (written, other) = if status == "0" {
+        (ended.output, ended.errors)
+    } else {
+        (ended.errors, ended.output)
+    };
+    assert_eq!(rt; written.as_slice(), line.as_bytes(), "{row}");
+    assert!(rt; other.is_empty(), "{row}");
+    assert_eq!(rt; ended.status, status.parse::<u8>()?, "{row}");
+    Ok(())
+}
+
 #[test]
 fn lines_and_statuses(rt: HostRuntime) -> Result<(), Fail> {
     let alloc = rt.alloc();
     for row in LINES.lines() {
-        let (status, rest) = row.split_once(" | ").expect(&rt, "a status");
-        let (text, options) = rest.split_once(" | ").expect(&rt, "a text");
-        let words = format!(in alloc; "canon | {options}")?;
-        let line = line_of(alloc, text)?;
-        let ended = ran(alloc, words.as_str(), &[7u8; 7])?;
-        let (written, other) = if status == "0" {
-            (ended.output, ended.errors)
-        } else {
-            (ended.errors, ended.output)
-        };
-        assert_eq!(rt; written.as_slice(), line.as_bytes(), "{row}");
-        assert!(rt; other.is_empty(), "{row}");
-        assert_eq!(rt; ended.status, status.parse::<u8>()?, "{row}");
+        answers(&rt, alloc, "canon", row)?;
+    }
+    for row in SHOWN.lines() {
+        answers(&rt, alloc, "show", row)?;
     }
     Ok(())
 }
@@ -180,8 +206,13 @@ fn words_of(alloc: Global, texts: &[&str]) -> Result<Vec<String>, Fail> {
 #[test]
 fn input_fails(rt: HostRuntime) -> Result<(), Fail> {
     let alloc = rt.alloc();
-    for kind in ["BOOLEAN", "INTEGER (0..65535)"] {
-        let words = words_of(alloc, &["oer", "canon", "--type", kind])?;
+    for (task, kind) in [
+        ("canon", "BOOLEAN"),
+        ("canon", "INTEGER (0..65535)"),
+        ("show", "BOOLEAN"),
+        ("show", "INTEGER (0..65535)"),
+    ] {
+        let words = words_of(alloc, &["oer", task, "--type", kind])?;
         let mut input = FailingReader { is_first: true };
         let mut output = Vec::new(alloc);
         let mut errors = Vec::new(alloc);

@@ -1,9 +1,9 @@
 //! The type that the options name.
-ghost use Rattle.std.specs.Prelude.{◌≡◌, IfOk, MatchResult};
+ghost use Rattle.std.specs.Prelude.{◌≡◌, IfErr, IfOk, MatchResult};
 ghost use Rattle.oer_types.specs.Schema.{the_type};
 ghost use Rattle.oer_text.specs.Grammar.{IsDefined, IsNew, Spells, SpellsAll};
 ghost use Rattle.oer_text.specs.Views.{knowns};
-ghost use Rattle.oer_cmd.specs.Types.{NamesNone, texts_at, texts_of};
+ghost use Rattle.oer_cmd.specs.Types.{DefinesNone, NamesNone, SpellsNone, lack_of, texts_at, texts_of};
 
 use crate::fault::Fault;
 use crate::options::Options;
@@ -26,7 +26,7 @@ pub enum TypeText<'a> {
 /// `NoName` where it isn't beside `--types`.
 pub fn type_text(options: Options<'_>) -> Result<TypeText<'_>, Fault<'_>>
     ensures { MatchResult result (λ text. texts_at text ≡ texts_of options.entry)
-        (λ _. NamesNone (texts_of options.entry)) }
+        (λ fault. (fault ≡ lack_of (texts_of options.entry)) × NamesNone (texts_of options.entry)) }
 {
     if let Some(text) = options.type_text {
         if options.types.is_some() {
@@ -48,7 +48,8 @@ pub fn type_text(options: Options<'_>) -> Result<TypeText<'_>, Fault<'_>>
 
 /// The type that the text spells; refused as `Type`, or as `Memory`.
 pub fn one_type(alloc: Global, text: &str) -> Result<Schema, Fault<'_>>
-    ensures { IfOk result (λ schema. Spells (the_type schema) text.now) }
+    ensures spells { IfOk result (λ schema. Spells (the_type schema) text.now) }
+    ensures refused { IfErr result (λ fault. SpellsNone fault text.now) }
 {
     match parse_type(alloc, text) {
         Ok(schema) => Ok(schema),
@@ -58,7 +59,8 @@ pub fn one_type(alloc: Global, text: &str) -> Result<Schema, Fault<'_>>
 
 /// The definitions that the text spells; refused as `Type`, or as `Memory`.
 pub fn definitions(alloc: Global, text: &str) -> Result<Types, Fault<'_>>
-    ensures { IfOk result (λ types. SpellsAll (knowns types) text.now) }
+    ensures spells { IfOk result (λ types. SpellsAll (knowns types) text.now) }
+    ensures refused { IfErr result (λ fault. DefinesNone fault text.now) }
 {
     match parse_types(alloc, text) {
         Ok(types) => Ok(types),
@@ -69,7 +71,7 @@ pub fn definitions(alloc: Global, text: &str) -> Result<Types, Fault<'_>>
 /// The type that the Name has among the definitions; refused as `Unnamed` where none has it.
 pub fn named_type<'t, 'a>(types: &'t Types, name: &'a str) -> Result<&'t Schema, Fault<'a>>
     ensures { MatchResult result (λ schema. IsDefined name.now (the_type schema.now) (knowns types.now))
-        (λ _. IsNew name.now (knowns types.now)) }
+        (λ fault. (fault ≡ Fault.Unnamed name.entry) × IsNew name.now (knowns types.now)) }
 {
     match types.get(name) {
         Some(schema) => Ok(schema),

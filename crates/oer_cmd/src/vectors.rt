@@ -157,6 +157,16 @@ fn digits(alloc: Global, column: &str) -> Result<String, Fail> {
     Ok(digits)
 }
 
+// A run of `show` prints a line for a value of the type.
+fn shows<R: Abort>(rt: &R, alloc: Global, kind: &str, octets: &str) -> Result<(), Fail> {
+    let words = format!(in alloc; "show | --type={kind} | --hex={octets}")?;
+    let ended = ran(alloc, words.as_str(), &[])?;
+    assert!(rt; ended.output.len() > 1, "{kind}: {octets}");
+    assert!(rt; ended.errors.is_empty(), "{kind}: {octets}");
+    assert_eq!(rt; ended.status, 0, "{kind}: {octets}");
+    Ok(())
+}
+
 // What a run of `canon` prints for a value of the type.
 fn rewrites<R: Abort>(
     rt: &R,
@@ -265,6 +275,7 @@ fn rewrites_at<R: Abort>(
     let octets = put_at(alloc, front.as_str(), octets.as_str())?;
     let canonical = digits(alloc, canonical)?;
     let canonical = put_at(alloc, front.as_str(), canonical.as_str())?;
+    shows(rt, alloc, around.as_str(), octets.as_str())?;
     rewrites(
         rt,
         alloc,

@@ -4,8 +4,6 @@
 pub mod laws;
 mod lengths;
 mod lexing;
-#[cfg(test)]
-mod tests;
 mod token;
 
 pub use lexing::{Tokens, lex};

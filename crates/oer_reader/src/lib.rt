@@ -11,8 +11,6 @@ mod preamble;
 mod rewriting;
 mod sizes;
 mod strings;
-#[cfg(test)]
-mod tests;
 mod value;
 
 pub use fault::RewriteFault;

@@ -8,13 +8,9 @@ pub mod laws;
 mod literal;
 mod number;
 mod parse;
-#[cfg(test)]
-mod print_tests;
 mod printable;
 mod printer;
 mod printing;
-#[cfg(test)]
-mod tests;
 mod types;
 mod value;
 mod word;

@@ -91,7 +91,7 @@ fn is_in_range(low: Option<i128>, high: Option<i128>, number: i128) -> bool
 
 impl Size {
     /// Whether the size allows so many.
-    pub(crate) fn allows(self, count: u64) -> bool
+    pub fn allows(self, count: u64) -> bool
         ensures { result ≡ size_fits self count }
     {
         if count < self.low {
@@ -254,10 +254,10 @@ fn is_tag_number(number: u32) -> bool
     number <= u32::MAX
 }
 
-/// Whether the value fits the type.
+/// Whether the value fits the type. The shape need not be well-formed.
 #[cycle(fits)]
 #[tactic(auto, using(crate::proofs::Shapes::shapes))]
-pub(crate) fn fits_shape(shape: &Shape, value: &Value) -> bool
+pub fn fits_shape(shape: &Shape, value: &Value) -> bool
     ensures { result ≡ is_fit (type_of shape.now) (value_of value.now) }
 {
     match (shape, value) {

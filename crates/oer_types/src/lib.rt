@@ -25,11 +25,9 @@ pub use counting::parts_left;
 pub use depth::is_within_depth;
 pub use fault::SchemaFault;
 pub use fill::same_filled_at;
+pub use fit::fits_shape;
 pub use form::Form;
 pub use schema::Schema;
 pub use shape::{Addition, Alt, Field, Item, Need, Shape};
 pub use size::Size;
 pub use value::{Unknown, Value};
-
-#[cfg(test)]
-mod tests;

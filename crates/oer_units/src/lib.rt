@@ -6,16 +6,12 @@ mod bound;
 mod fault;
 pub mod laws;
 mod reading;
-#[cfg(test)]
-mod reading_tests;
 mod stream;
 mod tagging;
 mod twos;
 mod width;
 mod window;
 mod writing;
-#[cfg(test)]
-mod writing_tests;
 
 pub use fault::{ReadFault, SinkFault, Why};
 pub use reading::{

@@ -15,6 +15,3 @@ mod whole;
 
 pub use calls::{length, write};
 pub use fault::WriteFault;
-
-#[cfg(test)]
-mod tests;

@@ -9,4 +9,5 @@ use Rattle.oer_cmd.proofs.options.command.Goals as goal
 pub returns : goal.returns
 returns c =
     let start : HasShape (on_top (λ s. record s { subcommand_required = true }) (new_app (codes "oer"))) c.subcommand_required.result = record { app = search rules; local = search rules } in
-    IfOk-weaker c.subcommand.result _ _ (λ r h. adds_task _ _ _ _ _ start c.in_ok-canon.ensures h) c.subcommand.ensures
+    let one = adds_task _ _ _ _ _ start c.in_ok-show.ensures c.in_ok-subcommand.ensures in
+    IfOk-weaker c.subcommand-2.result _ _ (λ r h. adds_task _ _ _ _ _ one c.in_ok-canon.ensures h) c.subcommand-2.ensures

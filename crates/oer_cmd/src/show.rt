@@ -1,0 +1,92 @@
+//! The JSON of a value.
+ghost use Rattle.std.specs.Prelude.{◌≡◌, ℕ, List, IfOk, IfSome, string_bytes};
+ghost use Rattle.hex.specs.Hex.{decode_of};
+ghost use Rattle.serde_json.specs.View.{view};
+ghost use Rattle.oer_types.specs.Schema.{the_type};
+ghost use Rattle.oer_cmd.specs.Run.{IsShowLine, IsShown, OfOctets};
+ghost use Rattle.oer_cmd.specs.Words.{behind};
+
+use crate::canon::check_end;
+use crate::counted::Counted;
+use crate::fault::Fault;
+use crate::octets::decoded;
+use oer_json::to_json;
+use oer_reader::read;
+use oer_types::Schema;
+use oer_units::{Metered, Source};
+use serde_json::Value as Json;
+use std::alloc::Global;
+
+// The JSON of the one value of the type that the reader has left, which takes no more octets than the
+// limit. Refused as `Read`, `Input` or `Memory` by the reader, as `Follows` where an octet follows the
+// value, beyond the limit too, and as `Memory`.
+fn shown<'a, R: Source>(
+    alloc: Global,
+    schema: &Schema,
+    reader: &mut R,
+    limit: u64,
+) -> Result<Json, Fault<'a>>
+    ensures { IfOk result (λ json. IfSome (R.remaining reader.old)
+        (IsShown (the_type schema.now) limit (view json))) }
+{
+    let mut counted = Counted::new(reader);
+    let value = match read(alloc, schema, &mut counted, limit) {
+        Ok(value) => value,
+        Err(fault) => return Err(Fault::of_read(fault)),
+    };
+    let taken = counted.taken();
+    check_end(&mut counted, taken)?;
+    match to_json(alloc, schema, &value) {
+        Ok(json) => Ok(json),
+        Err(_) => Err(Fault::Memory),
+    }
+}
+
+// The line for the octets that the reader has left.
+fn read_line<'a, R: Source>(
+    alloc: Global,
+    schema: &Schema,
+    reader: &mut R,
+    limit: u64,
+) -> Result<String, Fault<'a>>
+    ensures { IfOk result (λ line. IfSome (R.remaining reader.old)
+        (IsShowLine (the_type schema.now) limit (string_bytes line))) }
+{
+    let json = shown(alloc, schema, reader, limit)?;
+    match json.to_string(alloc) {
+        Ok(line) => Ok(line),
+        Err(_) => Err(Fault::Memory),
+    }
+}
+
+// The line for the octets that the digits spell.
+fn hex_line<'a>(
+    alloc: Global,
+    schema: &Schema,
+    digits: &str,
+    limit: u64,
+) -> Result<String, Fault<'a>>
+    ensures { IfOk result (λ line. (b : List ℕ) × (decode_of digits.now ≡ Ok b)
+        × IsShowLine (the_type schema.now) limit (string_bytes line) b) }
+{
+    let octets = decoded(alloc, digits)?;
+    let mut reader = Metered::new(octets.as_slice());
+    read_line(alloc, schema, &mut reader, limit)
+}
+
+/// The line of `show` for the octets that the options or the input give.
+pub fn show_line<'a, R: Source>(
+    alloc: Global,
+    schema: &Schema,
+    hex: Option<&str>,
+    limit: u64,
+    input: &mut R,
+) -> Result<String, Fault<'a>>
+    ensures { IfOk result (λ line. OfOctets (behind hex.entry) (R.remaining input.old)
+        (IsShowLine (the_type schema.now) limit (string_bytes line))) }
+{
+    match hex {
+        Some(digits) => hex_line(alloc, schema, digits, limit),
+        None => read_line(alloc, schema, input, limit),
+    }
+}

@@ -1,0 +1,15 @@
+pub mod Levels
+pub mod Steps
+pub mod Making
+pub mod Views
+pub mod Numbers
+pub mod Numerals
+pub mod KeySteps
+pub mod BitDigits
+pub mod Decimals
+pub mod Dots
+pub mod Taking
+pub mod PointSteps
+pub mod PartSteps
+pub mod TakingParts
+pub mod Fitting

@@ -1,0 +1,43 @@
+-- What is made, step by step.
+use Rattle.std.proofs.Common.{◌≡◌, ℕ, suc, ◌+◌, List, [], ◌∷◌, ◌++◌, drop, map, Bool, true, false, Option, Some, None, option_map, refl, sym, ap, ◌∙◌, cond}
+use Rattle.std.specs.Prelude.{unwrap_or}
+use Rattle.serde_json.specs.Data.{Data, Items, no_items, item, Members}
+use Rattle.serde_json.specs.View.{items_of, view}
+use Rattle.serde_json.specs.declared.value.Value as json
+use Rattle.std.proofs.lemmas.List.{map-append}
+use Rattle.oer_units.specs.declared.tagging.Tag.{Tag}
+use Rattle.oer_types.specs.AsnType.{Alternatives, no_alternatives}
+use Rattle.oer_types.specs.AsnValue.{AsnValue}
+use Rattle.oer_types.specs.ShapeView.{root_of, later_of, type_of, SeenAlternative, root_from, seen_alternative}
+use Rattle.oer_types.specs.Constraints.{same_tag}
+use Rattle.oer_types.specs.declared.shape.Alt.{Alt}
+use Rattle.oer_json.specs.Made.{made, made_alternative, one_member}
+
+-- these before the others
+abbrev pub before_items : List Data → Items → Items
+before_items [] js = js
+before_items (d ∷ ds) js = item d (before_items ds js)
+
+pub before_one : (ds : List Data) (d : Data) (js : Items) → before_items (ds ++ d ∷ []) js ≡ before_items ds (item d js)
+before_one [] d js = refl
+before_one (e ∷ ds) d js = ap (item e) (before_one ds d js)
+
+pub before_none : (ds : List Data) → before_items ds no_items ≡ items_of ds
+before_none [] = refl
+before_none (d ∷ ds) = ap (item d) (before_none ds)
+
+pub alternative_here : (x : Alt) (xs : List Alt) (after : Alternatives) (t : Tag) (v : AsnValue) → same_tag x.tag t ≡ true → made_alternative (root_of (x ∷ xs) after) t v ≡ one_member (seen_alternative x).name (made (type_of x.shape) v)
+alternative_here x xs after t v h = rw h refl
+
+pub alternative_past : (x : Alt) (xs : List Alt) (after : Alternatives) (t : Tag) (v : AsnValue) → same_tag x.tag t ≡ false → made_alternative (root_of (x ∷ xs) after) t v ≡ made_alternative (root_of xs after) t v
+alternative_past x xs after t v h = rw h refl
+
+pub later_here : (x : Alt) (xs : List Alt) (t : Tag) (v : AsnValue) → same_tag x.tag t ≡ true → made_alternative (later_of (x ∷ xs)) t v ≡ one_member (seen_alternative x).name (made (type_of x.shape) v)
+later_here x xs t v h = rw h refl
+
+pub later_past : (x : Alt) (xs : List Alt) (t : Tag) (v : AsnValue) → same_tag x.tag t ≡ false → made_alternative (later_of (x ∷ xs)) t v ≡ made_alternative (later_of xs) t v
+later_past x xs t v h = rw h refl
+
+pub items_step : (js ks : List json.Value) (j : json.Value) (d : Data) (rest : Items) → ks ≡ js ++ j ∷ [] → view j ≡ d → before_items (map view js) (item d rest) ≡ before_items (map view ks) rest
+items_step js ks j d rest e h =
+    sym (before_one (map view js) d rest) ∙ ap (λ x. before_items (map view js ++ x ∷ []) rest) (sym h) ∙ ap (λ ds. before_items ds rest) (sym (map-append view js (j ∷ []))) ∙ ap (λ xs. before_items (map view xs) rest) (sym e)

@@ -1,0 +1,11 @@
+use Rattle.std.proofs.Common.{◌≡◌, [], None, map, sym, ap, ◌∙◌, string_bytes}
+use Rattle.oer_types.specs.ShapeView.{additions_of, fields_of}
+use Rattle.oer_types.specs.WellFormed.{addition_names, field_names}
+use Rattle.oer_json.specs.Keys.{all_pass, is_among}
+use Rattle.oer_json.proofs.KeySteps.{keys_view}
+use Rattle.oer_json.proofs.keys.are_fields.Goals as goal
+
+pub loop-key-init : goal.loop-key-init
+loop-key-init c =
+    let f = all_pass (is_among (field_names (fields_of c.args.fields.now))) in
+    ap f (keys_view c.args.map.now.entries) ∙ ap (λ ks. f (map string_bytes ks)) (sym (c.into_iter-key-iterator.ensures.into_iter_gives ∙ c.keys-key-items.ensures.rest))

@@ -1,0 +1,13 @@
+use Rattle.std.proofs.Common.{◌≡◌, map, string_bytes}
+use Rattle.oer_types.specs.ShapeView.{additions_of, fields_of}
+use Rattle.oer_types.specs.WellFormed.{addition_names, field_names}
+use Rattle.serde_json.specs.View.{members_view}
+use Rattle.oer_json.specs.Keys.{all_pass, keys_of}
+use Rattle.oer_json.specs.Take.{is_key}
+use Rattle.oer_json.proofs.keys.are_keys.Given as goal
+
+-- the keys left decide
+abbrev pub invariant-loop-key : goal.invariant-loop-key
+invariant-loop-key l =
+    let test = is_key (field_names (fields_of l.root)) (addition_names (additions_of l.additions)) in
+    all_pass test (keys_of (members_view l.map.entries)) ≡ all_pass test (map string_bytes l.key-iterator)

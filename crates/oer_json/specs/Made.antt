@@ -1,0 +1,85 @@
+-- The JSON of a value.
+use Rattle.std.specs.Prelude.{ℕ, ◌^◌, ℤ, pos, negsuc, nat_lt, List, [], ◌∷◌, map, Bool, true, false, Option, Some, None, if◌then◌else◌}
+use Rattle.std.specs.Fmt.{signed_decimal}
+use Rattle.hex.specs.Hex.{encode_lower}
+use Rattle.serde_json.specs.Data as json
+use Rattle.serde_json.specs.Data.{Data, Items, Members}
+use Rattle.serde_json.specs.Find.{of_integer}
+use Rattle.oer_units.specs.declared.tagging.Tag.{Tag}
+use Rattle.oer_types.specs.AsnType.{Additions, Alternatives, AsnType, Fields, addition, alternative, bit_string, boolean, choice, enumerated, extensible_sequence, field, integer, later, no_additions, no_alternatives, no_fields, null, object_id, octet_string, restricted_string, sequence, sequence_of, utf8_string}
+use Rattle.oer_types.specs.AsnValue.{AsnValue, Places, Unknown, Values, absent, bit_list, bool, chosen, enum, foreign, int, items, no_places, no_values, nothing, octets, oid, present, seq, text, unknown, value}
+use Rattle.oer_types.specs.Constraints.{same_tag}
+use Rattle.oer_json.specs.Keys.{place_key, tag_key}
+use Rattle.oer_json.specs.Texts.{bit_digit, dotted, name_of}
+
+abbrev pub has_64_bits : ℤ → Bool
+has_64_bits (pos n) = nat_lt n (2 ^ 63)
+has_64_bits (negsuc n) = nat_lt n (2 ^ 63)
+
+-- a number in two's complement of 64 bits, else decimal text
+abbrev pub made_integer : ℤ → Data
+made_integer z = if has_64_bits z then json.number (of_integer z) else json.string (signed_decimal z)
+
+-- the item's name; a number where no item has it
+abbrev pub made_item : Option (List ℕ) → ℤ → Data
+made_item None z = json.number (of_integer z)
+made_item (Some name) z = json.string name
+
+abbrev pub made_octets : List ℕ → Data
+made_octets w = json.string (encode_lower w)
+
+abbrev pub one_member : List ℕ → Data → Data
+one_member name j = json.object (json.member name j json.no_members)
+
+-- f of each value
+abbrev pub made_items : (AsnValue → Data) → Values → Items
+made_items f no_values = json.no_items
+made_items f (value v vs) = json.item (f v) (made_items f vs)
+
+-- a member for each addition that the type doesn't know
+abbrev pub put_unknown : List Unknown → Members → Members
+put_unknown [] ms = ms
+put_unknown (unknown n w ∷ us) ms = put_unknown us (json.put (place_key n) (made_octets w) ms)
+
+-- The JSON of a value that fits the type; null where it is of another kind.
+abbrev mutual
+  pub made : AsnType → AsnValue → Data
+  made boolean (bool b) = json.boolean b
+  made null nothing = json.null
+  made (integer low high) (int z) = made_integer z
+  made (enumerated numbers extensible) (enum z) = made_item (name_of numbers z) z
+  made (bit_string size) (bit_list s) = json.string (map bit_digit s)
+  made (octet_string size) (octets w) = made_octets w
+  made object_id (oid arcs) = json.string (dotted arcs)
+  made (restricted_string kind size) (text w) = json.string w
+  made (utf8_string size) (text w) = json.string w
+  made (sequence fs) (seq root added us) = json.object (put_fields fs root json.no_members)
+  made (extensible_sequence fs more) (seq root added us) = json.object (put_unknown us (put_additions more added (put_fields fs root json.no_members)))
+  made (sequence_of size T) (items vs) = json.array (made_items (made T) vs)
+  made (choice extensible more) (chosen t v) = made_alternative more t v
+  made (choice extensible more) (foreign t w) = one_member (tag_key t) (made_octets w)
+  made T v = json.null
+
+  -- a member for each component that is there
+  pub put_fields : Fields → Places → Members → Members
+  put_fields no_fields ps ms = ms
+  put_fields (field name need T fs) no_places ms = ms
+  put_fields (field name need T fs) (absent ps) ms = put_fields fs ps ms
+  put_fields (field name need T fs) (present v ps) ms = put_fields fs ps (json.put name (made T v) ms)
+
+  pub put_additions : Additions → Places → Members → Members
+  put_additions no_additions ps ms = ms
+  put_additions (addition name T more) no_places ms = ms
+  put_additions (addition name T more) (absent ps) ms = put_additions more ps ms
+  put_additions (addition name T more) (present v ps) ms = put_additions more ps (json.put name (made T v) ms)
+
+  -- an object with one member, by the first alternative that has the tag
+  pub made_alternative : Alternatives → Tag → AsnValue → Data
+  made_alternative no_alternatives t v = json.null
+  made_alternative (alternative name u T more) t v = if same_tag u t then one_member name (made T v) else made_alternative more t v
+  made_alternative (later name u T more) t v = if same_tag u t then one_member name (made T v) else made_alternative more t v
+
+-- with a member for a component that is there
+abbrev pub with_place : List ℕ → AsnType → Option AsnValue → Members → Members
+with_place name T None ms = ms
+with_place name T (Some v) ms = json.put name (made T v) ms

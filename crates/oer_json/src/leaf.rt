@@ -1,0 +1,159 @@
+//! The JSON of values without parts.
+ghost use Rattle.std.specs.Prelude.{◌≡◌, ◌++◌, ◌<◌, [], IfOk, OnOk, Some, length, map, option_map, string_bytes};
+ghost use Rattle.std.specs.Fmt.{decimal};
+ghost use Rattle.std.specs.List.{slice_get};
+ghost use Rattle.serde_json.specs.Data.{string};
+ghost use Rattle.serde_json.specs.View.{view};
+ghost use Rattle.oer_types.specs.Constraints.{same_tag};
+ghost use Rattle.oer_types.specs.ShapeView.{named_number};
+ghost use Rattle.oer_json.specs.Keys.{class_letter, place_key, tag_key};
+ghost use Rattle.oer_json.specs.Made.{made_integer, made_item, made_octets};
+ghost use Rattle.oer_json.specs.Texts.{after_points, bit_digit, dotted, name_of};
+
+use oer_types::{Bits, Item};
+use oer_units::{Class, Tag};
+use serde_json::Value as Json;
+use std::alloc::{AllocError, Global};
+
+/// A number of 64 bits and a sign, else decimal text.
+pub(crate) fn integer_json(alloc: Global, number: i128) -> Result<Json, AllocError>
+    ensures { IfOk result (λ j. view j ≡ made_integer number) }
+{
+    match i64::try_from(number) {
+        Ok(small) => Ok(Json::from(small)),
+        Err(_) => Ok(Json::from(format!(in alloc; "{number}")?)),
+    }
+}
+
+/// The name of the first item with this number.
+fn item_name(items: &[Item], number: i64) -> Option<&str>
+    ensures { option_map (λ s. s.now) result ≡ name_of (map named_number items.now) number }
+{
+    for item in items {
+        if item.number == number {
+            return Some(item.name.as_str());
+        }
+    }
+    None
+}
+
+/// The name of the item, or its number where no item has it.
+pub(crate) fn item_json(alloc: Global, items: &[Item], number: i64) -> Result<Json, AllocError>
+    ensures { IfOk result (λ j. view j ≡ made_item (name_of (map named_number items.now) number) number) }
+{
+    match item_name(items, number) {
+        Some(name) => text_json(alloc, name),
+        None => Ok(Json::from(number)),
+    }
+}
+
+/// Two small hexadecimal digits for each octet.
+pub(crate) fn octets_json(alloc: Global, octets: &[u8]) -> Result<Json, AllocError>
+    ensures { IfOk result (λ j. view j ≡ made_octets octets.now) }
+{
+    Ok(Json::from(hex::encode(alloc, octets)?))
+}
+
+pub(crate) fn text_json(alloc: Global, text: &str) -> Result<Json, AllocError>
+    ensures { IfOk result (λ j. view j ≡ string text.now) }
+{
+    Json::try_from_str(alloc, text)
+}
+
+/// The digit of the bit at the index.
+fn digit_at(bits: &Bits, index: u64) -> char
+    requires { index < length bits.now }
+    ensures value { slice_get (map bit_digit bits.now) index ≡ Some result }
+    ensures small { result < 128 }
+{
+    match bits.get(index) {
+        Some(true) => '1',
+        _ => '0',
+    }
+}
+
+fn push_bits(text: &mut String, bits: &Bits) -> Result<(), AllocError>
+    ensures { OnOk result (string_bytes text.new ≡ string_bytes text.old ++ map bit_digit bits.now) }
+{
+    for index in 0..bits.count() {
+        text.push(digit_at(bits, index))?;
+    }
+    Ok(())
+}
+
+/// A digit for each bit.
+pub(crate) fn bits_json(alloc: Global, bits: &Bits) -> Result<Json, AllocError>
+    ensures { IfOk result (λ j. view j ≡ string (map bit_digit bits.now)) }
+{
+    let mut text = String::new(alloc);
+    push_bits(&mut text, bits)?;
+    Ok(Json::from(text))
+}
+
+fn push_number(alloc: Global, text: &mut String, number: u128) -> Result<(), AllocError>
+    ensures { OnOk result (string_bytes text.new ≡ string_bytes text.old ++ decimal number) }
+{
+    let digits = format!(in alloc; "{number}")?;
+    text.push_str(digits.as_str())
+}
+
+/// Each number behind a point.
+fn push_after_points(alloc: Global, text: &mut String, numbers: &[u128]) -> Result<(), AllocError>
+    ensures { OnOk result (string_bytes text.new ≡ string_bytes text.old ++ after_points numbers.now) }
+{
+    for number in numbers {
+        text.push_str(".")?;
+        push_number(alloc, text, *number)?;
+    }
+    Ok(())
+}
+
+/// The numbers with points between them.
+pub(crate) fn arcs_json(alloc: Global, arcs: &[u128]) -> Result<Json, AllocError>
+    ensures { IfOk result (λ j. view j ≡ string (dotted arcs.now)) }
+{
+    let mut text = String::new(alloc);
+    if let Some((first, rest)) = arcs.split_first() {
+        push_number(alloc, &mut text, *first)?;
+        push_after_points(alloc, &mut text, rest)?;
+    }
+    Ok(Json::from(text))
+}
+
+/// The key of an addition that the type doesn't know.
+pub(crate) fn place_text(alloc: Global, place: u16) -> Result<String, AllocError>
+    ensures { IfOk result (λ s. string_bytes s ≡ place_key place) }
+{
+    format!(in alloc; "#{place}")
+}
+
+fn class_letter(class: Class) -> char
+    ensures value { result ≡ class_letter class }
+    ensures small { result < 128 }
+{
+    match class {
+        Class::Universal => 'u',
+        Class::Application => 'a',
+        Class::Context => 'c',
+        Class::Private => 'p',
+    }
+}
+
+/// The key of an alternative that the type doesn't know.
+pub(crate) fn tag_text(alloc: Global, tag: Tag) -> Result<String, AllocError>
+    ensures { IfOk result (λ s. string_bytes s ≡ tag_key tag) }
+{
+    let number = tag.number;
+    let digits = format!(in alloc; "{number}")?;
+    let mut key = String::new(alloc);
+    key.push_str("#")?;
+    key.push(class_letter(tag.class))?;
+    key.push_str(digits.as_str())?;
+    Ok(key)
+}
+
+pub(crate) fn is_same_tag(one: Tag, other: Tag) -> bool
+    ensures { result ≡ same_tag one other }
+{
+    one.class as u8 == other.class as u8 && one.number == other.number
+}

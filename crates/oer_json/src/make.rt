@@ -1,0 +1,237 @@
+//! Values as JSON.
+ghost use Rattle.std.specs.Prelude.{◌≡◌, IfOk, OnOk, map, option_map, unwrap_or};
+ghost use Rattle.serde_json.specs.Data.{array};
+ghost use Rattle.serde_json.specs.View.{members_view, view};
+ghost use Rattle.oer_types.specs.AsnType.{Alternatives};
+ghost use Rattle.oer_types.specs.Fits.{Fits};
+ghost use Rattle.oer_types.specs.Schema.{the_type};
+ghost use Rattle.oer_types.specs.ShapeView.{additions_of, fields_of, later_of, root_of, type_of};
+ghost use Rattle.oer_types.specs.ValueView.{places_of, unknown_of, value_of, values_of};
+ghost use Rattle.oer_json.specs.Keys.{tag_key};
+ghost use Rattle.oer_json.specs.Made.{made, made_alternative, made_items, made_octets, one_member, put_additions as with_additions, put_fields as with_fields, put_unknown as with_unknown, with_place};
+
+use crate::leaf::{
+    arcs_json, bits_json, integer_json, is_same_tag, item_json, octets_json, place_text, tag_text,
+    text_json,
+};
+use oer_types::{Addition, Alt, Field, Schema, Shape, Unknown, Value};
+use oer_units::Tag;
+use serde_json::{Map, Value as Json};
+use std::alloc::{AllocError, Global};
+
+/// The JSON of a value of the type (JSON.md). Fails where memory is refused.
+pub fn to_json(alloc: Global, schema: &Schema, value: &Value) -> Result<Json, AllocError>
+    requires { Fits (the_type schema.now) (value_of value.now) }
+    ensures { IfOk result (λ j. view j ≡ made (the_type schema.now) (value_of value.now)) }
+{
+    value_json(schema.shape(), alloc, value)
+}
+
+/// The JSON of a value; null where it is of another kind than the type.
+#[cycle(make)]
+#[tactic(auto, using(crate::proofs::Levels::levels))]
+fn value_json(shape: &Shape, alloc: Global, value: &Value) -> Result<Json, AllocError>
+    ensures { IfOk result (λ j. view j ≡ made (type_of shape.now) (value_of value.now)) }
+{
+    match (shape, value) {
+        (Shape::Boolean, Value::Bool(truth)) => Ok(Json::Bool(*truth)),
+        (Shape::Null, Value::Null) => Ok(Json::Null),
+        (Shape::Integer { .. }, Value::Int(number)) => integer_json(alloc, *number),
+        (Shape::Enumerated { items, .. }, Value::Enum(number)) => item_json(alloc, items, *number),
+        (Shape::BitString(_), Value::Bits(bits)) => bits_json(alloc, bits),
+        (Shape::OctetString(_), Value::Octets(octets)) => octets_json(alloc, octets),
+        (Shape::ObjectId, Value::Oid(arcs)) => arcs_json(alloc, arcs),
+        (Shape::Ia5(_), Value::Text(text)) => text_json(alloc, text.as_str()),
+        (Shape::Visible(_), Value::Text(text)) => text_json(alloc, text.as_str()),
+        (Shape::Numeric(_), Value::Text(text)) => text_json(alloc, text.as_str()),
+        (Shape::Printable(_), Value::Text(text)) => text_json(alloc, text.as_str()),
+        (Shape::Utf8(_), Value::Text(text)) => text_json(alloc, text.as_str()),
+        (
+            Shape::Sequence { root, additions },
+            Value::Seq {
+                root: places,
+                added,
+                unknown,
+            },
+        ) => {
+            let mut members = Map::new(alloc);
+            put_fields(root, alloc, places, &mut members)?;
+            match additions {
+                None => Ok(Json::Object(members)),
+                Some(additions) => {
+                    put_additions(additions, alloc, added, &mut members)?;
+                    put_unknown(alloc, unknown, &mut members)?;
+                    Ok(Json::Object(members))
+                }
+            }
+        }
+        (Shape::SequenceOf { item, .. }, Value::List(values)) => items_json(item, alloc, values),
+        (Shape::Choice { root, additions }, Value::Chosen { tag, value }) => {
+            let found = alternative_json(root, alloc, *tag, value)?;
+            match found {
+                Some(json) => Ok(json),
+                None => match additions {
+                    None => Ok(Json::Null),
+                    Some(additions) => later_json(additions, alloc, *tag, value),
+                },
+            }
+        }
+        (Shape::Choice { .. }, Value::Foreign { tag, octets }) => {
+            foreign_json(alloc, *tag, octets)
+        }
+        _ => Ok(Json::Null),
+    }
+}
+
+/// Puts a member for each component that is there.
+#[cycle(make)]
+fn put_fields(
+    fields: &[Field],
+    alloc: Global,
+    places: &[Option<Value>],
+    members: &mut Map<String, Json>,
+) -> Result<(), AllocError>
+    ensures { OnOk result (members_view members.new.entries
+        ≡ with_fields (fields_of fields.now) (places_of places.now) (members_view members.old.entries)) }
+{
+    let mut rest = places;
+    for field in fields {
+        let Some((place, more)) = rest.split_first() else {
+            return Ok(());
+        };
+        put_place(&field.shape, alloc, field.name.as_str(), place, members)?;
+        rest = more;
+    }
+    Ok(())
+}
+
+/// Puts a member for each addition that is there.
+#[cycle(make)]
+fn put_additions(
+    additions: &[Addition],
+    alloc: Global,
+    places: &[Option<Value>],
+    members: &mut Map<String, Json>,
+) -> Result<(), AllocError>
+    ensures { OnOk result (members_view members.new.entries
+        ≡ with_additions (additions_of additions.now) (places_of places.now) (members_view members.old.entries)) }
+{
+    let mut rest = places;
+    for addition in additions {
+        let Some((place, more)) = rest.split_first() else {
+            return Ok(());
+        };
+        put_place(
+            &addition.shape,
+            alloc,
+            addition.name.as_str(),
+            place,
+            members,
+        )?;
+        rest = more;
+    }
+    Ok(())
+}
+
+/// Puts a member for a component, if it is there.
+#[cycle(make)]
+fn put_place(
+    shape: &Shape,
+    alloc: Global,
+    name: &str,
+    place: &Option<Value>,
+    members: &mut Map<String, Json>,
+) -> Result<(), AllocError>
+    ensures { OnOk result (members_view members.new.entries
+        ≡ with_place name.now (type_of shape.now) (option_map value_of place.now) (members_view members.old.entries)) }
+{
+    match place {
+        None => Ok(()),
+        Some(value) => {
+            let json = value_json(shape, alloc, value)?;
+            serde_json::put(members, alloc, name, json)
+        }
+    }
+}
+
+/// Puts a member for each addition that the type doesn't know.
+fn put_unknown(
+    alloc: Global,
+    unknown: &[Unknown],
+    members: &mut Map<String, Json>,
+) -> Result<(), AllocError>
+    ensures { OnOk result (members_view members.new.entries
+        ≡ with_unknown (map unknown_of unknown.now) (members_view members.old.entries)) }
+{
+    for one in unknown {
+        let key = place_text(alloc, one.place)?;
+        let json = octets_json(alloc, &one.octets)?;
+        serde_json::put(members, alloc, key.as_str(), json)?;
+    }
+    Ok(())
+}
+
+/// An item for each value.
+#[cycle(make)]
+fn items_json(item: &Shape, alloc: Global, values: &[Value]) -> Result<Json, AllocError>
+    ensures { IfOk result (λ j. view j ≡ array (made_items (made (type_of item.now)) (values_of values.now))) }
+{
+    let mut items = Vec::with_capacity(alloc, values.len())?;
+    for value in values {
+        items.push(value_json(item, alloc, value)?)?;
+    }
+    Ok(Json::Array(items))
+}
+
+/// The object of the first alternative that has the tag, if one has it.
+#[cycle(make)]
+fn alternative_json(
+    alts: &[Alt],
+    alloc: Global,
+    tag: Tag,
+    value: &Value,
+) -> Result<Option<Json>, AllocError>
+    ensures { IfOk result (λ o. (after : Alternatives) → made_alternative (root_of alts.now after) tag (value_of value.now)
+        ≡ unwrap_or (option_map view o) (made_alternative after tag (value_of value.now))) }
+{
+    for alt in alts {
+        if is_same_tag(alt.tag, tag) {
+            let json = value_json(&alt.shape, alloc, value)?;
+            return Ok(Some(object_json(alloc, alt.name.as_str(), json)?));
+        }
+    }
+    Ok(None)
+}
+
+/// The object of the first alternative after the extension marker that has the tag; null where none
+/// has it.
+#[cycle(make)]
+fn later_json(alts: &[Alt], alloc: Global, tag: Tag, value: &Value) -> Result<Json, AllocError>
+    ensures { IfOk result (λ j. view j ≡ made_alternative (later_of alts.now) tag (value_of value.now)) }
+{
+    for alt in alts {
+        if is_same_tag(alt.tag, tag) {
+            let json = value_json(&alt.shape, alloc, value)?;
+            return object_json(alloc, alt.name.as_str(), json);
+        }
+    }
+    Ok(Json::Null)
+}
+
+/// An object with one member.
+fn object_json(alloc: Global, name: &str, json: Json) -> Result<Json, AllocError>
+    ensures { IfOk result (λ j. view j ≡ one_member name.now (view json)) }
+{
+    let mut members = Map::new(alloc);
+    serde_json::put(&mut members, alloc, name, json)?;
+    Ok(Json::Object(members))
+}
+
+/// The object of an alternative that the type doesn't know.
+fn foreign_json(alloc: Global, tag: Tag, octets: &[u8]) -> Result<Json, AllocError>
+    ensures { IfOk result (λ j. view j ≡ one_member (tag_key tag) (made_octets octets.now)) }
+{
+    let key = tag_text(alloc, tag)?;
+    let json = octets_json(alloc, octets)?;
+    object_json(alloc, key.as_str(), json)
+}
