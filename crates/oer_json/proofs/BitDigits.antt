@@ -1,5 +1,5 @@
 -- Bits of digits 0 and 1.
-use Rattle.std.proofs.Common.{◌≡◌, ℕ, zero, suc, ◌+◌, ◌*◌, ◌-◌, ◌/◌, ◌%◌, ◌^◌, ◌≤◌, ◌<◌, List, [], ◌∷◌, length, take, map, Bool, true, false, cond, ◌==◌, eqb, ◌&&◌, refl, sym, ap, ◌∙◌, arith}
+use Rattle.std.proofs.Common.{◌≡◌, ℕ, zero, suc, ◌+◌, ◌*◌, ◌/◌, ◌%◌, ◌^◌, ◌≤◌, List, [], ◌∷◌, length, take, map, Bool, true, false, cond, eqb, refl, ap, ◌∙◌, arith}
 use Rattle.oer_types.specs.Bits.{bit, bits_of, octets_for}
 use Rattle.oer_json.specs.Texts.{is_one, octet_of, octets_more}
 

@@ -1,18 +1,18 @@
 -- Numbers in decimal.
-use Rattle.std.proofs.Common.{◌≡◌, ℕ, zero, suc, ◌+◌, ◌-◌, ◌*◌, ◌/◌, ◌%◌, ◌^◌, ◌<◌, ◌≤◌, List, [], ◌∷◌, ◌++◌, length, drop, get_or, Bool, true, false, not, cond, ◌&&◌, ◌||◌, ◌==◌, eqb, Option, Some, None, Result, Ok, Err, ℤ, pos, negsuc, neg_ℤ, refl, sym, ap, subst, ◌∙◌, arith, append_assoc, append-nil, nat_lt, lt-ltb, le-ltb}
+use Rattle.std.proofs.Common.{◌≡◌, ℕ, zero, suc, ◌+◌, ◌*◌, ◌/◌, ◌%◌, ◌^◌, ◌<◌, ◌≤◌, List, [], ◌∷◌, ◌++◌, length, get_or, Bool, true, false, not, cond, ◌&&◌, ◌||◌, ◌==◌, Some, None, Ok, ℤ, pos, negsuc, neg_ℤ, refl, sym, ap, subst, ◌∙◌, arith, append_assoc, append-nil, nat_lt, lt-ltb}
 use Rattle.std.specs.Prelude.{int_le, slice_index}
 use Rattle.std.specs.Fmt.{decimal, signed_decimal}
 use Rattle.std.specs.Char.{digit_value}
 use Rattle.std.specs.Str.{all_ascii_digits}
-use Rattle.std.specs.Str.Parse.{AllDigits, IsNumeral, digits_value, digits_value_after, signed_digits_value, without_leading_sign, without_leading_plus}
-use Rattle.std.proofs.lemmas.Bool.{and_parts, eqb-true, eqb-false, ltb-true, leb-true, le-leb}
+use Rattle.std.specs.Str.Parse.{AllDigits, IsNumeral, digits_value, digits_value_after, without_leading_plus}
+use Rattle.std.proofs.lemmas.Bool.{and_parts, eqb-true, ltb-true, leb-true}
 use Rattle.std.proofs.lemmas.Fmt.{decimal_digit, decimal_step_wide, decimal_by_steps_wide, decimal_is_IsNumeral_wide}
 use Rattle.std.proofs.lemmas.Str.{digit_value_digit}
 use Rattle.std.proofs.lemmas.Str.Parse.{digit_from_value, tells_all_ascii_digits, numerals_by_value, IsNumeralModel}
 use Rattle.oer_json.specs.Answer.{some_or}
 use Rattle.oer_json.specs.Take.{decimal_in}
-use Rattle.oer_json.specs.declared.fault.JsonFault.{JsonFault}
 use Rattle.oer_json.specs.declared.fault.JsonFault.TheVariants.{Kind, Range}
+use Rattle.oer_json.proofs.Answered.{given, if_ok, if_some}
 use Rattle.oer_json.specs.Texts.{is_natural, is_positive, is_whole, is_numeral, integer_of, natural_below}
 
 own : IsNumeralModel (λ ds. all_ascii_digits ds ≡ true) (digits_value 10)
@@ -120,15 +120,11 @@ no_plus (c ∷ cs) d = by (c == 43) refl where
   by true e = let k = eqb-true c 43 e in let l = digit_from_value c d.0 in absurd (omega arith)
   by false e = rw e refl
 
-some_if : {A : Type 0} (b : Bool) (x y : A) → cond b (Some x) None ≡ Some y → (b ≡ true) × (x ≡ y)
-some_if true x y h = (refl, cc)
-some_if false x y h = absurd (cc)
-
 pub below_sound : (limit : ℕ) (w : List ℕ) (n : ℕ) → limit ≤ 10 ^ 64 → is_natural w ≡ true → natural_below limit w ≡ Some n → (w ≡ decimal n) × (n < limit)
 below_sound limit w n small h e =
     let d = natural_digits w h in
     let f = rw (no_plus w d.all) at e in
-    let p = some_if (is_numeral w && nat_lt (digits_value 10 w) limit) (digits_value 10 w) n f in
+    let p = if_some (is_numeral w && nat_lt (digits_value 10 w) limit) (digits_value 10 w) n f in
     let q = and_parts (is_numeral w) (nat_lt (digits_value 10 w) limit) p.0 in
     let l = ltb-true (digits_value 10 w) limit q.1 in
     (sym (natural_decimal w h (omega arith)) ∙ ap decimal p.1, omega (arith, p.1))
@@ -194,7 +190,7 @@ whole_sound (c ∷ cs) z h e = by (c == 45) refl h e where
       (Some (cond b (neg_ℤ (pos (digits_value 10 (cond b cs (without_leading_plus (c ∷ cs)))))) (pos (digits_value 10 (cond b cs (without_leading_plus (c ∷ cs))))))) None ≡ Some z
       → c ∷ cs ≡ signed_decimal z
   by true g h e =
-      let p = some_if _ _ z e in
+      let p = if_some _ _ z e in
       let q = and_parts _ _ p.0 in
       let r = and_parts _ _ q.1 in
       let i = subst Is128 p.1 (r.0, r.1) in
@@ -202,7 +198,7 @@ whole_sound (c ∷ cs) z h e = by (c == 45) refl h e where
   by false g h e =
       let d = natural_digits (c ∷ cs) h in
       let f = rw (no_plus (c ∷ cs) d.all) at e in
-      let p = some_if _ _ z f in
+      let p = if_some _ _ z f in
       let q = and_parts _ _ p.0 in
       let r = and_parts _ _ q.1 in
       let i = subst Is128 p.1 (r.0, r.1) in
@@ -259,17 +255,9 @@ whole_complete (negsuc n) i =
 
 -- ---- as texts
 
-given_integer : (o : Option ℤ) (z : ℤ) → some_or Range o ≡ Ok z → o ≡ Some z
-given_integer None z h = absurd (cc)
-given_integer (Some y) z h = let e : y ≡ z = cc in ap Some e
-
-if_whole : (b : Bool) (r : Result ℤ JsonFault) (z : ℤ) → cond b r (Err Kind) ≡ Ok z → (b ≡ true) × (r ≡ Ok z)
-if_whole true r z h = (refl, h)
-if_whole false r z h = absurd (cc)
-
 pub text_spelt : (s : List ℕ) (z : ℤ) → decimal_in s ≡ Ok z → s ≡ signed_decimal z
 unfolding decimal_in
-text_spelt s z h = let p = if_whole (is_whole s) (some_or Range (integer_of s)) z h in whole_sound s z p.0 (given_integer (integer_of s) z p.1)
+text_spelt s z h = let p = if_ok (is_whole s) (some_or Range (integer_of s)) Kind z h in whole_sound s z p.0 (given Range (integer_of s) z p.1)
 
 pub text_read : (z : ℤ) → int_le (negsuc 170141183460469231731687303715884105727) z ≡ true → int_le z (pos 170141183460469231731687303715884105727) ≡ true → decimal_in (signed_decimal z) ≡ Ok z
 unfolding decimal_in

@@ -1,16 +1,16 @@
 -- Numbers with points between them.
-use Rattle.std.proofs.Common.{◌≡◌, ℕ, zero, suc, ◌+◌, ◌^◌, ◌<◌, ◌≤◌, List, [], ◌∷◌, ◌++◌, length, map, Bool, true, false, cond, ◌&&◌, ◌==◌, Option, Some, None, Result, Ok, Err, refl, sym, ap, subst, ◌∙◌, arith, append_assoc, append-nil, nat_lt, lt-ltb}
+use Rattle.std.proofs.Common.{◌≡◌, ℕ, ◌^◌, ◌<◌, ◌≤◌, List, [], ◌∷◌, ◌++◌, length, map, Bool, true, false, cond, ◌==◌, Ok, refl, sym, ap, ◌∙◌, arith, append_assoc, append-nil, nat_lt, lt-ltb}
 use Rattle.std.specs.Fmt.{decimal}
 use Rattle.std.specs.Str.Parse.{AllDigits}
-use Rattle.std.proofs.lemmas.Bool.{and_parts, eqb-true, eqb-false, ltb-true}
+use Rattle.std.proofs.lemmas.Bool.{and_parts, eqb-true}
 use Rattle.std.proofs.lemmas.Fmt.{decimal_is_IsNumeral_wide}
 use Rattle.std.proofs.lemmas.Str.Parse.{digit_from_value}
 use Rattle.oer_types.specs.Fits.{AllBelow}
-use Rattle.oer_json.specs.Answer.{◌>>=◌, some_or}
+use Rattle.oer_json.specs.Answer.{some_or}
 use Rattle.oer_json.specs.Texts.{after_points, all_natural, arc_of, dotted, is_natural, parts}
 use Rattle.oer_json.specs.Take.{dotted_in, number_in, numbers_in, several_in}
-use Rattle.oer_json.specs.declared.fault.JsonFault.{JsonFault}
 use Rattle.oer_json.specs.declared.fault.JsonFault.TheVariants.{Kind, Range}
+use Rattle.oer_json.proofs.Answered.{bound_ok, given, if_ok, ok_is}
 use Rattle.oer_json.proofs.Decimals.{below_sound, below_complete, decimal_natural}
 
 -- the parts with points in front of all but the first
@@ -48,23 +48,12 @@ joined_parts found (c ∷ cs) = joined_by (c == 46) c cs found refl (joined_part
 
 -- ---- what is read is spelt
 
-given_number : (o : Option ℕ) (x : ℕ) → some_or Range o ≡ Ok x → o ≡ Some x
-given_number None x h = absurd (cc)
-given_number (Some y) x h = let e : y ≡ x = cc in ap Some e
-
-bound_ok : {A B : Type 0} (r : Result A JsonFault) (f : A → Result B JsonFault) (y : B) → (r >>= f) ≡ Ok y → (x : A) × (r ≡ Ok x) × (f x ≡ Ok y)
-bound_ok (Ok x) f y h = (x, refl, h)
-bound_ok (Err e) f y h = absurd (cc)
-
-ok_is : {A : Type 0} (x y : A) → ◌≡◌ {A = Result A JsonFault} (Ok x) (Ok y) → x ≡ y
-ok_is x y h = cc
-
 limit_128 : 2 ^ 128 ≤ 10 ^ 64
 limit_128 = omega arith
 
 arc_spelt : (w : List ℕ) (x : ℕ) → is_natural w ≡ true → number_in w ≡ Ok x → (w ≡ decimal x) × (x < 2 ^ 128)
 unfolding arc_of
-arc_spelt w x h e = below_sound (2 ^ 128) w x limit_128 h (given_number _ x e)
+arc_spelt w x h e = below_sound (2 ^ 128) w x limit_128 h (given Range _ x e)
 
 after_spelt : (ws : List (List ℕ)) (xs : List ℕ) → all_natural ws ≡ true → numbers_in ws ≡ Ok xs → after ws ≡ after_points xs
 after_spelt [] xs h e = ap after_points (ok_is [] xs e)
@@ -82,15 +71,11 @@ joined_spelt (w ∷ ws) xs h e =
     let q = bound_ok (numbers_in ws) _ xs p.2 in
     ap (λ x. x ++ after ws) (arc_spelt w p.0 n.0 p.1).0 ∙ ap (λ x. decimal p.0 ++ x) (after_spelt ws q.0 n.1 q.1) ∙ ap dotted (ok_is (p.0 ∷ q.0) xs q.2)
 
-if_kind : {A : Type 0} (b : Bool) (r : Result A JsonFault) (x : A) → cond b r (Err Kind) ≡ Ok x → (b ≡ true) × (r ≡ Ok x)
-if_kind true r x h = (refl, h)
-if_kind false r x h = absurd (cc)
-
 pub dotted_sound : (s xs : List ℕ) → dotted_in s ≡ Ok xs → s ≡ dotted xs
 unfolding dotted_in
 dotted_sound s xs e =
-    let p = if_kind (nat_lt 1 (length (parts [] s))) (several_in s) xs e in
-    let q = if_kind (all_natural (parts [] s)) (numbers_in (parts [] s)) xs p.1 in
+    let p = if_ok (nat_lt 1 (length (parts [] s))) (several_in s) Kind xs e in
+    let q = if_ok (all_natural (parts [] s)) (numbers_in (parts [] s)) Kind xs p.1 in
     sym (joined_parts [] s) ∙ joined_spelt (parts [] s) xs q.0 q.1
 
 -- ---- what is spelt is read

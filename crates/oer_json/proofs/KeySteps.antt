@@ -1,11 +1,9 @@
 -- Keys, step by step.
-use Rattle.std.proofs.Common.{◌≡◌, ℕ, List, [], ◌∷◌, map, Bool, true, false, cond, ◌==◌, ◌&&◌, Option, Some, None, String, Global, refl, sym, ap, ◌∙◌, string_bytes}
+use Rattle.std.proofs.Common.{◌≡◌, ℕ, List, [], ◌∷◌, map, Bool, true, false, ◌==◌, None, String, Global, refl, ap, string_bytes}
 use Rattle.std.proofs.lemmas.Bool.{eqb-true}
-use Rattle.oer_units.specs.declared.tagging.Class.{Class}
 use Rattle.serde_json.specs.View.{members_view}
 use Rattle.serde_json.specs.declared.value.Value as json
-use Rattle.oer_json.specs.Keys.{class_digits, class_in, if_natural, keys_of, place_digits, tag_digits, with_class}
-use Rattle.oer_json.specs.Texts.{is_natural}
+use Rattle.oer_json.specs.Keys.{class_digits, keys_of, place_digits, tag_digits}
 
 not_it : (c d : ℕ) (cs : List ℕ) → ((rest : List ℕ) → c ∷ cs ≡ d ∷ rest → ⊥) → (b : Bool) → c == d ≡ b → b ≡ false
 not_it c d cs never true e = absurd (never cs (ap (λ x. x ∷ cs) (eqb-true c d e)))

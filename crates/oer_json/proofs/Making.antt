@@ -1,14 +1,13 @@
 -- What is made, step by step.
-use Rattle.std.proofs.Common.{◌≡◌, ℕ, suc, ◌+◌, List, [], ◌∷◌, ◌++◌, drop, map, Bool, true, false, Option, Some, None, option_map, refl, sym, ap, ◌∙◌, cond}
-use Rattle.std.specs.Prelude.{unwrap_or}
-use Rattle.serde_json.specs.Data.{Data, Items, no_items, item, Members}
+use Rattle.std.proofs.Common.{◌≡◌, List, [], ◌∷◌, ◌++◌, map, true, false, refl, sym, ap, ◌∙◌}
+use Rattle.serde_json.specs.Data.{Data, Items, no_items, item}
 use Rattle.serde_json.specs.View.{items_of, view}
 use Rattle.serde_json.specs.declared.value.Value as json
 use Rattle.std.proofs.lemmas.List.{map-append}
 use Rattle.oer_units.specs.declared.tagging.Tag.{Tag}
-use Rattle.oer_types.specs.AsnType.{Alternatives, no_alternatives}
+use Rattle.oer_types.specs.AsnType.{Alternatives}
 use Rattle.oer_types.specs.AsnValue.{AsnValue}
-use Rattle.oer_types.specs.ShapeView.{root_of, later_of, type_of, SeenAlternative, root_from, seen_alternative}
+use Rattle.oer_types.specs.ShapeView.{root_of, later_of, type_of, seen_alternative}
 use Rattle.oer_types.specs.Constraints.{same_tag}
 use Rattle.oer_types.specs.declared.shape.Alt.{Alt}
 use Rattle.oer_json.specs.Made.{made, made_alternative, one_member}

@@ -3,7 +3,7 @@ use Rattle.std.proofs.Common.{◌≡◌, ℕ, ◌^◌, List, length, Result, Ok,
 use Rattle.std.specs.Prelude.{FitsSigned, int_le}
 use Rattle.std.proofs.lemmas.Bool.{ltb-true, leb-true, le-leb, and_parts}
 use Rattle.std.proofs.lemmas.Str.Parse.{tells_all_ascii_digits, numerals_by_value, IsNumeralModel}
-use Rattle.std.specs.Int.{Width, w64, w128}
+use Rattle.std.specs.Int.{Width, w128}
 use Rattle.std.specs.Str.Parse.{ParsesSigned, ParsesUnsigned, IsNumeral, digits_value, signed_digits_value, without_leading_sign, without_leading_plus}
 use Rattle.std.specs.Str.{all_ascii_digits}
 use Rattle.oer_json.specs.Texts.{is_numeral, natural_below, integer_of, tag_number_of, arc_of, place_of}

@@ -1,5 +1,5 @@
 -- An object with one member.
-use Rattle.std.proofs.Common.{◌≡◌, ℕ, suc, List, [], ◌∷◌, length, Some, Ok, Err, String, Global, refl, ap, arith, string_bytes}
+use Rattle.std.proofs.Common.{◌≡◌, ℕ, List, [], ◌∷◌, length, Some, Ok, Err, String, Global, refl, ap, arith, string_bytes}
 use Rattle.std.specs.List.{slice_get}
 use Rattle.serde_json.specs.View.{members_view, view}
 use Rattle.serde_json.specs.declared.value.Value as json

@@ -1,5 +1,5 @@
 -- What stands between points, part by part.
-use Rattle.std.proofs.Common.{◌≡◌, ℕ, zero, suc, ◌+◌, ◌<◌, ◌≤◌, List, [], ◌∷◌, ◌++◌, length, drop, get_or, Bool, true, false, cond, ◌&&◌, ◌==◌, Option, Some, Bor, Result, Ok, Err, IsUtf8, refl, sym, ap, subst, ◌∙◌, arith, append_assoc, append-nil, nat_lt, lt-ltb}
+use Rattle.std.proofs.Common.{◌≡◌, ℕ, zero, suc, ◌+◌, ◌<◌, List, [], ◌∷◌, ◌++◌, length, drop, get_or, Bool, true, false, cond, ◌&&◌, ◌==◌, Option, Some, Bor, Result, Ok, Err, IsUtf8, refl, sym, ap, subst, ◌∙◌, arith, append_assoc, append-nil, nat_lt, lt-ltb}
 use Rattle.std.proofs.lemmas.Bool.{eqb-true}
 use Rattle.std.proofs.lemmas.Str.{IsUtf8-drop, IsCharBoundary-after_ascii}
 use Rattle.std.proofs.lemmas.Str.Pattern.{IsSplitOnceResult, split_parts}

@@ -1,11 +1,11 @@
 -- What is taken, step by step.
-use Rattle.std.proofs.Common.{◌≡◌, ℕ, List, [], ◌∷◌, ◌++◌, map, Bool, true, false, cond, Option, Some, None, option_map, Result, Ok, Err, refl, sym, ap, ◌∙◌, string_bytes}
+use Rattle.std.proofs.Common.{◌≡◌, ℕ, List, [], ◌∷◌, ◌++◌, Bool, true, false, cond, Option, Some, None, option_map, Result, Ok, Err, refl, sym, ap, ◌∙◌, string_bytes}
 use Rattle.std.specs.Str.{bytes_eq}
-use Rattle.serde_json.specs.Data.{Data, Items, Members, item}
+use Rattle.serde_json.specs.Data.{Data, Members}
 use Rattle.serde_json.specs.Find.{get_member}
 use Rattle.serde_json.specs.View.{items_view, view}
 use Rattle.serde_json.specs.declared.value.Value as json
-use Rattle.oer_types.specs.AsnType.{Alternatives, AsnType, no_alternatives}
+use Rattle.oer_types.specs.AsnType.{Alternatives, no_alternatives}
 use Rattle.oer_types.specs.AsnValue.{AsnValue, Places, Values, no_places, no_values, value, chosen}
 use Rattle.oer_types.specs.DefaultView.{place}
 use Rattle.oer_types.specs.FitTest.{may_be_absent}

@@ -1,8 +1,14 @@
--- Laws on the texts of numbers: what is read of them is what is made, and no more.
+-- Laws on the JSON form: what is taken is what stands for a value, and no more.
 use Rattle.std.specs.Prelude.{◌≡◌, ℕ, ◌^◌, ℤ, pos, negsuc, int_le, List, ◌∷◌, true, Ok}
 use Rattle.std.specs.Fmt.{signed_decimal}
-use Rattle.oer_types.specs.Fits.{AllBelow}
-use Rattle.oer_json.specs.Take.{decimal_in, dotted_in}
+use Rattle.serde_json.specs.Data.{Data}
+use Rattle.oer_types.specs.AsnType.{AsnType}
+use Rattle.oer_types.specs.AsnValue.{AsnValue}
+use Rattle.oer_types.specs.Fits.{AllBelow, Fits}
+use Rattle.oer_types.specs.WellFormed.{IsWellFormed}
+use Rattle.oer_json.specs.Denotes.{Takes}
+use Rattle.oer_json.specs.Made.{made}
+use Rattle.oer_json.specs.Take.{decimal_in, dotted_in, taken}
 use Rattle.oer_json.specs.Texts.{dotted}
 
 -- A text that is read as an integer is the integer in decimal: no digit 0 in front of another, no plus, no minus in front of 0.
@@ -20,3 +26,19 @@ ArcsSpelt = (s arcs : List ℕ) → dotted_in s ≡ Ok arcs → s ≡ dotted arc
 -- Two arcs or more, each below 2^128, with points between them are read as these arcs.
 abbrev pub ArcsRead : Type 0
 ArcsRead = (x y : ℕ) (rest : List ℕ) → AllBelow (2 ^ 128) (x ∷ y ∷ rest) → dotted_in (dotted (x ∷ y ∷ rest)) ≡ Ok (x ∷ y ∷ rest)
+
+-- A value that is answered is one that the JSON stands for, and fits.
+abbrev pub TakenSound : Type 0
+TakenSound = (T : AsnType) (j : Data) (v : AsnValue) → taken T j ≡ Ok v → Takes T v j
+
+-- A value that the JSON stands for, and that fits, is answered.
+abbrev pub TakenComplete : Type 0
+TakenComplete = (T : AsnType) → IsWellFormed T → (j : Data) (v : AsnValue) → Takes T v j → taken T j ≡ Ok v
+
+-- JSON stands for one value at most that fits.
+abbrev pub OneTaken : Type 0
+OneTaken = (T : AsnType) → IsWellFormed T → (j : Data) (v w : AsnValue) → Takes T v j → Takes T w j → v ≡ w
+
+-- What is made of a value that fits stands for the value.
+abbrev pub MadeTaken : Type 0
+MadeTaken = (T : AsnType) → IsWellFormed T → (v : AsnValue) → Fits T v → Takes T v (made T v)

@@ -1,4 +1,5 @@
 pub mod Answer
+pub mod Denotes
 pub mod Keys
 pub mod Laws
 pub mod Made

@@ -1,5 +1,5 @@
 -- How JSON is taken as a value: the value, or the first fault.
-use Rattle.std.specs.Prelude.{ℕ, suc, ◌+◌, ◌^◌, ◌==◌, ℤ, nat_lt, nat_le, int_le, List, [], ◌∷◌, ◌++◌, length, map, Bool, true, false, not, ◌&&◌, ◌||◌, Option, Some, None, is_some, option_and_then, Result, Ok, Err, ⊤, if◌then◌else◌}
+use Rattle.std.specs.Prelude.{ℕ, ℤ, nat_lt, List, [], ◌∷◌, length, map, Bool, true, false, ◌||◌, Option, Some, None, is_some, Result, Ok, Err, ⊤, if◌then◌else◌}
 use Rattle.std.specs.Str.{bytes_eq}
 use Rattle.hex.specs.Hex.{decode_of}
 use Rattle.hex.specs.declared.error.FromHexError.{FromHexError}
@@ -8,8 +8,8 @@ use Rattle.oer_units.specs.declared.tagging.Tag.{Tag}
 use Rattle.serde_json.specs.Data as json
 use Rattle.serde_json.specs.Data.{Data, Items, Members, Num}
 use Rattle.serde_json.specs.Find.{as_null, as_bool, as_str, as_array, as_object, as_integer, get_member}
-use Rattle.oer_types.specs.AsnType.{Additions, Alternatives, AsnType, Fields, NamedNumber, Need, must, may, default, addition, alternative, bit_string, boolean, choice, enumerated, extensible_sequence, field, integer, later, no_additions, no_alternatives, no_fields, null, object_id, octet_string, restricted_string, sequence, sequence_of, utf8_string}
-use Rattle.oer_types.specs.AsnValue.{AsnValue, Places, Unknown, Values, absent, bit_list, bool, chosen, enum, foreign, int, items, no_places, no_values, nothing, octets, oid, present, seq, text, unknown, value}
+use Rattle.oer_types.specs.AsnType.{Additions, Alternatives, AsnType, Fields, NamedNumber, addition, alternative, bit_string, boolean, choice, enumerated, extensible_sequence, field, integer, later, no_additions, no_alternatives, no_fields, null, object_id, octet_string, restricted_string, sequence, sequence_of, utf8_string}
+use Rattle.oer_types.specs.AsnValue.{AsnValue, Places, Unknown, Values, bit_list, bool, chosen, enum, foreign, int, items, no_places, no_values, nothing, octets, oid, seq, text, unknown, value}
 use Rattle.oer_types.specs.Constraints.{addition_count, size_fits}
 use Rattle.oer_types.specs.DefaultView.{place}
 use Rattle.oer_types.specs.FitTest.{is_fit, may_be_absent, values_length}

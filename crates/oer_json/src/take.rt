@@ -1,38 +1,50 @@
 //! Values from JSON.
-ghost use Rattle.std.specs.Prelude.{IfOk, option_map};
+ghost use Rattle.std.specs.Prelude.{◌≡◌, IfErr, IfOk, Ok, option_map};
 ghost use Rattle.serde_json.specs.View.{items_view, members_view, view};
 ghost use Rattle.oer_types.specs.AsnType.{no_alternatives, sequence, sequence_of};
+ghost use Rattle.oer_types.specs.AsnValue.{AsnValue};
 ghost use Rattle.oer_types.specs.Fits.{Fits};
 ghost use Rattle.oer_types.specs.Schema.{the_type};
 ghost use Rattle.oer_types.specs.ShapeView.{additions_of, fields_of, root_of, type_of};
 ghost use Rattle.oer_types.specs.ValueView.{places_of, value_of, values_of};
 ghost use Rattle.oer_json.specs.Answer.{Gives, Tries};
+ghost use Rattle.oer_json.specs.Denotes.{Takes};
+ghost use Rattle.oer_json.specs.Made.{made};
 ghost use Rattle.oer_json.specs.Take.{take, taken, take_additions as additions_taken, take_alternative as alternative_taken, take_fields as fields_taken, take_items as items_taken, take_place as place_taken};
+ghost use Rattle.oer_json.specs.declared.fault.JsonFault.TheVariants.{Memory};
 
 use crate::fault::JsonFault;
 use crate::keys::{are_fields, are_keys, find};
 use crate::parts::{items_in, may_be_absent, members_in, one_member, sized};
 use crate::scan::{
-    take_bits, take_bool, take_enumerated, take_integer, take_null, take_object_id, take_octets,
-    take_text,
+    fitting, take_bits, take_bool, take_enumerated, take_integer, take_null, take_object_id,
+    take_octets, take_text,
 };
 use crate::unknown::{foreign_in, take_unknown};
-use oer_types::{Addition, Alt, Field, Schema, Shape, Size, Value, fits_shape};
+use oer_types::{Addition, Alt, Field, Schema, Shape, Size, Value};
 use serde_json::{Map, Value as Json};
 use std::alloc::Global;
 
 /// The value of the type that the JSON stands for (JSON.md), which fits the type; or the first fault.
-#[tactic(auto, unfolding(crate::specs::Take::taken), using(crate::proofs::Fitting::fits_if))]
+/// A fault other than `Memory` comes only where the JSON stands for no value that fits. What
+/// `to_json` made of a value is taken as this value.
 pub fn from_json(alloc: Global, schema: &Schema, json: &Json) -> Result<Value, JsonFault>
     ensures exact { Gives value_of result (taken (the_type schema.now) (view json.now)) }
     ensures fits { IfOk result (λ v. Fits (the_type schema.now) (value_of v)) }
+    ensures takes { IfOk result (λ v. Takes (the_type schema.now) (value_of v) (view json.now)) }
+    ensures refused { IfErr result (λ fault. (fault ≡ Memory → ⊥) → (v : AsnValue) → Takes (the_type schema.now) v (view json.now) → ⊥) }
+    ensures again { (v : AsnValue) → Fits (the_type schema.now) v → view json.now ≡ made (the_type schema.now) v → Gives value_of result (Ok v) }
 {
-    let shape = schema.shape();
+    take_fitting(schema.shape(), alloc, json)
+}
+
+/// The value of a type, if it fits.
+#[tactic(auto, unfolding(crate::specs::Take::taken))]
+fn take_fitting(shape: &Shape, alloc: Global, json: &Json) -> Result<Value, JsonFault>
+    ensures { Gives value_of result (taken (type_of shape.now) (view json.now)) }
+{
     let value = take_value(shape, alloc, json)?;
-    if !fits_shape(shape, &value) {
-        return Err(JsonFault::Misfit);
-    }
-    Ok(value)
+    fitting(shape, value)
 }
 
 /// The value of a type.

@@ -1,4 +1,4 @@
-use Rattle.std.proofs.Common.{◌≡◌, None, arith, refl}
+use Rattle.std.proofs.Common.{None, arith, refl}
 use Rattle.std.proofs.lemmas.Str.Pattern.{split_parts}
 use Rattle.oer_json.specs.Take.{dotted_in}
 use Rattle.oer_json.proofs.PointSteps.{has_one, two_of}

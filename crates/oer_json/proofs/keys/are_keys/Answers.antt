@@ -1,4 +1,4 @@
-use Rattle.std.proofs.Common.{◌≡◌, [], None, map, sym, ap, ◌∙◌, string_bytes}
+use Rattle.std.proofs.Common.{map, sym, ap, ◌∙◌, string_bytes}
 use Rattle.oer_types.specs.ShapeView.{additions_of, fields_of}
 use Rattle.oer_types.specs.WellFormed.{addition_names, field_names}
 use Rattle.oer_json.specs.Keys.{all_pass}

@@ -1,4 +1,4 @@
-use Rattle.std.proofs.Common.{◌≡◌, [], None, map, sym, ap, ◌∙◌, string_bytes}
+use Rattle.std.proofs.Common.{[], map, sym, ap, ◌∙◌, string_bytes}
 use Rattle.oer_json.specs.Keys.{places_in}
 use Rattle.oer_json.proofs.KeySteps.{keys_view}
 use Rattle.oer_json.proofs.keys.places_in.Goals as goal

@@ -1,6 +1,6 @@
-use Rattle.std.proofs.Common.{◌≡◌, map, drop, suc, sym, ap, ◌∙◌, add-one}
-use Rattle.serde_json.specs.Data.{object, array, no_items}
-use Rattle.serde_json.specs.View.{view, members_view}
+use Rattle.std.proofs.Common.{map, drop, suc, sym, ap, ◌∙◌, add-one}
+use Rattle.serde_json.specs.Data.{object, array}
+use Rattle.serde_json.specs.View.{view}
 use Rattle.serde_json.proofs.Views.{view-Array, view-Object}
 use Rattle.oer_types.specs.AsnType.{no_alternatives}
 use Rattle.oer_types.specs.ShapeView.{later_of, type_of}

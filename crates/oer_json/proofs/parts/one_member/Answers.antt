@@ -1,4 +1,4 @@
-use Rattle.std.proofs.Common.{◌≡◌, Ok, sym, ap, ◌∙◌}
+use Rattle.std.proofs.Common.{Ok, sym, ap, ◌∙◌}
 use Rattle.serde_json.specs.View.{view}
 use Rattle.oer_json.specs.Take.{one_member}
 use Rattle.oer_json.proofs.PartSteps.{not_only, only_one}

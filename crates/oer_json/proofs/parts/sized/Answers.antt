@@ -1,4 +1,4 @@
-use Rattle.std.proofs.Common.{◌≡◌, length, Ok, ap, arith, refl}
+use Rattle.std.proofs.Common.{◌≡◌, length, arith}
 use Rattle.std.proofs.lemmas.Grind.{common_steps}
 use Rattle.oer_types.proofs.FitSteps.{counted_values}
 use Rattle.oer_types.proofs.Values.{value_of-List}

@@ -1,6 +1,4 @@
-use Rattle.std.proofs.Common.{◌≡◌, map, take, length, Ok, refl, sym, ap, ◌∙◌, arith}
-use Rattle.oer_types.specs.Bits.{bits_of, octets_for}
-use Rattle.oer_json.specs.Texts.{is_one, octets_more}
+use Rattle.std.proofs.Common.{length, Ok, sym, ap, ◌∙◌, arith}
 use Rattle.oer_json.proofs.BitDigits.{bits_whole, octets_count}
 use Rattle.oer_json.proofs.scan.bits_of_text.Goals as goal
 

@@ -1,4 +1,4 @@
-use Rattle.std.proofs.Common.{◌≡◌, Ok, map, drop, suc, length, sym, ap, ◌∙◌, add-one, arith, option_map, string_bytes}
+use Rattle.std.proofs.Common.{◌≡◌, Ok, drop, suc, length, sym, ap, ◌∙◌, add-one, arith, option_map}
 use Rattle.std.proofs.lemmas.Result.{err_from_is_err_and}
 use Rattle.serde_json.specs.View.{items_view, members_view, view}
 use Rattle.oer_types.specs.ShapeView.{additions_of, fields_of, type_of}
