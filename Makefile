@@ -7,14 +7,14 @@ PREFIX ?= /usr/local
 all: bin/oer
 
 bin/oer: crates.txt $(shell find crates -name out -prune -o -type f \( -name '*.rt' -o -name '*.antt' \) -print)
-	cd crates/oer_cmd && rt run -- --help > /dev/null
+	cd crates/oer && rt run -- --help > /dev/null
 	mkdir -p bin
-	cp crates/oer_cmd/out/oer_cmd bin/oer
+	cp crates/oer/out/oer bin/oer
 
 test:
 	rt ci
 	@mkdir -p bin
-	@cp crates/oer_cmd/out/oer_cmd bin/oer
+	@cp crates/oer/out/oer bin/oer
 	@examples/check
 
 install: bin/oer

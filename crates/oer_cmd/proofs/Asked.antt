@@ -12,7 +12,7 @@ use Rattle.clap.specs.declared.parser.matches.SubCommand.{SubCommand}
 use Rattle.clap.proofs.WalkLemmas.{first_value-rows, one_text-rows}
 use Rattle.oer_cmd.specs.Words.{HasShape, IsTask, asked, given, given_number, oer, NumberOf}
 use Rattle.oer_cmd.specs.declared.options.Task.{Task}
-use Rattle.oer_cmd.specs.declared.options.Task.TheVariants.{Canon, Show}
+use Rattle.oer_cmd.specs.declared.options.Task.TheVariants.{Canon, Check, Make, Part, Show}
 
 pub simple : is_simple oer ≡ true
 simple = refl
@@ -39,6 +39,9 @@ pub task_is : (words : List Text) (t : Text) (m : ArgMatches) (task : Task) → 
     → IsTask (asked words) (given words) task
 task_is words t m (Show hex) e is = (asked_is words _ _ e ∙ is.0, given_is words t _ m _ e (sym is.1))
 task_is words t m (Canon hex) e is = (asked_is words _ _ e ∙ is.0, given_is words t _ m _ e (sym is.1))
+task_is words t m (Check hex) e is = (asked_is words _ _ e ∙ is.0, given_is words t _ m _ e (sym is.1))
+task_is words t m (Make json) e is = (asked_is words _ _ e ∙ is.0, given_is words t _ m _ e (sym is.1))
+task_is words t m (Part hex path) e is = (asked_is words _ _ e ∙ is.0, given_is words t _ m _ e (sym is.1), given_is words t _ m _ e (sym is.2))
 
 pub number_is : (words : List Text) (t id : Text) (m : ArgMatches) → subcommand_of oer words ≡ Some (t, rows_of (found_of m))
     → given_number words id ≡ one_text (found_of m) id

@@ -2,6 +2,7 @@
 use Rattle.std.proofs.Common.{◌≡◌, ℕ, suc, ◌≤◌, leb, arith, Bool, true, false, refl, List, [], ◌∷◌, ◌++◌, length, Option, Some, None, Ok, Err, sym, ap, ◌∙◌, subst, append-nil}
 use Rattle.std.proofs.lemmas.Bool.{le-leb}
 use Rattle.std.specs.Prelude.{IfSome}
+use Rattle.std.specs.Io.KnownBytes.{Appends}
 use Rattle.oer_units.specs.Reading.{octet}
 use Rattle.oer_units.specs.declared.fault.ReadFault.{ReadFault}
 use Rattle.oer_units.specs.declared.fault.Why.TheVariants.{Device, End, Memory}
@@ -36,6 +37,12 @@ rewritten T limit m n (Some xs) (Some ys) none d c h empty same end =
       canonical = subst (IsCanonical T v) (sym made) canonical;
       within = subst (λ (l : List ℕ). length l ≤ limit) (sym all) h.2.1;
     }
+
+-- canonical octets that were appended to nothing are all that is there
+pub appended : (T : AsnType) (v : AsnValue) (none d c : List ℕ) (n : ℕ) → (b : List ℕ) × IsCanonical T v b × (n ≡ length b) × Appends (Some none) (Some d) b → none ≡ [] → c ≡ d → IsCanonical T v c
+appended T v none d c n h empty same =
+    let made : c ≡ h.0 = same ∙ h.3 ∙ ap (λ (l : List ℕ). l ++ h.0) empty in
+    subst (IsCanonical T v) (sym made) h.1
 
 -- one octet that is there is read
 one_read : (x : ℕ) (xs : List ℕ) → octet (at (x ∷ xs) 1) ≡ got x (at xs 0)

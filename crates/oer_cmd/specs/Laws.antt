@@ -40,3 +40,15 @@ StoredRun = AsksFor (codes "oer" ∷ codes "canon" ∷ codes "--type" ∷ codes 
 abbrev pub ShowHex : Type 0
 ShowHex = (t h : Text)
     → AsksFor (codes "oer" ∷ codes "show" ∷ (codes "--hex=" ++ h) ∷ (codes "--type=" ++ t) ∷ codes "--limit=9" ∷ []) (codes "show") (one t) (Some h) (Some (codes "9"))
+
+abbrev pub CheckHex : Type 0
+CheckHex = (t h : Text)
+    → AsksFor (codes "oer" ∷ codes "check" ∷ (codes "--hex=" ++ h) ∷ (codes "--type=" ++ t) ∷ []) (codes "check") (one t) (Some h) (Some (codes "1048576"))
+
+abbrev pub MakeJson : Type 0
+MakeJson = (t j : Text) → let words = codes "oer" ∷ codes "make" ∷ (codes "--json=" ++ j) ∷ (codes "--type=" ++ t) ∷ [] in
+    AsksFor words (codes "make") (one t) None (Some (codes "1048576")) × (given words (codes "json") ≡ Some j)
+
+abbrev pub PartWithPath : Type 0
+PartWithPath = (t p : Text) → let words = codes "oer" ∷ codes "part" ∷ (codes "--path=" ++ p) ∷ (codes "--type=" ++ t) ∷ codes "--limit=9" ∷ [] in
+    AsksFor words (codes "part") (one t) None (Some (codes "9")) × (given words (codes "path") ≡ Some p)

@@ -1,19 +1,27 @@
 -- What the program prints.
-use Rattle.std.specs.Prelude.{◌≡◌, ◌≤◌, ℕ, List, [], ◌∷◌, ◌++◌, length, Option, Some, None, Ok, IfSome, codes}
+use Rattle.std.specs.Prelude.{◌≡◌, ◌↔◌, ◌≤◌, ◌<◌, Bool, true, false, ℕ, List, [], ◌∷◌, ◌++◌, length, Option, Some, None, Ok, IfSome, codes}
+use Rattle.std.specs.Fmt.{decimal}
 use Rattle.std.specs.Io.KnownBytes.{Appends, Keeps}
 use Rattle.hex.specs.Hex.{decode_of, encode_lower}
 use Rattle.clap.specs.Words.{Text}
 use Rattle.serde_json.specs.Data.{Data}
+use Rattle.serde_json.specs.Read.{read}
 use Rattle.serde_json.specs.Written.{compact_text}
 use Rattle.oer_types.specs.AsnType.{AsnType}
 use Rattle.oer_types.specs.AsnValue.{AsnValue}
 use Rattle.oer_types.specs.Encoding.{Encodes}
+use Rattle.oer_types.specs.Parts.{Step, Within}
+use Rattle.oer_types.specs.Strict.{IsCanonical}
+use Rattle.oer_input.specs.Path.{SpellsPath}
+use Rattle.oer_json.specs.Denotes.{Takes}
 use Rattle.oer_json.specs.Made.{made}
 use Rattle.oer_cmd.specs.Canon.{MakesCanonical}
 use Rattle.oer_cmd.specs.Types.{SpelledBy, Texts}
 use Rattle.oer_cmd.specs.Words.{NumberOf, asked, behind, given, given_number}
+use Rattle.oer_cmd.specs.declared.fault.Fault.{Fault}
+use Rattle.oer_cmd.specs.declared.fault.Fault.TheVariants.{Follows, Read}
 use Rattle.oer_cmd.specs.declared.options.Task.{Task}
-use Rattle.oer_cmd.specs.declared.options.Task.TheVariants.{Canon, Show}
+use Rattle.oer_cmd.specs.declared.options.Task.TheVariants.{Canon, Check, Make, Part, Show}
 
 -- P holds of the octets: those that `--hex` spells, and without it all that the input had left, where that is known
 abbrev pub OfOctets : Option Text → Option (List ℕ) → (List ℕ → Type 0) → Type 0
@@ -32,10 +40,65 @@ IsShown T limit j b = (v : AsnValue) × Encodes T v b × (length b ≤ limit) ×
 abbrev pub IsShowLine : AsnType → ℕ → Text → List ℕ → Type 0
 IsShowLine T limit line b = (j : Data) × IsShown T limit j b × (line ≡ compact_text j)
 
+-- b is all of one encoding
+abbrev pub IsEncoding : AsnType → List ℕ → Type 0
+IsEncoding T b = (v : AsnValue) × Encodes T v b
+
+-- b are the canonical octets of some value
+abbrev pub AreCanonical : AsnType → List ℕ → Type 0
+AreCanonical T b = (w : AsnValue) × IsCanonical T w b
+
+-- no encoding at the front of b has another length than b
+abbrev pub IsNoFront : AsnType → List ℕ → Type 0
+IsNoFront T b = (v : AsnValue) (c rest : List ℕ) → b ≡ c ++ rest → Encodes T v c → length c ≡ length b
+
+-- the fault tells why b is not all of one encoding: none is at its front; or one of n octets, fewer than b has
+abbrev pub IsNotWhole : AsnType → List ℕ → Fault → Type 0
+IsNotWhole T b (Read e) = (v : AsnValue) (c rest : List ℕ) → b ≡ c ++ rest → Encodes T v c → ⊥
+IsNotWhole T b (Follows n) = (v : AsnValue) × (c : List ℕ) × (rest : List ℕ) × (b ≡ c ++ rest) × Encodes T v c × (n ≡ length c) × (n < length b)
+IsNotWhole T b fault = ⊥
+
+abbrev pub verdict_text : Bool → ℕ → Text
+verdict_text true n = codes "canonical " ++ decimal n
+verdict_text false n = codes "basic " ++ decimal n
+
+-- the line of `check` for octets b, which are all of one encoding: how many they are, and whether they are canonical
+abbrev pub IsCheckLine : AsnType → ℕ → Text → List ℕ → Type 0
+IsCheckLine T limit line b = IsEncoding T b × (length b ≤ limit) × ((canonical : Bool) × (line ≡ verdict_text canonical (length b)) × ((canonical ≡ true) ↔ AreCanonical T b))
+
+-- the canonical octets, in lower hexadecimal digits, of a value that fits, for which the text of JSON stands
+abbrev pub Makes : AsnType → Text → List ℕ → Type 0
+Makes T line text = (j : Data) × (read text ≡ Some j) × ((v : AsnValue) × Takes T v j × ((c : List ℕ) × IsCanonical T v c × (line ≡ encode_lower c)))
+
+-- the line of `make` for a text of JSON, of no more octets than the limit
+abbrev pub IsMakeLine : AsnType → ℕ → Text → List ℕ → Type 0
+IsMakeLine T limit line text = (length text ≤ limit) × Makes T line text
+
+-- P holds of the text: that of `--json`, and without it all that the input had left, where that is known
+abbrev pub OfText : Option Text → Option (List ℕ) → (List ℕ → Type 0) → Type 0
+OfText (Some text) told P = P text
+OfText None told P = IfSome told P
+
+-- the path that the text of `--path` spells; the empty one without it
+abbrev pub IsPath : Option Text → List Step → Type 0
+IsPath (Some text) path = SpellsPath text path
+IsPath None path = path ≡ []
+
+-- the octets to which the path leads in b, in lower hexadecimal digits
+abbrev pub IsPart : AsnType → List Step → Text → List ℕ → Type 0
+IsPart T path line b = (U : Option AsnType) × (s : List ℕ) × Within (Some T) b path U s × (line ≡ encode_lower s)
+
+-- the line of `part` for octets b, which are all of one encoding
+abbrev pub IsPartLine : AsnType → ℕ → Option Text → Text → List ℕ → Type 0
+IsPartLine T limit text line b = IsEncoding T b × (length b ≤ limit) × ((path : List Step) × IsPath text path × IsPart T path line b)
+
 -- the line of a task for values of the type, where the input had these octets left
 abbrev pub IsLineOf : Task → Option (List ℕ) → AsnType → ℕ → Text → Type 0
 IsLineOf (Show hex) told T limit line = OfOctets (behind hex) told (IsShowLine T limit line)
 IsLineOf (Canon hex) told T limit line = OfOctets (behind hex) told (IsCanonLine T limit line)
+IsLineOf (Check hex) told T limit line = OfOctets (behind hex) told (IsCheckLine T limit line)
+IsLineOf (Make json) told T limit line = OfText (behind json) told (IsMakeLine T limit line)
+IsLineOf (Part hex path) told T limit line = OfOctets (behind hex) told (IsPartLine T limit (behind path) line)
 
 -- the line is that of the task for the type that the texts name
 pub record Answers (texts : Texts) (task : Task) (limit : ℕ) (told : Option (List ℕ)) (line : Text) : Type 0 where
@@ -51,6 +114,9 @@ texts_in words = record { one = given words (codes "type"); types = given words 
 pub data IsLine (words : List Text) (told : Option (List ℕ)) (T : AsnType) (limit : ℕ) (line : Text) : Type 0 where
   show : asked words ≡ Some (codes "show") → OfOctets (given words (codes "hex")) told (IsShowLine T limit line) → IsLine words told T limit line
   canon : asked words ≡ Some (codes "canon") → OfOctets (given words (codes "hex")) told (IsCanonLine T limit line) → IsLine words told T limit line
+  check : asked words ≡ Some (codes "check") → OfOctets (given words (codes "hex")) told (IsCheckLine T limit line) → IsLine words told T limit line
+  make : asked words ≡ Some (codes "make") → OfText (given words (codes "json")) told (IsMakeLine T limit line) → IsLine words told T limit line
+  part : asked words ≡ Some (codes "part") → OfOctets (given words (codes "hex")) told (IsPartLine T limit (given words (codes "path")) line) → IsLine words told T limit line
 
 -- the line that the words ask for, where the input had these octets left
 pub record AnswersWords (words : List Text) (told : Option (List ℕ)) (line : Text) : Type 0 where

@@ -4,7 +4,7 @@ use Rattle.std.specs.Borrow.{Bor}
 use Rattle.std.specs.Str.Parse.{IsNumeral, digits_value, without_leading_plus}
 use Rattle.oer_cmd.specs.declared.options.Options.{Options}
 use Rattle.oer_cmd.specs.declared.options.Task.{Task}
-use Rattle.oer_cmd.specs.declared.options.Task.TheVariants.{Canon, Show}
+use Rattle.oer_cmd.specs.declared.options.Task.TheVariants.{Canon, Check, Make, Part, Show}
 use Rattle.clap.specs.Words.{App, Rule, Text, first_of, new_app, new_rule, one_of, subcommand_of, with_rule, with_subcommand}
 use Rattle.clap.specs.Simple.{app_of, on_top}
 use Rattle.clap.specs.declared.builder.command.Command.{Command}
@@ -30,10 +30,17 @@ task_app name = with_rule (with_rule (with_rule (with_rule (new_app name)
 abbrev pub hex_app : Text → App
 hex_app name = with_rule (task_app name) (option_rule (codes "hex"))
 
+abbrev pub make_app : App
+make_app = with_rule (task_app (codes "make")) (option_rule (codes "json"))
+
+abbrev pub part_app : App
+part_app = with_rule (hex_app (codes "part")) (option_rule (codes "path"))
+
 -- the whole command
 abbrev pub oer : App
-oer = with_subcommand (with_subcommand (on_top (λ s. record s { subcommand_required = true }) (new_app (codes "oer")))
-    (hex_app (codes "show")).top) (hex_app (codes "canon")).top
+oer = with_subcommand (with_subcommand (with_subcommand (with_subcommand (with_subcommand
+    (on_top (λ s. record s { subcommand_required = true }) (new_app (codes "oer")))
+    (hex_app (codes "show")).top) (hex_app (codes "canon")).top) (hex_app (codes "check")).top) make_app.top) part_app.top
 
 -- the task that the words name
 abbrev pub asked : List Text → Option Text
@@ -60,6 +67,9 @@ behind = option_map (λ s. s.now)
 abbrev pub IsTask : Option Text → (Text → Option Text) → Task → Type 0
 IsTask name value (Show hex) = (name ≡ Some (codes "show")) × (value (codes "hex") ≡ behind hex)
 IsTask name value (Canon hex) = (name ≡ Some (codes "canon")) × (value (codes "hex") ≡ behind hex)
+IsTask name value (Check hex) = (name ≡ Some (codes "check")) × (value (codes "hex") ≡ behind hex)
+IsTask name value (Make json) = (name ≡ Some (codes "make")) × (value (codes "json") ≡ behind json)
+IsTask name value (Part hex path) = (name ≡ Some (codes "part")) × (value (codes "hex") ≡ behind hex) × (value (codes "path") ≡ behind path)
 
 -- the options are those of the words
 pub record Asks (words : List Text) (o : Options) : Type 0 where

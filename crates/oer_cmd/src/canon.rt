@@ -1,5 +1,5 @@
 //! The canonical octets of a value.
-ghost use Rattle.std.specs.Prelude.{◌≡◌, ℕ, List, IfOk, IfSome, OnOk, string_bytes};
+ghost use Rattle.std.specs.Prelude.{◌≡◌, ℕ, List, IfErr, IfOk, IfSome, OnOk, string_bytes};
 ghost use Rattle.hex.specs.Hex.{decode_of};
 ghost use Rattle.oer_types.specs.Schema.{the_type};
 ghost use Rattle.oer_units.specs.Reading.{octet as octet_read};
@@ -27,7 +27,8 @@ fn octet_at_front<R: Source>(reader: &mut R) -> Result<u8, ReadFault>
 /// That the reader has no octet left after a value that took so many. Refused as `Follows`, or by the
 /// reader.
 pub fn check_end<'a, R: Source>(reader: &mut R, taken: u64) -> Result<(), Fault<'a>>
-    ensures { OnOk result (IsEmpty (R.remaining reader.old)) }
+    ensures empty { OnOk result (IsEmpty (R.remaining reader.old)) }
+    ensures follows { IfErr result (λ fault. (n : ℕ) → fault ≡ Fault.Follows n → n ≡ taken) }
 {
     let fault = match octet_at_front(reader) {
         Ok(_) => return Err(Fault::Follows(taken)),

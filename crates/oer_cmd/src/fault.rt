@@ -2,6 +2,7 @@
 ghost use Rattle.std.specs.Prelude.{◌≡◌, ◌≤◌};
 ghost use Rattle.oer_cmd.specs.Faults.{IsOfRead, IsOfRewrite, IsOfText, status_of};
 
+use oer_json::JsonFault;
 use oer_reader::RewriteFault;
 use oer_text::{TextFault, TextWhy};
 use oer_units::{ReadFault, Why};
@@ -17,6 +18,15 @@ pub enum Fault<'a> {
     /// An octet follows the value, which took so many.
     #[error("octets follow the value at {0}")]
     Follows(u64),
+    /// There are more octets than the limit, which is this.
+    #[error("input longer than {0}")]
+    Longer(u64),
+    /// The path has a step that the type doesn't have, or past the last element.
+    #[error("NoSuchStep")]
+    NoSuchStep,
+    /// The path leads to a component or an addition that is absent.
+    #[error("Absent")]
+    Absent,
     /// Neither `--type` nor `--types` is given, or both are.
     #[error("one of --type and --types")]
     OneType,
@@ -35,6 +45,15 @@ pub enum Fault<'a> {
     /// The text of `--hex` is not an even number of hexadecimal digits.
     #[error("hex refused")]
     Hex,
+    /// The text of `--path` is no path.
+    #[error("path refused")]
+    Path,
+    /// The text is not JSON.
+    #[error("json: not JSON")]
+    NotJson,
+    /// The JSON is taken as no value of the type.
+    #[error("json: {0}")]
+    Json(JsonFault),
     /// A read of the input failed.
     #[error("input failed")]
     Input,
@@ -87,9 +106,11 @@ impl<'a> Fault<'a> {
         ensures output { self.entry ≡ Fault.Output → result ≡ 3 }
     {
         match self {
-            Fault::Read(_) | Fault::Follows(_) => 1,
+            Fault::Read(_) | Fault::Follows(_) | Fault::Longer(_) => 1,
+            Fault::NoSuchStep | Fault::Absent => 1,
             Fault::OneType | Fault::NoName | Fault::NoTypes => 2,
             Fault::Type(_) | Fault::Unnamed(_) | Fault::Hex => 2,
+            Fault::Path | Fault::NotJson | Fault::Json(_) => 2,
             Fault::Input | Fault::Output | Fault::Memory => 3,
         }
     }

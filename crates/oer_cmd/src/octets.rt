@@ -1,9 +1,13 @@
 //! The octets that a task is given.
-ghost use Rattle.std.specs.Prelude.{◌≡◌, ◌≢◌, ℕ, List, IfErr, IfOk};
+ghost use Rattle.std.specs.Prelude.{◌≡◌, ◌≢◌, ◌≤◌, ℕ, List, None, length, option_map, IfErr, IfOk};
 ghost use Rattle.hex.specs.Hex.{decode_of};
+ghost use Rattle.oer_cmd.specs.Octets.{AreAll, AreSpelt, IsTooLong, octets_of};
+ghost use Rattle.oer_cmd.specs.Words.{behind};
 
 use crate::fault::Fault;
 use hex::FromHexError;
+use oer_input::{GatherFault, gather};
+use oer_units::Source;
 use std::alloc::Global;
 
 /// The octets that the digits spell; refused as `Hex`, or as `Memory`.
@@ -16,4 +20,53 @@ pub fn decoded<'a>(alloc: Global, digits: &str) -> Result<Vec<u8>, Fault<'a>>
         Err(FromHexError::OutOfMemory) => Err(Fault::Memory),
         Err(_) => Err(Fault::Hex),
     }
+}
+
+/// The octets of `--hex`, if it is there; refused as `Hex`, or as `Memory`.
+pub fn spelt<'a>(alloc: Global, hex: Option<&str>) -> Result<Option<Vec<u8>>, Fault<'a>>
+    ensures octets { IfOk result (λ octets. AreSpelt (behind hex.entry) (option_map octets_of octets)) }
+    ensures refused { IfErr result (λ fault. fault ≢ Fault.Memory → (fault ≡ Fault.Hex) × ((b : List ℕ) → AreSpelt (behind hex.entry) (Some b) → ⊥)) }
+{
+    let Some(digits) = hex else {
+        return Ok(None);
+    };
+    match decoded(alloc, digits) {
+        Ok(octets) => Ok(Some(octets)),
+        Err(fault) => Err(fault),
+    }
+}
+
+// All that the input has left, within the limit.
+fn gathered<'a, R: Source>(alloc: Global, input: &mut R, limit: u64) -> Result<Vec<u8>, Fault<'a>>
+    ensures within { IfOk result (λ b. length b.items ≤ limit) }
+    ensures all { IfOk result (λ b. AreAll None (R.remaining input.old) b.items) }
+    ensures refused { IfErr result (IsTooLong limit None (R.remaining input.old)) }
+{
+    match gather(alloc, input, limit) {
+        Ok(octets) => Ok(octets),
+        Err(GatherFault::Memory) => Err(Fault::Memory),
+        Err(GatherFault::Device) => Err(Fault::Input),
+        Err(GatherFault::Longer) => Err(Fault::Longer(limit)),
+    }
+}
+
+/// All the octets: those of `--hex`, else all that the input has left. Refused as `Longer` where there
+/// are more than the limit, as `Input` or as `Memory`.
+pub fn all_octets<'a, R: Source>(
+    alloc: Global,
+    spelt: Option<Vec<u8>>,
+    input: &mut R,
+    limit: u64,
+) -> Result<Vec<u8>, Fault<'a>>
+    ensures within { IfOk result (λ b. length b.items ≤ limit) }
+    ensures all { IfOk result (λ b. AreAll (option_map octets_of spelt) (R.remaining input.old) b.items) }
+    ensures refused { IfErr result (IsTooLong limit (option_map octets_of spelt) (R.remaining input.old)) }
+{
+    let Some(octets) = spelt else {
+        return gathered(alloc, input, limit);
+    };
+    if octets.len() as u64 > limit {
+        return Err(Fault::Longer(limit));
+    }
+    Ok(octets)
 }

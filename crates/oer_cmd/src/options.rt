@@ -2,7 +2,7 @@
 ghost use Rattle.std.specs.Prelude.{◌≡◌, List, Option, Some, None, false, true, IfOk, IfErr, IfSome, map, option_map, string_bytes};
 ghost use Rattle.clap.specs.Words.{first_value, found_of, kind_of, rule_of, takes};
 ghost use Rattle.clap.specs.declared.error.kind.ErrorKind.TheVariants.{OutOfMemory};
-ghost use Rattle.oer_cmd.specs.Words.{Asks, HasShape, IsTask, hex_app, oer, option_rule, task_app};
+ghost use Rattle.oer_cmd.specs.Words.{Asks, HasShape, IsTask, hex_app, make_app, oer, option_rule, part_app, task_app};
 
 use clap::{Arg, ArgMatches, Command, Error};
 use std::alloc::{AllocError, Global};
@@ -12,9 +12,26 @@ use std::alloc::{AllocError, Global};
 #[derive(Clone, Copy)]
 pub enum Task<'a> {
     /// The JSON of a value.
-    Show { hex: Option<&'a str> },
+    Show {
+        hex: Option<&'a str>,
+    },
     /// The canonical octets of a value.
-    Canon { hex: Option<&'a str> },
+    Canon {
+        hex: Option<&'a str>,
+    },
+    /// Whether octets are canonical.
+    Check {
+        hex: Option<&'a str>,
+    },
+    /// The canonical octets of the value that JSON stands for: the text, or without it all of the input.
+    Make {
+        json: Option<&'a str>,
+    },
+    /// A part of octets; without the text of a path, all of them.
+    Part {
+        hex: Option<&'a str>,
+        path: Option<&'a str>,
+    },
 }
 
 /// What the words ask for, and with which options.
@@ -61,16 +78,36 @@ fn hex_command<'a>(alloc: Global, name: &'a str) -> Result<Command<'a>, AllocErr
     task_command(alloc, name)?.arg(option(alloc, "hex"))
 }
 
+/// The subcommand of the task on JSON.
+fn make_command<'a>(alloc: Global) -> Result<Command<'a>, AllocError>
+    ensures { IfOk result (HasShape make_app) }
+{
+    task_command(alloc, "make")?.arg(option(alloc, "json"))
+}
+
+/// The subcommand of the task on a part of octets.
+fn part_command<'a>(alloc: Global) -> Result<Command<'a>, AllocError>
+    ensures { IfOk result (HasShape part_app) }
+{
+    hex_command(alloc, "part")?.arg(option(alloc, "path"))
+}
+
 /// The whole command.
 fn command<'a>(alloc: Global) -> Result<Command<'a>, AllocError>
     ensures { IfOk result (HasShape oer) }
 {
     let show = hex_command(alloc, "show")?;
     let canon = hex_command(alloc, "canon")?;
+    let check = hex_command(alloc, "check")?;
+    let make = make_command(alloc)?;
+    let part = part_command(alloc)?;
     Command::new(alloc, "oer")
         .subcommand_required(true)
         .subcommand(show)?
-        .subcommand(canon)
+        .subcommand(canon)?
+        .subcommand(check)?
+        .subcommand(make)?
+        .subcommand(part)
 }
 
 /// The task of that name, with the options that not all tasks have.
@@ -85,6 +122,22 @@ fn task_of<'a>(name: &str, found: &ArgMatches<'a>) -> Option<Task<'a>>
     if name == "canon" {
         return Some(Task::Canon {
             hex: found.get_str("hex"),
+        });
+    }
+    if name == "check" {
+        return Some(Task::Check {
+            hex: found.get_str("hex"),
+        });
+    }
+    if name == "make" {
+        return Some(Task::Make {
+            json: found.get_str("json"),
+        });
+    }
+    if name == "part" {
+        return Some(Task::Part {
+            hex: found.get_str("hex"),
+            path: found.get_str("path"),
         });
     }
     None

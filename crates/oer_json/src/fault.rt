@@ -7,26 +7,21 @@ use thiserror::Error;
 
 /// Why JSON is not taken as a value of a type. The faults are numbered from 1 in this order.
 #[derive(Clone, Copy, Debug, PartialEq, Eq, Error)]
+#[error("{:?}", self)]
 pub enum JsonFault {
     /// A growth of memory was refused.
-    #[error("Memory")]
     Memory,
     /// The JSON is of another kind than the type's values have, or its text has another form; the
     /// object of a CHOICE has no key or several.
-    #[error("Kind")]
     Kind,
     /// A key that is no component, addition or alternative, or text that is no item's name.
-    #[error("Name")]
     Name,
     /// A component that must be there has no key.
-    #[error("Missing")]
     Missing,
     /// An integer outside 128 bits and a sign, the number of an item outside 64 bits and a sign, an
     /// arc above 2^128 - 1, a place above 65,535, or a tag's number above 2^32 - 1.
-    #[error("Range")]
     Range,
     /// The value is of the right form and doesn't fit the type.
-    #[error("Misfit")]
     Misfit,
 }
 

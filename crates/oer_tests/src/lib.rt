@@ -1,10 +1,16 @@
-//! Tests of units, types and values, and of reading and writing them, through public items alone.
+//! Tests of units, types and values, and of reading, writing and checking them, through public items alone.
 #![tactic(auto)]
 
 #[cfg(test)]
-mod reader;
+mod checker;
+#[cfg(test)]
+mod encodings;
+#[cfg(test)]
+mod refusals;
 #[cfg(test)]
 mod shared;
+#[cfg(test)]
+mod sinks;
 #[cfg(test)]
 mod types;
 #[cfg(test)]
@@ -12,4 +18,4 @@ mod units_reading;
 #[cfg(test)]
 mod units_writing;
 #[cfg(test)]
-mod writer;
+mod values;

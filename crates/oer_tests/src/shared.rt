@@ -1,10 +1,14 @@
-//! What the tests share: readers and writers that work octet by octet, types, values and octets.
-use oer_types::{Addition, Alt, Field, Item, Need, Schema, Shape, Size, Unknown, Value};
-use oer_units::{Class, Sink, Tag};
-use std::alloc::{AllocError, Global};
+//! What the tests share: readers and writers that work octet by octet, types, values and octets by
+//! their texts, and what is said where an answer isn't the one that was wanted.
+use oer_json::from_json;
+use oer_reader::{RewriteFault, rewrite};
+use oer_text::parse_type;
+use oer_types::{Field, Need, Schema, Shape, Value};
+use oer_units::{Metered, Sink, Source};
+use serde_json::Value as Json;
+use std::alloc::Global;
 use std::io;
 use std::io::{Error, ErrorKind, Read, Write};
-use std::process::Abort;
 use std::test::Fail;
 
 // ---- readers and writers
@@ -49,11 +53,14 @@ impl<'a> Read for SlowReader<'a> {
     }
 }
 
-/// Takes one octet a call and eight at most, until its calls are used up. Then it fails, or takes
+/// How many octets a `SlowWriter` takes at most.
+pub const ROOM: usize = 160;
+
+/// Takes one octet a call and `ROOM` at most, until its calls are used up. Then it fails, or takes
 /// none. It wants no memory.
 #[derive(Drop)]
 pub struct SlowWriter {
-    held: [u8; 8],
+    held: [u8; ROOM],
     count: usize,
     calls: usize,
     fails: bool,
@@ -62,7 +69,7 @@ pub struct SlowWriter {
 impl SlowWriter {
     pub fn new(calls: usize, fails: bool) -> SlowWriter {
         SlowWriter {
-            held: [0; 8],
+            held: [0; ROOM],
             count: 0,
             calls,
             fails,
@@ -71,7 +78,7 @@ impl SlowWriter {
 
     /// The octets that it took.
     pub fn taken(&self) -> &[u8] {
-        &self.held[..self.count.min(8)]
+        &self.held[..self.count.min(ROOM)]
     }
 }
 
@@ -117,186 +124,116 @@ impl Sink for BrokenSink {
     }
 }
 
-// ---- octets
+// ---- rows of tables
 
-/// The octets of hexadecimal digits, parted by spaces; `00*15` stands for fifteen octets `00`, and
-/// a lone `-` for none.
-pub fn octets(at: Global, digits: &str) -> Result<Vec<u8>, Fail> {
-    let mut all = Vec::new(at);
-    if digits == "-" {
-        return Ok(all);
-    }
-    for part in digits.split(' ') {
-        let (run, times) = part.split_once('*').unwrap_or((part, "1"));
-        let run = hex::decode(at, run)?;
-        for _ in 0..times.parse::<u32>()? {
-            all.extend_from_slice(&run)?;
-        }
+/// A row in which `~` parts pieces: a piece `00*15` stands for `00` fifteen times over.
+pub fn expanded(at: Global, row: &str) -> Result<String, Fail> {
+    let mut all = String::new(at);
+    for piece in row.split('~') {
+        let (run, times) = piece.split_once('*').unwrap_or((piece, "1"));
+        let pieces = run.repeat(at, times.parse::<usize>()?)?;
+        all.push_str(pieces.as_str())?;
     }
     Ok(all)
 }
 
-// ---- parts of types
-
-/// A schema of the shape, which has none of the faults of types.
-pub fn well_formed<R: Abort>(rt: &R, shape: Shape) -> Schema {
-    match Schema::new(shape) {
-        Ok(schema) => schema,
-        Err((fault, _)) => panic!(rt; "{fault:?}"),
+/// That the check passes each row.
+pub fn each<F: Fn(Global, &str) -> Result<(), Fail>>(
+    at: Global,
+    rows: &str,
+    check: F,
+) -> Result<(), Fail>
+    requires { F.IsAlwaysCallable check }
+{
+    for row in rows.lines() {
+        check(at, row)?;
     }
+    Ok(())
 }
 
-pub fn integer(low: Option<i128>, high: Option<i128>) -> Shape {
-    Shape::Integer { low, high }
-}
-
-/// INTEGER (0..255)
-pub fn octet() -> Shape {
-    integer(Some(0), Some(255))
-}
-
-/// The one size that is allowed.
-pub fn exactly(size: u64) -> Size {
-    Size {
-        low: size,
-        high: Some(size),
+/// The octets of hexadecimal digits; `-` stands for none.
+pub fn octets(at: Global, digits: &str) -> Result<Vec<u8>, Fail> {
+    if digits == "-" {
+        return Ok(Vec::new(at));
     }
+    Ok(hex::decode(at, digits)?)
 }
 
-pub fn field(at: Global, name: &str, shape: Shape, need: Need) -> Result<Field, AllocError> {
-    let name = String::from_str(at, name)?;
-    Ok(Field { name, shape, need })
-}
-
-pub fn addition(at: Global, name: &str, shape: Shape) -> Result<Addition, AllocError> {
-    let name = String::from_str(at, name)?;
-    Ok(Addition { name, shape })
-}
-
-/// An alternative with a context tag.
-pub fn alternative(at: Global, name: &str, number: u32, shape: Shape) -> Result<Alt, AllocError> {
-    let name = String::from_str(at, name)?;
-    let tag = context(number);
-    Ok(Alt { name, tag, shape })
-}
-
-pub fn item(at: Global, name: &str, number: i64) -> Result<Item, AllocError> {
-    let name = String::from_str(at, name)?;
-    Ok(Item { name, number })
-}
-
-pub fn context(number: u32) -> Tag {
-    Tag {
-        class: Class::Context,
-        number,
+/// A failure that names the row, unless the answer is the one that was wanted.
+pub fn is_wanted(row: &str, answer: &str, want: &str) -> Result<(), Fail> {
+    if answer == want {
+        return Ok(());
     }
+    Err(Fail::new(format_args!("{row}: {answer}, and not {want}")))
 }
 
-/// A SEQUENCE without extension marker.
-pub fn sequence(root: Vec<Field>) -> Shape {
-    Shape::Sequence {
-        root,
-        additions: None,
+// ---- types and values
+
+/// A type without notation.
+pub const NESTED: &str = "SEQUENCE {s SEQUENCE {b BOOLEAN DEFAULT TRUE} DEFAULT {}}";
+
+/// The type of that text, which may be `NESTED`.
+pub fn schema_of(at: Global, kind: &str) -> Result<Schema, Fail> {
+    if kind == NESTED {
+        return nested(at);
     }
+    Ok(parse_type(at, kind)?)
 }
 
-pub fn sequence_of(at: Global, size: Size, item: Shape) -> Result<Shape, AllocError> {
-    let item = Box::new(at, item)?;
-    Ok(Shape::SequenceOf { size, item })
-}
-
-// ---- types
-
-/// SEQUENCE {a BOOLEAN, b INTEGER (0..255) DEFAULT 7, c NULL OPTIONAL}, or with `...` at its end
-pub fn defaulting(at: Global, is_extensible: bool) -> Result<Shape, AllocError> {
-    let seven = Need::Default(Value::Int(7));
-    let root = Vec::from_array(
-        at,
-        [
-            field(at, "a", Shape::Boolean, Need::Must)?,
-            field(at, "b", octet(), seven)?,
-            field(at, "c", Shape::Null, Need::May)?,
-        ],
-    )?;
-    let additions = if is_extensible {
-        Some(Vec::new(at))
-    } else {
-        None
+fn nested(at: Global) -> Result<Schema, Fail> {
+    let inner = parse_type(at, "SEQUENCE {b BOOLEAN DEFAULT TRUE}")?;
+    let nothing = value_of(at, &inner, "{}")?;
+    let s = Field {
+        name: String::from_str(at, "s")?,
+        shape: inner.into_shape(),
+        need: Need::Default(nothing),
     };
-    Ok(Shape::Sequence { root, additions })
-}
-
-/// SEQUENCE {a NULL OPTIONAL, b NULL OPTIONAL, ..} of nine components
-pub fn nine_optional(at: Global) -> Result<Shape, AllocError> {
-    let mut root = Vec::new(at);
-    for name in ["a", "b", "c", "d", "e", "f", "g", "h", "i"] {
-        root.push(field(at, name, Shape::Null, Need::May)?)?;
-    }
-    Ok(sequence(root))
-}
-
-/// SEQUENCE {a BOOLEAN, ..., x INTEGER (0..255), y BOOLEAN}
-pub fn extensible(at: Global) -> Result<Shape, AllocError> {
-    let a = field(at, "a", Shape::Boolean, Need::Must)?;
-    let x = addition(at, "x", octet())?;
-    let y = addition(at, "y", Shape::Boolean)?;
-    Ok(Shape::Sequence {
-        root: Vec::from_array(at, [a])?,
-        additions: Some(Vec::from_array(at, [x, y])?),
-    })
-}
-
-/// SEQUENCE {a BOOLEAN, ...}, older than that
-pub fn older(at: Global) -> Result<Shape, AllocError> {
-    let a = field(at, "a", Shape::Boolean, Need::Must)?;
-    Ok(Shape::Sequence {
-        root: Vec::from_array(at, [a])?,
-        additions: Some(Vec::new(at)),
-    })
-}
-
-/// SEQUENCE {...}
-pub fn open_end(at: Global) -> Shape {
-    Shape::Sequence {
-        root: Vec::new(at),
-        additions: Some(Vec::new(at)),
+    let shape = Shape::Sequence {
+        root: Vec::from_array(at, [s])?,
+        additions: None,
+    };
+    match Schema::new(shape) {
+        Ok(schema) => Ok(schema),
+        Err((fault, _)) => Err(Fail::new(fault)),
     }
 }
 
-/// SEQUENCE {s SEQUENCE {b BOOLEAN DEFAULT TRUE} DEFAULT {}}
-pub fn nested_default(at: Global) -> Result<Shape, AllocError> {
-    let yes = Need::Default(Value::Bool(true));
-    let b = field(at, "b", Shape::Boolean, yes)?;
-    let inner = sequence(Vec::from_array(at, [b])?);
-    let nothing = root_alone(at, Vec::from_array(at, [None])?);
-    let s = field(at, "s", inner, Need::Default(nothing))?;
-    Ok(sequence(Vec::from_array(at, [s])?))
+/// The value of the type that the JSON stands for.
+pub fn value_of(at: Global, schema: &Schema, json: &str) -> Result<Value, Fail> {
+    let json = Json::from_str(at, json)?;
+    Ok(from_json(at, schema, &json)?)
 }
 
-/// CHOICE {a NULL, ..., b OCTET STRING}
-pub fn choosing(at: Global) -> Result<Shape, AllocError> {
-    let a = alternative(at, "a", 0, Shape::Null)?;
-    let b = alternative(at, "b", 1, Shape::OctetString(Size::any()))?;
-    Ok(Shape::Choice {
-        root: Vec::from_array(at, [a])?,
-        additions: Some(Vec::from_array(at, [b])?),
-    })
+// ---- octets that are rewritten
+
+/// What rewriting answers, and what is on the sink then.
+pub type Answer<'a> = (Result<(u64, u64), RewriteFault>, &'a [u8]);
+
+/// Whether what comes is rewritten so.
+pub fn rewrites<S: Source>(
+    at: Global,
+    schema: &Schema,
+    reader: &mut S,
+    limit: u64,
+    want: Answer,
+) -> bool {
+    let mut sink = Metered::new(Vec::new(at));
+    let done = rewrite(at, schema, reader, limit, &mut sink);
+    done == want.0 && sink.into_inner().as_slice() == want.1
 }
 
-// ---- parts of values
-
-/// A value of a SEQUENCE without extension marker.
-pub fn root_alone(at: Global, root: Vec<Option<Value>>) -> Value {
-    Value::Seq {
-        root,
-        added: Vec::new(at),
-        unknown: Vec::new(at),
-    }
-}
-
-pub fn unknown(at: Global, place: u16, octets: &[u8]) -> Result<Unknown, AllocError> {
-    Ok(Unknown {
-        place,
-        octets: Vec::from_slice(at, octets)?,
-    })
+/// The same of these octets, from memory and one at a time; and whether so many are taken.
+pub fn comes(
+    at: Global,
+    schema: &Schema,
+    octets: &[u8],
+    limit: u64,
+    taken: usize,
+    want: Answer,
+) -> bool {
+    let mut all = Metered::new(octets);
+    let mut each = Metered::new(SlowReader::new(octets, usize::MAX, false));
+    rewrites(at, schema, &mut all, limit, want)
+        && all.into_inner().len() == octets.len().saturating_sub(taken)
+        && rewrites(at, schema, &mut each, limit, want)
 }

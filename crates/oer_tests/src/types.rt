@@ -1,298 +1,207 @@
-//! Faults of types, and which values fit and are the same.
-use crate::shared::{
-    addition, alternative, exactly, field, integer, item, nested_default, root_alone, sequence,
-    sequence_of, unknown, well_formed,
-};
+//! Faults of types; which values fit, which are the same, what they are when filled in, and copies.
+use crate::shared::{NESTED, each, is_wanted, octets, schema_of, value_of};
+use crate::values::{VALUES, case_of, is_well};
+use oer_reader::read;
+use oer_text::parse_type;
 use oer_types::{
-    Bits, Field, Need, Schema, SchemaFault, Shape, Size, Value, filled, fits, same_filled,
+    Bits, Field, Need, Schema, Shape, Size, Unknown, Value, filled, fits, same_filled,
     same_filled_at,
 };
+use oer_units::Metered;
 use std::alloc::{AllocError, Global};
+use std::test::Fail;
 
-fn refused(shape: Shape) -> Option<SchemaFault> {
+// ---- faults of types
+
+/// Types by their texts, and the least fault of each.
+const TEXTS: &str = "INTEGER (5..4) | BoundOrder at 0
+OCTET STRING (SIZE(2..1)) | SizeOrder at 0
+SEQUENCE {a NULL, ..., a NULL} | RepeatedName at 0
+ENUMERATED {a(1), b(1)} | RepeatedNumber at 0
+CHOICE {a [1] NULL, b [1] NULL} | RepeatedTag at 0
+CHOICE {a [1] NULL, ..., b [1] NULL} | RepeatedTag at 0
+CHOICE {a [1] NULL, b [2] NULL} | none
+SEQUENCE {b INTEGER (0..5) DEFAULT 6} | DefaultMisfit at 0
+SEQUENCE {a PrintableString DEFAULT \"*\"} | DefaultMisfit at 0
+SEQUENCE OF SEQUENCE {a NULL, b OCTET STRING (SIZE(0))} | EmptyElement at 0
+SEQUENCE OF NULL | EmptyElement at 0
+SEQUENCE OF NumericString (SIZE(0)) | EmptyElement at 0
+SEQUENCE OF SEQUENCE {a NULL OPTIONAL} | none
+SEQUENCE {a INTEGER (5..4), a SEQUENCE OF NULL} | BoundOrder at 0";
+
+/// Components of a SEQUENCE, also ones that no text spells, and the least fault.
+const COMPONENTS: &str = "A NULL | BadName
+a--b NULL | BadName
+a- NULL | BadName
+ NULL | BadName
+1 NULL | BadName
+a-B2-c NULL | none
+a NULL, a NULL | RepeatedName
+a NULL, a BOOLEAN, B NULL | BadName";
+
+fn has_text_fault(at: Global, row: &str) -> Result<(), Fail> {
+    let (text, want) = row.split_once(" | ").ok_or("a fault")?;
+    match parse_type(at, text) {
+        Ok(_) => is_wanted(row, "none", want),
+        Err(fault) => is_wanted(row, format!(in at; "{fault}")?.as_str(), want),
+    }
+}
+
+#[test]
+fn faults_of_texts(rt: HostRuntime) -> Result<(), Fail> {
+    each(rt.alloc(), TEXTS, has_text_fault)
+}
+
+fn has_fault(at: Global, row: &str, shape: Shape, want: &str) -> Result<(), Fail> {
     match Schema::new(shape) {
-        Ok(_) => None,
-        Err((fault, _)) => Some(fault),
+        Ok(_) => is_wanted(row, "none", want),
+        Err((fault, _)) => is_wanted(row, format!(in at; "{fault}")?.as_str(), want),
     }
 }
 
-fn crossed() -> Shape {
-    integer(Some(5), Some(4))
-}
-
-/// A SEQUENCE of one component.
-fn of_one(at: Global, name: &str, shape: Shape, need: Need) -> Result<Shape, AllocError> {
-    let one = field(at, name, shape, need)?;
-    Ok(sequence(Vec::from_array(at, [one])?))
-}
-
-#[test]
-fn bounds_and_sizes(rt: HostRuntime) {
-    let sizes = Size {
-        low: 2,
-        high: Some(1),
-    };
-    assert_eq!(rt; refused(crossed()), Some(SchemaFault::BoundOrder));
-    assert_eq!(rt;
-        refused(Shape::OctetString(sizes)),
-        Some(SchemaFault::SizeOrder)
-    );
-}
-
-#[test]
-fn names(rt: HostRuntime) -> Result<(), AllocError> {
-    let bad = Some(SchemaFault::BadName);
-    for (name, want) in [
-        ("A", bad),
-        ("a--b", bad),
-        ("a-", bad),
-        ("", bad),
-        ("1", bad),
-        ("a-B2-c", None),
-    ] {
-        let shape = of_one(rt.alloc(), name, Shape::Null, Need::Must)?;
-        assert_eq!(rt; refused(shape), want, "{name}");
+fn field(name: String, shape: Shape) -> Field {
+    Field {
+        name,
+        shape,
+        need: Need::Must,
     }
-    Ok(())
 }
 
-#[test]
-fn repeated_names(rt: HostRuntime) -> Result<(), AllocError> {
-    let at = rt.alloc();
-    let first = field(at, "a", Shape::Null, Need::Must)?;
-    let second = addition(at, "a", Shape::Null)?;
-    let shape = Shape::Sequence {
-        root: Vec::from_array(at, [first])?,
-        additions: Some(Vec::from_array(at, [second])?),
-    };
-    assert_eq!(rt; refused(shape), Some(SchemaFault::RepeatedName));
-    Ok(())
-}
-
-#[test]
-fn no_items(rt: HostRuntime) {
-    let shape = Shape::Enumerated {
-        items: Vec::new(rt.alloc()),
-        extensible: true,
-    };
-    assert_eq!(rt; refused(shape), Some(SchemaFault::NoItems));
-}
-
-#[test]
-fn no_alternatives(rt: HostRuntime) -> Result<(), AllocError> {
-    let at = rt.alloc();
-    let added = alternative(at, "a", 0, Shape::Null)?;
-    let shape = Shape::Choice {
-        root: Vec::new(at),
-        additions: Some(Vec::from_array(at, [added])?),
-    };
-    assert_eq!(rt; refused(shape), Some(SchemaFault::NoItems));
-    Ok(())
-}
-
-#[test]
-fn repeated_numbers(rt: HostRuntime) -> Result<(), AllocError> {
-    let at = rt.alloc();
-    let (first, second) = (item(at, "a", 1)?, item(at, "b", 1)?);
-    let shape = Shape::Enumerated {
-        items: Vec::from_array(at, [first, second])?,
-        extensible: false,
-    };
-    assert_eq!(rt; refused(shape), Some(SchemaFault::RepeatedNumber));
-    Ok(())
-}
-
-#[test]
-fn repeated_tags(rt: HostRuntime) -> Result<(), AllocError> {
-    let at = rt.alloc();
-    let first = alternative(at, "a", 1, Shape::Null)?;
-    let second = alternative(at, "b", 1, Shape::Null)?;
-    let shape = Shape::Choice {
-        root: Vec::from_array(at, [first])?,
-        additions: Some(Vec::from_array(at, [second])?),
-    };
-    assert_eq!(rt; refused(shape), Some(SchemaFault::RepeatedTag));
-    Ok(())
-}
-
-#[test]
-fn distinct_tags(rt: HostRuntime) -> Result<(), AllocError> {
-    let at = rt.alloc();
-    let first = alternative(at, "a", 1, Shape::Null)?;
-    let second = alternative(at, "b", 2, Shape::Null)?;
-    let shape = Shape::Choice {
-        root: Vec::from_array(at, [first, second])?,
+fn sequence(root: Vec<Field>) -> Shape {
+    Shape::Sequence {
+        root,
         additions: None,
-    };
-    assert_eq!(rt; refused(shape), None);
-    Ok(())
-}
-
-#[test]
-fn default_above_its_bound(rt: HostRuntime) -> Result<(), AllocError> {
-    let small = integer(Some(0), Some(5));
-    let shape = of_one(rt.alloc(), "b", small, Need::Default(Value::Int(6)))?;
-    assert_eq!(rt; refused(shape), Some(SchemaFault::DefaultMisfit));
-    Ok(())
-}
-
-#[test]
-fn default_of_no_character(rt: HostRuntime) -> Result<(), AllocError> {
-    let at = rt.alloc();
-    let star = Need::Default(Value::Text(String::from_str(at, "*")?));
-    let shape = of_one(at, "a", Shape::Printable(Size::any()), star)?;
-    assert_eq!(rt; refused(shape), Some(SchemaFault::DefaultMisfit));
-    Ok(())
-}
-
-/// SEQUENCE of two components, each there.
-fn of_two(at: Global, names: [&str; 2], first: Shape, second: Shape) -> Result<Shape, AllocError> {
-    let first = field(at, names[0], first, Need::Must)?;
-    let second = field(at, names[1], second, Need::Must)?;
-    Ok(sequence(Vec::from_array(at, [first, second])?))
-}
-
-#[test]
-fn elements_of_no_octets(rt: HostRuntime) -> Result<(), AllocError> {
-    let at = rt.alloc();
-    let nothing = of_two(at, ["a", "b"], Shape::Null, Shape::OctetString(exactly(0)))?;
-    for element in [nothing, Shape::Null, Shape::Numeric(exactly(0))] {
-        let shape = sequence_of(at, Size::any(), element)?;
-        assert_eq!(rt; refused(shape), Some(SchemaFault::EmptyElement));
     }
-    Ok(())
+}
+
+// A SEQUENCE of components, which commas part.
+fn of_components(at: Global, components: &str) -> Result<Shape, Fail> {
+    let mut root = Vec::new(at);
+    for component in components.split(", ") {
+        let (name, kind) = component.split_once(' ').ok_or("a type")?;
+        let shape = parse_type(at, kind)?.into_shape();
+        root.push(field(String::from_str(at, name)?, shape))?;
+    }
+    Ok(sequence(root))
+}
+
+fn has_components_fault(at: Global, row: &str) -> Result<(), Fail> {
+    let (components, want) = row.split_once(" | ").ok_or("a fault")?;
+    has_fault(at, row, of_components(at, components)?, want)
 }
 
 #[test]
-fn elements_with_a_preamble(rt: HostRuntime) -> Result<(), AllocError> {
-    let at = rt.alloc();
-    let optional = of_one(at, "a", Shape::Null, Need::May)?;
-    let shape = sequence_of(at, Size::any(), optional)?;
-    assert_eq!(rt; refused(shape), None);
-    Ok(())
+fn faults_of_components(rt: HostRuntime) -> Result<(), Fail> {
+    each(rt.alloc(), COMPONENTS, has_components_fault)
 }
 
-/// Of several faults it is the first of the list, wherever it stands.
+// An ENUMERATED of nothing, and a CHOICE with additions alone.
 #[test]
-fn the_first_fault(rt: HostRuntime) -> Result<(), AllocError> {
+fn no_items(rt: HostRuntime) -> Result<(), Fail> {
     let at = rt.alloc();
-    let elements = sequence_of(at, Size::any(), Shape::Null)?;
-    let shape = of_two(at, ["a", "a"], crossed(), elements)?;
-    assert_eq!(rt; refused(shape), Some(SchemaFault::BoundOrder));
-    Ok(())
+    let items = Vec::new(at);
+    let extensible = true;
+    let enumerated = Shape::Enumerated { items, extensible };
+    has_fault(at, "ENUMERATED", enumerated, "NoItems")?;
+    let choice = match parse_type(at, "CHOICE {b NULL, ..., a NULL}")?.into_shape() {
+        Shape::Choice { additions, .. } => Shape::Choice {
+            root: Vec::new(at),
+            additions,
+        },
+        other => other,
+    };
+    has_fault(at, "CHOICE", choice, "NoItems")
 }
 
-/// SEQUENCE OF so many times before BOOLEAN.
+// SEQUENCE OF so many times before BOOLEAN.
 fn deep(at: Global, levels: u8) -> Result<Shape, AllocError> {
     let mut shape = Shape::Boolean;
     for _ in 0..levels {
-        shape = sequence_of(at, Size::any(), shape)?;
+        let item = Box::new(at, shape)?;
+        let size = Size::any();
+        shape = Shape::SequenceOf { size, item };
     }
     Ok(shape)
 }
 
-/// SEQUENCE of so many BOOLEAN components.
+// SEQUENCE of so many BOOLEAN components.
 fn wide(at: Global, count: u16) -> Result<Shape, AllocError> {
     let mut root = Vec::new(at);
     for number in 0..count {
-        root.push(Field {
-            name: format!(in at; "a{number}")?,
-            shape: Shape::Boolean,
-            need: Need::Must,
-        })?;
+        root.push(field(format!(in at; "a{number}")?, Shape::Boolean))?;
     }
     Ok(sequence(root))
 }
 
 #[test]
-fn limits_of_types(rt: HostRuntime) -> Result<(), AllocError> {
+fn limits_of_types(rt: HostRuntime) -> Result<(), Fail> {
     let at = rt.alloc();
-    assert_eq!(rt; refused(deep(at, 31)?), None);
-    assert_eq!(rt; refused(deep(at, 32)?), Some(SchemaFault::TooDeep));
-    assert_eq!(rt; refused(wide(at, 4095)?), None);
-    assert_eq!(rt; refused(wide(at, 4096)?), Some(SchemaFault::TooManyParts));
-    Ok(())
+    has_fault(at, "31 levels", deep(at, 31)?, "none")?;
+    has_fault(at, "32 levels", deep(at, 32)?, "TooDeep")?;
+    has_fault(at, "4095 components", wide(at, 4095)?, "none")?;
+    has_fault(at, "4096 components", wide(at, 4096)?, "TooManyParts")
 }
 
-#[test]
-fn bits_of_octets(rt: HostRuntime) -> Result<(), AllocError> {
-    let at = rt.alloc();
-    match Bits::from_octets(Vec::from_slice(at, &[0xaf])?, 4) {
+// ---- bits
+
+// The bits of the octets: how many, packed, and the third and fifth; or the octets, handed back.
+fn bits_of(at: Global, octets: &[u8], count: u64) -> Result<String, Fail> {
+    match Bits::from_octets(Vec::from_slice(at, octets)?, count) {
         Ok(bits) => {
-            assert_eq!(rt; bits.count(), 4);
-            assert_eq!(rt; bits.octets(), [0xa0].as_slice());
-            assert_eq!(rt; bits.get(2), Some(true));
-            assert_eq!(rt; bits.get(4), None);
+            let packed = hex::encode(at, bits.octets())?;
+            let (third, fifth) = (bits.get(2), bits.get(4));
+            Ok(format!(in at; "{} {packed} {third:?} {fifth:?}", bits.count())?)
         }
-        Err(_) => assert!(rt; false),
+        Err(octets) => {
+            let back = hex::encode(at, octets.as_slice())?;
+            Ok(format!(in at; "back {back}")?)
+        }
     }
-    match Bits::from_octets(Vec::from_slice(at, &[0xaf, 0x00])?, 4) {
-        Ok(_) => assert!(rt; false),
-        Err(octets) => assert_eq!(rt; octets.as_slice(), [0xaf, 0x00].as_slice()),
-    }
-    Ok(())
-}
-
-fn seq(at: Global, place: Option<Value>) -> Result<Value, AllocError> {
-    Ok(root_alone(at, Vec::from_array(at, [place])?))
-}
-
-/// A value of SEQUENCE {s SEQUENCE {b BOOLEAN DEFAULT TRUE} DEFAULT {}} in which `b` is there.
-fn with_b(at: Global, b: bool) -> Result<Value, AllocError> {
-    seq(at, Some(seq(at, Some(Value::Bool(b)))?))
 }
 
 #[test]
-fn same_after_defaults(rt: HostRuntime) -> Result<(), AllocError> {
+fn bits_of_octets(rt: HostRuntime) -> Result<(), Fail> {
     let at = rt.alloc();
-    let schema = well_formed(&rt, nested_default(at)?);
-    let absent = seq(at, None)?;
-    let there = with_b(at, true)?;
-    assert!(rt; fits(&schema, &absent) && fits(&schema, &there));
-    assert!(rt; !absent.same(&there));
-    assert!(rt; same_filled(&schema, &absent, &there));
-    assert!(rt; same_filled_at(schema.shape(), &there, &absent));
-    Ok(())
+    let cleared = bits_of(at, &[0xaf], 4)?;
+    is_wanted("af", cleared.as_str(), "4 a0 Some(true) None")?;
+    let refused = bits_of(at, &[0xaf, 0x00], 4)?;
+    is_wanted("af00", refused.as_str(), "back af00")
+}
+
+// ---- values that fit
+
+/// A type; a type and JSON of a value of it; whether this fits the first.
+const FITTING: &str = "UTF8String (SIZE(1)) | UTF8String | \"\u{e9}\" | true
+UTF8String (SIZE(1)) | UTF8String | \"ab\" | false
+UTF8String (SIZE(1)) | UTF8String | \"\" | false
+INTEGER (0..5) | INTEGER | 5 | true
+INTEGER (0..5) | INTEGER | 6 | false
+BOOLEAN | NULL | null | false";
+
+fn is_fitting(at: Global, row: &str) -> Result<(), Fail> {
+    let (kind, rest) = row.split_once(" | ").ok_or("a type")?;
+    let (other, rest) = rest.split_once(" | ").ok_or("another")?;
+    let (json, want) = rest.split_once(" | ").ok_or("an answer")?;
+    let value = value_of(at, &parse_type(at, other)?, json)?;
+    let fit = fits(&parse_type(at, kind)?, &value);
+    is_well(row, fit == (want == "true"))
 }
 
 #[test]
-fn other_after_defaults(rt: HostRuntime) -> Result<(), AllocError> {
-    let at = rt.alloc();
-    let schema = well_formed(&rt, nested_default(at)?);
-    let absent = seq(at, None)?;
-    let other = with_b(at, false)?;
-    assert!(rt; fits(&schema, &absent) && fits(&schema, &other));
-    assert!(rt; !same_filled(&schema, &absent, &other));
-    Ok(())
+fn values_of_another_type(rt: HostRuntime) -> Result<(), Fail> {
+    each(rt.alloc(), FITTING, is_fitting)
 }
 
-#[test]
-fn filled_in(rt: HostRuntime) -> Result<(), AllocError> {
-    let at = rt.alloc();
-    let schema = well_formed(&rt, nested_default(at)?);
-    let wanted = with_b(at, true)?;
-    for value in [seq(at, None)?, with_b(at, true)?] {
-        assert!(rt; fits(&schema, &value));
-        let full = filled(at, &schema, &value)?;
-        assert!(rt; full.same(&wanted));
-        assert!(rt; value.clone_in(at)?.same(&value));
-    }
-    Ok(())
-}
-
-#[test]
-fn copies_of_types(rt: HostRuntime) -> Result<(), AllocError> {
-    let at = rt.alloc();
-    let schema = well_formed(&rt, nested_default(at)?);
-    let copy = schema.into_shape().clone_in(at)?;
-    assert_eq!(rt; refused(copy), None);
-    Ok(())
-}
-
-/// A value of SEQUENCE {...} with additions at two places that the type doesn't know.
+// A value of SEQUENCE {..., x BOOLEAN} with additions at two places that the type doesn't know.
 fn with_unknown(at: Global, first: u16, second: u16) -> Result<Value, AllocError> {
-    let early = unknown(at, first, &[9])?;
-    let late = unknown(at, second, &[])?;
+    let early = Unknown {
+        place: first,
+        octets: Vec::from_array(at, [9])?,
+    };
+    let late = Unknown {
+        place: second,
+        octets: Vec::new(at),
+    };
     Ok(Value::Seq {
         root: Vec::new(at),
         added: Vec::from_array(at, [None])?,
@@ -301,13 +210,9 @@ fn with_unknown(at: Global, first: u16, second: u16) -> Result<Value, AllocError
 }
 
 #[test]
-fn unknown_parts_fit(rt: HostRuntime) -> Result<(), AllocError> {
+fn unknown_parts(rt: HostRuntime) -> Result<(), Fail> {
     let at = rt.alloc();
-    let shape = Shape::Sequence {
-        root: Vec::new(at),
-        additions: Some(Vec::from_array(at, [addition(at, "x", Shape::Boolean)?])?),
-    };
-    let schema = well_formed(&rt, shape);
+    let schema = parse_type(at, "SEQUENCE {..., x BOOLEAN}")?;
     for (first, second, want) in [
         (1, 65535, true),
         (0, 2, false),
@@ -315,19 +220,74 @@ fn unknown_parts_fit(rt: HostRuntime) -> Result<(), AllocError> {
         (2, 2, false),
     ] {
         let value = with_unknown(at, first, second)?;
-        assert_eq!(rt; fits(&schema, &value), want, "{first} {second}");
-        assert!(rt; value.clone_in(at)?.same(&value));
+        is_well("places", fits(&schema, &value) == want)?;
+        is_well("copies", value.clone_in(at)?.same(&value))?;
     }
     Ok(())
 }
 
-#[test]
-fn characters_are_counted(rt: HostRuntime) -> Result<(), AllocError> {
-    let at = rt.alloc();
-    let schema = well_formed(&rt, Shape::Utf8(exactly(1)));
-    for (text, want) in [("\u{e9}", true), ("ab", false), ("", false)] {
-        let value = Value::Text(String::from_str(at, text)?);
-        assert_eq!(rt; fits(&schema, &value), want, "{text}");
+// ---- values that are the same, filled in, and copied
+
+/// A type; two values by JSON or by octets; whether they are the same, are the same
+/// after defaults, and whether the first with its defaults is the second.
+const PAIRS: &str = "NESTED | {} | {\"s\":{\"b\":true}} | false true true
+NESTED | {\"s\":{\"b\":true}} | {\"s\":{\"b\":true}} | true true true
+NESTED | {\"s\":{}} | {\"s\":{\"b\":true}} | false true true
+NESTED | {} | {\"s\":{\"b\":false}} | false false false
+NESTED | {\"s\":{\"b\":true}} | {\"s\":{}} | false true false
+NESTED | {} | 00 | true true false
+NESTED | {\"s\":{}} | 8000 | true true false
+NESTED | {\"s\":{\"b\":true}} | 8080ff | true true true
+NESTED | 00 | 8080ff | false true true
+SEQUENCE {a BOOLEAN, ..., x INTEGER (0..255), y BOOLEAN} | {\"a\":true,\"#2\":\"09\"} | 80ff0205200109 | true true true
+CHOICE {a NULL, ..., b OCTET STRING} | {\"#c5\":\"0102\"} | 85020102 | true true true";
+
+// The value by JSON or by its octets.
+fn one_of(at: Global, schema: &Schema, text: &str) -> Result<Value, Fail> {
+    if text.starts_with('{') {
+        return value_of(at, schema, text);
     }
-    Ok(())
+    let octets = octets(at, text)?;
+    let mut reader = Metered::new(octets.as_slice());
+    Ok(read(at, schema, &mut reader, u64::MAX)?)
+}
+
+// What is answered of two values of the type, which fit it.
+fn compared(at: Global, schema: &Schema, one: &Value, other: &Value) -> Result<String, Fail> {
+    let same = one.same(other);
+    let there = same_filled(schema, one, other);
+    let back = same_filled_at(schema.shape(), other, one);
+    let full = filled(at, schema, one)?.same(other);
+    if there != back || !fits(schema, one) || !fits(schema, other) {
+        return Err(Fail::new("a misfit"));
+    }
+    Ok(format!(in at; "{same} {there} {full}")?)
+}
+
+fn is_compared(at: Global, row: &str) -> Result<(), Fail> {
+    let (kind, rest) = row.split_once(" | ").ok_or("a type")?;
+    let (one, rest) = rest.split_once(" | ").ok_or("a value")?;
+    let (other, want) = rest.split_once(" | ").ok_or("another")?;
+    let schema = schema_of(at, if kind == "NESTED" { NESTED } else { kind })?;
+    let (one, other) = (one_of(at, &schema, one)?, one_of(at, &schema, other)?);
+    let answer = compared(at, &schema, &one, &other)?;
+    is_wanted(row, answer.as_str(), want)
+}
+
+#[test]
+fn values_compared(rt: HostRuntime) -> Result<(), Fail> {
+    each(rt.alloc(), PAIRS, is_compared)
+}
+
+// That copies of the type and of the value are as they are.
+fn is_copied(at: Global, row: &str) -> Result<(), Fail> {
+    let case = case_of(at, row)?;
+    let same = case.value.clone_in(at)?.same(&case.value);
+    let copy = Schema::new(case.schema.into_shape().clone_in(at)?);
+    is_well(row, same && copy.is_ok())
+}
+
+#[test]
+fn copies(rt: HostRuntime) -> Result<(), Fail> {
+    each(rt.alloc(), VALUES, is_copied)
 }

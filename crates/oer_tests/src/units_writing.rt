@@ -1,141 +1,159 @@
-//! What the writers of units append, and what stands on a sink that stops.
-use crate::shared::SlowWriter;
+//! What the writers of units append, how many octets they say that is, and what stands on a sink that
+//! stops.
+use crate::shared::{SlowWriter, is_wanted};
 use oer_units::{
-    Class, Metered, Sink, SinkFault, Tag, Width, enumerated_len, length_len, put_enumerated,
-    put_length, put_octets, put_signed_counted, put_signed_fixed, put_subidentifier, put_tag,
+    Class, Metered, Sink, Tag, Width, enumerated_len, length_len, put_enumerated, put_length,
+    put_octets, put_signed_counted, put_signed_fixed, put_subidentifier, put_tag,
     put_unsigned_counted, put_unsigned_fixed, signed_counted_len, subidentifier_len, tag_len,
     unsigned_counted_len,
 };
+use std::alloc::Global;
+use std::test::Fail;
 
-#[test]
-fn least_lengths(rt: HostRuntime) {
-    let rows: [(u64, &[u8]); 3] = [
-        (127, &[0x7f]),
-        (128, &[0x81, 0x80]),
-        (65536, &[0x83, 0x01, 0x00, 0x00]),
-    ];
-    for (n, want) in rows {
-        let mut w = Metered::new(Vec::new(rt.alloc()));
-        assert!(rt; put_length(n, &mut w).is_ok());
-        assert_eq!(rt; w.into_inner().as_slice(), want);
-        assert_eq!(rt; length_len(n), want.len() as u64);
+/// A unit, a number, its octets and how many they are said to be, which isn't said of those of fixed
+/// size.
+const NUMBERS: &str = "length 127: 7f 1
+length 128: 8180 2
+length 65536: 83010000 4
+unsigned 255: 01ff 2
+signed 128: 020080 3
+signed -129: 02ff7f 3
+signed -1: 01ff 2
+signed 255: 0200ff 3
+signed -170141183460469231731687303715884105728: 1080000000000000000000000000000000 17
+enumerated 5: 05 1
+enumerated 128: 820080 3
+enumerated -1: 81ff 2
+subidentifier 42: 2a 1
+subidentifier 1079: 8837 2
+subidentifier 113549: 86f70d 3
+subidentifier 340282366920938463463374607431768211455: 83ffffffffffffffffffffffffffffffffff7f 19
+application 1: 41 1
+context 62: be 1
+context 63: bf3f 2
+context 200: bf8148 3
+context 4294967295: bf8fffffff7f 6
+private 63: ff3f 2
+one octet 255: ff 0
+two octets 255: 00ff 0
+four octets 255: 000000ff 0
+eight octets 255: 00000000000000ff 0
+one octet -128: 80 0
+two octets -129: ff7f 0";
+
+type Held = Metered<Vec<u8>>;
+
+// Writes a number of one of the kinds that carry their length, and answers how many octets it has.
+fn put_counted(unit: &str, number: &str, w: &mut Held) -> Result<u64, Fail> {
+    match unit {
+        "length" => {
+            let n = number.parse::<u64>()?;
+            put_length(n, w)?;
+            Ok(length_len(n))
+        }
+        "unsigned" => {
+            let n = i128::from(number.parse::<u64>()?);
+            put_unsigned_counted(n, w)?;
+            Ok(unsigned_counted_len(n))
+        }
+        "signed" => {
+            let n = number.parse::<i128>()?;
+            put_signed_counted(n, w)?;
+            Ok(signed_counted_len(n))
+        }
+        "enumerated" => {
+            let n = number.parse::<i64>()?;
+            put_enumerated(n, w)?;
+            Ok(enumerated_len(n))
+        }
+        _ => put_other(unit, number, w),
     }
 }
 
-#[test]
-fn least_signed_numbers(rt: HostRuntime) {
-    let rows: [(i128, &[u8]); 5] = [
-        (128, &[0x02, 0x00, 0x80]),
-        (-129, &[0x02, 0xff, 0x7f]),
-        (-1, &[0x01, 0xff]),
-        (255, &[0x02, 0x00, 0xff]),
-        (
-            i128::MIN,
-            &[0x10, 0x80, 0, 0, 0, 0, 0, 0, 0, 0, 0, 0, 0, 0, 0, 0, 0],
-        ),
-    ];
-    for (n, want) in rows {
-        let mut w = Metered::new(Vec::new(rt.alloc()));
-        assert!(rt; put_signed_counted(n, &mut w).is_ok());
-        assert_eq!(rt; w.into_inner().as_slice(), want);
-        assert_eq!(rt; signed_counted_len(n), want.len() as u64);
+// The same of a subidentifier or a tag.
+fn put_other(unit: &str, number: &str, w: &mut Held) -> Result<u64, Fail> {
+    let class = match unit {
+        "application" => Class::Application,
+        "context" => Class::Context,
+        "private" => Class::Private,
+        "subidentifier" => {
+            let n = number.parse::<u128>()?;
+            put_subidentifier(n, w)?;
+            return Ok(subidentifier_len(n));
+        }
+        _ => return put_fixed(unit, number, w),
+    };
+    let number = number.parse::<u32>()?;
+    let tag = Tag { class, number };
+    put_tag(tag, w)?;
+    Ok(tag_len(tag))
+}
+
+// The same of numbers of fixed size, which have no such function.
+fn put_fixed(unit: &str, number: &str, w: &mut Held) -> Result<u64, Fail> {
+    match (unit, number) {
+        ("one octet", "255") => put_unsigned_fixed(255, Width::One, w)?,
+        ("two octets", "255") => put_unsigned_fixed(255, Width::Two, w)?,
+        ("four octets", "255") => put_unsigned_fixed(255, Width::Four, w)?,
+        ("eight octets", "255") => put_unsigned_fixed(255, Width::Eight, w)?,
+        ("one octet", "-128") => put_signed_fixed(-128, Width::One, w)?,
+        ("two octets", "-129") => put_signed_fixed(-129, Width::Two, w)?,
+        _ => return Err(Fail::new("no such unit")),
     }
+    Ok(0)
+}
+
+// The octets of the row's number, and how many they are.
+fn appended(at: Global, spelt: &str) -> Result<String, Fail> {
+    let (unit, number) = spelt.rsplit_once(' ').ok_or("a number")?;
+    let mut sink = Metered::new(Vec::new(at));
+    let count = put_counted(unit, number, &mut sink)?;
+    let held = hex::encode(at, sink.into_inner().as_slice())?;
+    Ok(format!(in at; "{held} {count}")?)
 }
 
 #[test]
-fn least_enumerations(rt: HostRuntime) {
-    let rows: [(i64, &[u8]); 3] = [
-        (5, &[0x05]),
-        (128, &[0x82, 0x00, 0x80]),
-        (-1, &[0x81, 0xff]),
-    ];
-    for (n, want) in rows {
-        let mut w = Metered::new(Vec::new(rt.alloc()));
-        assert!(rt; put_enumerated(n, &mut w).is_ok());
-        assert_eq!(rt; w.into_inner().as_slice(), want);
-        assert_eq!(rt; enumerated_len(n), want.len() as u64);
+fn least_octets(rt: HostRuntime) -> Result<(), Fail> {
+    for row in NUMBERS.lines() {
+        let (spelt, want) = row.split_once(": ").ok_or("octets")?;
+        is_wanted(row, appended(rt.alloc(), spelt)?.as_str(), want)?;
     }
+    Ok(())
+}
+
+// What a sink holds that takes one octet a call, how many of its calls failed, and the answer.
+fn held(at: Global, calls: usize, fails: bool) -> Result<String, Fail> {
+    let mut sink = Metered::new(SlowWriter::new(calls, fails));
+    let done = put_octets(&[1, 2, 3], &mut sink);
+    let failures = sink.failures();
+    let taken = hex::encode(at, sink.into_inner().taken())?;
+    Ok(format!(in at; "{taken} {failures} {done:?}")?)
+}
+
+// The same of a number.
+fn number_held(at: Global, calls: usize, fails: bool) -> Result<String, Fail> {
+    let mut sink = Metered::new(SlowWriter::new(calls, fails));
+    let done = put_unsigned_counted(5, &mut sink);
+    let failures = sink.failures();
+    let taken = hex::encode(at, sink.into_inner().taken())?;
+    Ok(format!(in at; "{taken} {failures} {done:?}")?)
 }
 
 #[test]
-fn least_subidentifiers(rt: HostRuntime) {
-    let rows: [(u128, &[u8]); 4] = [
-        (42, &[0x2a]),
-        (1079, &[0x88, 0x37]),
-        (113549, &[0x86, 0xf7, 0x0d]),
-        (
-            u128::MAX,
-            &[
-                0x83, 0xff, 0xff, 0xff, 0xff, 0xff, 0xff, 0xff, 0xff, 0xff, 0xff, 0xff, 0xff, 0xff,
-                0xff, 0xff, 0xff, 0xff, 0x7f,
-            ],
-        ),
-    ];
-    for (n, want) in rows {
-        let mut w = Metered::new(Vec::new(rt.alloc()));
-        assert!(rt; put_subidentifier(n, &mut w).is_ok());
-        assert_eq!(rt; w.into_inner().as_slice(), want);
-        assert_eq!(rt; subidentifier_len(n), want.len() as u64);
-    }
+fn one_octet_a_call(rt: HostRuntime) -> Result<(), Fail> {
+    let answer = held(rt.alloc(), 3, true)?;
+    is_wanted("octets", answer.as_str(), "010203 0 Ok(())")
 }
 
 #[test]
-fn tags(rt: HostRuntime) {
-    let rows: [(Class, u32, &[u8]); 6] = [
-        (Class::Application, 1, &[0x41]),
-        (Class::Context, 62, &[0xbe]),
-        (Class::Private, 63, &[0xff, 0x3f]),
-        (Class::Context, 63, &[0xbf, 0x3f]),
-        (Class::Context, 200, &[0xbf, 0x81, 0x48]),
-        (
-            Class::Context,
-            u32::MAX,
-            &[0xbf, 0x8f, 0xff, 0xff, 0xff, 0x7f],
-        ),
-    ];
-    for (class, number, want) in rows {
-        let tag = Tag { class, number };
-        let mut w = Metered::new(Vec::new(rt.alloc()));
-        assert!(rt; put_tag(tag, &mut w).is_ok());
-        assert_eq!(rt; w.into_inner().as_slice(), want);
-        assert_eq!(rt; tag_len(tag), want.len() as u64);
-    }
-}
-
-#[test]
-fn numbers_of_each_form(rt: HostRuntime) {
-    let mut w = Metered::new(Vec::new(rt.alloc()));
-    assert!(rt; put_unsigned_fixed(255, Width::One, &mut w).is_ok());
-    assert!(rt; put_unsigned_fixed(255, Width::Two, &mut w).is_ok());
-    assert!(rt; put_unsigned_fixed(255, Width::Four, &mut w).is_ok());
-    assert!(rt; put_unsigned_fixed(255, Width::Eight, &mut w).is_ok());
-    assert!(rt; put_unsigned_counted(255, &mut w).is_ok());
-    assert!(rt; put_signed_fixed(-129, Width::Two, &mut w).is_ok());
-    assert!(rt; put_signed_fixed(-128, Width::One, &mut w).is_ok());
-    let want = [
-        0xff, 0, 0xff, 0, 0, 0, 0xff, 0, 0, 0, 0, 0, 0, 0, 0xff, 0x01, 0xff, 0xff, 0x7f, 0x80,
-    ];
-    assert_eq!(rt; w.into_inner().as_slice(), want.as_slice());
-    assert_eq!(rt; unsigned_counted_len(255), 2);
-}
-
-#[test]
-fn one_octet_a_call(rt: HostRuntime) {
-    let mut w = Metered::new(SlowWriter::new(3, true));
-    assert!(rt; put_octets(&[1, 2, 3], &mut w).is_ok());
-    assert_eq!(rt; w.failures(), 0);
-    assert_eq!(rt; w.into_inner().taken(), [1, 2, 3].as_slice());
-}
-
-#[test]
-fn a_sink_that_stops(rt: HostRuntime) {
+fn a_sink_that_stops(rt: HostRuntime) -> Result<(), Fail> {
     for fails in [false, true] {
-        let mut w = Metered::new(SlowWriter::new(1, fails));
-        assert_eq!(rt;
-            put_unsigned_counted(5, &mut w),
-            Err(SinkFault { written: 1 })
-        );
-        assert_eq!(rt; w.failures(), 1);
-        assert_eq!(rt; w.into_inner().taken(), [0x01].as_slice());
+        let answer = number_held(rt.alloc(), 1, fails)?;
+        is_wanted(
+            "a number",
+            answer.as_str(),
+            "01 1 Err(SinkFault { written: 1 })",
+        )?;
     }
+    Ok(())
 }

@@ -6,60 +6,43 @@ use thiserror::Error;
 
 /// Why octets are refused by a reader. It displays as its name.
 #[derive(Clone, Copy, Debug, PartialEq, Eq, Error)]
+#[error("{}", self.name())]
 pub enum Why {
     /// A growth of memory was refused.
-    #[error("Memory")]
     Memory,
     /// The reader failed.
-    #[error("Device")]
     Device,
     /// The reader gave no further octet.
-    #[error("End")]
     End,
     /// The limit would be passed, outside an open type.
-    #[error("Limit")]
     Limit,
     /// An open type would be passed, or was not filled.
-    #[error("Window")]
     Window,
     /// A length determinant begins with `80`.
-    #[error("LengthForm")]
     LengthForm,
     /// A counted number of no octets.
-    #[error("EmptyNumber")]
     EmptyNumber,
     /// A number outside its range or bounds.
-    #[error("IntegerRange")]
     IntegerRange,
     /// An enumeration with count 0, or outside 64 bits.
-    #[error("EnumForm")]
     EnumForm,
     /// An unlisted number, and the enumeration is not extensible.
-    #[error("UnknownEnum")]
     UnknownEnum,
     /// A size outside its constraint, or above 2^64 - 1.
-    #[error("Size")]
     Size,
     /// A character outside the type, or not UTF-8.
-    #[error("Character")]
     Character,
     /// No initial octet of a bit string, or a wrong one.
-    #[error("BitUnused")]
     BitUnused,
     /// Contents that are no object identifier.
-    #[error("ObjectId")]
     ObjectId,
     /// A nonzero padding bit of a preamble.
-    #[error("PreamblePadding")]
     PreamblePadding,
     /// No spelling of a tag, or a number above 2^32 - 1.
-    #[error("TagForm")]
     TagForm,
     /// A tag that no alternative has, and the CHOICE has no extension marker.
-    #[error("UnknownAlternative")]
     UnknownAlternative,
     /// A set bit for an addition past place 65,535.
-    #[error("UnknownAddition")]
     UnknownAddition,
 }
 

@@ -10,4 +10,7 @@ pub returns : goal.returns
 returns c =
     let start : HasShape (on_top (λ s. record s { subcommand_required = true }) (new_app (codes "oer"))) c.subcommand_required.result = record { app = search rules; local = search rules } in
     let one = adds_task _ _ _ _ _ start c.in_ok-show.ensures c.in_ok-subcommand.ensures in
-    IfOk-weaker c.subcommand-2.result _ _ (λ r h. adds_task _ _ _ _ _ one c.in_ok-canon.ensures h) c.subcommand-2.ensures
+    let two = adds_task _ _ _ _ _ one c.in_ok-canon.ensures c.in_ok-subcommand-2.ensures in
+    let three = adds_task _ _ _ _ _ two c.in_ok-check.ensures c.in_ok-subcommand-3.ensures in
+    let four = adds_task _ _ _ _ _ three c.in_ok-make.ensures c.in_ok-subcommand-4.ensures in
+    IfOk-weaker c.subcommand-5.result _ _ (λ r h. adds_task _ _ _ _ _ four c.in_ok-part.ensures h) c.subcommand-5.ensures

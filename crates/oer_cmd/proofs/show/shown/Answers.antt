@@ -9,4 +9,4 @@ use Rattle.oer_cmd.proofs.show.shown.Goals as goal
 pub returns-in-Ok-to_json : goal.returns-in-Ok-to_json
 returns-in-Ok-to_json g c =
     subst (λ known. IfSome known (IsShown (the_type c.args.schema.now) c.args.limit (view c.in-Ok-to_json.json))) c.new-counted.ensures
-    (shown_all _ _ _ _ _ _ c.in-Ok.ensures.told c.in_ok-check_end.ensures c.in-Ok-to_json.ensures)
+    (shown_all _ _ _ _ _ _ c.in-Ok.ensures.told c.in_ok-check_end.ensures.empty c.in-Ok-to_json.ensures)

@@ -1,0 +1,22 @@
+mod Joins
+mod UnitSteps
+mod LengthSteps
+mod NumberSteps
+mod Exits
+mod StringSteps
+mod BitLists
+mod BitSteps
+mod TagSteps
+mod FieldSteps
+pub mod Shapes
+mod FrontSteps
+mod TypeSteps
+mod Entries
+mod Pairs
+mod Walks
+mod Finds
+mod PartSteps
+mod ShapeCases
+mod Inside
+mod TagParts
+mod Leading

@@ -1,0 +1,173 @@
+-- Steps that a shape doesn't have.
+use Rattle.std.proofs.Common.{◌≡◌, ◌⊎◌, inl, inr, ⊎_elim, ℕ, suc, ltb, length, List, [], ◌∷◌, false, Option, Some, None, Vec, Box, Global, refl, ap, sym, ◌∙◌}
+use Rattle.oer_types.specs.AsnType.{AsnType, bit_string, boolean, choice, enumerated, extensible_sequence, integer, null, object_id, octet_string, restricted_string, sequence, sequence_of, utf8_string}
+use Rattle.oer_types.specs.Parts.{Step, field_count, knows, to_addition, to_chosen, to_component, to_item}
+use Rattle.oer_types.specs.ShapeView.{SeenField, SeenAddition, SeenAlternative, addition_step, alt_step, choice_with, field_step, fields_of, sequence_with, shape_step, type_of}
+use Rattle.oer_types.specs.declared.size.Size.{Size}
+use Rattle.oer_types.specs.declared.shape.Addition.{Addition}
+use Rattle.oer_types.specs.declared.shape.Alt.{Alt}
+use Rattle.oer_types.specs.declared.shape.Field.{Field}
+use Rattle.oer_types.specs.declared.shape.Shape.{Shape, Sequence, SequenceOf, Choice, fold-roll-Shape, out-Shape, roll-Shape, roll-out-Shape}
+use Rattle.oer_types.specs.declared.shape.Shape.TheOpen.{Shape-F}
+use Rattle.oer_types.specs.declared.shape.Shape.TheVariants.{rolls-Sequence, rolls-SequenceOf, rolls-Choice}
+use Rattle.oer_types.proofs.Shapes.{type_of-Choice, type_of-Sequence, type_of-SequenceOf}
+use Rattle.oer_checker.proofs.FieldSteps.{count_is}
+use Rattle.oer_checker.proofs.PartSteps.{has_step}
+
+abbrev Layer : Type 0
+Layer = Shape-F Shape Addition Alt Field
+
+IsPlain : Shape → Type 0
+IsPlain shape = (st : Step) → has_step (type_of shape) st ≡ false
+
+IsSequence : Shape → Type 0
+IsSequence shape = (root : Vec Field Global) × (more : Option (Vec Addition Global)) × (shape ≡ Sequence root more)
+
+IsList : Shape → Type 0
+IsList shape = (size : Size) × (item : Box Shape Global) × (shape ≡ SequenceOf size item)
+
+IsChoice : Shape → Type 0
+IsChoice shape = (root : Vec Alt Global) × (more : Option (Vec Alt Global)) × (shape ≡ Choice root more)
+
+kinds : (o : Layer) (shape : Shape) → roll-Shape o ≡ shape → IsPlain shape ⊎ (IsSequence shape ⊎ (IsList shape ⊎ IsChoice shape))
+unfolding IsPlain IsSequence IsList IsChoice
+kinds Shape-F.Boolean shape e = inl (λ st. ap (λ (x : Shape). has_step (type_of x) st) (sym e) ∙ ap (λ T. has_step T st) (fold-roll-Shape AsnType SeenAddition SeenAlternative SeenField shape_step addition_step alt_step field_step Shape-F.Boolean))
+kinds Shape-F.Null shape e = inl (λ st. ap (λ (x : Shape). has_step (type_of x) st) (sym e) ∙ ap (λ T. has_step T st) (fold-roll-Shape AsnType SeenAddition SeenAlternative SeenField shape_step addition_step alt_step field_step Shape-F.Null))
+kinds (Shape-F.Integer low high) shape e = inl (λ st. ap (λ (x : Shape). has_step (type_of x) st) (sym e) ∙ ap (λ T. has_step T st) (fold-roll-Shape AsnType SeenAddition SeenAlternative SeenField shape_step addition_step alt_step field_step (Shape-F.Integer low high)))
+kinds (Shape-F.Enumerated xs more) shape e = inl (λ st. ap (λ (x : Shape). has_step (type_of x) st) (sym e) ∙ ap (λ T. has_step T st) (fold-roll-Shape AsnType SeenAddition SeenAlternative SeenField shape_step addition_step alt_step field_step (Shape-F.Enumerated xs more)))
+kinds (Shape-F.BitString s) shape e = inl (λ st. ap (λ (x : Shape). has_step (type_of x) st) (sym e) ∙ ap (λ T. has_step T st) (fold-roll-Shape AsnType SeenAddition SeenAlternative SeenField shape_step addition_step alt_step field_step (Shape-F.BitString s)))
+kinds (Shape-F.OctetString s) shape e = inl (λ st. ap (λ (x : Shape). has_step (type_of x) st) (sym e) ∙ ap (λ T. has_step T st) (fold-roll-Shape AsnType SeenAddition SeenAlternative SeenField shape_step addition_step alt_step field_step (Shape-F.OctetString s)))
+kinds Shape-F.ObjectId shape e = inl (λ st. ap (λ (x : Shape). has_step (type_of x) st) (sym e) ∙ ap (λ T. has_step T st) (fold-roll-Shape AsnType SeenAddition SeenAlternative SeenField shape_step addition_step alt_step field_step Shape-F.ObjectId))
+kinds (Shape-F.Ia5 s) shape e = inl (λ st. ap (λ (x : Shape). has_step (type_of x) st) (sym e) ∙ ap (λ T. has_step T st) (fold-roll-Shape AsnType SeenAddition SeenAlternative SeenField shape_step addition_step alt_step field_step (Shape-F.Ia5 s)))
+kinds (Shape-F.Visible s) shape e = inl (λ st. ap (λ (x : Shape). has_step (type_of x) st) (sym e) ∙ ap (λ T. has_step T st) (fold-roll-Shape AsnType SeenAddition SeenAlternative SeenField shape_step addition_step alt_step field_step (Shape-F.Visible s)))
+kinds (Shape-F.Numeric s) shape e = inl (λ st. ap (λ (x : Shape). has_step (type_of x) st) (sym e) ∙ ap (λ T. has_step T st) (fold-roll-Shape AsnType SeenAddition SeenAlternative SeenField shape_step addition_step alt_step field_step (Shape-F.Numeric s)))
+kinds (Shape-F.Printable s) shape e = inl (λ st. ap (λ (x : Shape). has_step (type_of x) st) (sym e) ∙ ap (λ T. has_step T st) (fold-roll-Shape AsnType SeenAddition SeenAlternative SeenField shape_step addition_step alt_step field_step (Shape-F.Printable s)))
+kinds (Shape-F.Utf8 s) shape e = inl (λ st. ap (λ (x : Shape). has_step (type_of x) st) (sym e) ∙ ap (λ T. has_step T st) (fold-roll-Shape AsnType SeenAddition SeenAlternative SeenField shape_step addition_step alt_step field_step (Shape-F.Utf8 s)))
+kinds (Shape-F.Sequence root more) shape e = inr (inl (root, more, sym e ∙ rolls-Sequence root more))
+kinds (Shape-F.SequenceOf size item) shape e = inr (inr (inl (size, item, sym e ∙ rolls-SequenceOf size item)))
+kinds (Shape-F.Choice root more) shape e = inr (inr (inr (root, more, sym e ∙ rolls-Choice root more)))
+
+known : (shape : Shape) → IsPlain shape ⊎ (IsSequence shape ⊎ (IsList shape ⊎ IsChoice shape))
+known shape = kinds (out-Shape shape) shape (roll-out-Shape shape)
+
+list_has : (shape : Shape) → IsList shape → (st : Step) → ((i : ℕ) → st ≡ to_item i → ⊥) → has_step (type_of shape) st ≡ false
+unfolding IsList
+list_has shape (size, item, e) st other = ap (λ (x : Shape). has_step (type_of x) st) e ∙ ap (λ T. has_step T st) (type_of-SequenceOf size item) ∙ by st other where
+  by : (st : Step) → ((i : ℕ) → st ≡ to_item i → ⊥) → has_step (sequence_of size (type_of item.value)) st ≡ false
+  by (to_component i) other = refl
+  by (to_addition i) other = refl
+  by (to_item i) other = absurd (other i refl)
+  by to_chosen other = refl
+
+choice_has : (shape : Shape) → IsChoice shape → (st : Step) → (st ≡ to_chosen → ⊥) → has_step (type_of shape) st ≡ false
+unfolding IsChoice
+choice_has shape (root, more, e) st other = ap (λ (x : Shape). has_step (type_of x) st) e ∙ ap (λ T. has_step T st) (type_of-Choice root more) ∙ by more st other where
+  by : (more : Option (Vec Alt Global)) (st : Step) → (st ≡ to_chosen → ⊥) → has_step (choice_with root.items more) st ≡ false
+  by None (to_component i) other = refl
+  by None (to_addition i) other = refl
+  by None (to_item i) other = refl
+  by None to_chosen other = absurd (other refl)
+  by (Some m) (to_component i) other = refl
+  by (Some m) (to_addition i) other = refl
+  by (Some m) (to_item i) other = refl
+  by (Some m) to_chosen other = absurd (other refl)
+
+sequence_has : (shape : Shape) → IsSequence shape → (st : Step) → ((i : ℕ) → st ≡ to_component i → ⊥) → ((i : ℕ) → st ≡ to_addition i → ⊥) → has_step (type_of shape) st ≡ false
+unfolding IsSequence
+sequence_has shape (root, more, e) st one two = ap (λ (x : Shape). has_step (type_of x) st) e ∙ ap (λ T. has_step T st) (type_of-Sequence root more) ∙ by more st one two where
+  by : (more : Option (Vec Addition Global)) (st : Step) → ((i : ℕ) → st ≡ to_component i → ⊥) → ((i : ℕ) → st ≡ to_addition i → ⊥) → has_step (sequence_with root.items more) st ≡ false
+  by None (to_component i) one two = absurd (one i refl)
+  by None (to_addition i) one two = refl
+  by None (to_item i) one two = refl
+  by None to_chosen one two = refl
+  by (Some m) (to_component i) one two = absurd (one i refl)
+  by (Some m) (to_addition i) one two = absurd (two i refl)
+  by (Some m) (to_item i) one two = refl
+  by (Some m) to_chosen one two = refl
+
+pub not_sequence : (shape : Shape) → ((root : Vec Field Global) (more : Option (Vec Addition Global)) → shape ≡ Sequence root more → ⊥) → (st : Step) → ((i : ℕ) → st ≡ to_item i → ⊥) → (st ≡ to_chosen → ⊥) → has_step (type_of shape) st ≡ false
+unfolding IsPlain IsSequence
+not_sequence shape none st one two = ⊎_elim (λ k. k st) (⊎_elim (λ (root, more, e). absurd (none root more e)) (⊎_elim (λ k. list_has shape k st one) (λ k. choice_has shape k st two))) (known shape)
+
+pub not_list : (shape : Shape) → ((size : Size) (item : Box Shape Global) → shape ≡ SequenceOf size item → ⊥) → (i : ℕ) → has_step (type_of shape) (to_item i) ≡ false
+unfolding IsPlain IsList
+not_list shape none i = ⊎_elim (λ k. k (to_item i)) (⊎_elim (λ k. sequence_has shape k (to_item i) (λ j e. absurd (cc)) (λ j e. absurd (cc))) (⊎_elim (λ (size, item, e). absurd (none size item e)) (λ k. choice_has shape k (to_item i) (λ e. absurd (cc))))) (known shape)
+
+pub not_choice : (shape : Shape) → ((root : Vec Alt Global) (more : Option (Vec Alt Global)) → shape ≡ Choice root more → ⊥) → has_step (type_of shape) to_chosen ≡ false
+unfolding IsPlain IsChoice
+not_choice shape none = ⊎_elim (λ k. k to_chosen) (⊎_elim (λ k. sequence_has shape k to_chosen (λ j e. absurd (cc)) (λ j e. absurd (cc))) (⊎_elim (λ k. list_has shape k to_chosen (λ j e. absurd (cc))) (λ (root, more, e). absurd (none root more e)))) (known shape)
+
+-- ---- which steps name a component of the root or a known addition
+
+known_has : (T : AsnType) (st : Step) → has_step T st ≡ false → false ≡ knows T st
+known_has (sequence fs) (to_component i) e = absurd (cc)
+known_has (sequence fs) (to_addition i) e = refl
+known_has (sequence fs) (to_item i) e = refl
+known_has (sequence fs) to_chosen e = refl
+known_has (extensible_sequence fs more) (to_component i) e = absurd (cc)
+known_has (extensible_sequence fs more) (to_addition i) e = absurd (cc)
+known_has (extensible_sequence fs more) (to_item i) e = refl
+known_has (extensible_sequence fs more) to_chosen e = refl
+known_has (sequence_of s T) st e = refl
+known_has (choice x more) st e = refl
+known_has boolean st e = refl
+known_has null st e = refl
+known_has (integer low high) st e = refl
+known_has (enumerated numbers x) st e = refl
+known_has (bit_string z) st e = refl
+known_has object_id st e = refl
+known_has (restricted_string kind z) st e = refl
+known_has (utf8_string z) st e = refl
+known_has (octet_string z) st e = refl
+
+never_item : (T : AsnType) (i : ℕ) → false ≡ knows T (to_item i)
+never_item (sequence fs) i = refl
+never_item (extensible_sequence fs more) i = refl
+never_item (sequence_of s T) i = refl
+never_item (choice x more) i = refl
+never_item boolean i = refl
+never_item null i = refl
+never_item (integer low high) i = refl
+never_item (enumerated numbers x) i = refl
+never_item (bit_string z) i = refl
+never_item object_id i = refl
+never_item (restricted_string kind z) i = refl
+never_item (utf8_string z) i = refl
+never_item (octet_string z) i = refl
+
+never_chosen : (T : AsnType) → false ≡ knows T to_chosen
+never_chosen (sequence fs) = refl
+never_chosen (extensible_sequence fs more) = refl
+never_chosen (sequence_of s T) = refl
+never_chosen (choice x more) = refl
+never_chosen boolean = refl
+never_chosen null = refl
+never_chosen (integer low high) = refl
+never_chosen (enumerated numbers x) = refl
+never_chosen (bit_string z) = refl
+never_chosen object_id = refl
+never_chosen (restricted_string kind z) = refl
+never_chosen (utf8_string z) = refl
+never_chosen (octet_string z) = refl
+
+pub not_known : (shape : Shape) → ((root : Vec Field Global) (more : Option (Vec Addition Global)) → shape ≡ Sequence root more → ⊥) → (st : Step) → false ≡ knows (type_of shape) st
+not_known shape none (to_component i) = known_has (type_of shape) (to_component i) (not_sequence shape none (to_component i) (λ j e. absurd (cc)) (λ e. absurd (cc)))
+not_known shape none (to_addition i) = known_has (type_of shape) (to_addition i) (not_sequence shape none (to_addition i) (λ j e. absurd (cc)) (λ e. absurd (cc)))
+not_known shape none (to_item i) = never_item (type_of shape) i
+not_known shape none to_chosen = never_chosen (type_of shape)
+
+field_count_is : (xs : List Field) → field_count (fields_of xs) ≡ length xs
+field_count_is [] = refl
+field_count_is (x ∷ xs) = ap suc (field_count_is xs)
+
+pub knows_component : (shape : Shape) (root : Vec Field Global) (more : Option (Vec Addition Global)) (i : ℕ) → shape ≡ Sequence root more → ltb i (length root.items) ≡ knows (type_of shape) (to_component i)
+knows_component shape root more i e = by more ∙ ap (λ T. knows T (to_component i)) (sym (type_of-Sequence root more)) ∙ ap (λ (x : Shape). knows (type_of x) (to_component i)) (sym e) where
+  by : (more : Option (Vec Addition Global)) → ltb i (length root.items) ≡ knows (sequence_with root.items more) (to_component i)
+  by None = ap (ltb i) (sym (field_count_is root.items))
+  by (Some m) = ap (ltb i) (sym (field_count_is root.items))
+
+pub knows_addition : (shape : Shape) (root : Vec Field Global) (more : Option (Vec Addition Global)) (xs : Vec Addition Global) (i : ℕ) → shape ≡ Sequence root more → more ≡ Some xs → ltb i (length xs.items) ≡ knows (type_of shape) (to_addition i)
+knows_addition shape root more xs i e some =
+    ap (ltb i) (sym (count_is xs.items))
+    ∙ ap (λ (m : Option (Vec Addition Global)). knows (sequence_with root.items m) (to_addition i)) (sym some)
+    ∙ ap (λ T. knows T (to_addition i)) (sym (type_of-Sequence root more)) ∙ ap (λ (x : Shape). knows (type_of x) (to_addition i)) (sym e)

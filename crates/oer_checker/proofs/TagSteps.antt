@@ -1,0 +1,184 @@
+-- Alternatives of a CHOICE, one after another.
+use Rattle.std.proofs.Common.{◌≡◌, ℕ, zero, suc, subst, ◌+◌, ◌<◌, ◌≤◌, Bool, true, false, ◌||◌, List, [], ◌∷◌, arith, length, drop, take, get_or, refl, sym, ap, ap₂, ◌∙◌, drop-cons, add-one}
+use Rattle.std.proofs.lemmas.List.{drop_all, take_all}
+use Rattle.oer_units.specs.declared.fault.Why.{Why}
+use Rattle.oer_units.specs.declared.fault.Why.TheVariants.{UnknownAlternative}
+use Rattle.oer_units.specs.declared.tagging.Tag.{Tag}
+use Rattle.oer_units.specs.Reader.{Outcome, Place, Reader, choose, got, guard, refuse, refused}
+use Rattle.oer_units.specs.Reading.{tag}
+use Rattle.oer_types.specs.AsnType.{Alternatives, choice, no_alternatives}
+use Rattle.oer_types.specs.Checking.{check_alternative, check_by_tag, check_choice, check_chosen, check_octets, check_open, check_value}
+use Rattle.oer_types.specs.Constraints.{AlternativesKeepLimits, KeepsLimits, has_tag, same_tag}
+use Rattle.oer_types.specs.Fits.{AlternativeDefaultsFit, DefaultsFit}
+use Rattle.oer_types.specs.ShapeView.{later_of, root_of, type_of}
+use Rattle.oer_types.specs.declared.shape.Alt.{Alt}
+use Rattle.oer_checker.specs.Steps.{check_later}
+use Rattle.oer_checker.proofs.Joins.{bind_got, bind_stop}
+
+pub here : (xs : List Alt) (i : ℕ) (a : Alt) → i < length xs → a ≡ get_or xs i a → drop i xs ≡ a ∷ drop (i + 1) xs
+here xs i a less is = drop-cons xs i a less ∙ ap (λ (x : Alt). x ∷ drop (suc i) xs) (sym is) ∙ ap (λ (k : ℕ). a ∷ drop k xs) (sym (add-one i))
+
+pub tag_step : (xs : List Alt) (i : ℕ) (a : Alt) (t : Tag) (b : Bool) → i < length xs → a ≡ get_or xs i a → same_tag a.tag t ≡ b → has_tag t (root_of (drop i xs) no_alternatives) ≡ (b || has_tag t (root_of (drop (i + 1) xs) no_alternatives))
+tag_step xs i a t b less is e = ap (λ (l : List Alt). has_tag t (root_of l no_alternatives)) (here xs i a less is) ∙ ap (λ (c : Bool). c || has_tag t (root_of (drop (i + 1) xs) no_alternatives)) e
+
+-- ---- a root, and what follows it
+
+in_step : (b x y : Bool) → (true ≡ x → y ≡ true) → true ≡ (b || x) → (b || y) ≡ true
+in_step true x y more e = refl
+in_step false x y more e = more e
+
+pub in_root : (xs : List Alt) (after : Alternatives) (t : Tag) → true ≡ has_tag t (root_of xs no_alternatives) → has_tag t (root_of xs after) ≡ true
+in_root [] after t e = absurd (cc)
+in_root (a ∷ xs) after t e = in_step (same_tag a.tag t) (has_tag t (root_of xs no_alternatives)) (has_tag t (root_of xs after)) (in_root xs after t) e
+
+value_step : (b x : Bool) (c r s : Reader Bool) → (true ≡ x → r ≡ s) → true ≡ (b || x) → check_by_tag b c r ≡ check_by_tag b c s
+value_step true x c r s more e = refl
+value_step false x c r s more e = more e
+
+pub root_value : (xs : List Alt) (after : Alternatives) (t : Tag) → true ≡ has_tag t (root_of xs no_alternatives) → check_alternative (root_of xs no_alternatives) t ≡ check_alternative (root_of xs after) t
+root_value [] after t e = absurd (cc)
+root_value (a ∷ xs) after t e = value_step (same_tag a.tag t) (has_tag t (root_of xs no_alternatives)) (check_value (type_of a.shape)) (check_alternative (root_of xs no_alternatives) t) (check_alternative (root_of xs after) t) (root_value xs after t) e
+
+out_step : (b x y z : Bool) → (false ≡ x → y ≡ z) → false ≡ (b || x) → (b || y) ≡ z
+out_step true x y z more e = absurd (cc)
+out_step false x y z more e = more e
+
+pub not_in_root : (xs : List Alt) (after : Alternatives) (t : Tag) → false ≡ has_tag t (root_of xs no_alternatives) → has_tag t (root_of xs after) ≡ has_tag t after
+not_in_root [] after t e = refl
+not_in_root (a ∷ xs) after t e = out_step (same_tag a.tag t) (has_tag t (root_of xs no_alternatives)) (has_tag t (root_of xs after)) (has_tag t after) (not_in_root xs after t) e
+
+later_step : (b x : Bool) (c r s : Reader Bool) → (false ≡ x → r ≡ s) → false ≡ (b || x) → r ≡ check_by_tag b c s
+later_step true x c r s more e = absurd (cc)
+later_step false x c r s more e = more e
+
+pub later_value : (xs : List Alt) (after : Alternatives) (t : Tag) → false ≡ has_tag t (root_of xs no_alternatives) → check_alternative after t ≡ check_alternative (root_of xs after) t
+later_value [] after t e = refl
+later_value (a ∷ xs) after t e = later_step (same_tag a.tag t) (has_tag t (root_of xs no_alternatives)) (check_value (type_of a.shape)) (check_alternative after t) (check_alternative (root_of xs after) t) (later_value xs after t) e
+
+abbrev after_tag : Bool → Alternatives → Tag → Reader Bool
+after_tag extensible more t = check_chosen extensible more (check_alternative more) t
+
+choice_then : (extensible : Bool) (more : Alternatives) (p q : Place) (t : Tag) (o : Outcome Bool) → got t q ≡ tag p → o ≡ after_tag extensible more t q → o ≡ check_value (choice extensible more) p
+unfolding check_choice
+choice_then extensible more p q t o e h = bind_got tag (after_tag extensible more) p q t o e h
+
+pub choice_stop : (extensible : Bool) (more : Alternatives) (p : Place) (why : Why) (rest : List ℕ) → refused why rest ≡ tag p → refused why rest ≡ check_value (choice extensible more) p
+unfolding check_choice
+choice_stop extensible more p why rest e = bind_stop tag (after_tag extensible more) p why rest e
+
+pub choice_root : (extensible : Bool) (xs : List Alt) (after : Alternatives) (p q : Place) (t : Tag) (o : Outcome Bool) → got t q ≡ tag p → true ≡ has_tag t (root_of xs no_alternatives) → o ≡ check_alternative (root_of xs no_alternatives) t q → o ≡ check_value (choice extensible (root_of xs after)) p
+choice_root extensible xs after p q t o e has h =
+    choice_then extensible (root_of xs after) p q t o e
+    (h ∙ ap (λ (r : Reader Bool). r q) (root_value xs after t has)
+    ∙ ap (λ (b : Bool). choose b (check_alternative (root_of xs after) t) (guard extensible UnknownAlternative check_octets) q) (sym (in_root xs after t has)))
+
+pub choice_later : (xs more : List Alt) (p q : Place) (t : Tag) (o : Outcome Bool) → got t q ≡ tag p → false ≡ has_tag t (root_of xs no_alternatives) → o ≡ check_later (later_of more) t q → o ≡ check_value (choice true (root_of xs (later_of more))) p
+choice_later xs more p q t o e none h =
+    choice_then true (root_of xs (later_of more)) p q t o e
+    (h ∙ ap₂ (λ (b : Bool) (r : Reader Bool). choose b r check_octets q) (sym (not_in_root xs (later_of more) t none)) (later_value xs (later_of more) t none))
+
+refused_is : (b : Bool) (r : Reader Bool) (q : Place) → false ≡ b → refused UnknownAlternative q.input ≡ choose b r (guard false UnknownAlternative check_octets) q
+unfolding refuse
+refused_is b r q e = rw (sym e) refl
+
+pub choice_none : (xs : List Alt) (p q : Place) (t : Tag) → got t q ≡ tag p → false ≡ has_tag t (root_of xs no_alternatives) → refused UnknownAlternative q.input ≡ check_value (choice false (root_of xs no_alternatives)) p
+choice_none xs p q t e none =
+    choice_then false (root_of xs no_alternatives) p q t (refused UnknownAlternative q.input) e
+    (refused_is (has_tag t (root_of xs no_alternatives)) (check_alternative (root_of xs no_alternatives) t) q none)
+
+-- ---- the first one that has the tag
+
+tag_beside : (b c : Bool) (x y : Bool) → b ≡ false → (x ≡ false → y ≡ false) → (c || x) ≡ false → (c || y) ≡ false
+tag_beside b true x y e f h = absurd (cc)
+tag_beside b false x y e f h = f h
+
+first_next : (xs : List Alt) (i : ℕ) (a : Alt) (t : Tag) → i < length xs → a ≡ get_or xs i a → same_tag a.tag t ≡ false → has_tag t (root_of (take i xs) no_alternatives) ≡ false → has_tag t (root_of (take (suc i) xs) no_alternatives) ≡ false
+first_next [] i a t less is none before = absurd (omega arith)
+first_next (x ∷ xs) zero a t less is none before = ap (λ (b : Bool). b || false) (ap (λ (y : Alt). same_tag y.tag t) (sym is) ∙ none)
+first_next (x ∷ xs) (suc i) a t less is none before = tag_beside false (same_tag x.tag t) (has_tag t (root_of (take i xs) no_alternatives)) (has_tag t (root_of (take (suc i) xs) no_alternatives)) refl (first_next xs i a t (omega arith) is none) before
+
+pub first_more : (xs : List Alt) (i : ℕ) (a : Alt) (t : Tag) → i < length xs → a ≡ get_or xs i a → same_tag a.tag t ≡ false → has_tag t (root_of (take i xs) no_alternatives) ≡ false → has_tag t (root_of (take (i + 1) xs) no_alternatives) ≡ false
+first_more xs i a t less is none before = ap (λ (k : ℕ). has_tag t (root_of (take k xs) no_alternatives)) (add-one i) ∙ first_next xs i a t less is none before
+
+pub first_none : (xs : List Alt) (i : ℕ) (t : Tag) → length xs ≤ i → has_tag t (root_of (take i xs) no_alternatives) ≡ false → has_tag t (root_of xs no_alternatives) ≡ false
+first_none xs i t le before = ap (λ (l : List Alt). has_tag t (root_of l no_alternatives)) (sym (take_all i xs le)) ∙ before
+
+-- ---- in a loop
+
+pub root_here : (xs : List Alt) (i : ℕ) (a : Alt) (t : Tag) (whole : Reader Bool) → i < length xs → a ≡ get_or xs i a → true ≡ same_tag a.tag t → check_alternative (root_of (drop i xs) no_alternatives) t ≡ whole → check_value (type_of a.shape) ≡ whole
+root_here xs i a t whole less is same e =
+    ap (λ (b : Bool). check_by_tag b (check_value (type_of a.shape)) (check_alternative (root_of (drop (i + 1) xs) no_alternatives) t)) same
+    ∙ ap (λ (l : List Alt). check_alternative (root_of l no_alternatives) t) (sym (here xs i a less is)) ∙ e
+
+pub root_next : (xs : List Alt) (i : ℕ) (a : Alt) (t : Tag) (whole : Reader Bool) → i < length xs → a ≡ get_or xs i a → false ≡ same_tag a.tag t → check_alternative (root_of (drop i xs) no_alternatives) t ≡ whole → check_alternative (root_of (drop (i + 1) xs) no_alternatives) t ≡ whole
+root_next xs i a t whole less is other e =
+    ap (λ (b : Bool). check_by_tag b (check_value (type_of a.shape)) (check_alternative (root_of (drop (i + 1) xs) no_alternatives) t)) other
+    ∙ ap (λ (l : List Alt). check_alternative (root_of l no_alternatives) t) (sym (here xs i a less is)) ∙ e
+
+pub root_end : (xs : List Alt) (i : ℕ) (t : Tag) (whole : Reader Bool) (p : Place) → length xs ≤ i → check_alternative (root_of (drop i xs) no_alternatives) t ≡ whole → refused UnknownAlternative p.input ≡ whole p
+unfolding refuse
+root_end xs i t whole p le e = ap (λ (r : Reader Bool). r p) (ap (λ (l : List Alt). check_alternative (root_of l no_alternatives) t) (sym (drop_all i xs le)) ∙ e)
+
+pub later_here : (xs : List Alt) (i : ℕ) (a : Alt) (t : Tag) (whole : Reader Bool) → i < length xs → a ≡ get_or xs i a → true ≡ same_tag a.tag t → check_later (later_of (drop i xs)) t ≡ whole → check_open (check_value (type_of a.shape)) ≡ whole
+later_here xs i a t whole less is same e =
+    ap (λ (b : Bool). choose (b || has_tag t (later_of (drop (i + 1) xs))) (check_by_tag b (check_open (check_value (type_of a.shape))) (check_alternative (later_of (drop (i + 1) xs)) t)) check_octets) same
+    ∙ ap (λ (l : List Alt). check_later (later_of l) t) (sym (here xs i a less is)) ∙ e
+
+pub later_next : (xs : List Alt) (i : ℕ) (a : Alt) (t : Tag) (whole : Reader Bool) → i < length xs → a ≡ get_or xs i a → false ≡ same_tag a.tag t → check_later (later_of (drop i xs)) t ≡ whole → check_later (later_of (drop (i + 1) xs)) t ≡ whole
+later_next xs i a t whole less is other e =
+    ap (λ (b : Bool). choose (b || has_tag t (later_of (drop (i + 1) xs))) (check_by_tag b (check_open (check_value (type_of a.shape))) (check_alternative (later_of (drop (i + 1) xs)) t)) check_octets) other
+    ∙ ap (λ (l : List Alt). check_later (later_of l) t) (sym (here xs i a less is)) ∙ e
+
+pub later_end : (xs : List Alt) (i : ℕ) (t : Tag) (whole : Reader Bool) → length xs ≤ i → check_later (later_of (drop i xs)) t ≡ whole → check_octets ≡ whole
+later_end xs i t whole le e = ap (λ (l : List Alt). check_later (later_of l) t) (sym (drop_all i xs le)) ∙ e
+
+-- ---- what is asked of the types
+
+root_dropped : (xs : List Alt) (i : ℕ) → AlternativesKeepLimits (root_of xs no_alternatives) → AlternativesKeepLimits (root_of (drop i xs) no_alternatives)
+root_dropped xs zero k = k
+root_dropped [] (suc i) k = k
+root_dropped (a ∷ xs) (suc i) k = root_dropped xs i k.1
+
+pub root_limits : (xs : List Alt) (i : ℕ) (a : Alt) → i < length xs → a ≡ get_or xs i a → AlternativesKeepLimits (root_of xs no_alternatives) → KeepsLimits (type_of a.shape)
+root_limits xs i a less is k = (subst (λ (l : List Alt). AlternativesKeepLimits (root_of l no_alternatives)) (here xs i a less is) (root_dropped xs i k)).0
+
+root_dropped_defaults : (xs : List Alt) (i : ℕ) → AlternativeDefaultsFit (root_of xs no_alternatives) → AlternativeDefaultsFit (root_of (drop i xs) no_alternatives)
+root_dropped_defaults xs zero k = k
+root_dropped_defaults [] (suc i) k = k
+root_dropped_defaults (a ∷ xs) (suc i) k = root_dropped_defaults xs i k.1
+
+pub root_defaults : (xs : List Alt) (i : ℕ) (a : Alt) → i < length xs → a ≡ get_or xs i a → AlternativeDefaultsFit (root_of xs no_alternatives) → DefaultsFit (type_of a.shape)
+root_defaults xs i a less is k = (subst (λ (l : List Alt). AlternativeDefaultsFit (root_of l no_alternatives)) (here xs i a less is) (root_dropped_defaults xs i k)).0
+
+later_dropped : (xs : List Alt) (i : ℕ) → AlternativesKeepLimits (later_of xs) → AlternativesKeepLimits (later_of (drop i xs))
+later_dropped xs zero k = k
+later_dropped [] (suc i) k = k
+later_dropped (a ∷ xs) (suc i) k = later_dropped xs i k.1
+
+pub later_limits : (xs : List Alt) (i : ℕ) (a : Alt) → i < length xs → a ≡ get_or xs i a → AlternativesKeepLimits (later_of xs) → KeepsLimits (type_of a.shape)
+later_limits xs i a less is k = (subst (λ (l : List Alt). AlternativesKeepLimits (later_of l)) (here xs i a less is) (later_dropped xs i k)).0
+
+later_dropped_defaults : (xs : List Alt) (i : ℕ) → AlternativeDefaultsFit (later_of xs) → AlternativeDefaultsFit (later_of (drop i xs))
+later_dropped_defaults xs zero k = k
+later_dropped_defaults [] (suc i) k = k
+later_dropped_defaults (a ∷ xs) (suc i) k = later_dropped_defaults xs i k.1
+
+pub later_defaults : (xs : List Alt) (i : ℕ) (a : Alt) → i < length xs → a ≡ get_or xs i a → AlternativeDefaultsFit (later_of xs) → DefaultsFit (type_of a.shape)
+later_defaults xs i a less is k = (subst (λ (l : List Alt). AlternativeDefaultsFit (later_of l)) (here xs i a less is) (later_dropped_defaults xs i k)).0
+
+-- those of a root, and those after it
+pub front_limits : (xs : List Alt) (after : Alternatives) → AlternativesKeepLimits (root_of xs after) → AlternativesKeepLimits (root_of xs no_alternatives)
+front_limits [] after k = tt
+front_limits (a ∷ xs) after k = (k.0, front_limits xs after k.1, k.2)
+
+pub front_defaults : (xs : List Alt) (after : Alternatives) → AlternativeDefaultsFit (root_of xs after) → AlternativeDefaultsFit (root_of xs no_alternatives)
+front_defaults [] after k = tt
+front_defaults (a ∷ xs) after k = (k.0, front_defaults xs after k.1)
+
+pub after_limits : (xs : List Alt) (after : Alternatives) → AlternativesKeepLimits (root_of xs after) → AlternativesKeepLimits after
+after_limits [] after k = k
+after_limits (a ∷ xs) after k = after_limits xs after k.1
+
+pub after_defaults : (xs : List Alt) (after : Alternatives) → AlternativeDefaultsFit (root_of xs after) → AlternativeDefaultsFit after
+after_defaults [] after k = k
+after_defaults (a ∷ xs) after k = after_defaults xs after k.1

@@ -1,0 +1,232 @@
+use Rattle.std.proofs.Common.{◌∙◌, Global, Option, Vec, ◌-◌, ◌+◌, Bool, true, false, List, length, arith, rules, refl, sym, ap}
+use Rattle.oer_units.specs.Reader.{Reader}
+use Rattle.oer_types.specs.AsnType.{choice, extensible_sequence, ia5, no_alternatives, null, numeric, printable, restricted_string, sequence, sequence_of, visible}
+use Rattle.oer_types.specs.Checking.{check_open, check_value}
+use Rattle.oer_types.specs.Constraints.{has_tag}
+use Rattle.oer_types.specs.ShapeView.{additions_of, fields_of, later_of, need_of, root_of, type_of}
+use Rattle.oer_types.specs.declared.shape.Alt.{Alt}
+use Rattle.oer_types.specs.declared.shape.Shape.{Choice, Shape}
+use Rattle.oer_types.proofs.Shapes.{type_of-Ia5, type_of-Numeric, type_of-Printable, type_of-Visible}
+use Rattle.oer_checker.specs.BitView.{bits_in}
+use Rattle.oer_checker.specs.Places.{place_of}
+use Rattle.oer_checker.specs.Steps.{and_after, check_there, is_default, left_open}
+use Rattle.oer_checker.proofs.Exits.{at_stop}
+use Rattle.oer_checker.proofs.FieldSteps.{additions_end, additions_next, additions_stop, count_is, extensible_stop, fields_end, fields_next, fields_stop, if_absent, items_stop, items_then, known_stop, later_got, later_stop, map_stop, no_extension, root_stop, sequence_stop, sequence_then, there_got, there_stop, times_end, times_next, times_start, times_stop, unknown_got, unknown_stop}
+use Rattle.oer_checker.proofs.Joins.{give_got}
+use Rattle.oer_checker.proofs.LengthSteps.{open_stop, open_then}
+use Rattle.oer_checker.proofs.Shapes.{type_of-Null}
+use Rattle.oer_checker.proofs.TagSteps.{choice_later, choice_none, choice_root, choice_stop, later_end, later_here, later_next, root_end, root_here, root_next}
+use Rattle.oer_checker.proofs.TypeSteps.{as_choice, as_closed, as_extensible, as_items, as_open, as_sequence, by_type}
+use Rattle.oer_checker.proofs.value.+check.Goals as goal
+
+pub check_addition-returns-else-is_present : goal.check_addition-returns-else-is_present
+check_addition-returns-else-is_present t c = if_absent c.args.is_present (check_open (check_value (type_of c.args.addition.now.shape))) _ c.if-is_present.false
+
+pub check_place-returns-else-is_present : goal.check_place-returns-else-is_present
+check_place-returns-else-is_present t c = if_absent c.args.is_present (check_there (need_of c.args.field.now.need) (type_of c.args.field.now.shape)) _ c.if-is_present.false
+
+pub check_additions-loop-addition-preserved : goal.check_additions-loop-addition-preserved
+check_additions-loop-addition-preserved t c = rw c.both-is_canonical.ensures (additions_next c.args.additions.now c.loop-addition.addition-index c.addition-item.result (bits_in c.loop-addition.left) (bits_in c.later-left.result) c.first-is_present.result c.loop-addition.is_canonical c.in_ok-is_addition.is_addition _ _ _ c.loop-addition-test.true c.addition-item.is c.first-is_present.ensures c.later-left.ensures c.loop-addition.invariant c.in_ok-is_addition.ensures)
+
+pub check_additions-returns-in_err-is_addition : goal.check_additions-returns-in_err-is_addition
+check_additions-returns-in_err-is_addition t c = rw (at_stop c.from_residual.result c.in_err-is_addition.field-0.0 c.from_residual.ensures.1) (additions_stop c.args.additions.now c.loop-addition.addition-index c.addition-item.result (bits_in c.loop-addition.left) (bits_in c.later-left.result) c.first-is_present.result c.loop-addition.is_canonical _ _ _ _ c.loop-addition-test.true c.addition-item.is c.first-is_present.ensures c.later-left.ensures c.loop-addition.invariant c.in_err-is_addition.ensures)
+
+pub check_additions-returns : goal.check_additions-returns
+check_additions-returns t c = additions_end c.args.additions.now c.loop-addition.addition-index (bits_in c.loop-addition.left) c.loop-addition.is_canonical _ _ c.loop-addition-test.false c.loop-addition.invariant
+
+pub check_fields-loop-field-preserved : goal.check_fields-loop-field-preserved
+check_fields-loop-field-preserved t c = rw c.both-is_canonical.ensures (fields_next c.args.fields.now c.loop-field.field-index c.field-item.result (bits_in c.loop-field.left) (bits_in c.presence-is_present.result.1) c.presence-is_present.result.0 c.loop-field.is_canonical c.in_ok-is_field.is_field _ _ _ c.loop-field-test.true c.field-item.is c.presence-is_present.ensures.there c.presence-is_present.ensures.left c.loop-field.invariant c.in_ok-is_field.ensures)
+
+pub check_fields-returns-in_err-is_field : goal.check_fields-returns-in_err-is_field
+check_fields-returns-in_err-is_field t c = rw (at_stop c.from_residual.result c.in_err-is_field.field-0.0 c.from_residual.ensures.1) (fields_stop c.args.fields.now c.loop-field.field-index c.field-item.result (bits_in c.loop-field.left) (bits_in c.presence-is_present.result.1) c.presence-is_present.result.0 c.loop-field.is_canonical _ _ _ _ c.loop-field-test.true c.field-item.is c.presence-is_present.ensures.there c.presence-is_present.ensures.left c.loop-field.invariant c.in_err-is_field.ensures)
+
+pub check_fields-returns : goal.check_fields-returns
+check_fields-returns t c = fields_end c.args.fields.now c.loop-field.field-index (bits_in c.loop-field.left) c.loop-field.is_canonical _ _ c.loop-field-test.false c.loop-field.invariant
+
+pub check_alternative-returns-then-is_same_tag : goal.check_alternative-returns-then-is_same_tag
+check_alternative-returns-then-is_same_tag t c = c.check_shape.ensures ∙ ap (λ (r : Reader Bool). r (place_of c.args.place)) (root_here c.args.alternatives.now c.loop-alternative.alternative-index c.alternative-item.result c.args.tag _ c.loop-alternative-test.true c.alternative-item.is (sym c.if-is_same_tag.true ∙ c.is_same_tag.ensures) c.loop-alternative.invariant)
+
+pub check_alternative-loop-alternative-preserved : goal.check_alternative-loop-alternative-preserved
+check_alternative-loop-alternative-preserved t c = root_next c.args.alternatives.now c.loop-alternative.alternative-index c.alternative-item.result c.args.tag _ c.loop-alternative-test.true c.alternative-item.is (sym c.if-is_same_tag.false ∙ c.is_same_tag.ensures) c.loop-alternative.invariant
+
+pub check_alternative-returns : goal.check_alternative-returns
+check_alternative-returns t c = root_end c.args.alternatives.now c.loop-alternative.alternative-index c.args.tag _ (place_of c.args.place) c.loop-alternative-test.false c.loop-alternative.invariant
+
+pub check_later-returns-then-is_same_tag : goal.check_later-returns-then-is_same_tag
+check_later-returns-then-is_same_tag t c = c.check_open.ensures ∙ ap (λ (r : Reader Bool). r (place_of c.args.place)) (later_here c.args.alternatives.now c.loop-alternative.alternative-index c.alternative-item.result c.args.tag _ c.loop-alternative-test.true c.alternative-item.is (sym c.if-is_same_tag.true ∙ c.is_same_tag.ensures) c.loop-alternative.invariant)
+
+pub check_later-loop-alternative-preserved : goal.check_later-loop-alternative-preserved
+check_later-loop-alternative-preserved t c = later_next c.args.alternatives.now c.loop-alternative.alternative-index c.alternative-item.result c.args.tag _ c.loop-alternative-test.true c.alternative-item.is (sym c.if-is_same_tag.false ∙ c.is_same_tag.ensures) c.loop-alternative.invariant
+
+pub check_later-returns : goal.check_later-returns
+check_later-returns t c = c.check_octets.ensures ∙ ap (λ (r : Reader Bool). r (place_of c.args.place)) (later_end c.args.alternatives.now c.loop-alternative.alternative-index c.args.tag _ c.loop-alternative-test.false c.loop-alternative.invariant)
+
+pub check_elements-loop-turn-init : goal.check_elements-loop-turn-init
+check_elements-loop-turn-init t c = times_start c.args.count (check_value (type_of c.args.item.now)) _
+
+pub check_elements-returns-in_err-is_element : goal.check_elements-returns-in_err-is_element
+check_elements-returns-in_err-is_element t c = rw (at_stop c.from_residual.result c.in_err-is_element.field-0.0 c.from_residual.ensures.1) (times_stop (c.args.count - c.loop-turn.turn) (c.args.count - (c.loop-turn.turn + 1)) (check_value (type_of c.args.item.now)) c.loop-turn.is_canonical _ _ _ _ (omega arith) c.loop-turn.invariant c.in_err-is_element.ensures)
+
+pub check_elements-loop-turn-preserved : goal.check_elements-loop-turn-preserved
+check_elements-loop-turn-preserved t c = rw c.both-is_canonical.ensures (times_next (c.args.count - c.loop-turn.turn) (c.args.count - (c.loop-turn.turn + 1)) (check_value (type_of c.args.item.now)) c.loop-turn.is_canonical c.in_ok-is_element.is_element _ _ _ (omega arith) c.loop-turn.invariant c.in_ok-is_element.ensures)
+
+pub check_elements-returns : goal.check_elements-returns
+check_elements-returns t c = times_end (c.args.count - c.loop-turn.turn) (check_value (type_of c.args.item.now)) c.loop-turn.is_canonical _ _ (omega arith) c.loop-turn.invariant
+
+pub check_extension-returns-then-not-is_extended : goal.check_extension-returns-then-not-is_extended
+check_extension-returns-then-not-is_extended t c = no_extension (additions_of c.args.additions.now) c.args.is_extended _ (search rules)
+
+pub check_extension-returns-in_err-bits : goal.check_extension-returns-in_err-bits
+check_extension-returns-in_err-bits t c = rw (at_stop c.from_residual.result c.in_err-bits.field-0.0 c.from_residual.ensures.1) (map_stop (additions_of c.args.additions.now) (length c.args.additions.now) c.args.is_extended _ _ _ (search rules) (sym (count_is c.args.additions.now)) c.in_err-bits.ensures.bits)
+
+pub check_extension-returns-in_err-is_known : goal.check_extension-returns-in_err-is_known
+check_extension-returns-in_err-is_known t c = rw (at_stop c.from_residual-in_err-is_known.result c.in_err-is_known.field-0.0 c.from_residual-in_err-is_known.ensures.1) (known_stop (additions_of c.args.additions.now) (length c.args.additions.now) c.args.is_extended _ _ (bits_in c.in_ok-bits.bits) c.in_ok-bits.is_least _ _ (search rules) (sym (count_is c.args.additions.now)) c.in_ok-bits.ensures.bits c.in_err-is_known.ensures)
+
+pub check_extension-returns-in_err-is_unknown : goal.check_extension-returns-in_err-is_unknown
+check_extension-returns-in_err-is_unknown t c = rw (at_stop c.from_residual-in_err-is_unknown.result c.in_err-is_unknown.field-0.0 c.from_residual-in_err-is_unknown.ensures.1) (unknown_stop (additions_of c.args.additions.now) (length c.args.additions.now) c.args.is_extended _ _ _ (bits_in c.in_ok-bits.bits) c.in_ok-bits.is_least c.in_ok-is_known.is_known _ _ (search rules) (sym (count_is c.args.additions.now)) c.in_ok-bits.ensures.bits c.in_ok-is_known.ensures c.in_err-is_unknown.ensures)
+
+pub check_extension-returns : goal.check_extension-returns
+check_extension-returns t c = rw (c.both-2.ensures, c.both.ensures) (unknown_got (additions_of c.args.additions.now) (length c.args.additions.now) c.args.is_extended _ _ _ _ (bits_in c.in_ok-bits.bits) c.in_ok-bits.is_least c.in_ok-is_known.is_known c.in_ok-is_unknown.is_unknown (search rules) (sym (count_is c.args.additions.now)) c.in_ok-bits.ensures.bits c.in_ok-is_known.ensures c.in_ok-is_unknown.ensures)
+
+pub check_field-returns-in_err-is_canonical : goal.check_field-returns-in_err-is_canonical
+check_field-returns-in_err-is_canonical t c = rw (at_stop c.from_residual.result c.in_err-is_canonical.field-0.0 c.from_residual.ensures.1) (there_stop (need_of c.args.field.now.need) (type_of c.args.field.now.shape) _ _ _ c.in_err-is_canonical.ensures)
+
+pub check_field-returns : goal.check_field-returns
+check_field-returns t c = rw c.both.ensures (there_got (need_of c.args.field.now.need) (type_of c.args.field.now.shape) _ _ c.in_ok-is_canonical.is_canonical c.is_default-is_its_default.result c.in_ok-is_canonical.ensures (c.is_default-is_its_default.ensures ∙ ap (is_default (need_of c.args.field.now.need) (type_of c.args.field.now.shape)) c.octets_between.ensures))
+
+pub check_open-returns-in_err-count : goal.check_open-returns-in_err-count
+check_open-returns-in_err-count t c = rw (at_stop c.from_residual.result c.in_err-count.field-0.0 c.from_residual.ensures.1) (open_stop (check_value (type_of c.args.shape.now)) _ _ _ c.in_err-count.ensures)
+
+pub check_open-returns : goal.check_open-returns
+check_open-returns t c = c.leave.ensures ∙ ap (left_open (place_of c.in_ok-count.next) c.in_ok-count.count c.in_ok-count.is_least) c.check_shape-answer.ensures ∙ open_then (check_value (type_of c.args.shape.now)) _ _ c.in_ok-count.count c.in_ok-count.is_least c.in_ok-count.ensures
+
+pub check_shape-returns-in_err-count-in-SequenceOf : goal.check_shape-returns-in_err-count-in-SequenceOf
+check_shape-returns-in_err-count-in-SequenceOf t c =
+    let s = c.in-SequenceOf in
+    let is = as_items c.args.shape.now s.size s.item s.is in
+    rw (at_stop c.from_residual.result c.in_err-count-in-SequenceOf.field-0.0 c.from_residual.ensures.1) (by_type (type_of c.args.shape.now) (sequence_of s.size (type_of s.item.value)) _ _ is (items_stop s.size (type_of s.item.value) _ _ _ c.in_err-count-in-SequenceOf.ensures))
+
+pub check_shape-returns-in_err-is_canonical-in-SequenceOf : goal.check_shape-returns-in_err-is_canonical-in-SequenceOf
+check_shape-returns-in_err-is_canonical-in-SequenceOf t c =
+    let s = c.in-SequenceOf in
+    let x = c.deref-in-SequenceOf.result.now in
+    let is = as_items c.args.shape.now s.size s.item s.is ∙ ap (λ (i : Shape). sequence_of s.size (type_of i)) (sym c.deref-in-SequenceOf.ensures) in
+    rw (at_stop c.from_residual-in_err-is_canonical-in-SequenceOf.result c.in_err-is_canonical-in-SequenceOf.field-0.0 c.from_residual-in_err-is_canonical-in-SequenceOf.ensures.1) (by_type (type_of c.args.shape.now) (sequence_of s.size (type_of x)) _ _ is (ap (and_after c.in_ok-count-in-SequenceOf.is_least) c.in_err-is_canonical-in-SequenceOf.ensures ∙ items_then s.size (type_of x) _ _ c.in_ok-count-in-SequenceOf.count c.in_ok-count-in-SequenceOf.is_least c.in_ok-count-in-SequenceOf.ensures))
+
+pub check_shape-returns-in_ok-is_canonical-in-SequenceOf : goal.check_shape-returns-in_ok-is_canonical-in-SequenceOf
+check_shape-returns-in_ok-is_canonical-in-SequenceOf t c =
+    let s = c.in-SequenceOf in
+    let x = c.deref-in-SequenceOf.result.now in
+    let is = as_items c.args.shape.now s.size s.item s.is ∙ ap (λ (i : Shape). sequence_of s.size (type_of i)) (sym c.deref-in-SequenceOf.ensures) in
+    rw c.both.ensures (by_type (type_of c.args.shape.now) (sequence_of s.size (type_of x)) _ _ is (ap (and_after c.in_ok-count-in-SequenceOf.is_least) c.in_ok-is_canonical-in-SequenceOf.ensures ∙ items_then s.size (type_of x) _ _ c.in_ok-count-in-SequenceOf.count c.in_ok-count-in-SequenceOf.is_least c.in_ok-count-in-SequenceOf.ensures))
+
+pub check_shape-returns-in_err-bits-in-Sequence : goal.check_shape-returns-in_err-bits-in-Sequence
+check_shape-returns-in_err-bits-in-Sequence t c =
+    let s = c.in-Sequence in
+    let fs = c.deref-fields.result.now in
+    let is = as_sequence c.args.shape.now s.root s.additions fs s.is c.in_default.is c.deref-fields.ensures.value in
+    rw (at_stop c.from_residual-in_err-bits-in-Sequence.result c.in_err-bits-in-Sequence.field-0.0 c.from_residual-in_err-bits-in-Sequence.ensures.1) (by_type (type_of c.args.shape.now) (sequence (fields_of fs)) _ _ is (sequence_stop (fields_of fs) _ _ _ (rw c.optional.ensures.is at c.in_err-bits-in-Sequence.ensures)))
+
+pub check_shape-returns-in_default : goal.check_shape-returns-in_default
+check_shape-returns-in_default t c =
+    let s = c.in-Sequence in
+    let fs = c.deref-fields.result.now in
+    let is = as_sequence c.args.shape.now s.root s.additions fs s.is c.in_default.is c.deref-fields.ensures.value in
+    by_type (type_of c.args.shape.now) (sequence (fields_of fs)) _ _ is (sequence_then (fields_of fs) _ _ (bits_in c.in_ok-bits-in-Sequence.bits) _ (rw c.optional.ensures.is at c.in_ok-bits-in-Sequence.ensures) c.check_fields.ensures)
+
+pub check_shape-returns-in_err-bits-in-Sequence-2 : goal.check_shape-returns-in_err-bits-in-Sequence-2
+check_shape-returns-in_err-bits-in-Sequence-2 t c =
+    let s = c.in-Sequence in
+    let fs = c.deref-fields.result.now in
+    let xs = c.deref-additions.result.now in
+    let many = c.optional-in-Sequence.ensures.is in
+    let is = as_extensible c.args.shape.now s.root s.additions c.in-Some.additions fs xs s.is c.in-Some.is c.deref-fields.ensures.value c.deref-additions.ensures.value in
+    rw (at_stop c.from_residual-in_err-bits-in-Sequence-2.result c.in_err-bits-in-Sequence-2.field-0.0 c.from_residual-in_err-bits-in-Sequence-2.ensures.1) (by_type (type_of c.args.shape.now) (extensible_sequence (fields_of fs) (additions_of xs)) _ _ is (extensible_stop (fields_of fs) (additions_of xs) (c.optional-in-Sequence.result + 1) _ _ _ (omega arith) c.in_err-bits-in-Sequence-2.ensures))
+
+pub check_shape-returns-in_err-is_canonical-in-Sequence : goal.check_shape-returns-in_err-is_canonical-in-Sequence
+check_shape-returns-in_err-is_canonical-in-Sequence t c =
+    let s = c.in-Sequence in
+    let fs = c.deref-fields.result.now in
+    let xs = c.deref-additions.result.now in
+    let many = c.optional-in-Sequence.ensures.is in
+    let is = as_extensible c.args.shape.now s.root s.additions c.in-Some.additions fs xs s.is c.in-Some.is c.deref-fields.ensures.value c.deref-additions.ensures.value in
+    rw (at_stop c.from_residual-in_err-is_canonical-in-Sequence.result c.in_err-is_canonical-in-Sequence.field-0.0 c.from_residual-in_err-is_canonical-in-Sequence.ensures.1) (by_type (type_of c.args.shape.now) (extensible_sequence (fields_of fs) (additions_of xs)) _ _ is (root_stop (fields_of fs) (additions_of xs) (c.optional-in-Sequence.result + 1) _ _ (bits_in c.in_ok-bits-in-Sequence-2.bits) (bits_in c.later.result) _ _ (omega arith) c.in_ok-bits-in-Sequence-2.ensures c.later.ensures c.in_err-is_canonical-in-Sequence.ensures))
+
+pub check_shape-returns-in_err-is_extension-in-Sequence : goal.check_shape-returns-in_err-is_extension-in-Sequence
+check_shape-returns-in_err-is_extension-in-Sequence t c =
+    let s = c.in-Sequence in
+    let fs = c.deref-fields.result.now in
+    let xs = c.deref-additions.result.now in
+    let many = c.optional-in-Sequence.ensures.is in
+    let is = as_extensible c.args.shape.now s.root s.additions c.in-Some.additions fs xs s.is c.in-Some.is c.deref-fields.ensures.value c.deref-additions.ensures.value in
+    rw (at_stop c.from_residual-in_err-is_extension-in-Sequence.result c.in_err-is_extension-in-Sequence.field-0.0 c.from_residual-in_err-is_extension-in-Sequence.ensures.1) (by_type (type_of c.args.shape.now) (extensible_sequence (fields_of fs) (additions_of xs)) _ _ is (later_stop (fields_of fs) (additions_of xs) (c.optional-in-Sequence.result + 1) _ _ _ (bits_in c.in_ok-bits-in-Sequence-2.bits) (bits_in c.later.result) c.first.result c.in_ok-is_canonical-in-Sequence.is_canonical _ _ (omega arith) c.in_ok-bits-in-Sequence-2.ensures c.later.ensures c.first.ensures c.in_ok-is_canonical-in-Sequence.ensures c.in_err-is_extension-in-Sequence.ensures))
+
+pub check_shape-returns-in_ok-is_extension-in-Sequence : goal.check_shape-returns-in_ok-is_extension-in-Sequence
+check_shape-returns-in_ok-is_extension-in-Sequence t c =
+    let s = c.in-Sequence in
+    let fs = c.deref-fields.result.now in
+    let xs = c.deref-additions.result.now in
+    let many = c.optional-in-Sequence.ensures.is in
+    let is = as_extensible c.args.shape.now s.root s.additions c.in-Some.additions fs xs s.is c.in-Some.is c.deref-fields.ensures.value c.deref-additions.ensures.value in
+    rw c.both-in-Sequence.ensures (by_type (type_of c.args.shape.now) (extensible_sequence (fields_of fs) (additions_of xs)) _ _ is (later_got (fields_of fs) (additions_of xs) (c.optional-in-Sequence.result + 1) _ _ _ _ (bits_in c.in_ok-bits-in-Sequence-2.bits) (bits_in c.later.result) c.first.result c.in_ok-is_canonical-in-Sequence.is_canonical c.in_ok-is_extension-in-Sequence.is_extension (omega arith) c.in_ok-bits-in-Sequence-2.ensures c.later.ensures c.first.ensures c.in_ok-is_canonical-in-Sequence.ensures c.in_ok-is_extension-in-Sequence.ensures))
+
+pub check_shape-returns-in_err-tag-in-Choice : goal.check_shape-returns-in_err-tag-in-Choice
+check_shape-returns-in_err-tag-in-Choice t c =
+    let s = c.in-Choice in
+    let xs = s.root.items in
+    let o = as_choice c.args.shape.now s.root s.additions xs s.is refl in
+    rw (at_stop c.from_residual-in_err-tag-in-Choice.result c.in_err-tag-in-Choice.field-0.0 c.from_residual-in_err-tag-in-Choice.ensures.1) (by_type (type_of c.args.shape.now) (choice o.extensible (root_of xs o.after)) _ _ o.is (choice_stop o.extensible (root_of xs o.after) _ _ _ c.in_err-tag-in-Choice.ensures))
+
+pub check_shape-returns-then-contains_tag : goal.check_shape-returns-then-contains_tag
+check_shape-returns-then-contains_tag t c =
+    let s = c.in-Choice in
+    let xs = c.deref-alternatives.result.now in
+    let o = as_choice c.args.shape.now s.root s.additions xs s.is c.deref-alternatives.ensures.value in
+    by_type (type_of c.args.shape.now) (choice o.extensible (root_of xs o.after)) _ _ o.is (choice_root o.extensible xs o.after _ _ c.in_ok-tag-in-Choice.tag _ c.in_ok-tag-in-Choice.ensures (sym c.if-contains_tag.true ∙ c.contains_tag.ensures ∙ ap (λ (l : List Alt). has_tag c.in_ok-tag-in-Choice.tag (root_of l no_alternatives)) (c.deref-alternatives.ensures.value ∙ sym c.deref-alternatives.ensures.value)) c.check_alternative.ensures)
+
+pub check_shape-returns-in-None : goal.check_shape-returns-in-None
+check_shape-returns-in-None t c =
+    let s = c.in-Choice in
+    let xs = c.deref-alternatives.result.now in
+    by_type (type_of c.args.shape.now) (choice false (root_of xs no_alternatives)) _ _ (as_closed c.args.shape.now s.root s.additions xs s.is c.in-None.is c.deref-alternatives.ensures.value) (choice_none xs _ _ c.in_ok-tag-in-Choice.tag c.in_ok-tag-in-Choice.ensures (sym c.if-contains_tag.false ∙ c.contains_tag.ensures))
+
+pub check_shape-returns-in-Some-additions : goal.check_shape-returns-in-Some-additions
+check_shape-returns-in-Some-additions t c =
+    let s = c.in-Choice in
+    let xs = c.deref-alternatives.result.now in
+    let ys = c.deref-later.result.now in
+    let is = as_open c.args.shape.now s.root s.additions c.in-Some-additions.additions xs ys s.is c.in-Some-additions.is c.deref-alternatives.ensures.value c.deref-later.ensures.value in
+    by_type (type_of c.args.shape.now) (choice true (root_of xs (later_of ys))) _ _ is (choice_later xs ys _ _ c.in_ok-tag-in-Choice.tag _ c.in_ok-tag-in-Choice.ensures (sym c.if-contains_tag.false ∙ c.contains_tag.ensures) c.check_later.ensures)
+
+pub check_shape-returns-in-Null : goal.check_shape-returns-in-Null
+check_shape-returns-in-Null t c = by_type (type_of c.args.shape.now) null _ _ (ap type_of c.in-Null.is ∙ type_of-Null) (give_got true _)
+
+pub check_shape-returns-in-Ia5 : goal.check_shape-returns-in-Ia5
+check_shape-returns-in-Ia5 t c = by_type (type_of c.args.shape.now) (restricted_string ia5 c.in-Ia5.size) _ _ (ap type_of c.in-Ia5.is ∙ type_of-Ia5 c.in-Ia5.size) c.check_text.ensures
+
+pub check_shape-returns-in-Visible : goal.check_shape-returns-in-Visible
+check_shape-returns-in-Visible t c = by_type (type_of c.args.shape.now) (restricted_string visible c.in-Visible.size) _ _ (ap type_of c.in-Visible.is ∙ type_of-Visible c.in-Visible.size) c.check_text-in-Visible.ensures
+
+pub check_shape-returns-in-Numeric : goal.check_shape-returns-in-Numeric
+check_shape-returns-in-Numeric t c = by_type (type_of c.args.shape.now) (restricted_string numeric c.in-Numeric.size) _ _ (ap type_of c.in-Numeric.is ∙ type_of-Numeric c.in-Numeric.size) c.check_text-in-Numeric.ensures
+
+pub check_shape-returns-in-Printable : goal.check_shape-returns-in-Printable
+check_shape-returns-in-Printable t c = by_type (type_of c.args.shape.now) (restricted_string printable c.in-Printable.size) _ _ (ap type_of c.in-Printable.is ∙ type_of-Printable c.in-Printable.size) c.check_text-in-Printable.ensures
+
+pub check_fields-field_fits-requires : goal.check_fields-field_fits-requires
+check_fields-field_fits-requires t c = record { one = (c.loop-field.field-index, c.loop-field-test.true, c.field-item.is); limits = c.requires.limits; defaults = c.requires.defaults }
+
+pub check_additions-addition_fits-requires : goal.check_additions-addition_fits-requires
+check_additions-addition_fits-requires t c = record { one = (c.loop-addition.addition-index, c.loop-addition-test.true, c.addition-item.is); limits = c.requires.limits; defaults = c.requires.defaults }
+
+pub check_alternative-alternative_fits-requires : goal.check_alternative-alternative_fits-requires
+check_alternative-alternative_fits-requires t c = record { one = (c.loop-alternative.alternative-index, c.loop-alternative-test.true, c.alternative-item.is); limits = c.requires.limits; defaults = c.requires.defaults }
+
+pub check_later-later_fits-requires : goal.check_later-later_fits-requires
+check_later-later_fits-requires t c = record { one = (c.loop-alternative.alternative-index, c.loop-alternative-test.true, c.alternative-item.is); limits = c.requires.limits; defaults = c.requires.defaults }
+
+pub check_shape-root_fits-requires : goal.check_shape-root_fits-requires
+check_shape-root_fits-requires t c = record { root = (c.in-Choice.root, c.in-Choice.additions, c.in-Choice.is, c.deref-alternatives.ensures.value); limits = c.requires.limits; defaults = c.requires.defaults }
+
+pub check_shape-later_fit-requires : goal.check_shape-later_fit-requires
+check_shape-later_fit-requires t c = record { later = (c.in-Choice.root, c.in-Some-additions.additions, c.in-Choice.is ∙ ap (λ (m : Option (Vec Alt Global)). Choice c.in-Choice.root m) c.in-Some-additions.is, c.deref-later.ensures.value); limits = c.requires.limits; defaults = c.requires.defaults }

@@ -1,0 +1,69 @@
+use Rattle.std.proofs.Common.{◌∙◌, ◌<◌, drop, take, length, rules, sym, ap}
+use Rattle.oer_types.specs.Constraints.{optional}
+use Rattle.oer_types.specs.ShapeView.{fields_of, need_of}
+use Rattle.oer_checker.specs.BitView.{bits_in}
+use Rattle.oer_checker.specs.Places.{place_of}
+use Rattle.oer_checker.specs.Steps.{is_there}
+use Rattle.oer_checker.proofs.FieldSteps.{field_defaults, field_limits}
+use Rattle.oer_checker.proofs.Finds.{field_defaults_front, field_found, field_missing, fields_front, is_read, is_unread, no_refusal, not_there, same_end}
+use Rattle.oer_checker.proofs.Walks.{field_entry}
+use Rattle.oer_checker.proofs.walk.field_in.Goals as goal
+
+pub returns-then-index-fields : goal.returns-then-index-fields
+returns-then-index-fields c = let e = c.requires.checked in field_missing c.args.fields.now c.args.index (bits_in c.args.bits) (place_of c.args.place) e.1 e.0 e.2 (search rules)
+
+pub returns-then-not-is_present : goal.returns-then-not-is_present
+returns-then-not-is_present c =
+    let e = c.requires.checked in
+    let xs = c.args.fields.now in
+    let x = c.index-fields-index.result in
+    let s = bits_in c.args.bits in
+    let less : c.args.index < length xs = search rules in
+    let o = field_found xs c.args.index s x (place_of c.args.place) e.1 e.0 e.2 less c.index-fields-index.is in
+    let there = c.presence-is_present.ensures.there ∙ ap (is_there (need_of x.need)) (c.skip.ensures ∙ ap (λ k. drop k s) c.optional.ensures.is) in
+    not_there _ _ o.0 _ (sym c.if-not-is_present.true ∙ there) o.2
+
+pub check_fields-requires-clause-limits : goal.check_fields-requires-clause-limits
+check_fields-requires-clause-limits c = fields_front c.args.fields.now c.args.index c.requires.limits
+
+pub check_fields-requires-clause-defaults : goal.check_fields-requires-clause-defaults
+check_fields-requires-clause-defaults c = field_defaults_front c.args.fields.now c.args.index c.requires.defaults
+
+pub returns-in_default : goal.returns-in_default
+returns-in_default c =
+    let e = c.requires.checked in
+    let less : c.args.index < length c.args.fields.now = search rules in
+    let o = field_found c.args.fields.now c.args.index (bits_in c.args.bits) c.index-fields-index.result (place_of c.args.place) e.1 e.0 e.2 less c.index-fields-index.is in
+    absurd (no_refusal _ o.0 _ _ o.1 c.in_default.ensures)
+
+pub encoding_at-requires-clause-limits : goal.encoding_at-requires-clause-limits
+encoding_at-requires-clause-limits c =
+    let less : c.args.index < length c.args.fields.now = search rules in
+    field_limits c.args.fields.now c.args.index c.index-fields-index.result less c.index-fields-index.is c.requires.limits
+
+pub encoding_at-requires-clause-defaults : goal.encoding_at-requires-clause-defaults
+encoding_at-requires-clause-defaults c =
+    let less : c.args.index < length c.args.fields.now = search rules in
+    field_defaults c.args.fields.now c.args.index c.index-fields-index.result less c.index-fields-index.is c.requires.defaults
+
+pub returns-in_default-encoding_at : goal.returns-in_default-encoding_at
+returns-in_default-encoding_at c =
+    let e = c.requires.checked in
+    let xs = c.args.fields.now in
+    let x = c.index-fields-index.result in
+    let s = bits_in c.args.bits in
+    let less : c.args.index < length xs = search rules in
+    let o = field_found xs c.args.index s x (place_of c.args.place) e.1 e.0 e.2 less c.index-fields-index.is in
+    let there = c.presence-is_present.ensures.there ∙ ap (is_there (need_of x.need)) (c.skip.ensures ∙ ap (λ k. drop k s) c.optional.ensures.is) in
+    absurd (is_unread _ (field_entry x c.args.index (drop (optional (fields_of (take c.args.index xs))) s)) o.0 (place_of c.in-Ok.start) _ (sym c.if-not-is_present.false ∙ there) o.2 (same_end _ o.0 _ _ o.1 c.in-Ok.ensures) c.in_default-encoding_at.ensures)
+
+pub returns : goal.returns
+returns c =
+    let e = c.requires.checked in
+    let xs = c.args.fields.now in
+    let x = c.index-fields-index.result in
+    let s = bits_in c.args.bits in
+    let less : c.args.index < length xs = search rules in
+    let o = field_found xs c.args.index s x (place_of c.args.place) e.1 e.0 e.2 less c.index-fields-index.is in
+    let there = c.presence-is_present.ensures.there ∙ ap (is_there (need_of x.need)) (c.skip.ensures ∙ ap (λ k. drop k s) c.optional.ensures.is) in
+    is_read _ (field_entry x c.args.index (drop (optional (fields_of (take c.args.index xs))) s)) o.0 (place_of c.in-Ok.start) _ _ (sym c.if-not-is_present.false ∙ there) o.2 (same_end _ o.0 _ _ o.1 c.in-Ok.ensures) c.in-Some.ensures

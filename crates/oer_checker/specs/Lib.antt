@@ -1,0 +1,10 @@
+pub mod Plain
+pub mod Places
+pub mod Steps
+pub mod BitView
+pub mod AlphabetView
+pub mod Check
+pub mod Numbers
+pub mod Facts
+pub mod Walk
+pub mod Handing

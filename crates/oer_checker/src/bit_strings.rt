@@ -1,0 +1,270 @@
+//! BIT STRING, and the presence bits of a SEQUENCE.
+ghost use Rattle.std.specs.Prelude.{◌≡◌, ◌≤◌, ◌<◌, ◌-◌, ◌*◌, List, Bool, None, IfOk, drop, leb, length, not, take, ◌&&◌};
+ghost use Rattle.oer_units.specs.Reader.{bind, give, group, guard};
+ghost use Rattle.oer_units.specs.declared.fault.Why.TheVariants as reason;
+ghost use Rattle.oer_types.specs.AsnType.{bit_string};
+ghost use Rattle.oer_types.specs.Bits.{all_false, bit as the_bit, bits_of as the_bits, first_bit, later_bits, octets_for, spare_bits};
+ghost use Rattle.oer_types.specs.Canonical.{bitmap_octets};
+ghost use Rattle.oer_types.specs.Checking.{are_least_bits as are_least, check_value, ends_set};
+ghost use Rattle.oer_types.specs.Constraints.{size_fits};
+ghost use Rattle.oer_types.specs.Reading.{preamble as preamble_read, read_bits};
+ghost use Rattle.oer_checker.specs.BitView.{IsWhole, bits_in};
+ghost use Rattle.oer_checker.specs.Places.{outcome, place_of, same};
+ghost use Rattle.oer_checker.specs.Steps.{addition_map as addition_map_read, last_are_zero, unused_fits};
+
+use crate::bits::Bits;
+use crate::lengths::{counted_len, octets_between};
+use crate::place::{Place, both};
+use crate::sizes::{allows, fixed};
+use crate::stop::Stop;
+use crate::units::{group_at, length_at, octet_at};
+use oer_types::Size;
+use oer_units::Why;
+
+impl<'a> Bits<'a> {
+    /// The bit with this number, which is false past the octets.
+    #[tactic(auto, using(crate::proofs::BitLists::bit_at, crate::proofs::BitLists::bit_past))]
+    pub(crate) fn bit(self, index: u64) -> bool
+        ensures { result ≡ first_bit (drop index (the_bits self.entry.octets.now)) }
+    {
+        let at = (index / 8) as usize;
+        at < self.octets.len() && bit_of(self.octets[at], (7 - index % 8) as u8)
+    }
+
+    /// The first bit, false where there is none.
+    pub(crate) fn first(self) -> bool
+        ensures { result ≡ first_bit (bits_in self.entry) }
+    {
+        self.from < self.to && self.bit(self.from)
+    }
+
+    /// The bits after the first.
+    pub(crate) fn later(self) -> Bits<'a>
+        ensures { bits_in result ≡ later_bits (bits_in self.entry) }
+    {
+        if self.from >= self.to {
+            return self;
+        }
+        Bits {
+            octets: self.octets,
+            from: self.from + 1,
+            to: self.to,
+        }
+    }
+
+    /// The bits from this many on.
+    pub(crate) fn skip(self, count: u64) -> Bits<'a>
+        ensures { bits_in result ≡ drop count (bits_in self.entry) }
+    {
+        Bits {
+            octets: self.octets,
+            from: self.from.saturating_add(count),
+            to: self.to,
+        }
+    }
+
+    /// So many of the bits, or all where there are fewer.
+    pub(crate) fn until(self, count: u64) -> Bits<'a>
+        requires { IsWhole self }
+        ensures whole { IsWhole result }
+        ensures bits { bits_in result ≡ take count (bits_in self.entry) }
+    {
+        Bits {
+            octets: self.octets,
+            from: self.from,
+            to: self.to.min(count),
+        }
+    }
+
+    // Whether no bit from this one on is set.
+    fn are_clear_from(self, from: u64) -> bool
+        requires { self.from ≡ 0 }
+        ensures { result ≡ all_false (drop from (bits_in self.entry)) }
+    {
+        for index in from..self.to {
+            if self.bit(index) {
+                return false;
+            }
+        }
+        true
+    }
+
+    // Whether the last bit from this one on is set, if there is one.
+    fn ends_set_from(self, from: u64) -> bool
+        requires { IsWhole self }
+        ensures { result ≡ ends_set (drop from (bits_in self.entry)) }
+    {
+        self.to <= from || self.bit(self.to - 1)
+    }
+}
+
+// The bit of the octet; bit 7 is the most significant.
+fn bit_of(octet: u8, index: u8) -> bool
+    requires { index < 8 }
+    ensures { result ≡ the_bit octet index }
+{
+    (octet >> index) % 2 == 1
+}
+
+// How many octets hold so many bits.
+fn octets_needed(count: u64) -> u64
+    ensures value { result ≡ octets_for count }
+    ensures most { result ≤ 2305843009213693952 }
+{
+    if count % 8 == 0 {
+        count / 8
+    } else {
+        count / 8 + 1
+    }
+}
+
+// How many bits are missing to whole octets.
+fn spare(count: u64) -> u8
+    ensures value { result ≡ spare_bits count }
+    ensures most { result ≤ 7 }
+{
+    ((8 - count % 8) % 8) as u8
+}
+
+// Whether the last so many bits are zero.
+fn ends_in_zeros(octets: &[u8], unused: u8) -> bool
+    requires { unused ≤ 7 }
+    ensures { result ≡ last_are_zero unused octets.now }
+{
+    let last = Bits {
+        octets: &octets[octets.len().saturating_sub(1)..],
+        from: 0,
+        to: 8,
+    };
+    last.are_clear_from(8 - u64::from(unused))
+}
+
+// Whether octets are as short as a bit string of so many bits can be, and its unused bits are 0.
+fn are_least_bits(count: u64, octets: &[u8]) -> bool
+    ensures { (s : List Bool) → length s ≡ count → result ≡ are_least bitmap_octets s octets.now }
+{
+    octets.len() as u128 == counted_len(1 + octets_needed(count))
+        && ends_in_zeros(octets, spare(count))
+}
+
+/// A BIT STRING (X.696, 13). Bits past the last one may have any values; canonically they are 0.
+pub(crate) fn check_bit_string<'a>(
+    size: Size,
+    place: Place<'a>,
+) -> Result<(bool, Place<'a>), Stop<'a>>
+    ensures { outcome same result ≡ check_value (bit_string size) (place_of place.entry) }
+{
+    if let Some(count) = fixed(size) {
+        let (octets, end) = group_at(place, octets_needed(count))?;
+        return Ok((ends_in_zeros(octets, spare(count)), end));
+    }
+    let (bits, end) = counted_bits(size, place)?;
+    Ok((are_least_bits(bits.to, octets_between(place, end)), end))
+}
+
+// A length, the initial octet, and the bits.
+fn counted_bits<'a>(size: Size, place: Place<'a>) -> Result<(Bits<'a>, Place<'a>), Stop<'a>>
+    ensures whole { IfOk result (λ y. IsWhole y.0) }
+    ensures bits { outcome bits_in result ≡ read_bits None size (place_of place.entry) }
+{
+    let (length, next) = length_at(place)?;
+    if length == 0 {
+        return Err(Stop {
+            why: Why::BitUnused,
+            rest: next.rest,
+        });
+    }
+    let (unused, next) = octet_at(next)?;
+    if !may_be_unused(unused, length) {
+        return Err(Stop {
+            why: Why::BitUnused,
+            rest: next.rest,
+        });
+    }
+    sized_bits(size, length - 1, unused, next)
+}
+
+// So many octets without the last bits, where the size allows as many bits.
+fn sized_bits<'a>(
+    size: Size,
+    count: u64,
+    unused: u8,
+    place: Place<'a>,
+) -> Result<(Bits<'a>, Place<'a>), Stop<'a>>
+    requires { unused ≤ 8 * count }
+    ensures whole { IfOk result (λ y. IsWhole y.0) }
+    ensures bits { outcome bits_in result ≡ guard (size_fits size (8 * count - unused)) reason.Size
+        (bind (group count) (λ d. give (take (length (the_bits d) - unused) (the_bits d)))) (place_of place.entry) }
+{
+    let bits = 8 * u128::from(count) - u128::from(unused);
+    if !allows(size, bits) {
+        return Err(Stop {
+            why: Why::Size,
+            rest: place.rest,
+        });
+    }
+    let (octets, end) = group_at(place, count)?;
+    let bits = Bits {
+        octets,
+        from: 0,
+        to: bits as u64,
+    };
+    Ok((bits, end))
+}
+
+// Whether so many bits may be unused where a length counts the initial octet.
+fn may_be_unused(unused: u8, length: u64) -> bool
+    ensures { result ≡ unused_fits length unused }
+{
+    unused <= 7 && (length >= 2 || unused == 0)
+}
+
+/// The preamble of a SEQUENCE (X.696, 16.2): so many bits, and zeros to the octet's end.
+pub(crate) fn preamble<'a>(count: u64, place: Place<'a>) -> Result<(Bits<'a>, Place<'a>), Stop<'a>>
+    ensures { outcome bits_in result ≡ preamble_read count (place_of place.entry) }
+{
+    let (octets, end) = group_at(place, octets_needed(count))?;
+    if !ends_in_zeros(octets, spare(count)) {
+        return Err(Stop {
+            why: Why::PreamblePadding,
+            rest: end.rest,
+        });
+    }
+    let bits = Bits {
+        octets,
+        from: 0,
+        to: count,
+    };
+    Ok((bits, end))
+}
+
+// Whether a bit is set, each of the known additions has one, and the last one beyond them is set.
+fn marks_all(bits: Bits, known: u64) -> bool
+    requires { IsWhole bits }
+    ensures { result ≡ (not (all_false (bits_in bits.entry)) && (leb known (length (bits_in bits.entry)) && ends_set (drop known (bits_in bits.entry)))) }
+{
+    let is_long_enough = known <= bits.to;
+    let is_marked = both(is_long_enough, bits.ends_set_from(known));
+    both(!bits.are_clear_from(0), is_marked)
+}
+
+/// The presence bitmap of additions (X.696, 16.4), of which `known` are known, and whether it is
+/// canonical. A set bit past place 65,535 is refused as `UnknownAddition`.
+pub(crate) fn addition_map<'a>(
+    known: usize,
+    place: Place<'a>,
+) -> Result<((Bits<'a>, bool), Place<'a>), Stop<'a>>
+    ensures whole { IfOk result (λ y. IsWhole y.0.0) }
+    ensures bits { outcome (λ y. (bits_in y.0, y.1)) result ≡ addition_map_read known (place_of place.entry) }
+{
+    let (bits, end) = counted_bits(Size::any(), place)?;
+    if !bits.are_clear_from(65536) {
+        return Err(Stop {
+            why: Why::UnknownAddition,
+            rest: end.rest,
+        });
+    }
+    let is_shortest = are_least_bits(bits.to, octets_between(place, end));
+    let is_canonical = both(is_shortest, marks_all(bits, known as u64));
+    Ok(((bits, is_canonical), end))
+}

@@ -1,0 +1,63 @@
+//! What holds of a type holds of its parts. These functions do nothing; their contracts say so.
+ghost use Rattle.oer_types.specs.AsnType.{no_alternatives};
+ghost use Rattle.oer_types.specs.Constraints.{AdditionsKeepLimits, AlternativesKeepLimits, FieldsKeepLimits, KeepsLimits};
+ghost use Rattle.oer_types.specs.Fits.{AdditionDefaultsFit, AlternativeDefaultsFit, DefaultFits, DefaultsFit, FieldDefaultsFit, Fits};
+ghost use Rattle.oer_types.specs.ShapeView.{additions_of, fields_of, later_of, need_of, root_of, type_of};
+ghost use Rattle.oer_checker.specs.Facts.{IsLater, IsOne, IsRoot};
+
+use oer_types::{Addition, Alt, Field, Shape};
+
+/// A component of a root.
+pub(crate) fn field_fits(fields: &[Field], field: &Field)
+    requires one { IsOne fields.now field.now }
+    requires limits { FieldsKeepLimits (fields_of fields.now) }
+    requires defaults { FieldDefaultsFit (fields_of fields.now) }
+    ensures limits { KeepsLimits (type_of field.now.shape) }
+    ensures defaults { DefaultsFit (type_of field.now.shape) }
+    ensures fits { DefaultFits (need_of field.now.need) (Fits (type_of field.now.shape)) }
+{}
+
+/// An addition.
+pub(crate) fn addition_fits(additions: &[Addition], addition: &Addition)
+    requires one { IsOne additions.now addition.now }
+    requires limits { AdditionsKeepLimits (additions_of additions.now) }
+    requires defaults { AdditionDefaultsFit (additions_of additions.now) }
+    ensures limits { KeepsLimits (type_of addition.now.shape) }
+    ensures defaults { DefaultsFit (type_of addition.now.shape) }
+{}
+
+/// An alternative of a root.
+pub(crate) fn alternative_fits(alternatives: &[Alt], alternative: &Alt)
+    requires one { IsOne alternatives.now alternative.now }
+    requires limits { AlternativesKeepLimits (root_of alternatives.now no_alternatives) }
+    requires defaults { AlternativeDefaultsFit (root_of alternatives.now no_alternatives) }
+    ensures limits { KeepsLimits (type_of alternative.now.shape) }
+    ensures defaults { DefaultsFit (type_of alternative.now.shape) }
+{}
+
+/// An alternative after an extension marker.
+pub(crate) fn later_fits(alternatives: &[Alt], alternative: &Alt)
+    requires one { IsOne alternatives.now alternative.now }
+    requires limits { AlternativesKeepLimits (later_of alternatives.now) }
+    requires defaults { AlternativeDefaultsFit (later_of alternatives.now) }
+    ensures limits { KeepsLimits (type_of alternative.now.shape) }
+    ensures defaults { DefaultsFit (type_of alternative.now.shape) }
+{}
+
+/// The root of a CHOICE.
+pub(crate) fn root_fits(shape: &Shape, root: &[Alt])
+    requires root { IsRoot shape.now root.now }
+    requires limits { KeepsLimits (type_of shape.now) }
+    requires defaults { DefaultsFit (type_of shape.now) }
+    ensures limits { AlternativesKeepLimits (root_of root.now no_alternatives) }
+    ensures defaults { AlternativeDefaultsFit (root_of root.now no_alternatives) }
+{}
+
+/// The alternatives of a CHOICE after its extension marker.
+pub(crate) fn later_fit(shape: &Shape, later: &[Alt])
+    requires later { IsLater shape.now later.now }
+    requires limits { KeepsLimits (type_of shape.now) }
+    requires defaults { DefaultsFit (type_of shape.now) }
+    ensures limits { AlternativesKeepLimits (later_of later.now) }
+    ensures defaults { AlternativeDefaultsFit (later_of later.now) }
+{}

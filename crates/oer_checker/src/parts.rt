@@ -1,0 +1,101 @@
+//! What surrounds the parts of a value: presence, defaults, tags, and parts that the type doesn't
+//! know.
+ghost use Rattle.std.specs.Prelude.{◌≡◌, ◌≤◌, drop, length};
+ghost use Rattle.oer_types.specs.AsnType.{no_alternatives};
+ghost use Rattle.oer_types.specs.Checking.{check_unknown as unknown_checked};
+ghost use Rattle.oer_types.specs.Constraints.{KeepsLimits, has_tag, optional as optional_in, same_tag};
+ghost use Rattle.oer_types.specs.Fits.{DefaultFits, Fits};
+ghost use Rattle.oer_types.specs.ShapeView.{fields_of, need_of, root_of, type_of};
+ghost use Rattle.oer_checker.specs.BitView.{IsWhole, bits_in};
+ghost use Rattle.oer_checker.specs.Places.{outcome, place_of, same};
+ghost use Rattle.oer_checker.specs.Steps.{bits_left, is_default as is_default_in, is_there};
+
+use crate::bits::Bits;
+use crate::lengths::check_octets;
+use crate::place::{Place, both};
+use crate::stop::Stop;
+use oer_types::{Alt, Field, Need, laws};
+use oer_units::Tag;
+use oer_writer::parts::equals;
+
+/// Whether a component is there, and the bits of those after it.
+pub(crate) fn presence<'a>(need: &Need, bits: Bits<'a>) -> (bool, Bits<'a>)
+    ensures there { result.0 ≡ is_there (need_of need.now) (bits_in bits.entry) }
+    ensures left { bits_in result.1 ≡ bits_left (need_of need.now) (bits_in bits.entry) }
+{
+    match need {
+        Need::Must => (true, bits),
+        Need::May => (bits.first(), bits.later()),
+        Need::Default(_) => (bits.first(), bits.later()),
+    }
+}
+
+/// How many components may be absent.
+pub(crate) fn optional(fields: &[Field]) -> usize
+    ensures is { result ≡ optional_in (fields_of fields.now) }
+    ensures most { result ≤ length fields.now }
+{
+    let mut count = 0;
+    for field in fields {
+        count += match field.need {
+            Need::Must => 0,
+            _ => 1,
+        };
+    }
+    count
+}
+
+/// Whether the octets are the canonical octets of the component's default.
+pub(crate) fn is_default(field: &Field, octets: &[u8]) -> bool
+    requires limits { KeepsLimits (type_of field.now.shape) }
+    requires fits { DefaultFits (need_of field.now.need) (Fits (type_of field.now.shape)) }
+    ensures { result ≡ is_default_in (need_of field.now.need) (type_of field.now.shape) octets.now }
+{
+    laws::computed_octets();
+    match &field.need {
+        Need::Must | Need::May => false,
+        Need::Default(value) => equals(&field.shape, value, octets),
+    }
+}
+
+/// The additions that the type doesn't know, of which there are `known`: each as the octets of its
+/// open type (X.696, 30).
+pub(crate) fn check_unknown<'a>(
+    bits: Bits<'a>,
+    known: usize,
+    place: Place<'a>,
+) -> Result<(bool, Place<'a>), Stop<'a>>
+    requires { IsWhole bits }
+    ensures { outcome same result ≡ unknown_checked (drop known (bits_in bits.entry)) (place_of place.entry) }
+{
+    let mut is_canonical = true;
+    let mut at = place;
+    for index in known as u64..bits.to {
+        if !bits.bit(index) {
+            continue;
+        }
+        let (is_addition, next) = check_octets(at)?;
+        is_canonical = both(is_canonical, is_addition);
+        at = next;
+    }
+    Ok((is_canonical, at))
+}
+
+// Whether both have the same class and number.
+pub(crate) fn is_same_tag(one: Tag, other: Tag) -> bool
+    ensures { result ≡ same_tag one other }
+{
+    one.class as u8 == other.class as u8 && one.number == other.number
+}
+
+/// Whether an alternative has the tag.
+pub(crate) fn contains_tag(alternatives: &[Alt], tag: Tag) -> bool
+    ensures { result ≡ has_tag tag (root_of alternatives.now no_alternatives) }
+{
+    for alternative in alternatives {
+        if is_same_tag(alternative.tag, tag) {
+            return true;
+        }
+    }
+    false
+}

@@ -1,0 +1,200 @@
+//! Units, read at a place.
+ghost use Rattle.std.specs.Io.{ReadsAtMost};
+ghost use Rattle.std.specs.Io.KnownBytes.{ReadConsumes};
+ghost use Rattle.std.specs.Prelude.{◌≡◌, ◌≤◌, ◌+◌, ◌≤ℤ◌, FitsSigned, Some, IfOk, pos};
+ghost use Rattle.std.specs.Int.{w64, w128};
+ghost use Rattle.oer_units.specs.Fixed.{signed_fixed_at as signed_fixed_read, unsigned_fixed_at as unsigned_fixed_read};
+ghost use Rattle.oer_units.specs.Numbers.{natural, signed};
+ghost use Rattle.oer_units.specs.Reader.{group};
+ghost use Rattle.oer_units.specs.Reading.{counted_length, counted_number, enumerated as enumerated_read, is_int128, octet as octet_read, tag as tag_read};
+ghost use Rattle.oer_units.specs.Stream.{counted_read};
+ghost use Rattle.oer_checker.specs.Places.{outcome, place_of, same};
+ghost use Rattle.oer_checker.specs.Steps.{subidentifier_size};
+
+use crate::place::Place;
+use crate::stop::Stop;
+use oer_units::{
+    Source, Tag, Why, Width, Window, enumerated, length, octet, signed_counted, signed_fixed,
+    subidentifier, tag, unsigned_counted, unsigned_fixed,
+};
+use std::io;
+use std::io::Read;
+
+// Octets that are there.
+#[derive(Drop)]
+struct Octets<'a> {
+    rest: &'a [u8],
+}
+
+impl<'a> Source for Octets<'a> {
+    ghost remaining = { λ s. Some s.rest.now };
+
+    ghost failed = { λ _. 0 };
+
+    fn pull(&mut self, into: &mut [u8]) -> io::Result<usize> {
+        self.rest.read(into)
+    }
+
+    fn failures(&self) -> u64 {
+        0
+    }
+}
+
+/// The next octets.
+pub(crate) fn group_at<'a>(place: Place<'a>, count: u64) -> Result<(&'a [u8], Place<'a>), Stop<'a>>
+    ensures { outcome (λ s. s.now) result ≡ group count (place_of place.entry) }
+{
+    let rest = place.rest;
+    if count > place.left {
+        return Err(Stop {
+            why: Why::Limit,
+            rest,
+        });
+    }
+    if count > rest.len() as u64 {
+        return Err(Stop {
+            why: Why::End,
+            rest: &rest[rest.len()..],
+        });
+    }
+    let count = count as usize;
+    let after = Place {
+        rest: &rest[count..],
+        left: place.left - count as u64,
+    };
+    Ok((&rest[..count], after))
+}
+
+/// The next octet.
+pub(crate) fn octet_at<'a>(place: Place<'a>) -> Result<(u8, Place<'a>), Stop<'a>>
+    ensures { outcome same result ≡ octet_read (place_of place.entry) }
+{
+    let mut source = Octets { rest: place.rest };
+    let mut w = Window::new(&mut source, place.left);
+    let answer = octet(&mut w);
+    place.after(answer, w.taken())
+}
+
+/// A length determinant (X.696, 8.6) that is not above what is left after it.
+pub(crate) fn length_at<'a>(place: Place<'a>) -> Result<(u64, Place<'a>), Stop<'a>>
+    ensures { outcome same result ≡ counted_length (place_of place.entry) }
+{
+    let mut source = Octets { rest: place.rest };
+    let mut w = Window::new(&mut source, place.left);
+    let answer = length(&mut w);
+    place.after(answer, w.taken())
+}
+
+/// An unsigned number of fixed size (X.696, 10.3).
+pub(crate) fn unsigned_fixed_at<'a>(
+    place: Place<'a>,
+    width: Width,
+) -> Result<(u64, Place<'a>), Stop<'a>>
+    ensures { outcome same result ≡ unsigned_fixed_read width (place_of place.entry) }
+{
+    let mut source = Octets { rest: place.rest };
+    let mut w = Window::new(&mut source, place.left);
+    let answer = unsigned_fixed(&mut w, width);
+    place.after(answer, w.taken())
+}
+
+/// A number of fixed size in two's complement (X.696, 10.4).
+pub(crate) fn signed_fixed_at<'a>(
+    place: Place<'a>,
+    width: Width,
+) -> Result<(i64, Place<'a>), Stop<'a>>
+    ensures number { outcome same result ≡ signed_fixed_read width (place_of place.entry) }
+    ensures range { IfOk result (λ y. FitsSigned w64 y.0) }
+{
+    let mut source = Octets { rest: place.rest };
+    let mut w = Window::new(&mut source, place.left);
+    let answer = signed_fixed(&mut w, width);
+    let taken = w.taken();
+    match answer {
+        Ok(number) => place.after(Ok(number), taken),
+        Err(fault) => place.after(Err(fault), taken),
+    }
+}
+
+/// An unsigned number after its count of octets (X.696, 10.3).
+pub(crate) fn unsigned_counted_at<'a>(place: Place<'a>) -> Result<(i128, Place<'a>), Stop<'a>>
+    ensures number { outcome same result ≡ counted_number natural is_int128 (place_of place.entry) }
+    ensures range { IfOk result (λ y. FitsSigned w128 y.0) }
+    ensures natural { IfOk result (λ y. pos 0 ≤ℤ y.0) }
+{
+    natural_at(place)
+}
+
+fn natural_at<'a>(place: Place<'a>) -> Result<(i128, Place<'a>), Stop<'a>>
+    ensures number { outcome same result ≡ counted_number natural is_int128 (place_of place.entry) }
+    ensures range { IfOk result (λ y. FitsSigned w128 y.0) }
+{
+    let mut source = Octets { rest: place.rest };
+    let mut w = Window::new(&mut source, place.left);
+    let answer = unsigned_counted(&mut w);
+    let taken = w.taken();
+    match answer {
+        Ok(number) => place.after(Ok(number), taken),
+        Err(fault) => place.after(Err(fault), taken),
+    }
+}
+
+/// A number in two's complement after its count of octets (X.696, 10.4).
+pub(crate) fn signed_counted_at<'a>(place: Place<'a>) -> Result<(i128, Place<'a>), Stop<'a>>
+    ensures number { outcome same result ≡ counted_number signed is_int128 (place_of place.entry) }
+    ensures range { IfOk result (λ y. FitsSigned w128 y.0) }
+{
+    let mut source = Octets { rest: place.rest };
+    let mut w = Window::new(&mut source, place.left);
+    let answer = signed_counted(&mut w);
+    let taken = w.taken();
+    match answer {
+        Ok(number) => place.after(Ok(number), taken),
+        Err(fault) => place.after(Err(fault), taken),
+    }
+}
+
+/// The number of an ENUMERATED (X.696, 11).
+pub(crate) fn enumerated_at<'a>(place: Place<'a>) -> Result<(i64, Place<'a>), Stop<'a>>
+    ensures number { outcome same result ≡ enumerated_read (place_of place.entry) }
+    ensures range { IfOk result (λ y. FitsSigned w64 y.0) }
+{
+    let mut source = Octets { rest: place.rest };
+    let mut w = Window::new(&mut source, place.left);
+    let answer = enumerated(&mut w);
+    let taken = w.taken();
+    match answer {
+        Ok(number) => place.after(Ok(number), taken),
+        Err(fault) => place.after(Err(fault), taken),
+    }
+}
+
+/// A tag (X.696, 8.7).
+pub(crate) fn tag_at<'a>(place: Place<'a>) -> Result<(Tag, Place<'a>), Stop<'a>>
+    ensures { outcome same result ≡ tag_read (place_of place.entry) }
+{
+    let mut source = Octets { rest: place.rest };
+    let mut w = Window::new(&mut source, place.left);
+    let answer = tag(&mut w);
+    place.after(answer, w.taken())
+}
+
+/// How many octets the next subidentifier has (X.690, 8.19.2), at most `content`.
+pub(crate) fn subidentifier_at<'a>(
+    place: Place<'a>,
+    content: u64,
+) -> Result<(u64, Place<'a>), Stop<'a>>
+    requires some { 1 ≤ content }
+    requires room { content ≤ place.left }
+    ensures size { outcome same result ≡ subidentifier_size content (place_of place.entry) }
+    ensures room { IfOk result (λ y. y.0 + y.1.left ≡ place.entry.left) }
+{
+    let mut source = Octets { rest: place.rest };
+    let mut w = Window::new(&mut source, place.left);
+    let answer = subidentifier(&mut w, content);
+    let taken = w.taken();
+    match answer {
+        Ok(_) => place.after(Ok(taken), taken),
+        Err(fault) => place.after(Err(fault), taken),
+    }
+}

@@ -1,0 +1,287 @@
+//! How the encoding of a value is checked.
+ghost use Rattle.std.specs.Prelude.{◌≡◌, length};
+ghost use Rattle.oer_types.specs.AsnType.{no_alternatives};
+ghost use Rattle.oer_types.specs.Checking.{check_additions as additions_checked, check_alternative as alternative_checked, check_extension as extension_checked, check_fields as fields_checked, check_open as open_checked, check_times, check_value};
+ghost use Rattle.oer_types.specs.Constraints.{AdditionsKeepLimits, AlternativesKeepLimits, FieldsKeepLimits, KeepsLimits};
+ghost use Rattle.oer_types.specs.Fits.{AdditionDefaultsFit, AlternativeDefaultsFit, DefaultFits, DefaultsFit, FieldDefaultsFit, Fits};
+ghost use Rattle.oer_types.specs.ShapeView.{additions_of, fields_of, later_of, need_of, root_of, type_of};
+ghost use Rattle.oer_checker.specs.BitView.{bits_in};
+ghost use Rattle.oer_checker.specs.Places.{outcome, place_of, same};
+ghost use Rattle.oer_checker.specs.Steps.{check_if, check_later as later_checked, check_there};
+
+use crate::alphabet::Alphabet;
+use crate::bit_strings::{addition_map, check_bit_string, preamble};
+use crate::bits::Bits;
+use crate::facts::{addition_fits, alternative_fits, field_fits, later_fit, later_fits, root_fits};
+use crate::lengths::{check_octets, leave, octets_between, sized_length_at};
+use crate::numbers::{check_boolean, check_enumerated, check_integer, sized_quantity_at};
+use crate::parts::{check_unknown, contains_tag, is_default, is_same_tag, optional, presence};
+use crate::place::{Place, both};
+use crate::stop::Stop;
+use crate::strings::{check_object_id, check_octet_string, check_text, check_utf8};
+use crate::units::tag_at;
+use oer_types::{Addition, Alt, Field, Shape};
+use oer_units::{Tag, Why};
+
+/// The encoding of a value of the type, and whether it is canonical.
+#[cycle(check)]
+#[tactic(auto, using(crate::proofs::Shapes::shapes))]
+pub(crate) fn check_shape<'a>(
+    shape: &Shape,
+    place: Place<'a>,
+) -> Result<(bool, Place<'a>), Stop<'a>>
+    requires limits { KeepsLimits (type_of shape.now) }
+    requires defaults { DefaultsFit (type_of shape.now) }
+    ensures { outcome same result ≡ check_value (type_of shape.now) (place_of place.entry) }
+{
+    match shape {
+        Shape::Boolean => check_boolean(place),
+        Shape::Null => Ok((true, place)),
+        Shape::Integer { low, high } => check_integer(*low, *high, place),
+        Shape::Enumerated { items, extensible } => check_enumerated(items, *extensible, place),
+        Shape::BitString(size) => check_bit_string(*size, place),
+        Shape::OctetString(size) => check_octet_string(*size, place),
+        Shape::ObjectId => check_object_id(place),
+        Shape::Ia5(size) => check_text(Alphabet::Ia5, *size, place),
+        Shape::Visible(size) => check_text(Alphabet::Visible, *size, place),
+        Shape::Numeric(size) => check_text(Alphabet::Numeric, *size, place),
+        Shape::Printable(size) => check_text(Alphabet::Printable, *size, place),
+        Shape::Utf8(size) => check_utf8(*size, place),
+        Shape::SequenceOf { size, item } => {
+            let ((count, is_least), next) = sized_quantity_at(*size, place)?;
+            let (is_canonical, end) = check_elements(item, count, next)?;
+            Ok((both(is_least, is_canonical), end))
+        }
+        Shape::Sequence { root, additions } => {
+            let fields: &[Field] = root;
+            let Some(additions) = additions else {
+                let (bits, next) = preamble(optional(fields) as u64, place)?;
+                return check_fields(fields, bits, next);
+            };
+            let additions: &[Addition] = additions;
+            let (bits, next) = preamble(optional(fields) as u64 + 1, place)?;
+            let (is_canonical, next) = check_fields(fields, bits.later(), next)?;
+            let (is_extension, end) = check_extension(additions, bits.first(), next)?;
+            Ok((both(is_canonical, is_extension), end))
+        }
+        Shape::Choice { root, additions } => {
+            let (tag, next) = tag_at(place)?;
+            let alternatives: &[Alt] = root;
+            if contains_tag(alternatives, tag) {
+                root_fits(shape, alternatives);
+                return check_alternative(alternatives, tag, next);
+            }
+            match additions {
+                None => Err(Stop {
+                    why: Why::UnknownAlternative,
+                    rest: next.rest,
+                }),
+                Some(additions) => {
+                    let later: &[Alt] = additions;
+                    later_fit(shape, later);
+                    check_later(later, tag, next)
+                }
+            }
+        }
+    }
+}
+
+/// So many elements.
+#[cycle(check)]
+pub(crate) fn check_elements<'a>(
+    item: &Shape,
+    count: u64,
+    place: Place<'a>,
+) -> Result<(bool, Place<'a>), Stop<'a>>
+    requires limits { KeepsLimits (type_of item.now) }
+    requires defaults { DefaultsFit (type_of item.now) }
+    ensures { outcome same result ≡ check_times count (check_value (type_of item.now)) (place_of place.entry) }
+{
+    let mut is_canonical = true;
+    let mut at = place;
+    for turn in 0..count {
+        let (is_element, next) = check_shape(item, at)?;
+        is_canonical = both(is_canonical, is_element);
+        at = next;
+    }
+    Ok((is_canonical, at))
+}
+
+/// An open type (X.696, 30) that holds a value of the type.
+#[cycle(check)]
+fn check_open<'a>(shape: &Shape, place: Place<'a>) -> Result<(bool, Place<'a>), Stop<'a>>
+    requires limits { KeepsLimits (type_of shape.now) }
+    requires defaults { DefaultsFit (type_of shape.now) }
+    ensures { outcome same result ≡ open_checked (check_value (type_of shape.now)) (place_of place.entry) }
+{
+    let ((count, is_least), next) = sized_length_at(place)?;
+    let content = Place {
+        rest: next.rest,
+        left: count,
+    };
+    let answer = check_shape(shape, content);
+    leave(next, count, is_least, answer)
+}
+
+/// A component that is there: canonical octets are not those of its default.
+#[cycle(check)]
+fn check_field<'a>(field: &Field, place: Place<'a>) -> Result<(bool, Place<'a>), Stop<'a>>
+    requires limits { KeepsLimits (type_of field.now.shape) }
+    requires defaults { DefaultsFit (type_of field.now.shape) }
+    requires fits { DefaultFits (need_of field.now.need) (Fits (type_of field.now.shape)) }
+    ensures { outcome same result ≡ check_there (need_of field.now.need) (type_of field.now.shape) (place_of place.entry) }
+{
+    let (is_canonical, end) = check_shape(&field.shape, place)?;
+    let is_its_default = is_default(field, octets_between(place, end));
+    Ok((both(is_canonical, !is_its_default), end))
+}
+
+/// A component of a root, if it is there.
+#[cycle(check)]
+fn check_place<'a>(
+    field: &Field,
+    is_present: bool,
+    place: Place<'a>,
+) -> Result<(bool, Place<'a>), Stop<'a>>
+    requires limits { KeepsLimits (type_of field.now.shape) }
+    requires defaults { DefaultsFit (type_of field.now.shape) }
+    requires fits { DefaultFits (need_of field.now.need) (Fits (type_of field.now.shape)) }
+    ensures { outcome same result ≡ check_if is_present (check_there (need_of field.now.need) (type_of field.now.shape)) (place_of place.entry) }
+{
+    if is_present {
+        check_field(field, place)
+    } else {
+        Ok((true, place))
+    }
+}
+
+/// The components of a root, by their presence bits.
+#[cycle(check)]
+pub(crate) fn check_fields<'a>(
+    fields: &[Field],
+    bits: Bits<'a>,
+    place: Place<'a>,
+) -> Result<(bool, Place<'a>), Stop<'a>>
+    requires limits { FieldsKeepLimits (fields_of fields.now) }
+    requires defaults { FieldDefaultsFit (fields_of fields.now) }
+    ensures { outcome same result ≡ fields_checked (fields_of fields.now) (bits_in bits.entry) (place_of place.entry) }
+{
+    let mut is_canonical = true;
+    let mut left = bits;
+    let mut at = place;
+    for field in fields {
+        field_fits(fields, field);
+        let (is_present, rest) = presence(&field.need, left);
+        left = rest;
+        let (is_field, next) = check_place(field, is_present, at)?;
+        is_canonical = both(is_canonical, is_field);
+        at = next;
+    }
+    Ok((is_canonical, at))
+}
+
+/// The additions, of which there are none where the extension bit isn't set.
+#[cycle(check)]
+fn check_extension<'a>(
+    additions: &[Addition],
+    is_extended: bool,
+    place: Place<'a>,
+) -> Result<(bool, Place<'a>), Stop<'a>>
+    requires limits { AdditionsKeepLimits (additions_of additions.now) }
+    requires defaults { AdditionDefaultsFit (additions_of additions.now) }
+    ensures { outcome same result ≡ extension_checked is_extended (additions_of additions.now) (additions_checked (additions_of additions.now)) (place_of place.entry) }
+{
+    if !is_extended {
+        return Ok((true, place));
+    }
+    let ((bits, is_least), next) = addition_map(additions.len(), place)?;
+    let (is_known, next) = check_additions(additions, bits, next)?;
+    let (is_unknown, end) = check_unknown(bits, additions.len(), next)?;
+    Ok((both(is_least, both(is_known, is_unknown)), end))
+}
+
+/// An addition, if it is there.
+#[cycle(check)]
+fn check_addition<'a>(
+    addition: &Addition,
+    is_present: bool,
+    place: Place<'a>,
+) -> Result<(bool, Place<'a>), Stop<'a>>
+    requires limits { KeepsLimits (type_of addition.now.shape) }
+    requires defaults { DefaultsFit (type_of addition.now.shape) }
+    ensures { outcome same result ≡ check_if is_present (open_checked (check_value (type_of addition.now.shape))) (place_of place.entry) }
+{
+    if is_present {
+        check_open(&addition.shape, place)
+    } else {
+        Ok((true, place))
+    }
+}
+
+/// The additions that the type knows, by their presence bits.
+#[cycle(check)]
+pub(crate) fn check_additions<'a>(
+    additions: &[Addition],
+    bits: Bits<'a>,
+    place: Place<'a>,
+) -> Result<(bool, Place<'a>), Stop<'a>>
+    requires limits { AdditionsKeepLimits (additions_of additions.now) }
+    requires defaults { AdditionDefaultsFit (additions_of additions.now) }
+    ensures { outcome same result ≡ additions_checked (additions_of additions.now) (bits_in bits.entry) (place_of place.entry) }
+{
+    let mut is_canonical = true;
+    let mut left = bits;
+    let mut at = place;
+    for addition in additions {
+        addition_fits(additions, addition);
+        let is_present = left.first();
+        left = left.later();
+        let (is_addition, next) = check_addition(addition, is_present, at)?;
+        is_canonical = both(is_canonical, is_addition);
+        at = next;
+    }
+    Ok((is_canonical, at))
+}
+
+/// The value of the alternative of the root that has the tag.
+#[cycle(check)]
+fn check_alternative<'a>(
+    alternatives: &[Alt],
+    tag: Tag,
+    place: Place<'a>,
+) -> Result<(bool, Place<'a>), Stop<'a>>
+    requires limits { AlternativesKeepLimits (root_of alternatives.now no_alternatives) }
+    requires defaults { AlternativeDefaultsFit (root_of alternatives.now no_alternatives) }
+    ensures { outcome same result ≡ alternative_checked (root_of alternatives.now no_alternatives) tag (place_of place.entry) }
+{
+    for alternative in alternatives {
+        if is_same_tag(alternative.tag, tag) {
+            alternative_fits(alternatives, alternative);
+            return check_shape(&alternative.shape, place);
+        }
+    }
+    Err(Stop {
+        why: Why::UnknownAlternative,
+        rest: place.rest,
+    })
+}
+
+/// What follows a tag that no alternative of the root has (X.696, 20).
+#[cycle(check)]
+fn check_later<'a>(
+    alternatives: &[Alt],
+    tag: Tag,
+    place: Place<'a>,
+) -> Result<(bool, Place<'a>), Stop<'a>>
+    requires limits { AlternativesKeepLimits (later_of alternatives.now) }
+    requires defaults { AlternativeDefaultsFit (later_of alternatives.now) }
+    ensures { outcome same result ≡ later_checked (later_of alternatives.now) tag (place_of place.entry) }
+{
+    for alternative in alternatives {
+        if is_same_tag(alternative.tag, tag) {
+            later_fits(alternatives, alternative);
+            return check_open(&alternative.shape, place);
+        }
+    }
+    check_octets(place)
+}

@@ -1,0 +1,382 @@
+//! What one step finds in an encoding.
+ghost use Rattle.std.specs.Prelude.{◌≡◌, ◌≤◌, drop, length, option_map, true};
+ghost use Rattle.oer_units.specs.Reader.{at};
+ghost use Rattle.oer_units.specs.Reading.{counted_octets, open_type};
+ghost use Rattle.oer_types.specs.AsnType.{no_alternatives};
+ghost use Rattle.oer_types.specs.Bits.{first_bit};
+ghost use Rattle.oer_types.specs.Checking.{both, check_additions as additions_checked, check_fields as fields_checked, check_unknown as unknown_checked, check_value};
+ghost use Rattle.oer_types.specs.Constraints.{AdditionsKeepLimits, FieldsKeepLimits, KeepsLimits};
+ghost use Rattle.oer_types.specs.Fits.{AdditionDefaultsFit, DefaultsFit, FieldDefaultsFit};
+ghost use Rattle.oer_types.specs.Parts.{addition_parts, field_parts, join_parts, knows as knows_step, octets_of, parts_in, read_parts, to_addition, to_chosen, to_component, to_item, unknown_parts};
+ghost use Rattle.oer_types.specs.ShapeView.{additions_of, fields_of, type_of};
+ghost use Rattle.oer_checker.specs.BitView.{IsWhole, bits_in};
+ghost use Rattle.oer_checker.specs.Places.{place_of};
+ghost use Rattle.oer_checker.specs.Walk.{CanSplit, Enters, IsFirst, IsGot, LooksUp, read_in, step_of, type_in};
+
+use crate::bit_strings::{addition_map, preamble};
+use crate::bits::Bits;
+use crate::fault::PartFault;
+use crate::lengths::{octets_between, sized_length_at};
+use crate::numbers::sized_quantity_at;
+use crate::parts::{check_unknown, is_same_tag, optional, presence};
+use crate::place::Place;
+use crate::step::Step;
+use crate::units::{group_at, tag_at};
+use crate::value::{check_additions, check_elements, check_fields, check_shape};
+use oer_types::{Addition, Alt, Field, Shape};
+use oer_units::Tag;
+
+/// Octets in an encoding, and their type if that is known.
+#[derive(Clone, Copy)]
+pub(crate) struct Piece<'s, 'a> {
+    pub shape: Option<&'s Shape>,
+    pub octets: &'a [u8],
+}
+
+/// The octets that are an encoding of a value of the type.
+fn encoding_at<'a>(shape: &Shape, place: Place<'a>) -> Option<&'a [u8]>
+    requires limits { KeepsLimits (type_of shape.now) }
+    requires defaults { DefaultsFit (type_of shape.now) }
+    ensures { option_map (λ s. s.now) result ≡ read_in (octets_of (check_value (type_of shape.now)) (place_of place.entry)) }
+{
+    let Ok((_, end)) = check_shape(shape, place) else {
+        return None;
+    };
+    Some(octets_between(place, end))
+}
+
+/// The content of an open type (X.696, 30) that holds a value of the type.
+fn content_at<'a>(shape: &Shape, place: Place<'a>) -> Option<&'a [u8]>
+    requires limits { KeepsLimits (type_of shape.now) }
+    requires defaults { DefaultsFit (type_of shape.now) }
+    ensures { option_map (λ s. s.now) result ≡ read_in (open_type (octets_of (check_value (type_of shape.now))) (place_of place.entry)) }
+{
+    let Ok(((count, _), next)) = sized_length_at(place) else {
+        return None;
+    };
+    let content = Place {
+        rest: next.rest,
+        left: count,
+    };
+    let Ok((_, end)) = check_shape(shape, content) else {
+        return None;
+    };
+    if end.left > 0 {
+        return None;
+    }
+    Some(octets_between(content, end))
+}
+
+/// The octets that a length counts.
+fn counted_at<'a>(place: Place<'a>) -> Option<&'a [u8]>
+    ensures { option_map (λ s. s.now) result ≡ read_in (counted_octets (place_of place.entry)) }
+{
+    let Ok(((count, _), next)) = sized_length_at(place) else {
+        return None;
+    };
+    let Ok((octets, _)) = group_at(next, count) else {
+        return None;
+    };
+    Some(octets)
+}
+
+/// The component with this number of a root whose presence bits these are, if it is there.
+fn field_in<'s, 'a>(
+    fields: &'s [Field],
+    index: usize,
+    bits: Bits<'a>,
+    place: Place<'a>,
+) -> Option<Piece<'s, 'a>>
+    requires limits { FieldsKeepLimits (fields_of fields.now) }
+    requires defaults { FieldDefaultsFit (fields_of fields.now) }
+    requires checked { IsGot (fields_checked (fields_of fields.now) (bits_in bits) (place_of place)) }
+    ensures { LooksUp (parts_in (field_parts (fields_of fields.now) 0 (bits_in bits.entry) (place_of place.entry))) (to_component index) result }
+{
+    if index >= fields.len() {
+        return None;
+    }
+    let field = &fields[index];
+    let before = &fields[..index];
+    let (is_present, _) = presence(&field.need, bits.skip(optional(before) as u64));
+    if !is_present {
+        return None;
+    }
+    let Ok((_, start)) = check_fields(before, bits, place) else {
+        return None;
+    };
+    let Some(octets) = encoding_at(&field.shape, start) else {
+        return None;
+    };
+    Some(Piece {
+        shape: Some(&field.shape),
+        octets,
+    })
+}
+
+/// The component of a SEQUENCE's root with this number, if it is there.
+fn component_of<'s, 'a>(shape: &'s Shape, index: usize, place: Place<'a>) -> Option<Piece<'s, 'a>>
+    requires limits { KeepsLimits (type_of shape.now) }
+    requires defaults { DefaultsFit (type_of shape.now) }
+    requires checked { IsGot (check_value (type_of shape.now) (place_of place)) }
+    ensures { LooksUp (parts_in (read_parts (type_of shape.now) (place_of place.entry))) (to_component index) result }
+{
+    let Shape::Sequence { root, additions } = shape else {
+        return None;
+    };
+    let fields: &[Field] = root;
+    match additions {
+        None => {
+            let Ok((bits, next)) = preamble(optional(fields) as u64, place) else {
+                return None;
+            };
+            field_in(fields, index, bits, next)
+        }
+        Some(_) => {
+            let Ok((bits, next)) = preamble(optional(fields) as u64 + 1, place) else {
+                return None;
+            };
+            field_in(fields, index, bits.later(), next)
+        }
+    }
+}
+
+/// The addition with this number, known or not, where the bits are those of the bitmap.
+fn addition_in<'s, 'a>(
+    additions: &'s [Addition],
+    index: usize,
+    bits: Bits<'a>,
+    place: Place<'a>,
+) -> Option<Piece<'s, 'a>>
+    requires limits { AdditionsKeepLimits (additions_of additions.now) }
+    requires defaults { AdditionDefaultsFit (additions_of additions.now) }
+    requires whole { IsWhole bits }
+    requires checked { IsGot (both (additions_checked (additions_of additions.now) (bits_in bits)) (unknown_checked (drop (length additions.now) (bits_in bits))) (place_of place)) }
+    ensures { LooksUp (parts_in (join_parts (addition_parts (additions_of additions.now) 0 (bits_in bits.entry)) (unknown_parts (length additions.now) (drop (length additions.now) (bits_in bits.entry))) (place_of place.entry))) (to_addition index) result }
+{
+    if !bits.skip(index as u64).first() {
+        return None;
+    }
+    if index >= additions.len() {
+        let Ok((_, next)) = check_additions(additions, bits, place) else {
+            return None;
+        };
+        return unknown_in(bits, additions.len(), index, next);
+    }
+    let Ok((_, start)) = check_additions(&additions[..index], bits, place) else {
+        return None;
+    };
+    let addition = &additions[index];
+    let Some(octets) = content_at(&addition.shape, start) else {
+        return None;
+    };
+    Some(Piece {
+        shape: Some(&addition.shape),
+        octets,
+    })
+}
+
+/// The addition with this number, of which the type knows so many, where it is there.
+fn unknown_in<'s, 'a>(
+    bits: Bits<'a>,
+    known: usize,
+    index: usize,
+    place: Place<'a>,
+) -> Option<Piece<'s, 'a>>
+    requires whole { IsWhole bits }
+    requires checked { IsGot (unknown_checked (drop known (bits_in bits)) (place_of place)) }
+    requires later { known ≤ index }
+    requires there { first_bit (drop index (bits_in bits)) ≡ true }
+    ensures { LooksUp (parts_in (unknown_parts known (drop known (bits_in bits.entry)) (place_of place.entry))) (to_addition index) result }
+{
+    let Ok((_, start)) = check_unknown(bits.until(index as u64), known, place) else {
+        return None;
+    };
+    let Some(octets) = counted_at(start) else {
+        return None;
+    };
+    Some(Piece {
+        shape: None,
+        octets,
+    })
+}
+
+/// The addition of a SEQUENCE with this number, known or not, if it is there.
+fn addition_of<'s, 'a>(shape: &'s Shape, index: usize, place: Place<'a>) -> Option<Piece<'s, 'a>>
+    requires limits { KeepsLimits (type_of shape.now) }
+    requires defaults { DefaultsFit (type_of shape.now) }
+    requires checked { IsGot (check_value (type_of shape.now) (place_of place)) }
+    ensures { LooksUp (parts_in (read_parts (type_of shape.now) (place_of place.entry))) (to_addition index) result }
+{
+    let Shape::Sequence { root, additions } = shape else {
+        return None;
+    };
+    let Some(additions) = additions else {
+        return None;
+    };
+    let fields: &[Field] = root;
+    let additions: &[Addition] = additions;
+    let Ok((bits, next)) = preamble(optional(fields) as u64 + 1, place) else {
+        return None;
+    };
+    if !bits.first() {
+        return None;
+    }
+    let Ok((_, next)) = check_fields(fields, bits.later(), next) else {
+        return None;
+    };
+    let Ok(((bits, _), next)) = addition_map(additions.len(), next) else {
+        return None;
+    };
+    addition_in(additions, index, bits, next)
+}
+
+/// The element of a SEQUENCE OF with this number, if there are as many.
+fn element_of<'s, 'a>(shape: &'s Shape, index: usize, place: Place<'a>) -> Option<Piece<'s, 'a>>
+    requires limits { KeepsLimits (type_of shape.now) }
+    requires defaults { DefaultsFit (type_of shape.now) }
+    requires checked { IsGot (check_value (type_of shape.now) (place_of place)) }
+    ensures { LooksUp (parts_in (read_parts (type_of shape.now) (place_of place.entry))) (to_item index) result }
+{
+    let Shape::SequenceOf { size, item } = shape else {
+        return None;
+    };
+    let item: &Shape = item;
+    let Ok(((count, _), next)) = sized_quantity_at(*size, place) else {
+        return None;
+    };
+    if index as u64 >= count {
+        return None;
+    }
+    let Ok((_, start)) = check_elements(item, index as u64, next) else {
+        return None;
+    };
+    let Some(octets) = encoding_at(item, start) else {
+        return None;
+    };
+    Some(Piece {
+        shape: Some(item),
+        octets,
+    })
+}
+
+/// The first alternative that has the tag.
+fn with_tag<'s>(alternatives: &'s [Alt], tag: Tag) -> Option<&'s Alt>
+    ensures { IsFirst alternatives.now tag (option_map (λ a. a.now) result) }
+{
+    for alternative in alternatives {
+        if is_same_tag(alternative.tag, tag) {
+            return Some(alternative);
+        }
+    }
+    None
+}
+
+/// The alternative of a CHOICE.
+fn alternative_of<'s, 'a>(shape: &'s Shape, place: Place<'a>) -> Option<Piece<'s, 'a>>
+    requires limits { KeepsLimits (type_of shape.now) }
+    requires defaults { DefaultsFit (type_of shape.now) }
+    requires checked { IsGot (check_value (type_of shape.now) (place_of place)) }
+    ensures { LooksUp (parts_in (read_parts (type_of shape.now) (place_of place.entry))) to_chosen result }
+{
+    let Shape::Choice { root, additions } = shape else {
+        return None;
+    };
+    let Ok((tag, next)) = tag_at(place) else {
+        return None;
+    };
+    if let Some(alternative) = with_tag(root, tag) {
+        let Some(octets) = encoding_at(&alternative.shape, next) else {
+            return None;
+        };
+        return Some(Piece {
+            shape: Some(&alternative.shape),
+            octets,
+        });
+    }
+    let Some(additions) = additions else {
+        return None;
+    };
+    match with_tag(additions, tag) {
+        Some(alternative) => {
+            let Some(octets) = content_at(&alternative.shape, next) else {
+                return None;
+            };
+            Some(Piece {
+                shape: Some(&alternative.shape),
+                octets,
+            })
+        }
+        None => {
+            let Some(octets) = counted_at(next) else {
+                return None;
+            };
+            Some(Piece {
+                shape: None,
+                octets,
+            })
+        }
+    }
+}
+
+/// What the step leads to in the encoding of a value of the type.
+fn step_into<'s, 'a>(shape: &'s Shape, octets: &'a [u8], step: Step) -> Option<Piece<'s, 'a>>
+    requires limits { KeepsLimits (type_of shape.now) }
+    requires defaults { DefaultsFit (type_of shape.now) }
+    requires checked { IsGot (check_value (type_of shape.now) (at octets.now (length octets.now))) }
+    ensures { LooksUp (parts_in (read_parts (type_of shape.now) (at octets.now (length octets.now)))) (step_of step) result }
+{
+    let place = Place {
+        rest: octets,
+        left: octets.len() as u64,
+    };
+    match step {
+        Step::Component(index) => component_of(shape, index, place),
+        Step::Addition(index) => addition_of(shape, index, place),
+        Step::Item(index) => element_of(shape, index, place),
+        Step::Chosen => alternative_of(shape, place),
+    }
+}
+
+/// Whether the step names a component of the root or an addition that the type knows.
+fn knows(shape: &Shape, step: Step) -> bool
+    ensures { result ≡ knows_step (type_of shape.now) (step_of step) }
+{
+    let Shape::Sequence { root, additions } = shape else {
+        return false;
+    };
+    match step {
+        Step::Component(index) => {
+            let fields: &[Field] = root;
+            index < fields.len()
+        }
+        Step::Addition(index) => {
+            let Some(additions) = additions else {
+                return false;
+            };
+            let additions: &[Addition] = additions;
+            index < additions.len()
+        }
+        Step::Item(_) => false,
+        Step::Chosen => false,
+    }
+}
+
+impl<'s, 'a> Piece<'s, 'a> {
+    /// What the step leads to in this part.
+    pub(crate) fn enter(self, step: Step) -> Result<Piece<'s, 'a>, PartFault>
+        requires { CanSplit (type_in self) self.octets.now }
+        ensures { Enters (type_in self.entry) self.entry.octets.now (step_of step) result }
+    {
+        let Some(shape) = self.shape else {
+            return Err(PartFault::NoSuchStep);
+        };
+        match step_into(shape, self.octets, step) {
+            Some(piece) => Ok(piece),
+            None => Err(if knows(shape, step) {
+                PartFault::Absent
+            } else {
+                PartFault::NoSuchStep
+            }),
+        }
+    }
+}

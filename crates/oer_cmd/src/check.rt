@@ -1,0 +1,63 @@
+//! Whether octets are canonical.
+ghost use Rattle.std.specs.Prelude.{◌≡◌, ◌↔◌, length, true, IfErr, IfOk, string_bytes};
+ghost use Rattle.oer_types.specs.Schema.{the_type};
+ghost use Rattle.oer_cmd.specs.Run.{AreCanonical, IsCheckLine, IsEncoding, IsNoFront, IsNotWhole, OfOctets, verdict_text};
+ghost use Rattle.oer_cmd.specs.Words.{behind};
+
+use crate::fault::Fault;
+use crate::octets::{all_octets, spelt};
+use oer_checker::check;
+use oer_types::Schema;
+use oer_units::Source;
+use std::alloc::Global;
+
+/// Whether the octets, which have to be all of one encoding, are canonical. Refused as `Read` where no
+/// encoding stands at their front, and as `Follows` where octets follow it.
+pub fn judged<'a>(schema: &Schema, octets: &[u8]) -> Result<bool, Fault<'a>>
+    ensures whole { IfOk result (λ canonical. IsEncoding (the_type schema.now) octets.now) }
+    ensures tells { IfOk result (λ canonical. (canonical ≡ true) ↔ AreCanonical (the_type schema.now) octets.now) }
+    ensures only { IfOk result (λ canonical. IsNoFront (the_type schema.now) octets.now) }
+    ensures refused { IfErr result (IsNotWhole (the_type schema.now) octets.now) }
+{
+    let verdict = match check(schema, octets) {
+        Ok(verdict) => verdict,
+        Err(fault) => return Err(Fault::of_read(fault)),
+    };
+    if verdict.octets != octets.len() {
+        return Err(Fault::Follows(verdict.octets as u64));
+    }
+    Ok(verdict.canonical)
+}
+
+// The line for octets that are judged.
+fn verdict_line<'a>(alloc: Global, is_canonical: bool, octets: &[u8]) -> Result<String, Fault<'a>>
+    ensures { IfOk result (λ line. string_bytes line ≡ verdict_text is_canonical (length octets.now)) }
+{
+    let size = octets.len();
+    let line = if is_canonical {
+        format!(in alloc; "canonical {size}")
+    } else {
+        format!(in alloc; "basic {size}")
+    };
+    match line {
+        Ok(line) => Ok(line),
+        Err(_) => Err(Fault::Memory),
+    }
+}
+
+/// The line of `check` for the octets that the options or the input give.
+pub fn check_line<'a, R: Source>(
+    alloc: Global,
+    schema: &Schema,
+    hex: Option<&str>,
+    limit: u64,
+    input: &mut R,
+) -> Result<String, Fault<'a>>
+    ensures { IfOk result (λ line. OfOctets (behind hex.entry) (R.remaining input.old)
+        (IsCheckLine (the_type schema.now) limit (string_bytes line))) }
+{
+    let spelt = spelt(alloc, hex)?;
+    let octets = all_octets(alloc, spelt, input, limit)?;
+    let is_canonical = judged(schema, octets.as_slice())?;
+    verdict_line(alloc, is_canonical, octets.as_slice())
+}

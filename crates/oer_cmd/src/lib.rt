@@ -1,0 +1,17 @@
+//! Values and their octets at the command line: what the program `oer` does with its words.
+#![tactic(auto)]
+
+mod canon;
+mod check;
+mod counted;
+mod fault;
+pub mod laws;
+mod make;
+mod octets;
+mod options;
+mod part;
+mod program;
+mod show;
+mod type_text;
+
+pub use program::run;

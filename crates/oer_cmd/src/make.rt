@@ -1,0 +1,118 @@
+//! The canonical octets of the value that JSON stands for.
+ghost use Rattle.std.specs.Prelude.{◌≡◌, ◌≢◌, None, Some, IfErr, IfOk, string_bytes};
+ghost use Rattle.serde_json.specs.Read.{read};
+ghost use Rattle.serde_json.specs.View.{view};
+ghost use Rattle.oer_types.specs.AsnValue.{AsnValue};
+ghost use Rattle.oer_types.specs.Fits.{Fits};
+ghost use Rattle.oer_types.specs.Schema.{the_type};
+ghost use Rattle.oer_types.specs.Strict.{IsCanonical};
+ghost use Rattle.oer_types.specs.ValueView.{value_of};
+ghost use Rattle.oer_json.specs.Denotes.{Takes};
+ghost use Rattle.oer_json.specs.Take.{taken};
+ghost use Rattle.oer_cmd.specs.Faults.{IsOfJson};
+ghost use Rattle.oer_cmd.specs.Run.{IsMakeLine, Makes, OfText};
+ghost use Rattle.oer_cmd.specs.Words.{behind};
+
+use crate::fault::Fault;
+use crate::octets::all_octets;
+use oer_json::{JsonFault, from_json};
+use oer_types::{Schema, Value};
+use oer_units::{Metered, Source};
+use oer_writer::{WriteFault, write};
+use serde_json::Value as Json;
+use std::alloc::Global;
+
+// The JSON of a text; refused as `NotJson`, or as `Memory`.
+fn json_of<'a>(alloc: Global, text: &str) -> Result<Json, Fault<'a>>
+    ensures json { IfOk result (λ json. read text.now ≡ Some (view json)) }
+    ensures refused { IfErr result (λ fault. fault ≢ Fault.Memory → (fault ≡ Fault.NotJson) × (read text.now ≡ None)) }
+{
+    match Json::from_str(alloc, text) {
+        Ok(json) => Ok(json),
+        Err(error) => {
+            if error.is_memory() {
+                Err(Fault::Memory)
+            } else {
+                Err(Fault::NotJson)
+            }
+        }
+    }
+}
+
+// The value that the JSON stands for; refused as `Json`, or as `Memory`.
+fn value_in<'a>(alloc: Global, schema: &Schema, json: &Json) -> Result<Value, Fault<'a>>
+    ensures takes { IfOk result (λ value. Takes (the_type schema.now) (value_of value) (view json.now)) }
+    ensures fits { IfOk result (λ value. Fits (the_type schema.now) (value_of value)) }
+    ensures refused { IfErr result (IsOfJson (taken (the_type schema.now) (view json.now))) }
+    ensures none { IfErr result (λ fault. fault ≢ Fault.Memory → (v : AsnValue) → Takes (the_type schema.now) v (view json.now) → ⊥) }
+{
+    match from_json(alloc, schema, json) {
+        Ok(value) => Ok(value),
+        Err(JsonFault::Memory) => Err(Fault::Memory),
+        Err(fault) => Err(Fault::Json(fault)),
+    }
+}
+
+// The canonical octets of a value; refused as `Memory`, or as `Output` where they are too many.
+fn written<'a>(alloc: Global, schema: &Schema, value: &Value) -> Result<Vec<u8>, Fault<'a>>
+    requires { Fits (the_type schema.now) (value_of value.now) }
+    ensures { IfOk result (λ octets. IsCanonical (the_type schema.now) (value_of value.now) octets.items) }
+{
+    let mut sink = Metered::new(Vec::new(alloc));
+    match write(schema, value, &mut sink) {
+        Ok(_) => Ok(sink.into_inner()),
+        Err(WriteFault::Device { .. }) => Err(Fault::Memory),
+        Err(WriteFault::TooLong) => Err(Fault::Output),
+    }
+}
+
+// The line for a text of JSON.
+fn text_line<'a>(alloc: Global, schema: &Schema, text: &str) -> Result<String, Fault<'a>>
+    ensures { IfOk result (λ line. Makes (the_type schema.now) (string_bytes line) text.now) }
+{
+    let json = json_of(alloc, text)?;
+    let value = value_in(alloc, schema, &json)?;
+    let octets = written(alloc, schema, &value)?;
+    match hex::encode(alloc, octets) {
+        Ok(line) => Ok(line),
+        Err(_) => Err(Fault::Memory),
+    }
+}
+
+// The line for the text that the input has left.
+fn input_line<'a, R: Source>(
+    alloc: Global,
+    schema: &Schema,
+    limit: u64,
+    input: &mut R,
+) -> Result<String, Fault<'a>>
+    ensures { IfOk result (λ line. OfText None (R.remaining input.old)
+        (IsMakeLine (the_type schema.now) limit (string_bytes line))) }
+{
+    let octets = all_octets(alloc, None, input, limit)?;
+    match str::from_utf8(octets.as_slice()) {
+        Ok(text) => text_line(alloc, schema, text),
+        Err(_) => Err(Fault::NotJson),
+    }
+}
+
+/// The line of `make` for the JSON that the options or the input give. Refused as `Longer` where its
+/// text has more octets than the limit.
+pub fn make_line<'a, R: Source>(
+    alloc: Global,
+    schema: &Schema,
+    json: Option<&str>,
+    limit: u64,
+    input: &mut R,
+) -> Result<String, Fault<'a>>
+    ensures { IfOk result (λ line. OfText (behind json.entry) (R.remaining input.old)
+        (IsMakeLine (the_type schema.now) limit (string_bytes line))) }
+{
+    let Some(text) = json else {
+        return input_line(alloc, schema, limit, input);
+    };
+    if text.len() as u64 > limit {
+        return Err(Fault::Longer(limit));
+    }
+    text_line(alloc, schema, text)
+}

@@ -1,0 +1,73 @@
+//! A part of octets.
+ghost use Rattle.std.specs.Prelude.{◌≡◌, ◌≢◌, List, IfErr, IfOk, string_bytes};
+ghost use Rattle.oer_types.specs.Parts.{Step as PlainStep};
+ghost use Rattle.oer_types.specs.Schema.{the_type};
+ghost use Rattle.oer_checker.specs.Walk.{path_of as steps_of};
+ghost use Rattle.oer_cmd.specs.Run.{IsEncoding, IsPart, IsPartLine, IsPath, OfOctets};
+ghost use Rattle.oer_cmd.specs.Words.{behind};
+
+use crate::check::judged;
+use crate::fault::Fault;
+use crate::octets::{all_octets, spelt};
+use oer_checker::{PartFault, Step, part};
+use oer_input::{PathFault, read_path};
+use oer_types::Schema;
+use oer_units::Source;
+use std::alloc::Global;
+
+// The path of `--path`; refused as `Path`, or as `Memory`.
+fn path_of<'a>(alloc: Global, text: Option<&str>) -> Result<Vec<Step>, Fault<'a>>
+    ensures path { IfOk result (λ path. IsPath (behind text.entry) (steps_of path.items)) }
+    ensures refused { IfErr result (λ fault. fault ≢ Fault.Memory → (fault ≡ Fault.Path)
+        × ((path : List PlainStep) → IsPath (behind text.entry) path → ⊥)) }
+{
+    let Some(text) = text else {
+        return Ok(Vec::new(alloc));
+    };
+    match read_path(alloc, text) {
+        Ok(path) => Ok(path),
+        Err(PathFault::Memory) => Err(Fault::Memory),
+        Err(PathFault::Form) => Err(Fault::Path),
+    }
+}
+
+// The part to which the path leads in octets that are all of one encoding, in hexadecimal digits.
+fn digits_of_part<'a>(
+    alloc: Global,
+    schema: &Schema,
+    octets: &[u8],
+    path: &[Step],
+) -> Result<String, Fault<'a>>
+    ensures whole { IfOk result (λ line. IsEncoding (the_type schema.now) octets.now) }
+    ensures part { IfOk result (λ line. IsPart (the_type schema.now) (steps_of path.now) (string_bytes line) octets.now) }
+{
+    judged(schema, octets)?;
+    let octets = match part(schema, octets, path) {
+        Ok(octets) => octets,
+        Err(PartFault::Read(fault)) => return Err(Fault::of_read(fault)),
+        Err(PartFault::NoSuchStep) => return Err(Fault::NoSuchStep),
+        Err(PartFault::Absent) => return Err(Fault::Absent),
+    };
+    match hex::encode(alloc, octets) {
+        Ok(line) => Ok(line),
+        Err(_) => Err(Fault::Memory),
+    }
+}
+
+/// The line of `part` for the octets that the options or the input give.
+pub fn part_line<'a, R: Source>(
+    alloc: Global,
+    schema: &Schema,
+    hex: Option<&str>,
+    path: Option<&str>,
+    limit: u64,
+    input: &mut R,
+) -> Result<String, Fault<'a>>
+    ensures { IfOk result (λ line. OfOctets (behind hex.entry) (R.remaining input.old)
+        (IsPartLine (the_type schema.now) limit (behind path.entry) (string_bytes line))) }
+{
+    let spelt = spelt(alloc, hex)?;
+    let path = path_of(alloc, path)?;
+    let octets = all_octets(alloc, spelt, input, limit)?;
+    digits_of_part(alloc, schema, octets.as_slice(), path.as_slice())
+}

@@ -1,0 +1,15 @@
+//! Tests of the program's command, through `run` alone: what runs write, and their statuses.
+#![tactic(auto)]
+
+#[cfg(test)]
+mod example;
+#[cfg(test)]
+mod failing;
+#[cfg(test)]
+mod input;
+#[cfg(test)]
+mod lines;
+#[cfg(test)]
+mod shared;
+#[cfg(test)]
+mod vectors;
