@@ -21,10 +21,12 @@ pub enum Fault<'a> {
     /// There are more octets than the limit, which is this.
     #[error("input longer than {0}")]
     Longer(u64),
-    /// The path has a step that the type doesn't have, or past the last element.
+    /// The path has a step that the type doesn't have, one past the last element, or one to an
+    /// addition that the type doesn't know and that isn't there; or it goes on from a part that the
+    /// type doesn't know.
     #[error("NoSuchStep")]
     NoSuchStep,
-    /// The path leads to a component or an addition that is absent.
+    /// The path leads to a component, or to an addition that the type knows, that is absent.
     #[error("Absent")]
     Absent,
     /// Neither `--type` nor `--types` is given, or both are.
