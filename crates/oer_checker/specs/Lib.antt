@@ -2,7 +2,6 @@ pub mod Plain
 pub mod Places
 pub mod Steps
 pub mod BitView
-pub mod AlphabetView
 pub mod Check
 pub mod Numbers
 pub mod Facts

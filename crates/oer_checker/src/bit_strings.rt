@@ -15,7 +15,6 @@ ghost use Rattle.oer_checker.specs.Steps.{addition_map as addition_map_read, las
 use crate::bits::Bits;
 use crate::lengths::{counted_len, octets_between};
 use crate::place::{Place, both};
-use crate::sizes::{allows, fixed};
 use crate::stop::Stop;
 use crate::units::{group_at, length_at, octet_at};
 use oer_types::Size;
@@ -154,7 +153,7 @@ pub(crate) fn check_bit_string<'a>(
 ) -> Result<(bool, Place<'a>), Stop<'a>>
     ensures { outcome same result ≡ check_value (bit_string size) (place_of place.entry) }
 {
-    if let Some(count) = fixed(size) {
+    if let Some(count) = size.fixed() {
         let (octets, end) = group_at(place, octets_needed(count))?;
         return Ok((ends_in_zeros(octets, spare(count)), end));
     }
@@ -197,7 +196,7 @@ fn sized_bits<'a>(
         (bind (group count) (λ d. give (take (length (the_bits d) - unused) (the_bits d)))) (place_of place.entry) }
 {
     let bits = 8 * u128::from(count) - u128::from(unused);
-    if !allows(size, bits) {
+    if !size.allows(bits) {
         return Err(Stop {
             why: Why::Size,
             rest: place.rest,

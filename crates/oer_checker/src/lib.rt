@@ -2,7 +2,6 @@
 //! are canonical, and where their parts stand. Nothing here takes memory.
 #![tactic(auto)]
 
-mod alphabet;
 mod bit_strings;
 mod bits;
 mod facts;
@@ -13,7 +12,6 @@ mod lengths;
 mod numbers;
 mod parts;
 mod place;
-mod sizes;
 mod step;
 mod stop;
 mod strings;

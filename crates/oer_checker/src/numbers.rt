@@ -11,7 +11,6 @@ ghost use Rattle.oer_checker.specs.Steps.{sized_quantity};
 
 use crate::lengths::is_of_length;
 use crate::place::Place;
-use crate::sizes::allows;
 use crate::stop::Stop;
 use crate::units::{
     enumerated_at, octet_at, signed_counted_at, signed_fixed_at, unsigned_counted_at,
@@ -162,7 +161,7 @@ pub(crate) fn sized_quantity_at<'a>(
             rest: next.rest,
         });
     }
-    if !allows(size, count) {
+    if !size.allows(count) {
         return Err(Stop {
             why: Why::Size,
             rest: next.rest,

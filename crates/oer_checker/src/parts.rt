@@ -1,11 +1,10 @@
-//! What surrounds the parts of a value: presence, defaults, tags, and parts that the type doesn't
+//! What surrounds the parts of a value: presence, defaults, and parts that the type doesn't
 //! know.
-ghost use Rattle.std.specs.Prelude.{◌≡◌, ◌≤◌, drop, length};
-ghost use Rattle.oer_types.specs.AsnType.{no_alternatives};
+ghost use Rattle.std.specs.Prelude.{◌≡◌, drop};
 ghost use Rattle.oer_types.specs.Checking.{check_unknown as unknown_checked};
-ghost use Rattle.oer_types.specs.Constraints.{KeepsLimits, has_tag, optional as optional_in, same_tag};
+ghost use Rattle.oer_types.specs.Constraints.{KeepsLimits};
 ghost use Rattle.oer_types.specs.Fits.{DefaultFits, Fits};
-ghost use Rattle.oer_types.specs.ShapeView.{fields_of, need_of, root_of, type_of};
+ghost use Rattle.oer_types.specs.ShapeView.{need_of, type_of};
 ghost use Rattle.oer_checker.specs.BitView.{IsWhole, bits_in};
 ghost use Rattle.oer_checker.specs.Places.{outcome, place_of, same};
 ghost use Rattle.oer_checker.specs.Steps.{bits_left, is_default as is_default_in, is_there};
@@ -14,8 +13,7 @@ use crate::bits::Bits;
 use crate::lengths::check_octets;
 use crate::place::{Place, both};
 use crate::stop::Stop;
-use oer_types::{Alt, Field, Need, laws};
-use oer_units::Tag;
+use oer_types::{Field, Need, laws};
 use oer_writer::parts::equals;
 
 /// Whether a component is there, and the bits of those after it.
@@ -28,21 +26,6 @@ pub(crate) fn presence<'a>(need: &Need, bits: Bits<'a>) -> (bool, Bits<'a>)
         Need::May => (bits.first(), bits.later()),
         Need::Default(_) => (bits.first(), bits.later()),
     }
-}
-
-/// How many components may be absent.
-pub(crate) fn optional(fields: &[Field]) -> usize
-    ensures is { result ≡ optional_in (fields_of fields.now) }
-    ensures most { result ≤ length fields.now }
-{
-    let mut count = 0;
-    for field in fields {
-        count += match field.need {
-            Need::Must => 0,
-            _ => 1,
-        };
-    }
-    count
 }
 
 /// Whether the octets are the canonical octets of the component's default.
@@ -79,23 +62,4 @@ pub(crate) fn check_unknown<'a>(
         at = next;
     }
     Ok((is_canonical, at))
-}
-
-// Whether both have the same class and number.
-pub(crate) fn is_same_tag(one: Tag, other: Tag) -> bool
-    ensures { result ≡ same_tag one other }
-{
-    one.class as u8 == other.class as u8 && one.number == other.number
-}
-
-/// Whether an alternative has the tag.
-pub(crate) fn contains_tag(alternatives: &[Alt], tag: Tag) -> bool
-    ensures { result ≡ has_tag tag (root_of alternatives.now no_alternatives) }
-{
-    for alternative in alternatives {
-        if is_same_tag(alternative.tag, tag) {
-            return true;
-        }
-    }
-    false
 }

@@ -8,17 +8,15 @@ ghost use Rattle.oer_types.specs.Canonical.{string_octets};
 ghost use Rattle.oer_types.specs.Checking.{check_subidentifiers as subidentifiers_checked, check_value, is_least, judged};
 ghost use Rattle.oer_types.specs.Constraints.{fixed as fixed_size};
 ghost use Rattle.oer_types.specs.Reading.{read_octets};
-ghost use Rattle.oer_checker.specs.AlphabetView.{alphabet_of};
+ghost use Rattle.oer_types.specs.AlphabetView.{alphabet_of};
 ghost use Rattle.oer_checker.specs.Places.{outcome, place_of, same};
 ghost use Rattle.oer_checker.specs.Steps.{between};
 
-use crate::alphabet::{Alphabet, are_characters};
 use crate::lengths::{counted_len, octets_between, sized_length_at};
 use crate::place::{Place, both};
-use crate::sizes::{allows, fixed};
 use crate::stop::Stop;
 use crate::units::{group_at, length_at, subidentifier_at};
-use oer_types::Size;
+use oer_types::{Alphabet, Size, are_characters};
 use oer_units::Why;
 
 // Whether what stands from one place to another is as long as so many octets after their length in
@@ -43,12 +41,12 @@ fn counted_at<'a>(place: Place<'a>) -> Result<((&'a [u8], bool), Place<'a>), Sto
 fn sized_octets<'a>(size: Size, place: Place<'a>) -> Result<((&'a [u8], bool), Place<'a>), Stop<'a>>
     ensures { outcome (λ y. (y.0.now, y.1)) result ≡ judged (is_least (string_octets (fixed_size size))) (read_octets (fixed_size size) size) (place_of place.entry) }
 {
-    if let Some(count) = fixed(size) {
+    if let Some(count) = size.fixed() {
         let (octets, end) = group_at(place, count)?;
         return Ok(((octets, true), end));
     }
     let (count, next) = length_at(place)?;
-    if !allows(size, u128::from(count)) {
+    if !size.allows(u128::from(count)) {
         return Err(Stop {
             why: Why::Size,
             rest: next.rest,
@@ -98,7 +96,7 @@ pub(crate) fn check_utf8<'a>(size: Size, place: Place<'a>) -> Result<(bool, Plac
             rest: end.rest,
         });
     };
-    if !allows(size, u128::from(count)) {
+    if !size.allows(u128::from(count)) {
         return Err(Stop {
             why: Why::Size,
             rest: end.rest,

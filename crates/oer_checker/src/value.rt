@@ -9,18 +9,17 @@ ghost use Rattle.oer_checker.specs.BitView.{bits_in};
 ghost use Rattle.oer_checker.specs.Places.{outcome, place_of, same};
 ghost use Rattle.oer_checker.specs.Steps.{check_if, check_later as later_checked, check_there};
 
-use crate::alphabet::Alphabet;
 use crate::bit_strings::{addition_map, check_bit_string, preamble};
 use crate::bits::Bits;
 use crate::facts::{addition_fits, alternative_fits, field_fits, later_fit, later_fits, root_fits};
 use crate::lengths::{check_octets, leave, octets_between, sized_length_at};
 use crate::numbers::{check_boolean, check_enumerated, check_integer, sized_quantity_at};
-use crate::parts::{check_unknown, contains_tag, is_default, is_same_tag, optional, presence};
+use crate::parts::{check_unknown, is_default, presence};
 use crate::place::{Place, both};
 use crate::stop::Stop;
 use crate::strings::{check_object_id, check_octet_string, check_text, check_utf8};
 use crate::units::tag_at;
-use oer_types::{Addition, Alt, Field, Shape};
+use oer_types::{Addition, Alphabet, Alt, Field, Shape, contains_tag, is_same_tag, optional};
 use oer_units::{Tag, Why};
 
 /// The encoding of a value of the type, and whether it is canonical.

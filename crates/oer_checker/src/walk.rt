@@ -18,12 +18,12 @@ use crate::bits::Bits;
 use crate::fault::PartFault;
 use crate::lengths::{octets_between, sized_length_at};
 use crate::numbers::sized_quantity_at;
-use crate::parts::{check_unknown, is_same_tag, optional, presence};
+use crate::parts::{check_unknown, presence};
 use crate::place::Place;
 use crate::step::Step;
 use crate::units::{group_at, tag_at};
 use crate::value::{check_additions, check_elements, check_fields, check_shape};
-use oer_types::{Addition, Alt, Field, Shape};
+use oer_types::{Addition, Alt, Field, Shape, is_same_tag, optional};
 use oer_units::Tag;
 
 /// Octets in an encoding, and their type if that is known.

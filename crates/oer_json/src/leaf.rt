@@ -4,7 +4,6 @@ ghost use Rattle.std.specs.Fmt.{decimal};
 ghost use Rattle.std.specs.List.{slice_get};
 ghost use Rattle.serde_json.specs.Data.{string};
 ghost use Rattle.serde_json.specs.View.{view};
-ghost use Rattle.oer_types.specs.Constraints.{same_tag};
 ghost use Rattle.oer_types.specs.ShapeView.{named_number};
 ghost use Rattle.oer_json.specs.Keys.{class_letter, place_key, tag_key};
 ghost use Rattle.oer_json.specs.Made.{made_integer, made_item, made_octets};
@@ -150,10 +149,4 @@ pub(crate) fn tag_text(alloc: Global, tag: Tag) -> Result<String, AllocError>
     key.push(class_letter(tag.class))?;
     key.push_str(digits.as_str())?;
     Ok(key)
-}
-
-pub(crate) fn is_same_tag(one: Tag, other: Tag) -> bool
-    ensures { result ≡ same_tag one other }
-{
-    one.class as u8 == other.class as u8 && one.number == other.number
 }

@@ -11,10 +11,9 @@ ghost use Rattle.oer_json.specs.Keys.{tag_key};
 ghost use Rattle.oer_json.specs.Made.{made, made_alternative, made_items, made_octets, one_member, put_additions as with_additions, put_fields as with_fields, put_unknown as with_unknown, with_place};
 
 use crate::leaf::{
-    arcs_json, bits_json, integer_json, is_same_tag, item_json, octets_json, place_text, tag_text,
-    text_json,
+    arcs_json, bits_json, integer_json, item_json, octets_json, place_text, tag_text, text_json,
 };
-use oer_types::{Addition, Alt, Field, Schema, Shape, Unknown, Value};
+use oer_types::{Addition, Alt, Field, Schema, Shape, Unknown, Value, is_same_tag};
 use oer_units::Tag;
 use serde_json::{Map, Value as Json};
 use std::alloc::{AllocError, Global};

@@ -50,7 +50,7 @@ pub(crate) fn one_member(json: &Json) -> Result<(&str, &Json), JsonFault>
 pub(crate) fn sized(size: Size, values: Vec<Value>) -> Result<Value, JsonFault>
     ensures { Gives value_of result (sized size (values_of values.items)) }
 {
-    if !size.allows(values.len() as u64) {
+    if !size.allows(values.len() as u128) {
         return Err(JsonFault::Misfit);
     }
     Ok(Value::List(values))

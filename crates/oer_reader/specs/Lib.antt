@@ -1,6 +1,5 @@
 pub mod Numbers
 pub mod BitReading
-pub mod AlphabetView
 pub mod Places
 pub mod Choices
 pub mod Memory

@@ -8,7 +8,6 @@ ghost use Rattle.oer_types.specs.Reading.{read_bits, read_value};
 ghost use Rattle.oer_types.specs.ValueView.{value_of};
 ghost use Rattle.oer_reader.specs.BitReading.{addition_map_at, fixed_bits_at, initial_octet_at, sized_octet_at, unused_fits, used};
 
-use crate::sizes::{allows, fixed};
 use oer_types::{Bits, Size, Value};
 use oer_units::{ReadFault, Source, Why, Window, length, octet, octets};
 use std::alloc::{AllocError, Global};
@@ -22,7 +21,7 @@ pub(crate) fn read_bit_string<R: Source>(
     ensures { Reads (read_value (bit_string_type size)) (state R.remaining R.failed w.old) (seen value_of result)
         (state R.remaining R.failed w.new) }
 {
-    if let Some(count) = fixed(size) {
+    if let Some(count) = size.fixed() {
         let bits = fixed_bits(alloc, count, w)?;
         return Ok(Value::Bits(bits));
     }
@@ -74,7 +73,7 @@ fn sized_octet<R: Source>(size: Size, length: u64, w: &mut Window<R>) -> Result<
 {
     let unused = initial_octet(length, w)?;
     let count = bits_used(length, unused);
-    if !allows(size, count) {
+    if !size.allows(count) {
         return Err(w.fault(Why::Size));
     }
     Ok(unused)

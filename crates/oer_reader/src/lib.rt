@@ -9,7 +9,6 @@ mod numbers;
 mod parts;
 mod preamble;
 mod rewriting;
-mod sizes;
 mod strings;
 mod value;
 

@@ -5,17 +5,15 @@ ghost use Rattle.oer_units.specs.Reader.{give};
 ghost use Rattle.oer_units.specs.Reads.{Reads, seen, state};
 ghost use Rattle.oer_types.specs.AsnValue.{chosen as chosen_value};
 ghost use Rattle.oer_types.specs.Bits.{first_bit, later_bits};
-ghost use Rattle.oer_types.specs.Constraints.{optional as optional_in, same_tag};
 ghost use Rattle.oer_types.specs.Fits.{all_absent};
 ghost use Rattle.oer_types.specs.Reading.{read_unknown as unknown_read};
-ghost use Rattle.oer_types.specs.ShapeView.{additions_of, fields_of, need_of};
+ghost use Rattle.oer_types.specs.ShapeView.{additions_of, need_of};
 ghost use Rattle.oer_types.specs.ValueView.{places_of, unknown_of, value_of};
 ghost use Rattle.oer_reader.specs.Choices.{foreign_at};
 ghost use Rattle.oer_reader.specs.Places.{bits_left, count_at, is_there};
 
-use crate::sizes::allows;
 use crate::strings::counted_octets;
-use oer_types::{Addition, Field, Need, Size, Unknown, Value};
+use oer_types::{Addition, Need, Size, Unknown, Value};
 use oer_units::{ReadFault, Source, Tag, Why, Window, unsigned_counted};
 use std::alloc::{AllocError, Global};
 
@@ -51,21 +49,6 @@ pub(crate) fn presence<'a>(need: &Need, bits: &'a [bool]) -> (bool, &'a [bool])
     }
 }
 
-/// How many components may be absent.
-pub(crate) fn optional(fields: &[Field]) -> usize
-    ensures is { result ≡ optional_in (fields_of fields.now) }
-    ensures most { result ≤ length fields.now }
-{
-    let mut count = 0;
-    for field in fields {
-        count += match field.need {
-            Need::Must => 0,
-            _ => 1,
-        };
-    }
-    count
-}
-
 /// How many elements follow (X.696, 17): a quantity that is not above what is left, and that the
 /// size allows.
 pub(crate) fn count<R: Source>(size: Size, w: &mut Window<R>) -> Result<u64, ReadFault>
@@ -74,7 +57,7 @@ pub(crate) fn count<R: Source>(size: Size, w: &mut Window<R>) -> Result<u64, Rea
 {
     let quantity = unsigned_counted(w)?;
     let count = w.allow(quantity.unsigned_abs())?;
-    if !allows(size, u128::from(count)) {
+    if !size.allows(u128::from(count)) {
         return Err(w.fault(Why::Size));
     }
     Ok(count)
@@ -121,13 +104,6 @@ pub(crate) fn read_unknown<R: Source>(
         }
     }
     Ok(unknown)
-}
-
-/// Whether both have the same class and number.
-pub(crate) fn is_same_tag(one: Tag, other: Tag) -> bool
-    ensures { result ≡ same_tag one other }
-{
-    one.class as u8 == other.class as u8 && one.number == other.number
 }
 
 /// The alternative with the tag, in memory of its own.

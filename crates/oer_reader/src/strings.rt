@@ -3,25 +3,15 @@ ghost use Rattle.std.specs.Prelude.{◌≡◌, ◌≤◌, ◌<◌, ◌-◌, ◌+
 ghost use Rattle.std.specs.Str.{chars, is_utf8};
 ghost use Rattle.oer_units.specs.Reading.{counted_octets as counted_octets_at, arcs_of as the_arcs, subidentifiers as subidentifiers_at};
 ghost use Rattle.oer_units.specs.Reads.{Reads, bound_of, left_of, seen, state};
-ghost use Rattle.oer_types.specs.AsnType.{printable, octet_string as octet_string_type, object_id as object_id_type, restricted_string, utf8_string};
-ghost use Rattle.oer_types.specs.Constraints.{all_characters, fixed as fixed_size, is_character};
+ghost use Rattle.oer_types.specs.AsnType.{octet_string as octet_string_type, object_id as object_id_type, restricted_string, utf8_string};
+ghost use Rattle.oer_types.specs.Constraints.{fixed as fixed_size};
 ghost use Rattle.oer_types.specs.Reading.{read_octets, read_value};
 ghost use Rattle.oer_types.specs.ValueView.{value_of};
-ghost use Rattle.oer_reader.specs.AlphabetView.{alphabet_of};
+ghost use Rattle.oer_types.specs.AlphabetView.{alphabet_of};
 
-use crate::sizes::{allows, fixed};
-use oer_types::{Size, Value};
+use oer_types::{Alphabet, Size, Value, are_characters};
 use oer_units::{ReadFault, Source, Why, Window, length, octets, subidentifier};
 use std::alloc::{AllocError, Global};
-
-/// The character strings that have one octet for each character.
-#[derive(Clone, Copy)]
-pub(crate) enum Alphabet {
-    Ia5,
-    Visible,
-    Numeric,
-    Printable,
-}
 
 /// A length, and that many octets.
 pub(crate) fn counted_octets<R: Source>(
@@ -44,11 +34,11 @@ fn sized_octets<R: Source>(
     ensures { Reads (read_octets (fixed_size size) size) (state R.remaining R.failed w.old) (seen (λ v. v.items) result)
         (state R.remaining R.failed w.new) }
 {
-    if let Some(count) = fixed(size) {
+    if let Some(count) = size.fixed() {
         return octets(alloc, w, count);
     }
     let count = length(w)?;
-    if !allows(size, u128::from(count)) {
+    if !size.allows(u128::from(count)) {
         return Err(w.fault(Why::Size));
     }
     octets(alloc, w, count)
@@ -87,37 +77,6 @@ pub(crate) fn read_text<R: Source>(
     Ok(Value::Text(text))
 }
 
-// Whether each octet is a character of the kind.
-fn are_characters(kind: Alphabet, octets: &[u8]) -> bool
-    ensures { result ≡ all_characters (alphabet_of kind) octets.now }
-{
-    for octet in octets {
-        if !is_in_alphabet(kind, *octet) {
-            return false;
-        }
-    }
-    true
-}
-
-fn is_in_alphabet(kind: Alphabet, octet: u8) -> bool
-    ensures { result ≡ is_character (alphabet_of kind) octet }
-{
-    match kind {
-        Alphabet::Ia5 => octet <= 127,
-        Alphabet::Visible => 32 <= octet && octet <= 126,
-        Alphabet::Numeric => 48 <= octet && octet <= 57 || octet == 32,
-        Alphabet::Printable => is_printable(octet),
-    }
-}
-
-// A letter, a digit, a space or one of ' ( ) + , - . / : = ? (X.680, 41.4).
-fn is_printable(octet: u8) -> bool
-    ensures { result ≡ is_character printable octet }
-{
-    matches!(octet, b'A'..=b'Z' | b'a'..=b'z' | b'0'..=b'9' | b' ' | b'\'' | b'(' | b')')
-        || matches!(octet, b'+' | b',' | b'-' | b'.' | b'/' | b':' | b'=' | b'?')
-}
-
 /// A UTF8String (X.696, 27). Its size counts characters.
 pub(crate) fn read_utf8<R: Source>(
     alloc: Global,
@@ -131,7 +90,7 @@ pub(crate) fn read_utf8<R: Source>(
     let Some(text) = decoded(octets) else {
         return Err(w.fault(Why::Character));
     };
-    if !allows(size, u128::from(characters_in(text.as_str()))) {
+    if !size.allows(u128::from(characters_in(text.as_str()))) {
         return Err(w.fault(Why::Size));
     }
     Ok(Value::Text(text))

@@ -14,13 +14,12 @@ ghost use Rattle.oer_reader.specs.Starts.{added_of, start_of};
 
 use crate::bit_strings::{addition_map, read_bit_string};
 use crate::numbers::{read_boolean, read_enumerated, read_integer};
-use crate::parts::{
-    absent_places, after, chosen, count, first, foreign, is_same_tag, optional, presence,
-    read_unknown,
-};
+use crate::parts::{absent_places, after, chosen, count, first, foreign, presence, read_unknown};
 use crate::preamble::preamble;
-use crate::strings::{Alphabet, read_object_id, read_octet_string, read_text, read_utf8};
-use oer_types::{Addition, Alt, Field, Shape, Size, Unknown, Value};
+use crate::strings::{read_object_id, read_octet_string, read_text, read_utf8};
+use oer_types::{
+    Addition, Alphabet, Alt, Field, Shape, Size, Unknown, Value, is_same_tag, optional,
+};
 use oer_units::{ReadFault, Source, Tag, Why, Window, length, tag};
 use std::alloc::Global;
 

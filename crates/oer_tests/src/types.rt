@@ -4,10 +4,10 @@ use crate::values::{VALUES, case_of, is_well};
 use oer_reader::read;
 use oer_text::parse_type;
 use oer_types::{
-    Bits, Field, Need, Schema, Shape, Size, Unknown, Value, filled, fits, same_filled,
-    same_filled_at,
+    Alphabet, Bits, Field, Need, Schema, Shape, Size, Unknown, Value, are_characters, contains_tag,
+    filled, fits, optional, same_filled, same_filled_at,
 };
-use oer_units::Metered;
+use oer_units::{Class, Metered, Tag};
 use std::alloc::{AllocError, Global};
 use std::test::Fail;
 
@@ -166,6 +166,52 @@ fn bits_of_octets(rt: HostRuntime) -> Result<(), Fail> {
     is_wanted("af", cleared.as_str(), "4 a0 Some(true) None")?;
     let refused = bits_of(at, &[0xaf, 0x00], 4)?;
     is_wanted("af00", refused.as_str(), "back af00")
+}
+
+// ---- what constraints allow, and what parts a type has
+
+#[test]
+fn constraints() -> Result<(), Fail> {
+    let some = Size {
+        low: 2,
+        high: Some(3),
+    };
+    is_well("2 and 3", some.allows(2) && some.allows(3))?;
+    is_well("1 and 4", !some.allows(1) && !some.allows(4))?;
+    is_well("64 bits", !Size::any().allows(1 << 64))?;
+    is_well("more than one", some.fixed().is_none())?;
+    is_well("visible", are_characters(Alphabet::Visible, b" ~"))?;
+    is_well("delete", !are_characters(Alphabet::Visible, b"\x7f"))
+}
+
+// Whether an alternative of the CHOICE's root has the number as its tag in context.
+fn has_alternative(shape: &Shape, number: u32) -> bool {
+    let class = Class::Context;
+    match shape {
+        Shape::Choice { root, .. } => contains_tag(root, Tag { class, number }),
+        _ => false,
+    }
+}
+
+// How many components of the SEQUENCE's root may be absent.
+fn count_optional(shape: &Shape) -> usize {
+    match shape {
+        Shape::Sequence { root, .. } => optional(root),
+        _ => 0,
+    }
+}
+
+#[test]
+fn parts_of_types(rt: HostRuntime) -> Result<(), Fail> {
+    let at = rt.alloc();
+    let choice = parse_type(at, "CHOICE {a [1] NULL, b [2] NULL}")?;
+    is_well("the second", has_alternative(choice.shape(), 2))?;
+    is_well("no third", !has_alternative(choice.shape(), 3))?;
+    let sequence = parse_type(
+        at,
+        "SEQUENCE {a NULL, b NULL OPTIONAL, c BOOLEAN DEFAULT TRUE}",
+    )?;
+    is_well("two of three", count_optional(sequence.shape()) == 2)
 }
 
 // ---- values that fit

@@ -6,8 +6,8 @@ ghost use Rattle.oer_types.specs.Filling.{filled as spec_filled, filled_addition
 ghost use Rattle.oer_types.specs.ShapeView.{additions_of, fields_of, need_of, root_of, type_of};
 ghost use Rattle.oer_types.specs.ValueView.{attached, places_of, value_of, values_of};
 
-use crate::fit::{contains_tag, same_tag};
 use crate::shape::{Addition, Alt, Field, Need, Shape};
+use crate::tag::{contains_tag, is_same_tag};
 use crate::value::{Value, copy, copy_place, copy_places, copy_unknown};
 use oer_units::Tag;
 use std::alloc::{AllocError, Global};
@@ -181,7 +181,7 @@ fn fill_alternative(
     ensures { IfOk result (λ v. value_of v ≡ filled_alternative (root_of alts.now no_alternatives) tag (value_of value.now)) }
 {
     for alt in alts {
-        if same_tag(alt.tag, tag) {
+        if is_same_tag(alt.tag, tag) {
             return fill_in(&alt.shape, alloc, value);
         }
     }

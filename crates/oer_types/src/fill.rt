@@ -6,8 +6,8 @@ ghost use Rattle.oer_types.specs.Filling.{filled as spec_filled, filled_addition
 ghost use Rattle.oer_types.specs.ShapeView.{additions_of, fields_of, need_of, root_of, type_of};
 ghost use Rattle.oer_types.specs.ValueView.{places_of, value_of, values_of};
 
-use crate::fit::{contains_tag, same_tag};
 use crate::shape::{Addition, Alt, Field, Need, Shape};
+use crate::tag::{contains_tag, is_same_tag};
 use crate::value::{Value, same, same_places, same_unknown};
 use oer_units::Tag;
 
@@ -183,7 +183,7 @@ fn same_filled_alternative(alts: &[Alt], tag: Tag, one: &Value, other: &Value) -
         ≡ filled_alternative (root_of alts.now no_alternatives) tag (value_of other.now) }
 {
     for alt in alts {
-        if same_tag(alt.tag, tag) {
+        if is_same_tag(alt.tag, tag) {
             return same_filled_at(&alt.shape, one, other);
         }
     }

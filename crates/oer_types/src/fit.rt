@@ -2,67 +2,20 @@
 ghost use Rattle.std.specs.Prelude.{◌≡◌, ◌↔◌, ◌&&◌, ◌||◌, ◌<◌, ◌^◌, IsTrue, length, ltb, map, string_bytes};
 ghost use Rattle.std.specs.Str.{is_utf8, chars};
 ghost use Rattle.oer_units.specs.Reading.{is_int64};
-ghost use Rattle.oer_types.specs.AsnType.{no_alternatives, printable};
+ghost use Rattle.oer_types.specs.AsnType.{no_alternatives};
 ghost use Rattle.oer_types.specs.AsnValue.{foreign};
-ghost use Rattle.oer_types.specs.Constraints.{all_characters, has_number, has_tag, above, below, in_range, is_character, same_tag as spec_same_tag, size_fits};
+ghost use Rattle.oer_types.specs.Constraints.{all_characters, has_number, above, below, in_range, size_fits};
 ghost use Rattle.oer_types.specs.FitTest.{all_below, all_fit as spec_all_fit, alternative_fits as spec_alternative_fits, additions_fit as spec_additions_fit, arcs_fit as spec_arcs_fit, fields_fit as spec_fields_fit, first_arcs, is_fit, is_without, may_be_absent, unknown_fit as spec_unknown_fit};
 ghost use Rattle.oer_types.specs.ShapeView.{type_of, fields_of, additions_of, root_of, choice_with, named_number, need_of};
 ghost use Rattle.oer_types.specs.ValueView.{value_of, values_of, places_of, unknown_of};
 ghost use Rattle.oer_types.specs.AlphabetView.{alphabet_of};
 
+use crate::alphabet::{Alphabet, are_characters};
 use crate::shape::{Addition, Alt, Field, Item, Need, Shape};
 use crate::size::Size;
+use crate::tag::{contains_tag, is_same_tag};
 use crate::value::{Unknown, Value};
 use oer_units::Tag;
-
-/// The character strings that have one octet for each character.
-#[derive(Clone, Copy)]
-pub(crate) enum Alphabet {
-    Ia5,
-    Visible,
-    Numeric,
-    Printable,
-}
-
-impl Alphabet {
-    fn contains(self, character: u8) -> bool
-        ensures { result ≡ is_character (alphabet_of self) character }
-    {
-        match self {
-            Alphabet::Ia5 => character <= 127,
-            Alphabet::Visible => character >= 32 && character <= 126,
-            Alphabet::Numeric => character >= 48 && character <= 57 || character == 32,
-            Alphabet::Printable => is_printable(character),
-        }
-    }
-
-    fn contains_all(self, text: &[u8]) -> bool
-        ensures { result ≡ all_characters (alphabet_of self) text.now }
-    {
-        for character in text {
-            if !self.contains(*character) {
-                return false;
-            }
-        }
-        true
-    }
-}
-
-/// Letters, digits, space and `' ( ) + , - . / : = ?`.
-fn is_printable(character: u8) -> bool
-    ensures { result ≡ is_character printable character }
-{
-    if character >= 65 && character <= 90 || character >= 97 && character <= 122 {
-        return true;
-    }
-    if character >= 48 && character <= 57 {
-        return true;
-    }
-    matches!(
-        character,
-        32 | 39 | 40 | 41 | 43 | 44 | 45 | 46 | 47 | 58 | 61 | 63
-    )
-}
 
 fn is_above(low: Option<i128>, number: i128) -> bool
     ensures { result ≡ above low number }
@@ -87,21 +40,6 @@ fn is_in_range(low: Option<i128>, high: Option<i128>, number: i128) -> bool
     ensures { result ≡ in_range low high number }
 {
     is_above(low, number) && is_below(high, number)
-}
-
-impl Size {
-    /// Whether the size allows so many.
-    pub fn allows(self, count: u64) -> bool
-        ensures { result ≡ size_fits self count }
-    {
-        if count < self.low {
-            return false;
-        }
-        match self.high {
-            Some(high) => count <= high,
-            None => true,
-        }
-    }
 }
 
 /// Whether an item has the number.
@@ -133,14 +71,14 @@ fn are_octets(octets: &[u8]) -> bool
 fn octets_fit(size: Size, octets: &[u8]) -> bool
     ensures { result ≡ (all_below 256 octets.now && size_fits size (length octets.now)) }
 {
-    are_octets(octets) && size.allows(octets.len() as u64)
+    are_octets(octets) && size.allows(octets.len() as u128)
 }
 
 fn characters_fit(alphabet: Alphabet, size: Size, text: &[u8]) -> bool
     ensures { result ≡ (all_below 256 text.now
         && (all_characters (alphabet_of alphabet) text.now && size_fits size (length text.now))) }
 {
-    are_octets(text) && alphabet.contains_all(text) && size.allows(text.len() as u64)
+    are_octets(text) && are_characters(alphabet, text) && size.allows(text.len() as u128)
 }
 
 fn count_characters(text: &str) -> u64
@@ -154,7 +92,7 @@ fn text_fits(size: Size, text: &str) -> bool
     ensures { result ≡ (all_below 256 text.now
         && (is_utf8 text.now && size_fits size (length (chars text.now)))) }
 {
-    are_octets(text.as_bytes()) && size.allows(count_characters(text))
+    are_octets(text.as_bytes()) && size.allows(u128::from(count_characters(text)))
 }
 
 fn arcs_fit(arcs: &[u128]) -> bool
@@ -214,23 +152,6 @@ fn is_without_additions(added: &[Option<Value>], unknown: &[Unknown]) -> bool
     added.is_empty() && unknown.is_empty()
 }
 
-pub(crate) fn same_tag(one: Tag, other: Tag) -> bool
-    ensures { result ≡ spec_same_tag one other }
-{
-    one.class as u8 == other.class as u8 && one.number == other.number
-}
-
-pub(crate) fn contains_tag(alts: &[Alt], tag: Tag) -> bool
-    ensures { result ≡ has_tag tag (root_of alts.now no_alternatives) }
-{
-    for alt in alts {
-        if same_tag(alt.tag, tag) {
-            return true;
-        }
-    }
-    false
-}
-
 /// An alternative that the type doesn't know fits where there is an extension marker and no
 /// alternative has its tag.
 fn foreign_fits(root: &[Alt], additions: &Option<Vec<Alt>>, tag: Tag, octets: &[u8]) -> bool
@@ -267,7 +188,7 @@ pub fn fits_shape(shape: &Shape, value: &Value) -> bool
         (Shape::Enumerated { items, extensible }, Value::Enum(n)) => {
             number_fits(items, *extensible, *n)
         }
-        (Shape::BitString(size), Value::Bits(bits)) => size.allows(bits.count()),
+        (Shape::BitString(size), Value::Bits(bits)) => size.allows(u128::from(bits.count())),
         (Shape::OctetString(size), Value::Octets(octets)) => octets_fit(*size, octets),
         (Shape::ObjectId, Value::Oid(arcs)) => arcs_fit(arcs),
         (Shape::Ia5(size), Value::Text(text)) => string_fits(Alphabet::Ia5, *size, text),
@@ -299,7 +220,7 @@ pub fn fits_shape(shape: &Shape, value: &Value) -> bool
             }
         },
         (Shape::SequenceOf { size, item }, Value::List(values)) => {
-            if !size.allows(values.len() as u64) {
+            if !size.allows(values.len() as u128) {
                 return false;
             }
             all_fit(item, values)
@@ -378,7 +299,7 @@ fn alternative_fits(alts: &[Alt], tag: Tag, value: &Value) -> bool
     ensures { result ≡ spec_alternative_fits (root_of alts.now no_alternatives) tag (value_of value.now) }
 {
     for alt in alts {
-        if same_tag(alt.tag, tag) {
+        if is_same_tag(alt.tag, tag) {
             return fits_shape(&alt.shape, value);
         }
     }

@@ -1,6 +1,7 @@
 //! Types of ASN.1, their values, and what encodes them.
 #![tactic(auto)]
 
+mod alphabet;
 mod bits;
 mod calls;
 mod copy;
@@ -17,8 +18,10 @@ mod rule;
 mod schema;
 mod shape;
 mod size;
+mod tag;
 mod value;
 
+pub use alphabet::{Alphabet, are_characters};
 pub use bits::Bits;
 pub use calls::{filled, fits, same_filled};
 pub use counting::parts_left;
@@ -28,6 +31,7 @@ pub use fill::same_filled_at;
 pub use fit::fits_shape;
 pub use form::Form;
 pub use schema::Schema;
-pub use shape::{Addition, Alt, Field, Item, Need, Shape};
+pub use shape::{Addition, Alt, Field, Item, Need, Shape, optional};
 pub use size::Size;
+pub use tag::{contains_tag, is_same_tag};
 pub use value::{Unknown, Value};

@@ -7,10 +7,11 @@ ghost use Rattle.oer_types.specs.ShapeView.{additions_of, choice_with, fields_of
 ghost use Rattle.oer_types.specs.WellFormed.{names};
 
 use crate::fault::SchemaFault;
-use crate::fit::{contains_number, contains_tag, fits_shape};
+use crate::fit::{contains_number, fits_shape};
 use crate::name;
 use crate::shape::{Addition, Alt, Field, Item, Need, Shape};
 use crate::size::Size;
+use crate::tag::contains_tag;
 
 /// The additions, none where there is no extension marker.
 fn known_additions(additions: &Option<Vec<Addition>>) -> &[Addition]

@@ -1,4 +1,8 @@
 //! Types of ASN.1, as a tree.
+ghost use Rattle.std.specs.Prelude.{◌≡◌, ◌≤◌, length};
+ghost use Rattle.oer_types.specs.Constraints.{optional as optional_in};
+ghost use Rattle.oer_types.specs.ShapeView.{fields_of};
+
 use crate::size::Size;
 use crate::value::Value;
 use oer_units::Tag;
@@ -92,4 +96,20 @@ pub struct Alt {
     pub name: String,
     pub tag: Tag,
     pub shape: Shape,
+}
+
+/// How many components of a root may be absent: those that are OPTIONAL or have a DEFAULT. Each has a
+/// bit in the preamble (X.696, 16.2).
+pub fn optional(fields: &[Field]) -> usize
+    ensures is { result ≡ optional_in (fields_of fields.now) }
+    ensures most { result ≤ length fields.now }
+{
+    let mut count = 0;
+    for field in fields {
+        count += match field.need {
+            Need::Must => 0,
+            _ => 1,
+        };
+    }
+    count
 }

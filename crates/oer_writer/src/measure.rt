@@ -10,11 +10,9 @@ ghost use Rattle.oer_writer.specs.Parts.{chosen_octets, counted_place, field_bit
 ghost use Rattle.oer_writer.specs.Wrote.{Measures};
 
 use crate::leaf::{put_leaf, put_quantity, put_tag_octets};
-use crate::presence::{
-    contains_tag, is_extended, is_tag, kept, put_bitmap, put_preamble, put_unknown,
-};
+use crate::presence::{is_extended, kept, put_bitmap, put_preamble, put_unknown};
 use crate::slice::Nowhere;
-use oer_types::{Addition, Alt, Field, Shape, Unknown, Value};
+use oer_types::{Addition, Alt, Field, Shape, Unknown, Value, contains_tag, is_same_tag};
 use oer_units::{Tag, length_len};
 
 // Each of these adds the octets to those done, and answers none where they come to 2^64.
@@ -148,7 +146,7 @@ fn measured_alternative(alternatives: &[Alt], tag: Tag, value: &Value, done: u64
     ensures { Measures done (chosen_octets (root_of alternatives.now no_alternatives) tag (value_of value.now)) result }
 {
     for alternative in alternatives {
-        if is_tag(alternative.tag, tag) {
+        if is_same_tag(alternative.tag, tag) {
             return measured(&alternative.shape, value, done);
         }
     }
@@ -160,7 +158,7 @@ fn measured_later(alternatives: &[Alt], tag: Tag, value: &Value, done: u64) -> O
     ensures { Measures done (chosen_octets (later_of alternatives.now) tag (value_of value.now)) result }
 {
     for alternative in alternatives {
-        if is_tag(alternative.tag, tag) {
+        if is_same_tag(alternative.tag, tag) {
             let length = measured(&alternative.shape, value, 0)?;
             return open_len(length, done);
         }

@@ -1,10 +1,8 @@
 //! Which components are there, and their bits.
 ghost use Rattle.std.specs.Prelude.{◌≡◌, ◌↔◌, ◌≤◌, ◌<◌, ◌*◌, ◌++◌, ◌||◌, ◌∷◌, [], IsTrue, Option, Some, None, List, Bool, false, true, length, map, option_map, replicate};
-ghost use Rattle.oer_types.specs.AsnType.{no_alternatives};
 ghost use Rattle.oer_types.specs.Canonical.{any_present, any_unknown, bitmap_octets, unknown_marks, unknown_octets};
 ghost use Rattle.oer_types.specs.Bits.{padded};
-ghost use Rattle.oer_types.specs.Constraints.{has_tag, same_tag};
-ghost use Rattle.oer_types.specs.ShapeView.{additions_of, fields_of, need_of, root_of, type_of};
+ghost use Rattle.oer_types.specs.ShapeView.{additions_of, fields_of, need_of, type_of};
 ghost use Rattle.oer_types.specs.ValueView.{places_of, unknown_of, value_of};
 ghost use Rattle.oer_writer.specs.Packing.{IsReady, Packs};
 ghost use Rattle.oer_writer.specs.Parts.{field_bits, first_bits, kept_place, known_bits, place_bit};
@@ -14,8 +12,8 @@ use crate::fault::WriteFault;
 use crate::leaf::{put_bits_head, unused_bits};
 use crate::packer::Packer;
 use crate::slice::put_counted;
-use oer_types::{Addition, Alt, Field, Need, Unknown, Value, same_filled_at};
-use oer_units::{Sink, Tag};
+use oer_types::{Addition, Field, Need, Unknown, Value, same_filled_at};
+use oer_units::Sink;
 
 // The component, where it is there and isn't equal to its default after both are filled.
 pub(crate) fn kept<'a>(field: &Field, place: &'a Option<Value>) -> Option<&'a Value>
@@ -246,23 +244,4 @@ pub(crate) fn put_unknown<W: Sink>(
         done = put_counted(&one.octets, done, w)?;
     }
     Ok(done)
-}
-
-// Whether the tags are the same.
-pub(crate) fn is_tag(one: Tag, other: Tag) -> bool
-    ensures { result ≡ same_tag one other }
-{
-    one == other
-}
-
-// Whether an alternative has the tag.
-pub(crate) fn contains_tag(alternatives: &[Alt], tag: Tag) -> bool
-    ensures { result ≡ has_tag tag (root_of alternatives.now no_alternatives) }
-{
-    for alternative in alternatives {
-        if is_tag(alternative.tag, tag) {
-            return true;
-        }
-    }
-    false
 }

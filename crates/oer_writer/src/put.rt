@@ -10,11 +10,9 @@ ghost use Rattle.oer_writer.specs.Wrote.{Wrote, WroteHead};
 use crate::fault::WriteFault;
 use crate::leaf::{put_leaf, put_quantity, put_tag_octets};
 use crate::measure::measured;
-use crate::presence::{
-    contains_tag, is_extended, is_tag, kept, put_bitmap, put_preamble, put_unknown,
-};
+use crate::presence::{is_extended, kept, put_bitmap, put_preamble, put_unknown};
 use crate::slice::put_count;
-use oer_types::{Addition, Alt, Field, Shape, Unknown, Value};
+use oer_types::{Addition, Alt, Field, Shape, Unknown, Value, contains_tag, is_same_tag};
 use oer_units::{Sink, Tag};
 
 // Writes the length of a value in an open type.
@@ -194,7 +192,7 @@ fn put_alternative<W: Sink>(
     ensures { Wrote done (chosen_octets (root_of alternatives.now no_alternatives) tag (value_of value.now)) (W.contents w.old) (W.failed w.old) result (W.contents w.new) (W.failed w.new) }
 {
     for alternative in alternatives {
-        if is_tag(alternative.tag, tag) {
+        if is_same_tag(alternative.tag, tag) {
             return put(&alternative.shape, value, done, w);
         }
     }
@@ -213,7 +211,7 @@ fn put_later<W: Sink>(
     ensures { Wrote done (chosen_octets (later_of alternatives.now) tag (value_of value.now)) (W.contents w.old) (W.failed w.old) result (W.contents w.new) (W.failed w.new) }
 {
     for alternative in alternatives {
-        if is_tag(alternative.tag, tag) {
+        if is_same_tag(alternative.tag, tag) {
             let done = put_open_head(&alternative.shape, value, done, w)?;
             return put(&alternative.shape, value, done, w);
         }

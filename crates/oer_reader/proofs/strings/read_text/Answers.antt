@@ -1,7 +1,7 @@
 use Rattle.std.proofs.Common.{sym, ◌∙◌}
 use Rattle.std.proofs.lemmas.Bool.{false≢true}
 use Rattle.oer_units.proofs.ReadExits.{at_exit}
-use Rattle.oer_reader.specs.AlphabetView.{alphabet_of}
+use Rattle.oer_types.specs.AlphabetView.{alphabet_of}
 use Rattle.oer_reader.proofs.Texts.{decodes, text_got, text_out, text_stop}
 use Rattle.oer_reader.proofs.Values.{value_of-Text}
 use Rattle.oer_reader.proofs.strings.read_text.Goals as goal

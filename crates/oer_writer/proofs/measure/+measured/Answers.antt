@@ -250,30 +250,30 @@ measured_values-loop-value-preserved t c =
 
 -- alternatives
 
-pub measured_alternative-returns-then-is_tag : goal.measured_alternative-returns-then-is_tag
-measured_alternative-returns-then-is_tag t c =
-    let is = root_found c.args.alternatives.now c.loop-alternative.alternative-index c.alternative-item.result c.args.tag _ c.loop-alternative-test.true c.alternative-item.is (sym c.is_tag.ensures ∙ c.if-is_tag.true) in
+pub measured_alternative-returns-then-is_same_tag : goal.measured_alternative-returns-then-is_same_tag
+measured_alternative-returns-then-is_same_tag t c =
+    let is = root_found c.args.alternatives.now c.loop-alternative.alternative-index c.alternative-item.result c.args.tag _ c.loop-alternative-test.true c.alternative-item.is (sym c.is_same_tag.ensures ∙ c.if-is_same_tag.true) in
     measured_last c.measured.result _ _ _ _ (let len = ap length (sym c.loop-alternative.invariant ∙ is) in omega (arith, len)) c.measured.ensures
 
 pub measured_alternative-loop-alternative-preserved :
     goal.measured_alternative-loop-alternative-preserved
-measured_alternative-loop-alternative-preserved t c = sym (root_passed c.args.alternatives.now c.loop-alternative.alternative-index c.alternative-item.result c.args.tag _ c.loop-alternative-test.true c.alternative-item.is (sym c.is_tag.ensures ∙ c.if-is_tag.false)) ∙ c.loop-alternative.invariant
+measured_alternative-loop-alternative-preserved t c = sym (root_passed c.args.alternatives.now c.loop-alternative.alternative-index c.alternative-item.result c.args.tag _ c.loop-alternative-test.true c.alternative-item.is (sym c.is_same_tag.ensures ∙ c.if-is_same_tag.false)) ∙ c.loop-alternative.invariant
 
 pub measured_later-returns-in_err-length : goal.measured_later-returns-in_err-length
 measured_later-returns-in_err-length t c =
-    let is = later_found c.args.alternatives.now c.loop-alternative.alternative-index c.alternative-item.result c.args.tag (value_of c.args.value.now) c.loop-alternative-test.true c.alternative-item.is (sym c.is_tag.ensures ∙ c.if-is_tag.true) in
+    let is = later_found c.args.alternatives.now c.loop-alternative.alternative-index c.alternative-item.result c.args.tag (value_of c.args.value.now) c.loop-alternative-test.true c.alternative-item.is (sym c.is_same_tag.ensures ∙ c.if-is_same_tag.true) in
     let o = canonical_octets (type_of c.alternative-item.result.shape) (value_of c.args.value.now) in
     let many = none_is c.measured.result 0 o c.in_err-length.was c.measured.ensures in
     let len = ap length (sym c.loop-alternative.invariant ∙ is) in
     measured_none c.from_residual.result _ _ _ c.from_residual.ensures many (omega (arith, len, length-append (length_octets (length o)) o))
 
-pub measured_later-returns-then-is_tag : goal.measured_later-returns-then-is_tag
-measured_later-returns-then-is_tag t c =
-    let is = later_found c.args.alternatives.now c.loop-alternative.alternative-index c.alternative-item.result c.args.tag (value_of c.args.value.now) c.loop-alternative-test.true c.alternative-item.is (sym c.is_tag.ensures ∙ c.if-is_tag.true) in
+pub measured_later-returns-then-is_same_tag : goal.measured_later-returns-then-is_same_tag
+measured_later-returns-then-is_same_tag t c =
+    let is = later_found c.args.alternatives.now c.loop-alternative.alternative-index c.alternative-item.result c.args.tag (value_of c.args.value.now) c.loop-alternative-test.true c.alternative-item.is (sym c.is_same_tag.ensures ∙ c.if-is_same_tag.true) in
     let o = canonical_octets (type_of c.alternative-item.result.shape) (value_of c.args.value.now) in
     let n = some_is c.measured.result 0 _ o c.in_ok-length.was c.measured.ensures in
     let len = ap length (sym c.loop-alternative.invariant ∙ is) in
     measured_last c.open_len.result _ _ (counted o) _ (omega (arith, len)) (c.open_len.ensures o (omega (arith, n)))
 
 pub measured_later-loop-alternative-preserved : goal.measured_later-loop-alternative-preserved
-measured_later-loop-alternative-preserved t c = sym (later_passed c.args.alternatives.now c.loop-alternative.alternative-index c.alternative-item.result c.args.tag _ c.loop-alternative-test.true c.alternative-item.is (sym c.is_tag.ensures ∙ c.if-is_tag.false)) ∙ c.loop-alternative.invariant
+measured_later-loop-alternative-preserved t c = sym (later_passed c.args.alternatives.now c.loop-alternative.alternative-index c.alternative-item.result c.args.tag _ c.loop-alternative-test.true c.alternative-item.is (sym c.is_same_tag.ensures ∙ c.if-is_same_tag.false)) ∙ c.loop-alternative.invariant

@@ -238,15 +238,15 @@ put_values-loop-value-preserved g t c =
 
 -- alternatives
 
-pub put_alternative-returns-then-is_tag : goal.put_alternative-returns-then-is_tag
-put_alternative-returns-then-is_tag g t c =
+pub put_alternative-returns-then-is_same_tag : goal.put_alternative-returns-then-is_same_tag
+put_alternative-returns-then-is_same_tag g t c =
     let inv = c.loop-alternative.invariant in
-    let is = root_found c.args.alternatives.now c.loop-alternative.alternative-index c.alternative-item.result c.args.tag (value_of c.args.value.now) c.loop-alternative-test.true c.alternative-item.is (sym c.is_tag.ensures ∙ c.if-is_tag.true) in
+    let is = root_found c.args.alternatives.now c.loop-alternative.alternative-index c.alternative-item.result c.args.tag (value_of c.args.value.now) c.loop-alternative-test.true c.alternative-item.is (sym c.is_same_tag.ensures ∙ c.if-is_same_tag.true) in
     from_start c.put.result _ _ _ _ _ _ _ _ inv.contents inv.failed (same_wrote c.put.result _ (canonical_octets (type_of c.alternative-item.result.shape) (value_of c.args.value.now)) _ _ _ _ _ (sym inv.octets ∙ is) c.put.ensures)
 
 pub put_alternative-loop-alternative-preserved : goal.put_alternative-loop-alternative-preserved
 put_alternative-loop-alternative-preserved g t c = record {
-  octets = sym (root_passed c.args.alternatives.now c.loop-alternative.alternative-index c.alternative-item.result c.args.tag (value_of c.args.value.now) c.loop-alternative-test.true c.alternative-item.is (sym c.is_tag.ensures ∙ c.if-is_tag.false)) ∙ c.loop-alternative.invariant.octets;
+  octets = sym (root_passed c.args.alternatives.now c.loop-alternative.alternative-index c.alternative-item.result c.args.tag (value_of c.args.value.now) c.loop-alternative-test.true c.alternative-item.is (sym c.is_same_tag.ensures ∙ c.if-is_same_tag.false)) ∙ c.loop-alternative.invariant.octets;
   contents = c.loop-alternative.invariant.contents;
   failed = c.loop-alternative.invariant.failed;
 }
@@ -254,19 +254,19 @@ put_alternative-loop-alternative-preserved g t c = record {
 pub put_later-returns-in_err-done : goal.put_later-returns-in_err-done
 put_later-returns-in_err-done g t c =
     let inv = c.loop-alternative.invariant in
-    let is = later_found c.args.alternatives.now c.loop-alternative.alternative-index c.alternative-item.result c.args.tag (value_of c.args.value.now) c.loop-alternative-test.true c.alternative-item.is (sym c.is_tag.ensures ∙ c.if-is_tag.true) in
+    let is = later_found c.args.alternatives.now c.loop-alternative.alternative-index c.alternative-item.result c.args.tag (value_of c.args.value.now) c.loop-alternative-test.true c.alternative-item.is (sym c.is_same_tag.ensures ∙ c.if-is_same_tag.true) in
     from_start c.from_residual.result _ _ _ _ _ _ _ _ inv.contents inv.failed (passed c.from_residual.result _ c.args.done (counted (canonical_octets (type_of c.alternative-item.result.shape) (value_of c.args.value.now))) [] _ _ _ _ _ (sym inv.octets ∙ is ∙ sym (append-nil _)) c.from_residual.ensures.1 c.in_err-done.ensures)
 
-pub put_later-returns-then-is_tag : goal.put_later-returns-then-is_tag
-put_later-returns-then-is_tag g t c =
+pub put_later-returns-then-is_same_tag : goal.put_later-returns-then-is_same_tag
+put_later-returns-then-is_same_tag g t c =
     let inv = c.loop-alternative.invariant in
-    let is = later_found c.args.alternatives.now c.loop-alternative.alternative-index c.alternative-item.result c.args.tag (value_of c.args.value.now) c.loop-alternative-test.true c.alternative-item.is (sym c.is_tag.ensures ∙ c.if-is_tag.true) in
+    let is = later_found c.args.alternatives.now c.loop-alternative.alternative-index c.alternative-item.result c.args.tag (value_of c.args.value.now) c.loop-alternative-test.true c.alternative-item.is (sym c.is_same_tag.ensures ∙ c.if-is_same_tag.true) in
     let o = canonical_octets (type_of c.alternative-item.result.shape) (value_of c.args.value.now) in
     from_start c.put.result _ _ _ _ _ _ _ _ inv.contents inv.failed (same_wrote c.put.result _ (counted o) _ _ _ _ _ (sym inv.octets ∙ is) (head_then c.put.result _ c.in_ok-done.done o _ _ _ _ _ _ c.in_ok-done.ensures c.put.ensures))
 
 pub put_later-loop-alternative-preserved : goal.put_later-loop-alternative-preserved
 put_later-loop-alternative-preserved g t c = record {
-  octets = sym (later_passed c.args.alternatives.now c.loop-alternative.alternative-index c.alternative-item.result c.args.tag (value_of c.args.value.now) c.loop-alternative-test.true c.alternative-item.is (sym c.is_tag.ensures ∙ c.if-is_tag.false)) ∙ c.loop-alternative.invariant.octets;
+  octets = sym (later_passed c.args.alternatives.now c.loop-alternative.alternative-index c.alternative-item.result c.args.tag (value_of c.args.value.now) c.loop-alternative-test.true c.alternative-item.is (sym c.is_same_tag.ensures ∙ c.if-is_same_tag.false)) ∙ c.loop-alternative.invariant.octets;
   contents = c.loop-alternative.invariant.contents;
   failed = c.loop-alternative.invariant.failed;
 }

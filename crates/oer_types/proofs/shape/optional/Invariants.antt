@@ -1,7 +1,7 @@
 use Rattle.std.proofs.Common.{◌≡◌, ◌+◌, ◌≤◌, drop}
 use Rattle.oer_types.specs.Constraints.{optional}
 use Rattle.oer_types.specs.ShapeView.{fields_of}
-use Rattle.oer_checker.proofs.parts.optional.Given as goal
+use Rattle.oer_types.proofs.shape.optional.Given as goal
 
 abbrev pub invariant-loop-field : goal.invariant-loop-field
 invariant-loop-field l = record {

@@ -1,20 +1,20 @@
 //! The characters of the strings that have one octet for each character.
 ghost use Rattle.std.specs.Prelude.{◌≡◌};
+ghost use Rattle.oer_types.specs.AlphabetView.{alphabet_of};
 ghost use Rattle.oer_types.specs.AsnType.{printable};
 ghost use Rattle.oer_types.specs.Constraints.{all_characters, is_character};
-ghost use Rattle.oer_checker.specs.AlphabetView.{alphabet_of};
 
 /// The character strings that have one octet for each character.
-#[derive(Clone, Copy)]
-pub(crate) enum Alphabet {
+#[derive(Clone, Copy, Debug, PartialEq, Eq)]
+pub enum Alphabet {
     Ia5,
     Visible,
     Numeric,
     Printable,
 }
 
-/// Whether each octet is a character of the kind.
-pub(crate) fn are_characters(kind: Alphabet, octets: &[u8]) -> bool
+/// Whether each octet is a character of such strings (X.680, 41).
+pub fn are_characters(kind: Alphabet, octets: &[u8]) -> bool
     ensures { result ≡ all_characters (alphabet_of kind) octets.now }
 {
     for octet in octets {
