@@ -4,6 +4,7 @@ ghost use Rattle.oer_types.specs.Schema.{the_type};
 ghost use Rattle.oer_types.specs.ValueView.{value_of};
 
 use crate::pieces::Pieces;
+use oer_checker::check;
 use oer_reader::{read, rewrite};
 use oer_text::{parse_type, parse_types};
 use oer_types::{Schema, Value, fits};
@@ -37,6 +38,15 @@ fn rewrites(alloc: Global, schema: &Schema, octets: &[u8]) -> u64 {
     }
 }
 
+/// How many octets the encoding at the front has, which is checked without making its value; 0 where
+/// there is none.
+fn checks(schema: &Schema, octets: &[u8]) -> u64 {
+    match check(schema, octets) {
+        Ok(verdict) => verdict.octets as u64,
+        Err(_) => 0,
+    }
+}
+
 /// A turn that reads; none where the task is another.
 fn turn_read(alloc: Global, task: &str, schema: &Schema, octets: &[u8]) -> Option<u64> {
     let piece = |most| Metered::new(Pieces { octets, most });
@@ -45,6 +55,7 @@ fn turn_read(alloc: Global, task: &str, schema: &Schema, octets: &[u8]) -> Optio
         "read-octets" => Some(reads(alloc, schema, &mut piece(1))),
         "read-blocks" => Some(reads(alloc, schema, &mut piece(4096))),
         "rewrite" => Some(rewrites(alloc, schema, octets)),
+        "check" => Some(checks(schema, octets)),
         "fit" => Some(reads_fitting(alloc, schema, &mut Metered::new(octets))),
         _ => None,
     }
