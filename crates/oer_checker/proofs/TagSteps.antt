@@ -18,9 +18,6 @@ use Rattle.oer_checker.proofs.Joins.{bind_got, bind_stop}
 pub here : (xs : List Alt) (i : ℕ) (a : Alt) → i < length xs → a ≡ get_or xs i a → drop i xs ≡ a ∷ drop (i + 1) xs
 here xs i a less is = drop-cons xs i a less ∙ ap (λ (x : Alt). x ∷ drop (suc i) xs) (sym is) ∙ ap (λ (k : ℕ). a ∷ drop k xs) (sym (add-one i))
 
-pub tag_step : (xs : List Alt) (i : ℕ) (a : Alt) (t : Tag) (b : Bool) → i < length xs → a ≡ get_or xs i a → same_tag a.tag t ≡ b → has_tag t (root_of (drop i xs) no_alternatives) ≡ (b || has_tag t (root_of (drop (i + 1) xs) no_alternatives))
-tag_step xs i a t b less is e = ap (λ (l : List Alt). has_tag t (root_of l no_alternatives)) (here xs i a less is) ∙ ap (λ (c : Bool). c || has_tag t (root_of (drop (i + 1) xs) no_alternatives)) e
-
 -- ---- a root, and what follows it
 
 in_step : (b x y : Bool) → (true ≡ x → y ≡ true) → true ≡ (b || x) → (b || y) ≡ true

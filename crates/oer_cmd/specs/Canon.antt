@@ -1,5 +1,5 @@
 -- The canonical octets of the value that octets encode.
-use Rattle.std.specs.Prelude.{◌≡◌, ◌≤◌, ℕ, List, [], length, Option, IfSome}
+use Rattle.std.specs.Prelude.{◌≡◌, ◌≢◌, ◌≤◌, ℕ, List, [], length, Option, IfSome}
 use Rattle.oer_types.specs.AsnType.{AsnType}
 use Rattle.oer_types.specs.AsnValue.{AsnValue}
 use Rattle.oer_types.specs.Encoding.{Encodes}
@@ -11,6 +11,14 @@ pub record MakesCanonical (T : AsnType) (limit : ℕ) (b c : List ℕ) : Type 0 
   pub encodes : Encodes T value b
   pub canonical : IsCanonical T value c
   pub within : length b ≤ limit
+
+-- b is no encoding of at most so many octets
+abbrev pub IsNoEncoding : AsnType → ℕ → List ℕ → Type 0
+IsNoEncoding T limit b = (v : AsnValue) → Encodes T v b → length b ≤ limit → ⊥
+
+-- Something is left, where that is known.
+abbrev pub HasMore : Option (List ℕ) → Type 0
+HasMore known = IfSome known (λ xs. xs ≢ [])
 
 -- Nothing is left, where that is known.
 abbrev pub IsEmpty : Option (List ℕ) → Type 0

@@ -1,5 +1,5 @@
 -- What refusals of the crates below come to, and the status of each.
-use Rattle.std.specs.Prelude.{◌≡◌, ◌≢◌, ℕ, Result, Err, ⊤}
+use Rattle.std.specs.Prelude.{◌≡◌, ◌≢◌, ◌≤◌, ℕ, Result, Err, ⊤}
 use Rattle.oer_units.specs.declared.fault.ReadFault.{ReadFault}
 use Rattle.oer_units.specs.declared.fault.Why.TheVariants as why
 use Rattle.oer_text.specs.declared.fault.TextFault.{TextFault}
@@ -55,3 +55,7 @@ status_of (Json e) = 2
 status_of Input = 3
 status_of Output = 3
 status_of Memory = 3
+
+-- The machine failed, or P holds.
+abbrev pub Refuses : Fault → Type 0 → Type 0
+Refuses fault P = status_of fault ≤ 2 → P

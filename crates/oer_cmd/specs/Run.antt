@@ -1,6 +1,7 @@
 -- What the program prints.
 use Rattle.std.specs.Prelude.{◌≡◌, ◌↔◌, ◌≤◌, ◌<◌, Bool, true, false, ℕ, List, [], ◌∷◌, ◌++◌, length, Option, Some, None, Ok, IfSome, codes}
 use Rattle.std.specs.Fmt.{decimal}
+use Rattle.std.specs.Str.{IsUtf8}
 use Rattle.std.specs.Io.KnownBytes.{Appends, Keeps}
 use Rattle.hex.specs.Hex.{decode_of, encode_lower}
 use Rattle.clap.specs.Words.{Text}
@@ -10,16 +11,17 @@ use Rattle.serde_json.specs.Written.{compact_text}
 use Rattle.oer_types.specs.AsnType.{AsnType}
 use Rattle.oer_types.specs.AsnValue.{AsnValue}
 use Rattle.oer_types.specs.Encoding.{Encodes}
-use Rattle.oer_types.specs.Parts.{Step, Within}
+use Rattle.oer_types.specs.Parts.{Step, StopsAt, Within}
 use Rattle.oer_types.specs.Strict.{IsCanonical}
 use Rattle.oer_input.specs.Path.{SpellsPath}
 use Rattle.oer_json.specs.Denotes.{Takes}
 use Rattle.oer_json.specs.Made.{made}
 use Rattle.oer_cmd.specs.Canon.{MakesCanonical}
+use Rattle.oer_cmd.specs.Faults.{status_of}
 use Rattle.oer_cmd.specs.Types.{SpelledBy, Texts}
 use Rattle.oer_cmd.specs.Words.{NumberOf, asked, behind, given, given_number}
 use Rattle.oer_cmd.specs.declared.fault.Fault.{Fault}
-use Rattle.oer_cmd.specs.declared.fault.Fault.TheVariants.{Follows, Read}
+use Rattle.oer_cmd.specs.declared.fault.Fault.TheVariants.{Absent, Follows, Longer, NoSuchStep, Read}
 use Rattle.oer_cmd.specs.declared.options.Task.{Task}
 use Rattle.oer_cmd.specs.declared.options.Task.TheVariants.{Canon, Check, Make, Part, Show}
 
@@ -66,9 +68,18 @@ verdict_text false n = codes "basic " ++ decimal n
 abbrev pub IsCheckLine : AsnType → ℕ → Text → List ℕ → Type 0
 IsCheckLine T limit line b = IsEncoding T b × (length b ≤ limit) × ((canonical : Bool) × (line ≡ verdict_text canonical (length b)) × ((canonical ≡ true) ↔ AreCanonical T b))
 
--- the canonical octets, in lower hexadecimal digits, of a value that fits, for which the text of JSON stands
+-- what a fault of status 1 says of the octets: P
+abbrev pub Says : Option Text → Option (List ℕ) → (List ℕ → Fault → Type 0) → Fault → Type 0
+Says hex told P fault = status_of fault ≡ 1 → OfOctets hex told (λ b. P b fault)
+
+-- why octets b have no line of `check`: they are more than the limit, or not all of one encoding
+abbrev pub IsUnchecked : AsnType → ℕ → List ℕ → Fault → Type 0
+IsUnchecked T limit b (Longer n) = (n ≡ limit) × (limit < length b)
+IsUnchecked T limit b fault = IsNotWhole T b fault
+
+-- the canonical octets, in lower hexadecimal digits, of a value that fits, for which the text of JSON stands, in UTF-8
 abbrev pub Makes : AsnType → Text → List ℕ → Type 0
-Makes T line text = (j : Data) × (read text ≡ Some j) × ((v : AsnValue) × Takes T v j × ((c : List ℕ) × IsCanonical T v c × (line ≡ encode_lower c)))
+Makes T line text = IsUtf8 text × ((j : Data) × (read text ≡ Some j) × ((v : AsnValue) × Takes T v j × ((c : List ℕ) × IsCanonical T v c × (line ≡ encode_lower c))))
 
 -- the line of `make` for a text of JSON, of no more octets than the limit
 abbrev pub IsMakeLine : AsnType → ℕ → Text → List ℕ → Type 0
@@ -88,6 +99,21 @@ IsPath None path = path ≡ []
 abbrev pub IsPart : AsnType → List Step → Text → List ℕ → Type 0
 IsPart T path line b = (U : Option AsnType) × (s : List ℕ) × Within (Some T) b path U s × (line ≡ encode_lower s)
 
+-- The octets are not all of one encoding, or the path leads to no part of it.
+abbrev pub HasNoPart : AsnType → List Step → List ℕ → Type 0
+HasNoPart T path b = (line : Text) → IsEncoding T b → IsPart T path line b → ⊥
+
+-- why octets b have no part at the path: they are not all of one encoding, or the path leads nowhere in it, by a step that names a root component or a known addition, or by another
+abbrev pub IsMissing : AsnType → List Step → List ℕ → Fault → Type 0
+IsMissing T path b Absent = IsEncoding T b × StopsAt (Some T) b path true
+IsMissing T path b NoSuchStep = IsEncoding T b × StopsAt (Some T) b path false
+IsMissing T path b fault = IsNotWhole T b fault
+
+-- why octets b have no line of `part`
+abbrev pub HasNoLine : AsnType → ℕ → Option Text → List ℕ → Fault → Type 0
+HasNoLine T limit text b (Longer n) = (n ≡ limit) × (limit < length b)
+HasNoLine T limit text b fault = (path : List Step) × IsPath text path × IsMissing T path b fault
+
 -- the line of `part` for octets b, which are all of one encoding
 abbrev pub IsPartLine : AsnType → ℕ → Option Text → Text → List ℕ → Type 0
 IsPartLine T limit text line b = IsEncoding T b × (length b ≤ limit) × ((path : List Step) × IsPath text path × IsPart T path line b)
@@ -99,6 +125,22 @@ IsLineOf (Canon hex) told T limit line = OfOctets (behind hex) told (IsCanonLine
 IsLineOf (Check hex) told T limit line = OfOctets (behind hex) told (IsCheckLine T limit line)
 IsLineOf (Make json) told T limit line = OfText (behind json) told (IsMakeLine T limit line)
 IsLineOf (Part hex path) told T limit line = OfOctets (behind hex) told (IsPartLine T limit (behind path) line)
+
+-- P holds of no line for octets b
+abbrev pub NoneFor : (Text → List ℕ → Type 0) → List ℕ → Type 0
+NoneFor P b = (line : Text) → P line b → ⊥
+
+-- b may be what the input had left: what it told, or anything where it told nothing
+abbrev pub MayBe : Option (List ℕ) → List ℕ → Type 0
+MayBe told b = IfSome told (λ xs. b ≡ xs)
+
+-- P holds of no line, whatever the input had left
+abbrev pub NoLine : Option (List ℕ) → (Option (List ℕ) → Text → Type 0) → Type 0
+NoLine told P = (line : Text) → ((b : List ℕ) → MayBe told b → P (Some b) line) → ⊥
+
+-- the task has no line for the type
+abbrev pub NoLineOf : Task → Option (List ℕ) → AsnType → ℕ → Type 0
+NoLineOf task told T limit = NoLine told (λ known. IsLineOf task known T limit)
 
 -- the line is that of the task for the type that the texts name
 pub record Answers (texts : Texts) (task : Task) (limit : ℕ) (told : Option (List ℕ)) (line : Text) : Type 0 where
@@ -127,6 +169,10 @@ pub record AnswersWords (words : List Text) (told : Option (List ℕ)) (line : T
   pub type : AsnType
   pub spelled : SpelledBy (texts_in words) type
   pub line_is : IsLine words told type limit line
+
+-- no line is what the words ask for, whatever the input had left
+abbrev pub NoneAnswers : List Text → Option (List ℕ) → Type 0
+NoneAnswers words told = NoLine told (AnswersWords words)
 
 -- the output grew by that line alone, and nothing is on the errors
 abbrev pub Prints : List Text → Option (List ℕ) → Option (List ℕ) → Option (List ℕ) → Option (List ℕ) → Option (List ℕ) → Type 0

@@ -1,5 +1,5 @@
 -- The type that the options name.
-use Rattle.std.specs.Prelude.{◌≢◌, List, Option, Some, None}
+use Rattle.std.specs.Prelude.{◌≡◌, ◌≢◌, List, Option, Some, None}
 use Rattle.clap.specs.Words.{Text}
 use Rattle.oer_types.specs.AsnType.{AsnType}
 use Rattle.oer_types.specs.WellFormed.{IsWellFormed}
@@ -12,9 +12,21 @@ use Rattle.oer_cmd.specs.declared.type_text.TypeText.{TypeText}
 use Rattle.oer_cmd.specs.declared.type_text.TypeText.TheVariants.{One, Named}
 use Rattle.oer_cmd.specs.Words.{behind}
 
--- the text spells definitions, among which the Name has the type
+-- the text spells the type, which is well-formed
+abbrev pub IsTypeIn : Text → AsnType → Type 0
+IsTypeIn text T = Spells T text × IsWellFormed T
+
+-- the text spells the definitions, and their types are well-formed
+abbrev pub AreDefinedIn : Text → List Known → Type 0
+AreDefinedIn text definitions = SpellsAll definitions text × AreWellFormed definitions
+
+-- among the definitions of the text the Name has the type
 abbrev pub Defines : Text → Text → AsnType → Type 0
-Defines text name T = (definitions : List Known) × SpellsAll definitions text × IsDefined name T definitions
+Defines text name T = (definitions : List Known) × AreDefinedIn text definitions × IsDefined name T definitions
+
+-- P holds of x, and of nothing else
+abbrev pub IsOnly : {A : Type 0} → (A → Type 0) → A → Type 0
+IsOnly {A} P x = P x × ((y : A) → P y → y ≡ x)
 
 -- the texts of `--type`, `--types` and `--name`
 pub record Texts : Type 0 where
@@ -23,11 +35,11 @@ pub record Texts : Type 0 where
   pub name : Option Text
 
 abbrev pub IsNamed : Option Text → Option Text → Option Text → AsnType → Type 0
-IsNamed (Some text) None None T = Spells T text
+IsNamed (Some text) None None T = IsTypeIn text T
 IsNamed None (Some text) (Some name) T = Defines text name T
 IsNamed one types name T = ⊥
 
--- the type is the one that the text of `--type` spells, or that the Name of `--name` has among the definitions of `--types`
+-- the type is the well-formed one that the text of `--type` spells, or that the Name of `--name` has among the definitions of `--types`
 abbrev pub SpelledBy : Texts → AsnType → Type 0
 SpelledBy t T = IsNamed t.one t.types t.name T
 
@@ -47,11 +59,11 @@ lack_of t = lack_in t.one t.types
 
 -- Unless memory ran out, the text spells no well-formed type.
 abbrev pub SpellsNone : Fault → Text → Type 0
-SpellsNone fault text = fault ≢ Memory → (T : AsnType) → Spells T text → IsWellFormed T → ⊥
+SpellsNone fault text = fault ≢ Memory → (T : AsnType) → IsTypeIn text T → ⊥
 
 -- Unless memory ran out, the text spells no definitions whose types are all well-formed.
 abbrev pub DefinesNone : Fault → Text → Type 0
-DefinesNone fault text = fault ≢ Memory → (definitions : List Known) → SpellsAll definitions text → AreWellFormed definitions → ⊥
+DefinesNone fault text = fault ≢ Memory → (definitions : List Known) → AreDefinedIn text definitions → ⊥
 
 abbrev pub texts_of : Options → Texts
 texts_of o = record { one = behind o.type_text; types = behind o.types; name = behind o.name }

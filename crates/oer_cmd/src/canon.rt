@@ -4,8 +4,9 @@ ghost use Rattle.hex.specs.Hex.{decode_of};
 ghost use Rattle.oer_types.specs.Schema.{the_type};
 ghost use Rattle.oer_units.specs.Reading.{octet as octet_read};
 ghost use Rattle.oer_units.specs.Reads.{ReadsFront};
-ghost use Rattle.oer_cmd.specs.Canon.{IsEmpty, MakesCanonical};
-ghost use Rattle.oer_cmd.specs.Run.{IsCanonLine, OfOctets};
+ghost use Rattle.oer_cmd.specs.Canon.{HasMore, IsEmpty, IsNoEncoding, MakesCanonical};
+ghost use Rattle.oer_cmd.specs.Faults.{Refuses};
+ghost use Rattle.oer_cmd.specs.Run.{IsCanonLine, NoLine, NoneFor, OfOctets};
 ghost use Rattle.oer_cmd.specs.Words.{behind};
 
 use crate::fault::Fault;
@@ -28,6 +29,7 @@ fn octet_at_front<R: Source>(reader: &mut R) -> Result<u8, ReadFault>
 /// reader.
 pub fn check_end<'a, R: Source>(reader: &mut R, taken: u64) -> Result<(), Fault<'a>>
     ensures empty { OnOk result (IsEmpty (R.remaining reader.old)) }
+    ensures refused { IfErr result (λ fault. Refuses fault (HasMore (R.remaining reader.old))) }
     ensures follows { IfErr result (λ fault. (n : ℕ) → fault ≡ Fault.Follows n → n ≡ taken) }
 {
     let fault = match octet_at_front(reader) {
@@ -50,8 +52,10 @@ fn canonical<'a, R: Source>(
     reader: &mut R,
     limit: u64,
 ) -> Result<Vec<u8>, Fault<'a>>
-    ensures { IfOk result (λ c. IfSome (R.remaining reader.old)
+    ensures made { IfOk result (λ c. IfSome (R.remaining reader.old)
         (λ b. MakesCanonical (the_type schema.now) limit b c.items)) }
+    ensures refused { IfErr result (λ fault. Refuses fault
+        (IfSome (R.remaining reader.old) (IsNoEncoding (the_type schema.now) limit))) }
 {
     let mut sink = Metered::new(Vec::new(alloc));
     let taken = match rewrite(alloc, schema, reader, limit, &mut sink) {
@@ -69,8 +73,10 @@ fn read_line<'a, R: Source>(
     reader: &mut R,
     limit: u64,
 ) -> Result<String, Fault<'a>>
-    ensures { IfOk result (λ line. IfSome (R.remaining reader.old)
+    ensures line { IfOk result (λ line. IfSome (R.remaining reader.old)
         (IsCanonLine (the_type schema.now) limit (string_bytes line))) }
+    ensures refused { IfErr result (λ fault. Refuses fault
+        (IfSome (R.remaining reader.old) (NoneFor (IsCanonLine (the_type schema.now) limit)))) }
 {
     let octets = canonical(alloc, schema, reader, limit)?;
     match hex::encode(alloc, octets) {
@@ -86,8 +92,10 @@ fn hex_line<'a>(
     digits: &str,
     limit: u64,
 ) -> Result<String, Fault<'a>>
-    ensures { IfOk result (λ line. (b : List ℕ) × (decode_of digits.now ≡ Ok b)
+    ensures line { IfOk result (λ line. (b : List ℕ) × (decode_of digits.now ≡ Ok b)
         × IsCanonLine (the_type schema.now) limit (string_bytes line) b) }
+    ensures refused { IfErr result (λ fault. Refuses fault
+        ((b : List ℕ) → decode_of digits.now ≡ Ok b → NoneFor (IsCanonLine (the_type schema.now) limit) b)) }
 {
     let octets = decoded(alloc, digits)?;
     let mut reader = Metered::new(octets.as_slice());
@@ -102,8 +110,10 @@ pub fn canon_line<'a, R: Source>(
     limit: u64,
     input: &mut R,
 ) -> Result<String, Fault<'a>>
-    ensures { IfOk result (λ line. OfOctets (behind hex.entry) (R.remaining input.old)
+    ensures line { IfOk result (λ line. OfOctets (behind hex.entry) (R.remaining input.old)
         (IsCanonLine (the_type schema.now) limit (string_bytes line))) }
+    ensures refused { IfErr result (λ fault. Refuses fault (NoLine (R.remaining input.old)
+        (λ told line. OfOctets (behind hex.entry) told (IsCanonLine (the_type schema.now) limit line)))) }
 {
     match hex {
         Some(digits) => hex_line(alloc, schema, digits, limit),

@@ -1,7 +1,8 @@
 //! Whether octets are canonical.
 ghost use Rattle.std.specs.Prelude.{◌≡◌, ◌↔◌, length, true, IfErr, IfOk, string_bytes};
 ghost use Rattle.oer_types.specs.Schema.{the_type};
-ghost use Rattle.oer_cmd.specs.Run.{AreCanonical, IsCheckLine, IsEncoding, IsNoFront, IsNotWhole, OfOctets, verdict_text};
+ghost use Rattle.oer_cmd.specs.Faults.{Refuses, status_of};
+ghost use Rattle.oer_cmd.specs.Run.{AreCanonical, IsCheckLine, IsEncoding, IsNoFront, IsNotWhole, IsUnchecked, NoLine, OfOctets, Says, verdict_text};
 ghost use Rattle.oer_cmd.specs.Words.{behind};
 
 use crate::fault::Fault;
@@ -18,6 +19,7 @@ pub fn judged<'a>(schema: &Schema, octets: &[u8]) -> Result<bool, Fault<'a>>
     ensures tells { IfOk result (λ canonical. (canonical ≡ true) ↔ AreCanonical (the_type schema.now) octets.now) }
     ensures only { IfOk result (λ canonical. IsNoFront (the_type schema.now) octets.now) }
     ensures refused { IfErr result (IsNotWhole (the_type schema.now) octets.now) }
+    ensures none { IfErr result (λ fault. IsEncoding (the_type schema.now) octets.now → ⊥) }
 {
     let verdict = match check(schema, octets) {
         Ok(verdict) => verdict,
@@ -31,7 +33,8 @@ pub fn judged<'a>(schema: &Schema, octets: &[u8]) -> Result<bool, Fault<'a>>
 
 // The line for octets that are judged.
 fn verdict_line<'a>(alloc: Global, is_canonical: bool, octets: &[u8]) -> Result<String, Fault<'a>>
-    ensures { IfOk result (λ line. string_bytes line ≡ verdict_text is_canonical (length octets.now)) }
+    ensures line { IfOk result (λ line. string_bytes line ≡ verdict_text is_canonical (length octets.now)) }
+    ensures fails { IfErr result (λ fault. status_of fault ≡ 3) }
 {
     let size = octets.len();
     let line = if is_canonical {
@@ -53,8 +56,12 @@ pub fn check_line<'a, R: Source>(
     limit: u64,
     input: &mut R,
 ) -> Result<String, Fault<'a>>
-    ensures { IfOk result (λ line. OfOctets (behind hex.entry) (R.remaining input.old)
+    ensures line { IfOk result (λ line. OfOctets (behind hex.entry) (R.remaining input.old)
         (IsCheckLine (the_type schema.now) limit (string_bytes line))) }
+    ensures refused { IfErr result (λ fault. Refuses fault (NoLine (R.remaining input.old)
+        (λ told line. OfOctets (behind hex.entry) told (IsCheckLine (the_type schema.now) limit line)))) }
+    ensures tells { IfErr result (Says (behind hex.entry) (R.remaining input.old)
+        (IsUnchecked (the_type schema.now) limit)) }
 {
     let spelt = spelt(alloc, hex)?;
     let octets = all_octets(alloc, spelt, input, limit)?;

@@ -9,8 +9,8 @@ ghost use Rattle.oer_types.specs.Strict.{IsCanonical};
 ghost use Rattle.oer_types.specs.ValueView.{value_of};
 ghost use Rattle.oer_json.specs.Denotes.{Takes};
 ghost use Rattle.oer_json.specs.Take.{taken};
-ghost use Rattle.oer_cmd.specs.Faults.{IsOfJson};
-ghost use Rattle.oer_cmd.specs.Run.{IsMakeLine, Makes, OfText};
+ghost use Rattle.oer_cmd.specs.Faults.{IsOfJson, Refuses, status_of};
+ghost use Rattle.oer_cmd.specs.Run.{IsMakeLine, Makes, NoLine, NoneFor, OfText};
 ghost use Rattle.oer_cmd.specs.Words.{behind};
 
 use crate::fault::Fault;
@@ -56,7 +56,8 @@ fn value_in<'a>(alloc: Global, schema: &Schema, json: &Json) -> Result<Value, Fa
 // The canonical octets of a value; refused as `Memory`, or as `Output` where they are too many.
 fn written<'a>(alloc: Global, schema: &Schema, value: &Value) -> Result<Vec<u8>, Fault<'a>>
     requires { Fits (the_type schema.now) (value_of value.now) }
-    ensures { IfOk result (λ octets. IsCanonical (the_type schema.now) (value_of value.now) octets.items) }
+    ensures octets { IfOk result (λ octets. IsCanonical (the_type schema.now) (value_of value.now) octets.items) }
+    ensures fails { IfErr result (λ fault. status_of fault ≡ 3) }
 {
     let mut sink = Metered::new(Vec::new(alloc));
     match write(schema, value, &mut sink) {
@@ -68,7 +69,8 @@ fn written<'a>(alloc: Global, schema: &Schema, value: &Value) -> Result<Vec<u8>,
 
 // The line for a text of JSON.
 fn text_line<'a>(alloc: Global, schema: &Schema, text: &str) -> Result<String, Fault<'a>>
-    ensures { IfOk result (λ line. Makes (the_type schema.now) (string_bytes line) text.now) }
+    ensures line { IfOk result (λ line. Makes (the_type schema.now) (string_bytes line) text.now) }
+    ensures refused { IfErr result (λ fault. Refuses fault (NoneFor (Makes (the_type schema.now)) text.now)) }
 {
     let json = json_of(alloc, text)?;
     let value = value_in(alloc, schema, &json)?;
@@ -86,8 +88,10 @@ fn input_line<'a, R: Source>(
     limit: u64,
     input: &mut R,
 ) -> Result<String, Fault<'a>>
-    ensures { IfOk result (λ line. OfText None (R.remaining input.old)
+    ensures line { IfOk result (λ line. OfText None (R.remaining input.old)
         (IsMakeLine (the_type schema.now) limit (string_bytes line))) }
+    ensures refused { IfErr result (λ fault. Refuses fault (NoLine (R.remaining input.old)
+        (λ told line. OfText None told (IsMakeLine (the_type schema.now) limit line)))) }
 {
     let octets = all_octets(alloc, None, input, limit)?;
     match str::from_utf8(octets.as_slice()) {
@@ -105,8 +109,10 @@ pub fn make_line<'a, R: Source>(
     limit: u64,
     input: &mut R,
 ) -> Result<String, Fault<'a>>
-    ensures { IfOk result (λ line. OfText (behind json.entry) (R.remaining input.old)
+    ensures line { IfOk result (λ line. OfText (behind json.entry) (R.remaining input.old)
         (IsMakeLine (the_type schema.now) limit (string_bytes line))) }
+    ensures refused { IfErr result (λ fault. Refuses fault (NoLine (R.remaining input.old)
+        (λ told line. OfText (behind json.entry) told (IsMakeLine (the_type schema.now) limit line)))) }
 {
     let Some(text) = json else {
         return input_line(alloc, schema, limit, input);

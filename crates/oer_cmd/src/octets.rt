@@ -1,5 +1,5 @@
 //! The octets that a task is given.
-ghost use Rattle.std.specs.Prelude.{◌≡◌, ◌≢◌, ◌≤◌, ℕ, List, None, length, option_map, IfErr, IfOk};
+ghost use Rattle.std.specs.Prelude.{◌≡◌, ◌≢◌, ◌≤◌, ℕ, List, Option, None, length, option_map, IfErr, IfOk};
 ghost use Rattle.hex.specs.Hex.{decode_of};
 ghost use Rattle.oer_cmd.specs.Octets.{AreAll, AreSpelt, IsTooLong, octets_of};
 ghost use Rattle.oer_cmd.specs.Words.{behind};
@@ -25,7 +25,8 @@ pub fn decoded<'a>(alloc: Global, digits: &str) -> Result<Vec<u8>, Fault<'a>>
 /// The octets of `--hex`, if it is there; refused as `Hex`, or as `Memory`.
 pub fn spelt<'a>(alloc: Global, hex: Option<&str>) -> Result<Option<Vec<u8>>, Fault<'a>>
     ensures octets { IfOk result (λ octets. AreSpelt (behind hex.entry) (option_map octets_of octets)) }
-    ensures refused { IfErr result (λ fault. fault ≢ Fault.Memory → (fault ≡ Fault.Hex) × ((b : List ℕ) → AreSpelt (behind hex.entry) (Some b) → ⊥)) }
+    ensures refused { IfErr result (λ fault. fault ≢ Fault.Memory → (fault ≡ Fault.Hex)
+        × ((octets : Option (List ℕ)) → AreSpelt (behind hex.entry) octets → ⊥)) }
 {
     let Some(digits) = hex else {
         return Ok(None);

@@ -3,13 +3,15 @@ ghost use Rattle.std.specs.Prelude.{◌≡◌, ◌≢◌, List, IfErr, IfOk, str
 ghost use Rattle.oer_types.specs.Parts.{Step as PlainStep};
 ghost use Rattle.oer_types.specs.Schema.{the_type};
 ghost use Rattle.oer_checker.specs.Walk.{path_of as steps_of};
-ghost use Rattle.oer_cmd.specs.Run.{IsEncoding, IsPart, IsPartLine, IsPath, OfOctets};
+ghost use Rattle.oer_cmd.specs.Faults.{Refuses, status_of};
+ghost use Rattle.oer_cmd.specs.Run.{HasNoLine, HasNoPart, IsEncoding, IsMissing, IsPart, IsPartLine, IsPath, NoLine, OfOctets, Says};
 ghost use Rattle.oer_cmd.specs.Words.{behind};
 
 use crate::check::judged;
 use crate::fault::Fault;
 use crate::octets::{all_octets, spelt};
 use oer_checker::{PartFault, Step, part};
+use oer_input::laws::one_path;
 use oer_input::{PathFault, read_path};
 use oer_types::Schema;
 use oer_units::Source;
@@ -40,6 +42,8 @@ fn digits_of_part<'a>(
 ) -> Result<String, Fault<'a>>
     ensures whole { IfOk result (λ line. IsEncoding (the_type schema.now) octets.now) }
     ensures part { IfOk result (λ line. IsPart (the_type schema.now) (steps_of path.now) (string_bytes line) octets.now) }
+    ensures refused { IfErr result (λ fault. Refuses fault (HasNoPart (the_type schema.now) (steps_of path.now) octets.now)) }
+    ensures tells { IfErr result (λ fault. status_of fault ≡ 1 → IsMissing (the_type schema.now) (steps_of path.now) octets.now fault) }
 {
     judged(schema, octets)?;
     let octets = match part(schema, octets, path) {
@@ -63,11 +67,16 @@ pub fn part_line<'a, R: Source>(
     limit: u64,
     input: &mut R,
 ) -> Result<String, Fault<'a>>
-    ensures { IfOk result (λ line. OfOctets (behind hex.entry) (R.remaining input.old)
+    ensures line { IfOk result (λ line. OfOctets (behind hex.entry) (R.remaining input.old)
         (IsPartLine (the_type schema.now) limit (behind path.entry) (string_bytes line))) }
+    ensures refused { IfErr result (λ fault. Refuses fault (NoLine (R.remaining input.old)
+        (λ told line. OfOctets (behind hex.entry) told (IsPartLine (the_type schema.now) limit (behind path.entry) line)))) }
+    ensures tells { IfErr result (Says (behind hex.entry) (R.remaining input.old)
+        (HasNoLine (the_type schema.now) limit (behind path.entry))) }
 {
     let spelt = spelt(alloc, hex)?;
     let path = path_of(alloc, path)?;
     let octets = all_octets(alloc, spelt, input, limit)?;
+    one_path();
     digits_of_part(alloc, schema, octets.as_slice(), path.as_slice())
 }

@@ -4,8 +4,8 @@ ghost use Rattle.std.specs.Io.KnownBytes.{Appends, Keeps};
 ghost use Rattle.clap.specs.Words.{kind_of, takes};
 ghost use Rattle.clap.specs.declared.error.kind.ErrorKind.TheVariants.{OutOfMemory};
 ghost use Rattle.oer_types.specs.Schema.{the_type};
-ghost use Rattle.oer_cmd.specs.Faults.{status_of};
-ghost use Rattle.oer_cmd.specs.Run.{Answers, IsLineOf, Prints};
+ghost use Rattle.oer_cmd.specs.Faults.{Refuses, status_of};
+ghost use Rattle.oer_cmd.specs.Run.{Answers, IsLineOf, NoLine, NoLineOf, NoneAnswers, Prints};
 ghost use Rattle.oer_cmd.specs.Types.{texts_at, texts_of};
 ghost use Rattle.oer_cmd.specs.Words.{oer};
 ghost use Rattle.oer_cmd.specs.declared.type_text.TypeText.TheVariants.{Named, One};
@@ -31,8 +31,10 @@ fn line_of<'a, R: Source>(
     options: Options<'a>,
     input: &mut R,
 ) -> Result<String, Fault<'a>>
-    ensures { IfOk result (λ line. IsLineOf options.entry.task (R.remaining input.old)
+    ensures line { IfOk result (λ line. IsLineOf options.entry.task (R.remaining input.old)
         (the_type schema.now) options.entry.limit (string_bytes line)) }
+    ensures refused { IfErr result (λ fault. Refuses fault
+        (NoLineOf options.entry.task (R.remaining input.old) (the_type schema.now) options.entry.limit)) }
 {
     let limit = options.limit;
     match options.task {
@@ -51,8 +53,10 @@ fn line_of_one<'a, R: Source>(
     options: Options<'a>,
     input: &mut R,
 ) -> Result<String, Fault<'a>>
-    ensures { IfOk result (λ line. Answers (texts_at (One text.entry)) options.entry.task
+    ensures line { IfOk result (λ line. Answers (texts_at (One text.entry)) options.entry.task
         options.entry.limit (R.remaining input.old) (string_bytes line)) }
+    ensures refused { IfErr result (λ fault. Refuses fault (NoLine (R.remaining input.old)
+        (Answers (texts_at (One text.entry)) options.entry.task options.entry.limit))) }
 {
     let schema = one_type(alloc, text)?;
     line_of(alloc, &schema, options, input)
@@ -66,8 +70,10 @@ fn line_of_named<'a, R: Source>(
     options: Options<'a>,
     input: &mut R,
 ) -> Result<String, Fault<'a>>
-    ensures { IfOk result (λ line. Answers (texts_at (Named types.entry name.entry)) options.entry.task
+    ensures line { IfOk result (λ line. Answers (texts_at (Named types.entry name.entry)) options.entry.task
         options.entry.limit (R.remaining input.old) (string_bytes line)) }
+    ensures refused { IfErr result (λ fault. Refuses fault (NoLine (R.remaining input.old)
+        (Answers (texts_at (Named types.entry name.entry)) options.entry.task options.entry.limit))) }
 {
     let types = definitions(alloc, types)?;
     let schema = named_type(&types, name)?;
@@ -80,8 +86,10 @@ fn answer<'a, R: Source>(
     options: Options<'a>,
     input: &mut R,
 ) -> Result<String, Fault<'a>>
-    ensures { IfOk result (λ line. Answers (texts_of options.entry) options.entry.task
+    ensures line { IfOk result (λ line. Answers (texts_of options.entry) options.entry.task
         options.entry.limit (R.remaining input.old) (string_bytes line)) }
+    ensures refused { IfErr result (λ fault. Refuses fault (NoLine (R.remaining input.old)
+        (Answers (texts_of options.entry) options.entry.task options.entry.limit))) }
 {
     match type_text(options)? {
         TypeText::One(text) => line_of_one(alloc, text, options, input),
@@ -151,6 +159,9 @@ pub fn run<R: Read, W: Write, E: Write>(
         → Prints (map string_bytes words.now) (R.remaining input.old)
         (W.contents output.old) (W.contents output.new)
         (E.contents errors.old) (E.contents errors.new) }
+    // It refuses only where there is no answer.
+    ensures refuses { takes oer (map string_bytes words.now) ≡ true → 1 ≤ result → result ≤ 2
+        → NoneAnswers (map string_bytes words.now) (R.remaining input.old) }
 {
     let options = match parsed(alloc, words) {
         Ok(options) => options,

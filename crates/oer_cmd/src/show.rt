@@ -1,9 +1,11 @@
 //! The JSON of a value.
-ghost use Rattle.std.specs.Prelude.{◌≡◌, ℕ, List, IfOk, IfSome, string_bytes};
+ghost use Rattle.std.specs.Prelude.{◌≡◌, ℕ, List, IfErr, IfOk, IfSome, string_bytes};
 ghost use Rattle.hex.specs.Hex.{decode_of};
 ghost use Rattle.serde_json.specs.View.{view};
 ghost use Rattle.oer_types.specs.Schema.{the_type};
-ghost use Rattle.oer_cmd.specs.Run.{IsShowLine, IsShown, OfOctets};
+ghost use Rattle.oer_cmd.specs.Canon.{IsNoEncoding};
+ghost use Rattle.oer_cmd.specs.Faults.{Refuses};
+ghost use Rattle.oer_cmd.specs.Run.{IsShowLine, IsShown, NoLine, NoneFor, OfOctets};
 ghost use Rattle.oer_cmd.specs.Words.{behind};
 
 use crate::canon::check_end;
@@ -26,8 +28,10 @@ fn shown<'a, R: Source>(
     reader: &mut R,
     limit: u64,
 ) -> Result<Json, Fault<'a>>
-    ensures { IfOk result (λ json. IfSome (R.remaining reader.old)
+    ensures shown { IfOk result (λ json. IfSome (R.remaining reader.old)
         (IsShown (the_type schema.now) limit (view json))) }
+    ensures refused { IfErr result (λ fault. Refuses fault
+        (IfSome (R.remaining reader.old) (IsNoEncoding (the_type schema.now) limit))) }
 {
     let mut counted = Counted::new(reader);
     let value = match read(alloc, schema, &mut counted, limit) {
@@ -49,8 +53,10 @@ fn read_line<'a, R: Source>(
     reader: &mut R,
     limit: u64,
 ) -> Result<String, Fault<'a>>
-    ensures { IfOk result (λ line. IfSome (R.remaining reader.old)
+    ensures line { IfOk result (λ line. IfSome (R.remaining reader.old)
         (IsShowLine (the_type schema.now) limit (string_bytes line))) }
+    ensures refused { IfErr result (λ fault. Refuses fault
+        (IfSome (R.remaining reader.old) (NoneFor (IsShowLine (the_type schema.now) limit)))) }
 {
     let json = shown(alloc, schema, reader, limit)?;
     match json.to_string(alloc) {
@@ -66,8 +72,10 @@ fn hex_line<'a>(
     digits: &str,
     limit: u64,
 ) -> Result<String, Fault<'a>>
-    ensures { IfOk result (λ line. (b : List ℕ) × (decode_of digits.now ≡ Ok b)
+    ensures line { IfOk result (λ line. (b : List ℕ) × (decode_of digits.now ≡ Ok b)
         × IsShowLine (the_type schema.now) limit (string_bytes line) b) }
+    ensures refused { IfErr result (λ fault. Refuses fault
+        ((b : List ℕ) → decode_of digits.now ≡ Ok b → NoneFor (IsShowLine (the_type schema.now) limit) b)) }
 {
     let octets = decoded(alloc, digits)?;
     let mut reader = Metered::new(octets.as_slice());
@@ -82,8 +90,10 @@ pub fn show_line<'a, R: Source>(
     limit: u64,
     input: &mut R,
 ) -> Result<String, Fault<'a>>
-    ensures { IfOk result (λ line. OfOctets (behind hex.entry) (R.remaining input.old)
+    ensures line { IfOk result (λ line. OfOctets (behind hex.entry) (R.remaining input.old)
         (IsShowLine (the_type schema.now) limit (string_bytes line))) }
+    ensures refused { IfErr result (λ fault. Refuses fault (NoLine (R.remaining input.old)
+        (λ told line. OfOctets (behind hex.entry) told (IsShowLine (the_type schema.now) limit line)))) }
 {
     match hex {
         Some(digits) => hex_line(alloc, schema, digits, limit),

@@ -1,12 +1,13 @@
 //! The type that the options name.
 ghost use Rattle.std.specs.Prelude.{◌≡◌, IfErr, IfOk, MatchResult};
 ghost use Rattle.oer_types.specs.Schema.{the_type};
-ghost use Rattle.oer_text.specs.Grammar.{IsDefined, IsNew, Spells, SpellsAll};
+ghost use Rattle.oer_text.specs.Grammar.{IsDefined, IsNew};
 ghost use Rattle.oer_text.specs.Views.{knowns};
-ghost use Rattle.oer_cmd.specs.Types.{DefinesNone, NamesNone, SpellsNone, lack_of, texts_at, texts_of};
+ghost use Rattle.oer_cmd.specs.Types.{AreDefinedIn, DefinesNone, IsOnly, IsTypeIn, NamesNone, SpellsNone, lack_of, texts_at, texts_of};
 
 use crate::fault::Fault;
 use crate::options::Options;
+use oer_text::laws::{complete, sound};
 use oer_text::{Types, parse_type, parse_types};
 use oer_types::Schema;
 use std::alloc::Global;
@@ -46,22 +47,26 @@ pub fn type_text(options: Options<'_>) -> Result<TypeText<'_>, Fault<'_>>
     Ok(TypeText::Named { types, name })
 }
 
-/// The type that the text spells; refused as `Type`, or as `Memory`.
+/// The one well-formed type that the text spells; refused as `Type`, or as `Memory`.
 pub fn one_type(alloc: Global, text: &str) -> Result<Schema, Fault<'_>>
-    ensures spells { IfOk result (λ schema. Spells (the_type schema) text.now) }
+    ensures spells { IfOk result (λ schema. IsOnly (IsTypeIn text.now) (the_type schema)) }
     ensures refused { IfErr result (λ fault. SpellsNone fault text.now) }
 {
+    sound();
+    complete();
     match parse_type(alloc, text) {
         Ok(schema) => Ok(schema),
         Err(fault) => Err(Fault::of_text(fault)),
     }
 }
 
-/// The definitions that the text spells; refused as `Type`, or as `Memory`.
+/// The definitions of well-formed types that the text spells; refused as `Type`, or as `Memory`.
 pub fn definitions(alloc: Global, text: &str) -> Result<Types, Fault<'_>>
-    ensures spells { IfOk result (λ types. SpellsAll (knowns types) text.now) }
+    ensures spells { IfOk result (λ types. IsOnly (AreDefinedIn text.now) (knowns types)) }
     ensures refused { IfErr result (λ fault. DefinesNone fault text.now) }
 {
+    sound();
+    complete();
     match parse_types(alloc, text) {
         Ok(types) => Ok(types),
         Err(fault) => Err(Fault::of_text(fault)),

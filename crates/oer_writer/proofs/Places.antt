@@ -1,17 +1,15 @@
 -- Components, one after another.
 use Rattle.std.proofs.Common.{◌≡◌, ℕ, zero, suc, ◌+◌, ◌-◌, ◌<◌, ◌≤◌, List, [], ◌∷◌, ◌++◌, length, drop, get_or, map, replicate, Bool, true, false, not, ◌||◌, if◌then◌else◌, is_some, Option, Some, None, option_map, arith, refl, sym, ap, ◌∙◌, append_assoc, length-append, min}
 use Rattle.std.proofs.lemmas.List.{drop_more, drop_all, length-replicate}
-use Rattle.oer_types.specs.AsnType.{AsnType, Need, must, may, default, Fields, Additions, field, addition, no_alternatives}
+use Rattle.oer_types.specs.AsnType.{AsnType, Need, must, may, default, Fields, Additions, field, addition}
 use Rattle.oer_types.specs.AsnValue.{AsnValue, no_places, present}
 use Rattle.oer_units.specs.Least.{counted}
 use Rattle.oer_types.proofs.Same.{same-true, same-refl}
-use Rattle.oer_units.specs.declared.tagging.Tag.{Tag}
-use Rattle.oer_types.specs.Constraints.{addition_count, has_tag, same_tag}
-use Rattle.oer_types.specs.declared.shape.Alt.{Alt}
+use Rattle.oer_types.specs.Constraints.{addition_count}
 use Rattle.std.proofs.lemmas.Bool.{false≢true}
 use Rattle.oer_types.specs.Canonical.{any_present, same, unknown_marks, unknown_octets}
 use Rattle.oer_types.specs.Filling.{filled}
-use Rattle.oer_types.specs.ShapeView.{additions_of, root_of, fields_of, seen_field, seen_addition, need_of, type_of}
+use Rattle.oer_types.specs.ShapeView.{additions_of, fields_of, seen_field, seen_addition, need_of, type_of}
 use Rattle.oer_types.specs.ValueView.{places_of, places_from, unknown_of, value_of}
 use Rattle.oer_types.specs.declared.shape.Addition.{Addition}
 use Rattle.oer_types.specs.declared.shape.Field.{Field}
@@ -164,9 +162,3 @@ one_there ps i d h e = ap (λ l. any_present (places_of l)) (drop_more ps i d h)
     present_first : (p : Option Value) (qs : List (Option Value)) → is_some p ≡ true → any_present (places_of (p ∷ qs)) ≡ true
     present_first None qs e = absurd (false≢true e)
     present_first (Some v) qs e = refl
-
--- ---- tags
-
-pub tag_step : (xs : List Alt) (i : ℕ) (x : Alt) (t : Tag) (b : Bool) → i < length xs → x ≡ get_or xs i x → same_tag x.tag t ≡ b → has_tag t (root_of (drop i xs) no_alternatives) ≡ (b || has_tag t (root_of (drop (i + 1) xs) no_alternatives))
-tag_step xs i x t b h is e =
-    ap (λ l. has_tag t (root_of l no_alternatives)) (drop_more xs i x h ∙ ap (λ y. y ∷ drop (i + 1) xs) (sym is)) ∙ ap (λ c. c || has_tag t (root_of (drop (i + 1) xs) no_alternatives)) e

@@ -3,8 +3,8 @@ use Rattle.oer_units.specs.Stream.{inner_of}
 use Rattle.oer_cmd.proofs.Front.{appended}
 use Rattle.oer_cmd.proofs.make.written.Goals as goal
 
-pub returns-in-Ok : goal.returns-in-Ok
-returns-in-Ok c =
+pub returns-in-Ok-clause-octets : goal.returns-in-Ok-clause-octets
+returns-in-Ok-clause-octets c =
     let octets = λ (v : Vec ℕ Global). v.items in
     appended _ _ (octets (inner_of c.new-sink.result)) (octets (inner_of c.write.new.w)) c.into_inner.result.items _
     c.in-Ok.ensures.canonical (ap octets c.new-sink.ensures.inner ∙ c.new.ensures.items) (ap octets c.into_inner.ensures)

@@ -1,0 +1,10 @@
+use Rattle.oer_types.specs.Schema.{the_type}
+use Rattle.oer_cmd.specs.Run.{IsCanonLine}
+use Rattle.oer_cmd.proofs.Refusals.{by_digits, by_input}
+use Rattle.oer_cmd.proofs.canon.canon_line.Goals as goal
+
+pub returns-in-Some-clause-refused : goal.returns-in-Some-clause-refused
+returns-in-Some-clause-refused g c = by_digits c.hex_line.result _ (IsCanonLine (the_type c.args.schema.now) c.args.limit) c.args.hex c.in-Some.digits c.in-Some.is c.hex_line.ensures.refused
+
+pub returns-in-None-clause-refused : goal.returns-in-None-clause-refused
+returns-in-None-clause-refused g c = by_input c.read_line.result c.args.limit _ (IsCanonLine (the_type c.args.schema.now) c.args.limit) c.args.hex c.in-None.is (λ line b h. h.1.within) c.read_line.ensures.refused

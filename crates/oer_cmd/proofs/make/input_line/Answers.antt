@@ -1,0 +1,16 @@
+use Rattle.std.proofs.Common.{◌∙◌, subst, ℕ, List}
+use Rattle.std.proofs.lemmas.Result.{IfErr-weaker, err_from_is_err_and}
+use Rattle.oer_types.specs.Schema.{the_type}
+use Rattle.oer_cmd.specs.Run.{Makes, NoneFor}
+use Rattle.oer_cmd.proofs.Refusals.{input_too_long, of_text_there}
+use Rattle.oer_cmd.proofs.make.input_line.Goals as goal
+
+pub returns-in_err-octets-clause-refused : goal.returns-in_err-octets-clause-refused
+returns-in_err-octets-clause-refused g c =
+    let p = err_from_is_err_and c.from_residual.result c.from_residual.ensures.1 in
+    rw (p.1, p.2) (input_too_long _ _ _ _ c.in_err-octets.ensures.refused)
+
+pub returns-in-Ok-clause-refused : goal.returns-in-Ok-clause-refused
+returns-in-Ok-clause-refused g c =
+    let T = the_type c.args.schema.now in
+    IfErr-weaker c.text_line.result _ _ (λ fault none small. of_text_there T c.args.limit _ c.in_ok-octets.octets.items c.in_ok-octets.ensures.all (subst (λ (l : List ℕ). NoneFor (Makes T) l) (c.in-Ok.ensures.cases.0 ∙ c.as_slice.ensures.value) (none small))) c.text_line.ensures.refused

@@ -1,0 +1,13 @@
+use Rattle.std.proofs.lemmas.Result.{IfErr-weaker, err_from_is_err_and}
+use Rattle.oer_cmd.proofs.Naming.{unanswered, unnamed}
+use Rattle.oer_cmd.proofs.Refusals.{not_memory}
+use Rattle.oer_cmd.proofs.program.line_of_one.Goals as goal
+
+pub returns-in_err-schema-clause-refused : goal.returns-in_err-schema-clause-refused
+returns-in_err-schema-clause-refused g c =
+    let p = err_from_is_err_and c.from_residual.result c.from_residual.ensures.1 in
+    rw (p.1, p.2) (λ small. unnamed _ _ _ _ (c.in_err-schema.ensures.refused (not_memory _ small)))
+
+pub returns-clause-refused : goal.returns-clause-refused
+returns-clause-refused g c =
+    IfErr-weaker c.line_of.result _ _ (λ fault none small. unanswered _ _ _ _ _ c.in_ok-schema.ensures.spells.1 (none small)) c.line_of.ensures.refused

@@ -1,0 +1,5 @@
+use Rattle.oer_cmd.proofs.Naming.{only_type}
+use Rattle.oer_cmd.proofs.type_text.one_type.Goals as goal
+
+pub returns-in-Ok-clause-spells : goal.returns-in-Ok-clause-spells
+returns-in-Ok-clause-spells c = only_type c.sound.ensures.one c.complete.ensures.alone _ _ c.in-Ok.ensures.exact
