@@ -69,26 +69,12 @@ one_there (Some xs) (Some ys) x b exact = more xs ys x b exact
 pub octet_left : (failed failed' : ℕ) (known known' : Option (List ℕ)) (x : ℕ) → ReadsFront octet 1 known failed (Ok x) known' failed' → HasMore known
 octet_left failed failed' known known' x h = one_there known known' x h.bound h.reads.exact
 
-not_end : (known known' : Option (List ℕ)) (b : Span) (e : ReadFault) → e.why ≢ why.End → e.why ≢ why.Device → e.why ≢ why.Memory
-    → Exactly octet known (record { taken = 0; end = 1; limit = 1; inside = false }) (Err e) known' b → HasMore known
-not_end None known' b e end device memory exact = tt
-not_end (Some xs) None b e end device memory exact = absurd exact
-not_end (Some xs) (Some ys) b e end device memory exact = λ none.
-    let none_left : renamed false (octet (at xs 1)) ≡ refused why.End [] = ap (λ (l : List ℕ). renamed false (octet (at l 1))) none ∙ ap (renamed false) none_there in
-    let both : refused e.why ys ≡ refused why.End [] = sym (exact device memory) ∙ none_left in
-    end cc
-
--- Another refusal than at the end comes of the machine alone.
-pub no_end : (failed failed' : ℕ) (known known' : Option (List ℕ)) (e : ReadFault) (fault : Fault) → IsOfRead e fault → e.why ≢ why.End → ReadsFront octet 1 known failed (Err e) known' failed' → Refuses fault (HasMore known)
-no_end failed failed' known known' e fault is end h = λ small.
-    not_end known known' h.bound e end (λ d. three fault Input (is.input d) refl small) (λ m. three fault Memory (is.memory m) refl small) h.reads.exact
-
 -- ---- no encoding
 
 whole : (b : List ℕ) → Some b ≡ Some (b ++ [])
 whole b = ap (λ (l : List ℕ). Some l) (sym (append-nil b))
 
-machine : (e : ReadFault) (fault : Fault) → IsOfRead e fault → status_of fault ≤ 2 → (e.why ≡ why.Device) ⊎ (e.why ≡ why.Memory) → ⊥
+pub machine : (e : ReadFault) (fault : Fault) → IsOfRead e fault → status_of fault ≤ 2 → (e.why ≡ why.Device) ⊎ (e.why ≡ why.Memory) → ⊥
 machine e fault is small (inl d) = three fault Input (is.input d) refl small
 machine e fault is small (inr m) = three fault Memory (is.memory m) refl small
 

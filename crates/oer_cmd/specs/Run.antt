@@ -60,6 +60,11 @@ IsNotWhole T b (Read e) = (v : AsnValue) (c rest : List ℕ) → b ≡ c ++ rest
 IsNotWhole T b (Follows n) = (v : AsnValue) × (c : List ℕ) × (rest : List ℕ) × (b ≡ c ++ rest) × Encodes T v c × (n ≡ length c) × (n < length b)
 IsNotWhole T b fault = ⊥
 
+-- the same under a limit: no encoding of at most so many octets is at its front; or one of n octets, fewer than b has
+abbrev pub IsUnread : AsnType → ℕ → List ℕ → Fault → Type 0
+IsUnread T limit b (Read e) = (v : AsnValue) (c rest : List ℕ) → b ≡ c ++ rest → Encodes T v c → length c ≤ limit → ⊥
+IsUnread T limit b fault = IsNotWhole T b fault × ((n : ℕ) → fault ≡ Follows n → n ≤ limit)
+
 abbrev pub verdict_text : Bool → ℕ → Text
 verdict_text true n = codes "canonical " ++ decimal n
 verdict_text false n = codes "basic " ++ decimal n

@@ -1,12 +1,12 @@
 //! The canonical octets of a value.
-ghost use Rattle.std.specs.Prelude.{◌≡◌, ℕ, List, IfErr, IfOk, IfSome, OnOk, string_bytes};
+ghost use Rattle.std.specs.Prelude.{◌≡◌, ◌≤◌, ℕ, List, None, Some, IfErr, IfOk, IfSome, OnOk, string_bytes};
 ghost use Rattle.hex.specs.Hex.{decode_of};
 ghost use Rattle.oer_types.specs.Schema.{the_type};
 ghost use Rattle.oer_units.specs.Reading.{octet as octet_read};
 ghost use Rattle.oer_units.specs.Reads.{ReadsFront};
 ghost use Rattle.oer_cmd.specs.Canon.{HasMore, IsEmpty, IsNoEncoding, MakesCanonical};
-ghost use Rattle.oer_cmd.specs.Faults.{Refuses};
-ghost use Rattle.oer_cmd.specs.Run.{IsCanonLine, NoLine, NoneFor, OfOctets};
+ghost use Rattle.oer_cmd.specs.Faults.{Refuses, status_of};
+ghost use Rattle.oer_cmd.specs.Run.{IsCanonLine, IsUnread, NoLine, NoneFor, OfOctets, Says};
 ghost use Rattle.oer_cmd.specs.Words.{behind};
 
 use crate::fault::Fault;
@@ -25,12 +25,12 @@ fn octet_at_front<R: Source>(reader: &mut R) -> Result<u8, ReadFault>
     octet(&mut w)
 }
 
-/// That the reader has no octet left after a value that took so many. Refused as `Follows`, or by the
-/// reader.
+/// That the reader has no octet left after a value that took so many. Refused as `Follows`, or as
+/// `Input` where the reader fails.
 pub fn check_end<'a, R: Source>(reader: &mut R, taken: u64) -> Result<(), Fault<'a>>
     ensures empty { OnOk result (IsEmpty (R.remaining reader.old)) }
     ensures refused { IfErr result (λ fault. Refuses fault (HasMore (R.remaining reader.old))) }
-    ensures follows { IfErr result (λ fault. (n : ℕ) → fault ≡ Fault.Follows n → n ≡ taken) }
+    ensures follows { IfErr result (λ fault. status_of fault ≤ 2 → fault ≡ Fault.Follows taken) }
 {
     let fault = match octet_at_front(reader) {
         Ok(_) => return Err(Fault::Follows(taken)),
@@ -38,7 +38,7 @@ pub fn check_end<'a, R: Source>(reader: &mut R, taken: u64) -> Result<(), Fault<
     };
     match fault.why {
         Why::End => Ok(()),
-        _ => Err(Fault::of_read(fault)),
+        _ => Err(Fault::Input),
     }
 }
 
@@ -56,6 +56,7 @@ fn canonical<'a, R: Source>(
         (λ b. MakesCanonical (the_type schema.now) limit b c.items)) }
     ensures refused { IfErr result (λ fault. Refuses fault
         (IfSome (R.remaining reader.old) (IsNoEncoding (the_type schema.now) limit))) }
+    ensures tells { IfErr result (Says None (R.remaining reader.old) (IsUnread (the_type schema.now) limit)) }
 {
     let mut sink = Metered::new(Vec::new(alloc));
     let taken = match rewrite(alloc, schema, reader, limit, &mut sink) {
@@ -77,6 +78,7 @@ fn read_line<'a, R: Source>(
         (IsCanonLine (the_type schema.now) limit (string_bytes line))) }
     ensures refused { IfErr result (λ fault. Refuses fault
         (IfSome (R.remaining reader.old) (NoneFor (IsCanonLine (the_type schema.now) limit)))) }
+    ensures tells { IfErr result (Says None (R.remaining reader.old) (IsUnread (the_type schema.now) limit)) }
 {
     let octets = canonical(alloc, schema, reader, limit)?;
     match hex::encode(alloc, octets) {
@@ -96,6 +98,7 @@ fn hex_line<'a>(
         × IsCanonLine (the_type schema.now) limit (string_bytes line) b) }
     ensures refused { IfErr result (λ fault. Refuses fault
         ((b : List ℕ) → decode_of digits.now ≡ Ok b → NoneFor (IsCanonLine (the_type schema.now) limit) b)) }
+    ensures tells { IfErr result (Says (Some digits.now) None (IsUnread (the_type schema.now) limit)) }
 {
     let octets = decoded(alloc, digits)?;
     let mut reader = Metered::new(octets.as_slice());
@@ -114,6 +117,8 @@ pub fn canon_line<'a, R: Source>(
         (IsCanonLine (the_type schema.now) limit (string_bytes line))) }
     ensures refused { IfErr result (λ fault. Refuses fault (NoLine (R.remaining input.old)
         (λ told line. OfOctets (behind hex.entry) told (IsCanonLine (the_type schema.now) limit line)))) }
+    ensures tells { IfErr result (Says (behind hex.entry) (R.remaining input.old)
+        (IsUnread (the_type schema.now) limit)) }
 {
     match hex {
         Some(digits) => hex_line(alloc, schema, digits, limit),

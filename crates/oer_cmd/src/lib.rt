@@ -3,7 +3,6 @@
 
 mod canon;
 mod check;
-mod counted;
 mod fault;
 pub mod laws;
 mod make;

@@ -1,19 +1,18 @@
 //! The JSON of a value.
-ghost use Rattle.std.specs.Prelude.{◌≡◌, ℕ, List, IfErr, IfOk, IfSome, string_bytes};
+ghost use Rattle.std.specs.Prelude.{◌≡◌, ℕ, List, None, Some, IfErr, IfOk, IfSome, string_bytes};
 ghost use Rattle.hex.specs.Hex.{decode_of};
 ghost use Rattle.serde_json.specs.View.{view};
 ghost use Rattle.oer_types.specs.Schema.{the_type};
 ghost use Rattle.oer_cmd.specs.Canon.{IsNoEncoding};
 ghost use Rattle.oer_cmd.specs.Faults.{Refuses};
-ghost use Rattle.oer_cmd.specs.Run.{IsShowLine, IsShown, NoLine, NoneFor, OfOctets};
+ghost use Rattle.oer_cmd.specs.Run.{IsShowLine, IsShown, IsUnread, NoLine, NoneFor, OfOctets, Says};
 ghost use Rattle.oer_cmd.specs.Words.{behind};
 
 use crate::canon::check_end;
-use crate::counted::Counted;
 use crate::fault::Fault;
 use crate::octets::decoded;
 use oer_json::to_json;
-use oer_reader::read;
+use oer_reader::read_with_length;
 use oer_types::Schema;
 use oer_units::{Metered, Source};
 use serde_json::Value as Json;
@@ -32,14 +31,13 @@ fn shown<'a, R: Source>(
         (IsShown (the_type schema.now) limit (view json))) }
     ensures refused { IfErr result (λ fault. Refuses fault
         (IfSome (R.remaining reader.old) (IsNoEncoding (the_type schema.now) limit))) }
+    ensures tells { IfErr result (Says None (R.remaining reader.old) (IsUnread (the_type schema.now) limit)) }
 {
-    let mut counted = Counted::new(reader);
-    let value = match read(alloc, schema, &mut counted, limit) {
-        Ok(value) => value,
+    let (value, taken) = match read_with_length(alloc, schema, reader, limit) {
+        Ok(read) => read,
         Err(fault) => return Err(Fault::of_read(fault)),
     };
-    let taken = counted.taken();
-    check_end(&mut counted, taken)?;
+    check_end(reader, taken)?;
     match to_json(alloc, schema, &value) {
         Ok(json) => Ok(json),
         Err(_) => Err(Fault::Memory),
@@ -57,6 +55,7 @@ fn read_line<'a, R: Source>(
         (IsShowLine (the_type schema.now) limit (string_bytes line))) }
     ensures refused { IfErr result (λ fault. Refuses fault
         (IfSome (R.remaining reader.old) (NoneFor (IsShowLine (the_type schema.now) limit)))) }
+    ensures tells { IfErr result (Says None (R.remaining reader.old) (IsUnread (the_type schema.now) limit)) }
 {
     let json = shown(alloc, schema, reader, limit)?;
     match json.to_string(alloc) {
@@ -76,6 +75,7 @@ fn hex_line<'a>(
         × IsShowLine (the_type schema.now) limit (string_bytes line) b) }
     ensures refused { IfErr result (λ fault. Refuses fault
         ((b : List ℕ) → decode_of digits.now ≡ Ok b → NoneFor (IsShowLine (the_type schema.now) limit) b)) }
+    ensures tells { IfErr result (Says (Some digits.now) None (IsUnread (the_type schema.now) limit)) }
 {
     let octets = decoded(alloc, digits)?;
     let mut reader = Metered::new(octets.as_slice());
@@ -94,6 +94,8 @@ pub fn show_line<'a, R: Source>(
         (IsShowLine (the_type schema.now) limit (string_bytes line))) }
     ensures refused { IfErr result (λ fault. Refuses fault (NoLine (R.remaining input.old)
         (λ told line. OfOctets (behind hex.entry) told (IsShowLine (the_type schema.now) limit line)))) }
+    ensures tells { IfErr result (Says (behind hex.entry) (R.remaining input.old)
+        (IsUnread (the_type schema.now) limit)) }
 {
     match hex {
         Some(digits) => hex_line(alloc, schema, digits, limit),

@@ -1,7 +1,7 @@
 -- From what the code reads to what its caller learns.
 use Rattle.std.proofs.Common.{◌≡◌, ◌≢◌, ℕ, ◌+◌, ◌-◌, ◌<◌, ◌≤◌, false, List, [], ◌∷◌, ◌++◌, length, Option, Some, None, Result, Ok, Err, ◌⊎◌, inl, inr, arith, refl, sym, ap, ◌∙◌, subst, append-nil}
 use Rattle.std.proofs.lemmas.List.{length-append}
-use Rattle.std.specs.Prelude.{IfErr}
+use Rattle.std.specs.Prelude.{IfErr, IfOk}
 use Rattle.std.specs.List.{AllByRecursion}
 use Rattle.std.specs.Io.KnownBytes.{Consumes}
 use Rattle.oer_units.specs.Lawful.{Excludes}
@@ -23,7 +23,9 @@ use Rattle.oer_types.proofs.Main.{value_lawful}
 use Rattle.oer_types.proofs.Payload.{value_paid}
 use Rattle.oer_types.proofs.Sizes.{nodes_bounded}
 use Rattle.oer_types.proofs.Theorems.{reads_each}
-use Rattle.oer_reader.specs.Front.{first_of, IsFound, ReadsAndCounts, ReadsWhatComes, Told}
+use Rattle.oer_types.specs.ValueView.{value_of}
+use Rattle.oer_types.specs.declared.value.Value.{Value}
+use Rattle.oer_reader.specs.Front.{counted_of, first_of, IsFound, IsTaken, ReadsAndCounts, ReadsWhatComes, Told, value_in}
 
 plain : {A : Type 0} (o : Outcome A) → renamed false o ≡ o
 plain (got x q) = refl
@@ -134,3 +136,24 @@ comes_of T wf n failed failed' known known' result h = comes T wf n failed faile
 
 pub fits_of : (T : AsnType) → KeepsLimits T → (n failed failed' : ℕ) (known known' : Option (List ℕ)) (v : AsnValue) (m : ℕ) → ReadsAndCounts (read_value T) n known failed (Ok (v, m)) known' failed' → Fits T v
 fits_of T wf n failed failed' known known' v m h = (takes T wf n failed failed' known known' v m h).3.1
+
+value_seen : (r : Result (Value × ℕ) ReadFault) → seen first_of (seen counted_of r) ≡ seen value_in r
+value_seen (Ok p) = refl
+value_seen (Err e) = refl
+
+-- the same of a call that answers the number of octets, too
+pub value_told : (T : AsnType) → KeepsLimits T → (n failed failed' : ℕ) (known known' : Option (List ℕ)) (r : Result (Value × ℕ) ReadFault) → ReadsAndCounts (read_value T) n known failed (seen counted_of r) known' failed' → Told T n known known' (seen value_in r)
+value_told T wf n failed failed' known known' r h = subst (Told T n known known') (value_seen r) (tells_of T wf n failed failed' known known' (seen counted_of r) h)
+
+pub value_comes : (T : AsnType) → KeepsLimits T → (n failed failed' : ℕ) (known known' : Option (List ℕ)) (r : Result (Value × ℕ) ReadFault) → ReadsAndCounts (read_value T) n known failed (seen counted_of r) known' failed' → ReadsWhatComes T n known known' (seen value_in r)
+value_comes T wf n failed failed' known known' r h = subst (ReadsWhatComes T n known known') (value_seen r) (comes_of T wf n failed failed' known known' (seen counted_of r) h)
+
+pub value_taken : (T : AsnType) → KeepsLimits T → (n failed failed' : ℕ) (known known' : Option (List ℕ)) (r : Result (Value × ℕ) ReadFault) → ReadsAndCounts (read_value T) n known failed (seen counted_of r) known' failed' → IfOk r (λ p. IsTaken T n known known' (counted_of p))
+value_taken T wf n failed failed' known known' (Ok p) h =
+    let all = takes T wf n failed failed' known known' (value_of p.0) p.1 h in
+    (all.0, (all.1, all.2, all.3), all.4)
+value_taken T wf n failed failed' known known' (Err e) h = tt
+
+pub value_fits : (T : AsnType) → KeepsLimits T → (n failed failed' : ℕ) (known known' : Option (List ℕ)) (r : Result (Value × ℕ) ReadFault) → ReadsAndCounts (read_value T) n known failed (seen counted_of r) known' failed' → IfOk r (λ p. Fits T (value_in p))
+value_fits T wf n failed failed' known known' (Ok p) h = fits_of T wf n failed failed' known known' (value_of p.0) p.1 h
+value_fits T wf n failed failed' known known' (Err e) h = tt

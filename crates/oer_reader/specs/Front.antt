@@ -1,6 +1,7 @@
 -- What the caller of `read` learns, in the words of encodings alone.
 use Rattle.std.specs.Prelude.{◌≡◌, ◌≢◌, ℕ, ◌*◌, ◌≤◌, max, List, ◌++◌, length, Option, Some, None, Result, Ok, Err, IfOk, ◌⊎◌, ⊤}
 use Rattle.std.specs.Borrow.{GName}
+use Rattle.std.specs.Io.KnownBytes.{Consumes}
 use Rattle.oer_units.specs.Reader.{Reader}
 use Rattle.oer_units.specs.Reads.{Reads, Span, seen, start}
 use Rattle.oer_units.specs.declared.fault.Why.TheVariants.{Device, Memory}
@@ -37,6 +38,18 @@ ReadsWhatComes T n known known' result = (v : AsnValue) (b rest : List ℕ) → 
 -- a value beside the number of octets that were taken
 abbrev pub counted_of : Value × ℕ → AsnValue × ℕ
 counted_of p = (value_of p.0, p.1)
+
+-- the value of those
+abbrev pub value_in : Value × ℕ → AsnValue
+value_in p = value_of p.0
+
+-- t was taken, at most as many octets as the limit, and is an encoding of v.
+abbrev pub Takes : AsnType → ℕ → Option (List ℕ) → Option (List ℕ) → AsnValue → List ℕ → Type 0
+Takes T limit known known' v t = Consumes known known' t × (length t ≤ limit) × Encodes T v t
+
+-- An encoding of v was taken, of m octets.
+abbrev pub IsTaken : AsnType → ℕ → Option (List ℕ) → Option (List ℕ) → AsnValue × ℕ → Type 0
+IsTaken T limit known known' (v, m) = (t : List ℕ) × Takes T limit known known' v t × (m ≡ length t)
 
 abbrev pub first_of : {A : Type 0} → A × ℕ → A
 first_of p = p.0

@@ -1,6 +1,6 @@
 -- What the caller of `rewrite` learns, in the words of encodings.
 use Rattle.std.specs.Prelude.{◌≡◌, ◌≢◌, ℕ, ◌≤◌, List, ◌++◌, length, Option, Some, Result, Ok, Err, IfOk, ◌⊎◌, ⊤}
-use Rattle.std.specs.Io.KnownBytes.{Appends, Consumes}
+use Rattle.std.specs.Io.KnownBytes.{Appends}
 use Rattle.oer_units.specs.declared.fault.Why.TheVariants.{Device, Memory}
 use Rattle.oer_units.specs.declared.fault.ReadFault.{ReadFault}
 use Rattle.oer_units.specs.Reads.{ReadsFront}
@@ -11,17 +11,13 @@ use Rattle.oer_types.specs.Encoding.{Encodes}
 use Rattle.oer_types.specs.Reading.{read_value}
 use Rattle.oer_types.specs.Strict.{IsCanonical}
 use Rattle.oer_writer.specs.Write.{Fails, StopsWriting, Writes}
-use Rattle.oer_reader.specs.Front.{Told}
+use Rattle.oer_reader.specs.Front.{Takes, Told}
 use Rattle.oer_reader.specs.declared.fault.RewriteFault.{RewriteFault}
 use Rattle.oer_reader.specs.declared.fault.RewriteFault.TheVariants.{Read, Write}
 
 -- the octets that a reader will give, or that a sink holds, where they are known
 abbrev pub Known : Type 0
 Known = Option (List ℕ)
-
--- t was taken, at most as many octets as the limit, and is an encoding of v.
-abbrev pub Takes : AsnType → ℕ → Known → Known → AsnValue → List ℕ → Type 0
-Takes T limit known known' v t = Consumes known known' t × (length t ≤ limit) × Encodes T v t
 
 -- The canonical octets of v, n of them, were appended.
 abbrev pub Puts : AsnType → AsnValue → Known → Known → ℕ → Type 0

@@ -6,7 +6,7 @@ ghost use Rattle.oer_types.specs.Reading.{read_value};
 ghost use Rattle.oer_types.specs.Schema.{the_type};
 ghost use Rattle.oer_types.specs.ShapeView.{type_of};
 ghost use Rattle.oer_types.specs.ValueView.{value_of};
-ghost use Rattle.oer_reader.specs.Front.{ReadsAndCounts, ReadsWhatComes, Told, counted_of};
+ghost use Rattle.oer_reader.specs.Front.{IsTaken, ReadsAndCounts, ReadsWhatComes, Told, counted_of, value_in};
 ghost use Rattle.oer_reader.specs.Memory.{NeedsNoMemory};
 
 use crate::value::read_shape;
@@ -44,6 +44,31 @@ pub fn read<R: Source>(
 {
     let (value, _) = read_counted(schema.shape(), alloc, reader, limit)?;
     Ok(value)
+}
+
+/// Reads a value as [`read`] does, and answers how many octets its encoding has, too. Refused as
+/// [`read`] is.
+pub fn read_with_length<R: Source>(
+    alloc: Global,
+    schema: &Schema,
+    reader: &mut R,
+    limit: u64,
+) -> Result<(Value, u64), ReadFault>
+    // What was taken, at most as much as the limit, and what the answer says of it.
+    ensures told { Told (the_type schema.now) limit (R.remaining reader.old) (R.remaining reader.new) (seen value_in result) }
+    // An encoding that comes next, within the limit, is read.
+    ensures comes { ReadsWhatComes (the_type schema.now) limit (R.remaining reader.old) (R.remaining reader.new) (seen value_in result) }
+    // An encoding of the value was taken, of so many octets.
+    ensures taken { IfOk result (λ read. IsTaken (the_type schema.now) limit (R.remaining reader.old) (R.remaining reader.new) (counted_of read)) }
+    // A value that is read fits the type, also where the reader doesn't tell its octets.
+    ensures fits { IfOk result (λ read. Fits (the_type schema.now) (value_in read)) }
+    // Values without parts and texts are read without memory.
+    ensures memory { NeedsNoMemory (the_type schema.now) → TakesNoMemory result }
+    // Which refusal it is, where, and that the count of failures rises exactly at Device.
+    ensures exact { ReadsAndCounts (read_value (the_type schema.now)) limit (R.remaining reader.old) (R.failed reader.old)
+        (seen counted_of result) (R.remaining reader.new) (R.failed reader.new) }
+{
+    read_counted(schema.shape(), alloc, reader, limit)
 }
 
 // Reads a value, and answers how many octets were taken, too.

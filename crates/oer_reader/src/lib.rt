@@ -13,5 +13,5 @@ mod strings;
 mod value;
 
 pub use fault::RewriteFault;
-pub use front::read;
+pub use front::{read, read_with_length};
 pub use rewriting::rewrite;

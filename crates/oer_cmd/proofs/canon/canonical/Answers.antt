@@ -1,9 +1,10 @@
-use Rattle.std.proofs.Common.{◌∙◌, ap, Some, Vec, ℕ, Global}
+use Rattle.std.proofs.Common.{◌∙◌, arith, ap, Some, Vec, ℕ, Global}
 use Rattle.std.proofs.lemmas.Result.{err_from_is_err_and}
 use Rattle.oer_types.specs.Schema.{the_type}
 use Rattle.oer_units.specs.Stream.{inner_of}
 use Rattle.oer_cmd.proofs.Front.{rewritten}
 use Rattle.oer_cmd.proofs.Refusals.{rewritten_more, unrewritten}
+use Rattle.oer_cmd.proofs.Unread.{followed, unrewritten_why}
 use Rattle.oer_cmd.proofs.canon.canonical.Goals as goal
 
 pub returns-clause-made : goal.returns-clause-made
@@ -16,6 +17,17 @@ pub returns-in-Err-clause-refused : goal.returns-in-Err-clause-refused
 returns-in-Err-clause-refused g c =
     let octets = λ (v : Vec ℕ Global). v.items in
     unrewritten (the_type c.args.schema.now) c.args.limit _ _ (Some (octets (inner_of c.new-sink.result))) (Some (octets (inner_of c.rewrite.new.sink))) c.in-Err.fault c.of_rewrite.result c.of_rewrite.ensures c.in-Err.ensures.comes
+
+pub returns-in-Err-clause-tells : goal.returns-in-Err-clause-tells
+returns-in-Err-clause-tells g c =
+    let octets = λ (v : Vec ℕ Global). v.items in
+    unrewritten_why (the_type c.args.schema.now) c.args.limit _ _ (Some (octets (inner_of c.new-sink.result))) (Some (octets (inner_of c.rewrite.new.sink))) c.in-Err.fault c.of_rewrite.result c.of_rewrite.ensures c.in-Err.ensures.comes
+
+pub returns-in_err-check_end-clause-tells : goal.returns-in_err-check_end-clause-tells
+returns-in_err-check_end-clause-tells g c =
+    let p = err_from_is_err_and c.from_residual.result c.from_residual.ensures.1 in
+    let done = c.in-Ok.ensures.rewritten in
+    rw (p.1, p.2) (λ one. followed (the_type c.args.schema.now) c.args.limit c.in-Ok.taken _ _ done.0 done.1 _ done.2 done.3 (c.in_err-check_end.ensures.refused (omega (arith, one))) (c.in_err-check_end.ensures.follows (omega (arith, one))) one)
 
 pub returns-in_err-check_end-clause-refused : goal.returns-in_err-check_end-clause-refused
 returns-in_err-check_end-clause-refused g c =

@@ -6,3 +6,8 @@ pub returns-in_err-octets-clause-refused : goal.returns-in_err-octets-clause-ref
 returns-in_err-octets-clause-refused g c =
     let p = err_from_is_err_and c.from_residual.result c.from_residual.ensures.1 in
     rw (p.1, p.2) (λ small. no_canon_line _ _ _ (c.in_err-octets.ensures.refused small))
+
+pub returns-in_err-octets-clause-tells : goal.returns-in_err-octets-clause-tells
+returns-in_err-octets-clause-tells g c =
+    let p = err_from_is_err_and c.from_residual.result c.from_residual.ensures.1 in
+    rw (p.1, p.2) c.in_err-octets.ensures.tells

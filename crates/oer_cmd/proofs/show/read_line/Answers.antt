@@ -10,3 +10,8 @@ pub returns-in_err-json-clause-refused : goal.returns-in_err-json-clause-refused
 returns-in_err-json-clause-refused g c =
     let p = err_from_is_err_and c.from_residual.result c.from_residual.ensures.1 in
     rw (p.1, p.2) (λ small. no_show_line _ _ _ (c.in_err-json.ensures.refused small))
+
+pub returns-in_err-json-clause-tells : goal.returns-in_err-json-clause-tells
+returns-in_err-json-clause-tells g c =
+    let p = err_from_is_err_and c.from_residual.result c.from_residual.ensures.1 in
+    rw (p.1, p.2) c.in_err-json.ensures.tells
