@@ -1,5 +1,5 @@
 -- What the program prints.
-use Rattle.std.specs.Prelude.{◌≡◌, ◌↔◌, ◌≤◌, ◌<◌, Bool, true, false, ℕ, List, [], ◌∷◌, ◌++◌, length, Option, Some, None, Ok, IfSome, codes}
+use Rattle.std.specs.Prelude.{◌≡◌, ◌↔◌, ◌≤◌, ◌<◌, Bool, true, false, ℕ, List, [], ◌∷◌, ◌++◌, length, Option, Some, None, Ok, Err, IfSome, codes}
 use Rattle.std.specs.Fmt.{decimal}
 use Rattle.std.specs.Str.{IsUtf8}
 use Rattle.std.specs.Io.KnownBytes.{Appends, Keeps}
@@ -16,12 +16,13 @@ use Rattle.oer_types.specs.Strict.{IsCanonical}
 use Rattle.oer_input.specs.Path.{SpellsPath}
 use Rattle.oer_json.specs.Denotes.{Takes}
 use Rattle.oer_json.specs.Made.{made}
+use Rattle.oer_json.specs.Take.{taken}
 use Rattle.oer_cmd.specs.Canon.{MakesCanonical}
 use Rattle.oer_cmd.specs.Faults.{status_of}
 use Rattle.oer_cmd.specs.Types.{SpelledBy, Texts}
 use Rattle.oer_cmd.specs.Words.{NumberOf, asked, behind, given, given_number}
 use Rattle.oer_cmd.specs.declared.fault.Fault.{Fault}
-use Rattle.oer_cmd.specs.declared.fault.Fault.TheVariants.{Absent, Follows, Longer, NoSuchStep, Read}
+use Rattle.oer_cmd.specs.declared.fault.Fault.TheVariants.{Absent, Follows, Json, Longer, NoSuchStep, NotJson, Read}
 use Rattle.oer_cmd.specs.declared.options.Task.{Task}
 use Rattle.oer_cmd.specs.declared.options.Task.TheVariants.{Canon, Check, Make, Part, Show}
 
@@ -89,6 +90,17 @@ Makes T line text = IsUtf8 text × ((j : Data) × (read text ≡ Some j) × ((v 
 -- the line of `make` for a text of JSON, of no more octets than the limit
 abbrev pub IsMakeLine : AsnType → ℕ → Text → List ℕ → Type 0
 IsMakeLine T limit line text = (length text ≤ limit) × Makes T line text
+
+-- why a text has no line of `make` whatever the limit: it is no JSON, or its JSON is refused so
+abbrev pub IsUntaken : AsnType → List ℕ → Fault → Type 0
+IsUntaken T text NotJson = (j : Data) → IsUtf8 text → read text ≡ Some j → ⊥
+IsUntaken T text (Json e) = (j : Data) × (read text ≡ Some j) × (taken T j ≡ Err e)
+IsUntaken T text fault = ⊥
+
+-- why it has none under the limit: it is longer, or one of these
+abbrev pub IsUnmade : AsnType → ℕ → List ℕ → Fault → Type 0
+IsUnmade T limit text (Longer n) = (n ≡ limit) × (limit < length text)
+IsUnmade T limit text fault = IsUntaken T text fault
 
 -- P holds of the text: that of `--json`, and without it all that the input had left, where that is known
 abbrev pub OfText : Option Text → Option (List ℕ) → (List ℕ → Type 0) → Type 0

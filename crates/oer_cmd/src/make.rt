@@ -10,7 +10,7 @@ ghost use Rattle.oer_types.specs.ValueView.{value_of};
 ghost use Rattle.oer_json.specs.Denotes.{Takes};
 ghost use Rattle.oer_json.specs.Take.{taken};
 ghost use Rattle.oer_cmd.specs.Faults.{IsOfJson, Refuses, status_of};
-ghost use Rattle.oer_cmd.specs.Run.{IsMakeLine, Makes, NoLine, NoneFor, OfText};
+ghost use Rattle.oer_cmd.specs.Run.{IsMakeLine, IsUnmade, IsUntaken, Makes, NoLine, NoneFor, OfText};
 ghost use Rattle.oer_cmd.specs.Words.{behind};
 
 use crate::fault::Fault;
@@ -71,6 +71,7 @@ fn written<'a>(alloc: Global, schema: &Schema, value: &Value) -> Result<Vec<u8>,
 fn text_line<'a>(alloc: Global, schema: &Schema, text: &str) -> Result<String, Fault<'a>>
     ensures line { IfOk result (λ line. Makes (the_type schema.now) (string_bytes line) text.now) }
     ensures refused { IfErr result (λ fault. Refuses fault (NoneFor (Makes (the_type schema.now)) text.now)) }
+    ensures tells { IfErr result (λ fault. Refuses fault (IsUntaken (the_type schema.now) text.now fault)) }
 {
     let json = json_of(alloc, text)?;
     let value = value_in(alloc, schema, &json)?;
@@ -92,6 +93,8 @@ fn input_line<'a, R: Source>(
         (IsMakeLine (the_type schema.now) limit (string_bytes line))) }
     ensures refused { IfErr result (λ fault. Refuses fault (NoLine (R.remaining input.old)
         (λ told line. OfText None told (IsMakeLine (the_type schema.now) limit line)))) }
+    ensures tells { IfErr result (λ fault. Refuses fault (OfText None (R.remaining input.old)
+        (λ text. IsUnmade (the_type schema.now) limit text fault))) }
 {
     let octets = all_octets(alloc, None, input, limit)?;
     match str::from_utf8(octets.as_slice()) {
@@ -113,6 +116,8 @@ pub fn make_line<'a, R: Source>(
         (IsMakeLine (the_type schema.now) limit (string_bytes line))) }
     ensures refused { IfErr result (λ fault. Refuses fault (NoLine (R.remaining input.old)
         (λ told line. OfText (behind json.entry) told (IsMakeLine (the_type schema.now) limit line)))) }
+    ensures tells { IfErr result (λ fault. Refuses fault (OfText (behind json.entry) (R.remaining input.old)
+        (λ text. IsUnmade (the_type schema.now) limit text fault))) }
 {
     let Some(text) = json else {
         return input_line(alloc, schema, limit, input);
