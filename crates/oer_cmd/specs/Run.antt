@@ -1,5 +1,5 @@
 -- What the program prints.
-use Rattle.std.specs.Prelude.{◌≡◌, ◌↔◌, ◌≤◌, ◌<◌, Bool, true, false, ℕ, List, [], ◌∷◌, ◌++◌, length, Option, Some, None, Ok, Err, IfSome, codes}
+use Rattle.std.specs.Prelude.{◌≡◌, ◌↔◌, ◌≤◌, ◌<◌, Bool, true, false, ℕ, List, [], ◌∷◌, ◌++◌, length, Option, Some, None, Ok, Err, IfSome, codes, ◌⊎◌}
 use Rattle.std.specs.Fmt.{decimal}
 use Rattle.std.specs.Str.{IsUtf8}
 use Rattle.std.specs.Io.KnownBytes.{Appends, Keeps}
@@ -22,7 +22,7 @@ use Rattle.oer_cmd.specs.Faults.{status_of}
 use Rattle.oer_cmd.specs.Types.{SpelledBy, Texts}
 use Rattle.oer_cmd.specs.Words.{NumberOf, asked, behind, given, given_number}
 use Rattle.oer_cmd.specs.declared.fault.Fault.{Fault}
-use Rattle.oer_cmd.specs.declared.fault.Fault.TheVariants.{Absent, Follows, Json, Longer, NoSuchStep, NotJson, Read}
+use Rattle.oer_cmd.specs.declared.fault.Fault.TheVariants.{Absent, Follows, Hex, Json, Longer, NoSuchStep, NotJson, Path, Read}
 use Rattle.oer_cmd.specs.declared.options.Task.{Task}
 use Rattle.oer_cmd.specs.declared.options.Task.TheVariants.{Canon, Check, Make, Part, Show}
 
@@ -78,6 +78,15 @@ IsCheckLine T limit line b = IsEncoding T b × (length b ≤ limit) × ((canonic
 abbrev pub Says : Option Text → Option (List ℕ) → (List ℕ → Fault → Type 0) → Fault → Type 0
 Says hex told P fault = status_of fault ≡ 1 → OfOctets hex told (λ b. P b fault)
 
+-- The digits of `--hex` spell no octets.
+abbrev pub IsUnspelt : Option Text → Fault → Type 0
+IsUnspelt (Some digits) fault = (fault ≡ Hex) × ((b : List ℕ) → decode_of digits ≡ Ok b → ⊥)
+IsUnspelt None fault = ⊥
+
+-- what a fault of status 2 says of the words, where there is no path
+abbrev pub BlamesDigits : Option Text → Fault → Type 0
+BlamesDigits hex fault = status_of fault ≡ 2 → IsUnspelt hex fault
+
 -- why octets b have no line of `check`: they are more than the limit, or not all of one encoding
 abbrev pub IsUnchecked : AsnType → ℕ → List ℕ → Fault → Type 0
 IsUnchecked T limit b (Longer n) = (n ≡ limit) × (limit < length b)
@@ -111,6 +120,14 @@ OfText None told P = IfSome told P
 abbrev pub IsPath : Option Text → List Step → Type 0
 IsPath (Some text) path = SpellsPath text path
 IsPath None path = path ≡ []
+
+-- The text of `--path` spells no path.
+abbrev pub IsNoPath : Option Text → Fault → Type 0
+IsNoPath text fault = (fault ≡ Path) × ((path : List Step) → IsPath text path → ⊥)
+
+-- what a fault of status 2 says of the words, where there may be a path
+abbrev pub BlamesWords : Option Text → Option Text → Fault → Type 0
+BlamesWords hex path fault = status_of fault ≡ 2 → IsUnspelt hex fault ⊎ IsNoPath path fault
 
 -- the octets to which the path leads in b, in lower hexadecimal digits
 abbrev pub IsPart : AsnType → List Step → Text → List ℕ → Type 0

@@ -6,7 +6,7 @@ ghost use Rattle.oer_units.specs.Reading.{octet as octet_read};
 ghost use Rattle.oer_units.specs.Reads.{ReadsFront};
 ghost use Rattle.oer_cmd.specs.Canon.{HasMore, IsEmpty, IsNoEncoding, MakesCanonical};
 ghost use Rattle.oer_cmd.specs.Faults.{Refuses, status_of};
-ghost use Rattle.oer_cmd.specs.Run.{IsCanonLine, IsUnread, NoLine, NoneFor, OfOctets, Says};
+ghost use Rattle.oer_cmd.specs.Run.{BlamesDigits, IsCanonLine, IsUnread, NoLine, NoneFor, OfOctets, Says};
 ghost use Rattle.oer_cmd.specs.Words.{behind};
 
 use crate::fault::Fault;
@@ -57,6 +57,7 @@ fn canonical<'a, R: Source>(
     ensures refused { IfErr result (λ fault. Refuses fault
         (IfSome (R.remaining reader.old) (IsNoEncoding (the_type schema.now) limit))) }
     ensures tells { IfErr result (Says None (R.remaining reader.old) (IsUnread (the_type schema.now) limit)) }
+    ensures digits { IfErr result (BlamesDigits None) }
 {
     let mut sink = Metered::new(Vec::new(alloc));
     let taken = match rewrite(alloc, schema, reader, limit, &mut sink) {
@@ -79,6 +80,7 @@ fn read_line<'a, R: Source>(
     ensures refused { IfErr result (λ fault. Refuses fault
         (IfSome (R.remaining reader.old) (NoneFor (IsCanonLine (the_type schema.now) limit)))) }
     ensures tells { IfErr result (Says None (R.remaining reader.old) (IsUnread (the_type schema.now) limit)) }
+    ensures digits { IfErr result (BlamesDigits None) }
 {
     let octets = canonical(alloc, schema, reader, limit)?;
     match hex::encode(alloc, octets) {
@@ -99,6 +101,7 @@ fn hex_line<'a>(
     ensures refused { IfErr result (λ fault. Refuses fault
         ((b : List ℕ) → decode_of digits.now ≡ Ok b → NoneFor (IsCanonLine (the_type schema.now) limit) b)) }
     ensures tells { IfErr result (Says (Some digits.now) None (IsUnread (the_type schema.now) limit)) }
+    ensures digits { IfErr result (BlamesDigits (Some digits.now)) }
 {
     let octets = decoded(alloc, digits)?;
     let mut reader = Metered::new(octets.as_slice());
@@ -119,6 +122,7 @@ pub fn canon_line<'a, R: Source>(
         (λ told line. OfOctets (behind hex.entry) told (IsCanonLine (the_type schema.now) limit line)))) }
     ensures tells { IfErr result (Says (behind hex.entry) (R.remaining input.old)
         (IsUnread (the_type schema.now) limit)) }
+    ensures digits { IfErr result (BlamesDigits (behind hex.entry)) }
 {
     match hex {
         Some(digits) => hex_line(alloc, schema, digits, limit),

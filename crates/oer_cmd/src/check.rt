@@ -2,7 +2,7 @@
 ghost use Rattle.std.specs.Prelude.{◌≡◌, ◌↔◌, length, true, IfErr, IfOk, string_bytes};
 ghost use Rattle.oer_types.specs.Schema.{the_type};
 ghost use Rattle.oer_cmd.specs.Faults.{Refuses, status_of};
-ghost use Rattle.oer_cmd.specs.Run.{AreCanonical, IsCheckLine, IsEncoding, IsNoFront, IsNotWhole, IsUnchecked, NoLine, OfOctets, Says, verdict_text};
+ghost use Rattle.oer_cmd.specs.Run.{AreCanonical, BlamesDigits, IsCheckLine, IsEncoding, IsNoFront, IsNotWhole, IsUnchecked, NoLine, OfOctets, Says, verdict_text};
 ghost use Rattle.oer_cmd.specs.Words.{behind};
 
 use crate::fault::Fault;
@@ -62,6 +62,7 @@ pub fn check_line<'a, R: Source>(
         (λ told line. OfOctets (behind hex.entry) told (IsCheckLine (the_type schema.now) limit line)))) }
     ensures tells { IfErr result (Says (behind hex.entry) (R.remaining input.old)
         (IsUnchecked (the_type schema.now) limit)) }
+    ensures digits { IfErr result (BlamesDigits (behind hex.entry)) }
 {
     let spelt = spelt(alloc, hex)?;
     let octets = all_octets(alloc, spelt, input, limit)?;

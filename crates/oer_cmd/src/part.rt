@@ -4,7 +4,7 @@ ghost use Rattle.oer_types.specs.Parts.{Step as PlainStep};
 ghost use Rattle.oer_types.specs.Schema.{the_type};
 ghost use Rattle.oer_checker.specs.Walk.{path_of as steps_of};
 ghost use Rattle.oer_cmd.specs.Faults.{Refuses, status_of};
-ghost use Rattle.oer_cmd.specs.Run.{HasNoLine, HasNoPart, IsEncoding, IsMissing, IsPart, IsPartLine, IsPath, NoLine, OfOctets, Says};
+ghost use Rattle.oer_cmd.specs.Run.{BlamesDigits, BlamesWords, HasNoLine, HasNoPart, IsEncoding, IsMissing, IsPart, IsPartLine, IsPath, NoLine, OfOctets, Says};
 ghost use Rattle.oer_cmd.specs.Words.{behind};
 
 use crate::check::judged;
@@ -44,6 +44,7 @@ fn digits_of_part<'a>(
     ensures part { IfOk result (λ line. IsPart (the_type schema.now) (steps_of path.now) (string_bytes line) octets.now) }
     ensures refused { IfErr result (λ fault. Refuses fault (HasNoPart (the_type schema.now) (steps_of path.now) octets.now)) }
     ensures tells { IfErr result (λ fault. status_of fault ≡ 1 → IsMissing (the_type schema.now) (steps_of path.now) octets.now fault) }
+    ensures digits { IfErr result (BlamesDigits None) }
 {
     judged(schema, octets)?;
     let octets = match part(schema, octets, path) {
@@ -73,6 +74,7 @@ pub fn part_line<'a, R: Source>(
         (λ told line. OfOctets (behind hex.entry) told (IsPartLine (the_type schema.now) limit (behind path.entry) line)))) }
     ensures tells { IfErr result (Says (behind hex.entry) (R.remaining input.old)
         (HasNoLine (the_type schema.now) limit (behind path.entry))) }
+    ensures words { IfErr result (BlamesWords (behind hex.entry) (behind path.entry)) }
 {
     let spelt = spelt(alloc, hex)?;
     let path = path_of(alloc, path)?;

@@ -5,7 +5,7 @@ ghost use Rattle.serde_json.specs.View.{view};
 ghost use Rattle.oer_types.specs.Schema.{the_type};
 ghost use Rattle.oer_cmd.specs.Canon.{IsNoEncoding};
 ghost use Rattle.oer_cmd.specs.Faults.{Refuses};
-ghost use Rattle.oer_cmd.specs.Run.{IsShowLine, IsShown, IsUnread, NoLine, NoneFor, OfOctets, Says};
+ghost use Rattle.oer_cmd.specs.Run.{BlamesDigits, IsShowLine, IsShown, IsUnread, NoLine, NoneFor, OfOctets, Says};
 ghost use Rattle.oer_cmd.specs.Words.{behind};
 
 use crate::canon::check_end;
@@ -32,6 +32,7 @@ fn shown<'a, R: Source>(
     ensures refused { IfErr result (λ fault. Refuses fault
         (IfSome (R.remaining reader.old) (IsNoEncoding (the_type schema.now) limit))) }
     ensures tells { IfErr result (Says None (R.remaining reader.old) (IsUnread (the_type schema.now) limit)) }
+    ensures digits { IfErr result (BlamesDigits None) }
 {
     let (value, taken) = match read_with_length(alloc, schema, reader, limit) {
         Ok(read) => read,
@@ -56,6 +57,7 @@ fn read_line<'a, R: Source>(
     ensures refused { IfErr result (λ fault. Refuses fault
         (IfSome (R.remaining reader.old) (NoneFor (IsShowLine (the_type schema.now) limit)))) }
     ensures tells { IfErr result (Says None (R.remaining reader.old) (IsUnread (the_type schema.now) limit)) }
+    ensures digits { IfErr result (BlamesDigits None) }
 {
     let json = shown(alloc, schema, reader, limit)?;
     match json.to_string(alloc) {
@@ -76,6 +78,7 @@ fn hex_line<'a>(
     ensures refused { IfErr result (λ fault. Refuses fault
         ((b : List ℕ) → decode_of digits.now ≡ Ok b → NoneFor (IsShowLine (the_type schema.now) limit) b)) }
     ensures tells { IfErr result (Says (Some digits.now) None (IsUnread (the_type schema.now) limit)) }
+    ensures digits { IfErr result (BlamesDigits (Some digits.now)) }
 {
     let octets = decoded(alloc, digits)?;
     let mut reader = Metered::new(octets.as_slice());
@@ -96,6 +99,7 @@ pub fn show_line<'a, R: Source>(
         (λ told line. OfOctets (behind hex.entry) told (IsShowLine (the_type schema.now) limit line)))) }
     ensures tells { IfErr result (Says (behind hex.entry) (R.remaining input.old)
         (IsUnread (the_type schema.now) limit)) }
+    ensures digits { IfErr result (BlamesDigits (behind hex.entry)) }
 {
     match hex {
         Some(digits) => hex_line(alloc, schema, digits, limit),

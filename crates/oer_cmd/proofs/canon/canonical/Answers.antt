@@ -5,6 +5,7 @@ use Rattle.oer_units.specs.Stream.{inner_of}
 use Rattle.oer_cmd.proofs.Front.{rewritten}
 use Rattle.oer_cmd.proofs.Refusals.{rewritten_more, unrewritten}
 use Rattle.oer_cmd.proofs.Unread.{followed, unrewritten_why}
+use Rattle.oer_cmd.proofs.Blames.{end_blames, rewrite_blames}
 use Rattle.oer_cmd.proofs.canon.canonical.Goals as goal
 
 pub returns-clause-made : goal.returns-clause-made
@@ -35,3 +36,11 @@ returns-in_err-check_end-clause-refused g c =
     let p = err_from_is_err_and c.from_residual.result c.from_residual.ensures.1 in
     rw (p.1, p.2) (λ small.
     rewritten_more (the_type c.args.schema.now) c.args.limit c.in-Ok.taken c.in-Ok.field-0-1 _ _ (Some (octets (inner_of c.new-sink.result))) (Some (octets (inner_of c.rewrite.new.sink))) c.in-Ok.ensures.comes (c.in_err-check_end.ensures.refused small))
+
+pub returns-in-Err-clause-digits : goal.returns-in-Err-clause-digits
+returns-in-Err-clause-digits g c = rewrite_blames c.in-Err.fault c.of_rewrite.result c.of_rewrite.ensures
+
+pub returns-in_err-check_end-clause-digits : goal.returns-in_err-check_end-clause-digits
+returns-in_err-check_end-clause-digits g c =
+    let p = err_from_is_err_and c.from_residual.result c.from_residual.ensures.1 in
+    rw (p.1, p.2) (end_blames _ c.in-Ok.taken c.in_err-check_end.ensures.follows)

@@ -6,6 +6,7 @@ use Rattle.oer_cmd.specs.Run.{IsCanonLine, IsUnread}
 use Rattle.oer_cmd.specs.declared.fault.Fault.TheVariants.{Hex}
 use Rattle.oer_cmd.proofs.Refusals.{by_reader, not_one_of}
 use Rattle.oer_cmd.proofs.Unread.{says_spelt}
+use Rattle.oer_cmd.proofs.Blames.{any_blames, digits_blame}
 use Rattle.oer_cmd.proofs.canon.hex_line.Goals as goal
 
 pub returns-clause-refused : goal.returns-clause-refused
@@ -18,3 +19,11 @@ pub returns-in_err-octets-clause-tells : goal.returns-in_err-octets-clause-tells
 returns-in_err-octets-clause-tells c =
     let p = err_from_is_err_and c.from_residual.result c.from_residual.ensures.1 in
     rw (p.1, p.2) (λ one. absurd (not_one_of _ Hex refl (λ other. (c.in_err-octets.ensures.refused other).0) one))
+
+pub returns-clause-digits : goal.returns-clause-digits
+returns-clause-digits c = any_blames c.read_line.result (Some c.args.digits.now) c.read_line.ensures.digits
+
+pub returns-in_err-octets-clause-digits : goal.returns-in_err-octets-clause-digits
+returns-in_err-octets-clause-digits c =
+    let p = err_from_is_err_and c.from_residual.result c.from_residual.ensures.1 in
+    rw (p.1, p.2) (digits_blame _ _ c.in_err-octets.ensures.refused)

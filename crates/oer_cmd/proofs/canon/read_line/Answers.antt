@@ -11,3 +11,8 @@ pub returns-in_err-octets-clause-tells : goal.returns-in_err-octets-clause-tells
 returns-in_err-octets-clause-tells g c =
     let p = err_from_is_err_and c.from_residual.result c.from_residual.ensures.1 in
     rw (p.1, p.2) c.in_err-octets.ensures.tells
+
+pub returns-in_err-octets-clause-digits : goal.returns-in_err-octets-clause-digits
+returns-in_err-octets-clause-digits g c =
+    let p = err_from_is_err_and c.from_residual.result c.from_residual.ensures.1 in
+    rw (p.1, p.2) c.in_err-octets.ensures.digits

@@ -5,6 +5,7 @@ use Rattle.oer_cmd.specs.Run.{IsCheckLine, IsUnchecked}
 use Rattle.oer_cmd.specs.declared.fault.Fault.TheVariants.{Hex}
 use Rattle.oer_cmd.proofs.Lines.{of_all}
 use Rattle.oer_cmd.proofs.Refusals.{no_check_line, not_memory, not_one, not_one_of, says_longer, says_unchecked, too_high, too_long, unspelt}
+use Rattle.oer_cmd.proofs.Blames.{hex_blames, long_blames, part_blames, three_blames}
 use Rattle.oer_cmd.proofs.check.check_line.Goals as goal
 
 pub returns-clause-line : goal.returns-clause-line
@@ -46,3 +47,21 @@ pub returns-in_err-is_canonical-clause-tells : goal.returns-in_err-is_canonical-
 returns-in_err-is_canonical-clause-tells g c =
     let p = err_from_is_err_and c.from_residual-in_err-is_canonical.result c.from_residual-in_err-is_canonical.ensures.1 in
     rw (p.1, p.2) (says_unchecked (the_type c.args.schema.now) c.args.limit _ _ _ c.in_ok-octets.octets.items c.as_slice.result.now _ c.in_ok-spelt.ensures.octets c.in_ok-octets.ensures.all c.as_slice.ensures.value c.in_err-is_canonical.ensures.refused)
+
+pub returns-clause-digits : goal.returns-clause-digits
+returns-clause-digits g c = IfErr-weaker c.verdict_line.result _ _ (λ fault three. three_blames _ fault three) c.verdict_line.ensures.fails
+
+pub returns-in_err-spelt-clause-digits : goal.returns-in_err-spelt-clause-digits
+returns-in_err-spelt-clause-digits g c =
+    let p = err_from_is_err_and c.from_residual.result c.from_residual.ensures.1 in
+    rw (p.1, p.2) (hex_blames _ _ c.in_err-spelt.ensures.refused)
+
+pub returns-in_err-octets-clause-digits : goal.returns-in_err-octets-clause-digits
+returns-in_err-octets-clause-digits g c =
+    let p = err_from_is_err_and c.from_residual-in_err-octets.result c.from_residual-in_err-octets.ensures.1 in
+    rw (p.1, p.2) (long_blames c.args.limit _ _ _ _ c.in_err-octets.ensures.refused)
+
+pub returns-in_err-is_canonical-clause-digits : goal.returns-in_err-is_canonical-clause-digits
+returns-in_err-is_canonical-clause-digits g c =
+    let p = err_from_is_err_and c.from_residual-in_err-is_canonical.result c.from_residual-in_err-is_canonical.ensures.1 in
+    rw (p.1, p.2) (part_blames (the_type c.args.schema.now) _ _ _ c.in_err-is_canonical.ensures.refused)
