@@ -1,7 +1,7 @@
 //! Octets that are checked: how long the encoding at their front is, whether it is canonical, and its
 //! parts.
 use crate::shared::{each, is_wanted, octets, schema_of};
-use oer_checker::{check, part};
+use oer_checker::{PartFault, Step, check, part};
 use oer_input::read_path;
 use oer_types::Schema;
 use std::alloc::Global;
@@ -127,18 +127,30 @@ fn is_checked(at: Global, row: &str) -> Result<(), Fail> {
     is_wanted(row, answer.as_str(), want)
 }
 
+// The steps of a path.
+fn steps_of(at: Global, path: &str) -> Result<Vec<Step>, Fail> {
+    if path == "-" {
+        return Ok(Vec::new(at));
+    }
+    Ok(read_path(at, path)?)
+}
+
+// The octets of a part, or why there are none.
+fn shown(at: Global, found: Result<&[u8], PartFault>) -> Result<String, Fail> {
+    let octets = match found {
+        Ok(octets) => octets,
+        Err(fault) => return Ok(format!(in at; "{fault}")?),
+    };
+    if octets.is_empty() {
+        return Ok(String::from_str(at, "-")?);
+    }
+    Ok(hex::encode(at, octets)?)
+}
+
 // What the path leads to.
 fn part_at(at: Global, schema: &Schema, octets: &[u8], path: &str) -> Result<String, Fail> {
-    let steps = if path == "-" {
-        Vec::new(at)
-    } else {
-        read_path(at, path)?
-    };
-    match part(schema, octets, &steps) {
-        Ok(found) if found.is_empty() => Ok(String::from_str(at, "-")?),
-        Ok(found) => Ok(hex::encode(at, found)?),
-        Err(fault) => Ok(format!(in at; "{fault}")?),
-    }
+    let steps = steps_of(at, path)?;
+    shown(at, part(schema, octets, &steps))
 }
 
 // That the path leads there.

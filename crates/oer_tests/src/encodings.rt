@@ -1,14 +1,23 @@
 //! Encodings of values: what they are rewritten as, however they come, and cut at every octet.
 use crate::shared::{Answer, SlowReader, comes, each, rewrites};
 use crate::values::{LAST_PLACE, VALUES, case_of, is_well};
-use oer_reader::{RewriteFault, read};
+use oer_reader::{RewriteFault, read, read_with_length};
 use oer_types::Schema;
 use oer_units::{Metered, ReadFault, Why};
 use std::alloc::Global;
 use std::test::Fail;
 
+// The length of the encoding at the front, where there is one.
+fn length_of(at: Global, schema: &Schema, octets: &[u8]) -> Option<u64> {
+    let mut reader = Metered::new(octets);
+    match read_with_length(at, schema, &mut reader, u64::MAX) {
+        Ok((_, length)) => Some(length),
+        Err(_) => None,
+    }
+}
+
 // That each encoding is rewritten as the canonical one: under the limit of its octets, and without a
-// limit where a further octet follows, which is left.
+// limit where a further octet follows, which is left and is no part of its length.
 fn are_rewritten(at: Global, row: &str) -> Result<(), Fail> {
     let case = case_of(at, row)?;
     for one in &case.encodings {
@@ -18,7 +27,8 @@ fn are_rewritten(at: Global, row: &str) -> Result<(), Fail> {
         let mut more = Vec::from_slice(at, one)?;
         more.push(0x62)?;
         let followed = comes(at, &case.schema, &more, u64::MAX, one.len(), want);
-        is_well(row, alone && followed)?;
+        let is_long = length_of(at, &case.schema, &more) == Some(counts.0);
+        is_well(row, alone && followed && is_long)?;
     }
     Ok(())
 }

@@ -5,7 +5,7 @@ use oer_reader::read;
 use oer_text::parse_type;
 use oer_types::{
     Alphabet, Bits, Field, Need, Schema, Shape, Size, Unknown, Value, are_characters, contains_tag,
-    filled, fits, optional, same_filled, same_filled_at,
+    filled, fits, is_same_tag, optional, same_filled, same_filled_at,
 };
 use oer_units::{Class, Metered, Tag};
 use std::alloc::{AllocError, Global};
@@ -214,6 +214,22 @@ fn parts_of_types(rt: HostRuntime) -> Result<(), Fail> {
     is_well("two of three", count_optional(sequence.shape()) == 2)
 }
 
+#[test]
+fn tags() -> Result<(), Fail> {
+    let (context, private) = (Class::Context, Class::Private);
+    let number = 1;
+    let one = Tag {
+        class: context,
+        number,
+    };
+    let other = Tag {
+        class: private,
+        number,
+    };
+    is_well("one tag", is_same_tag(one, one))?;
+    is_well("two classes", !is_same_tag(one, other))
+}
+
 // ---- values that fit
 
 /// A type; a type and JSON of a value of it; whether this fits the first.
@@ -255,21 +271,21 @@ fn with_unknown(at: Global, first: u16, second: u16) -> Result<Value, AllocError
     })
 }
 
+// Whether a value with unknown additions at these places fits, once it was found equal to its copy.
+fn fits_with(at: Global, schema: &Schema, first: u16, second: u16) -> Result<bool, Fail> {
+    let value = with_unknown(at, first, second)?;
+    is_well("copies", value.clone_in(at)?.same(&value))?;
+    Ok(fits(schema, &value))
+}
+
 #[test]
 fn unknown_parts(rt: HostRuntime) -> Result<(), Fail> {
     let at = rt.alloc();
     let schema = parse_type(at, "SEQUENCE {..., x BOOLEAN}")?;
-    for (first, second, want) in [
-        (1, 65535, true),
-        (0, 2, false),
-        (3, 2, false),
-        (2, 2, false),
-    ] {
-        let value = with_unknown(at, first, second)?;
-        is_well("places", fits(&schema, &value) == want)?;
-        is_well("copies", value.clone_in(at)?.same(&value))?;
-    }
-    Ok(())
+    is_well("the last place", fits_with(at, &schema, 1, 65535)?)?;
+    is_well("a known place", !fits_with(at, &schema, 0, 2)?)?;
+    is_well("falling places", !fits_with(at, &schema, 3, 2)?)?;
+    is_well("one place twice", !fits_with(at, &schema, 2, 2)?)
 }
 
 // ---- values that are the same, filled in, and copied

@@ -1,6 +1,6 @@
 //! Values of each kind: their canonical octets, and what their encodings are read as.
 use crate::shared::{each, expanded, octets, schema_of, value_of};
-use oer_reader::{read, read_with_length};
+use oer_reader::read;
 use oer_types::{Schema, Value, fits, same_filled};
 use oer_units::Metered;
 use oer_writer::parts::equals;
@@ -184,24 +184,4 @@ fn is_read(at: Global, row: &str) -> Result<(), Fail> {
 #[test]
 fn are_read_from_each_encoding(rt: HostRuntime) -> Result<(), Fail> {
     each(rt.alloc(), VALUES, is_read)
-}
-
-// That each is read so with its length, where a further octet follows, which is left.
-fn has_length(at: Global, row: &str) -> Result<(), Fail> {
-    let case = case_of(at, row)?;
-    for one in &case.encodings {
-        let mut more = Vec::from_slice(at, one)?;
-        more.push(0x62)?;
-        let mut reader = Metered::new(more.as_slice());
-        let (came, length) = read_with_length(at, &case.schema, &mut reader, u64::MAX)?;
-        let is_left = reader.into_inner().len() == 1;
-        let is_same = same_filled(&case.schema, &case.value, &came);
-        is_well(row, is_same && is_left && length == one.len() as u64)?;
-    }
-    Ok(())
-}
-
-#[test]
-fn are_read_with_their_lengths(rt: HostRuntime) -> Result<(), Fail> {
-    each(rt.alloc(), VALUES, has_length)
 }
