@@ -5,7 +5,7 @@ use Rattle.oer_types.specs.Filling.{filled}
 use Rattle.oer_types.specs.ShapeView.{seen_field, seen_addition, type_of}
 use Rattle.oer_types.proofs.Shapes.{type_of-SequenceOf, type_of-Choice}
 use Rattle.oer_types.proofs.Values.{value_of-List, value_of-Chosen}
-use Rattle.oer_types.proofs.FillSteps.{field_step, addition_step, fields_done, additions_done, mapped_values, chosen_in_root, chosen_nowhere, chosen_later}
+use Rattle.oer_types.proofs.FillSteps.{field_step, addition_step, fields_done, additions_done, mapped_values, chosen_in_root, chosen_nowhere, chosen_later, levels}
 use Rattle.oer_types.specs.ValueView.{value_of}
 use Rattle.oer_types.proofs.defaults.+fill_in.Goals as goal
 
@@ -78,3 +78,43 @@ fill_in-returns-in_ok-value-in-Some-additions t c =
     let f = rw (c.deref-in-Some-additions.ensures.value, c.deref-in-Some-additions-2.ensures) at c.in_ok-filled-in-Some-additions.ensures in
     rw (at.is-0, at.is-1, type_of-Choice, value_of-Chosen at.tag made.value, value_of-Chosen at.tag at.value, c.in-Some-additions.is)
     (ap (chosen at.tag) (ap value_of made.ensures.ok ∙ f) ∙ sym (chosen_later at.tag (value_of at.value.value) at.root.items more (sym h)))
+
+-- the tactic that proves each, so that no other is tried before it
+pub fill_addition-returns-in-None : goal.fill_addition-returns-in-None
+fill_addition-returns-in-None t c = grind (arith, common_steps)
+
+pub fill_addition-returns-in_ok-fill_in-in-Some : goal.fill_addition-returns-in_ok-fill_in-in-Some
+fill_addition-returns-in_ok-fill_in-in-Some t c = grind (arith, common_steps)
+
+pub fill_additions-returns : goal.fill_additions-returns
+fill_additions-returns t c = grind (arith, common_steps)
+
+pub fill_alternative-returns-then-is_same_tag : goal.fill_alternative-returns-then-is_same_tag
+fill_alternative-returns-then-is_same_tag t c = grind (arith, common_steps)
+
+pub fill_alternative-loop-alt-preserved : goal.fill_alternative-loop-alt-preserved
+fill_alternative-loop-alt-preserved t c = grind (arith, common_steps)
+
+pub fill_alternative-returns : goal.fill_alternative-returns
+fill_alternative-returns t c = grind (arith, common_steps)
+
+pub fill_fields-returns : goal.fill_fields-returns
+fill_fields-returns t c = grind (arith, common_steps)
+
+pub fill_in-returns-in_ok-copy_places-in-None : goal.fill_in-returns-in_ok-copy_places-in-None
+fill_in-returns-in_ok-copy_places-in-None t c = grind (arith, levels)
+
+pub fill_in-returns-in_ok-fill_additions-in-Some : goal.fill_in-returns-in_ok-fill_additions-in-Some
+fill_in-returns-in_ok-fill_additions-in-Some t c = grind (arith, levels)
+
+pub fill_place-returns-in_ok-fill_in-in-Some : goal.fill_place-returns-in_ok-fill_in-in-Some
+fill_place-returns-in_ok-fill_in-in-Some t c = grind (arith, common_steps)
+
+pub fill_place-returns-in_ok-fill_in-in-Default : goal.fill_place-returns-in_ok-fill_in-in-Default
+fill_place-returns-in_ok-fill_in-in-Default t c = grind (arith, common_steps)
+
+pub fill_place-returns-in_default : goal.fill_place-returns-in_default
+fill_place-returns-in_default t c = grind (arith, common_steps)
+
+pub fill_values-loop-value-preserved : goal.fill_values-loop-value-preserved
+fill_values-loop-value-preserved t c = grind (arith, common_steps)

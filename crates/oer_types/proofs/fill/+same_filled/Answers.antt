@@ -3,7 +3,7 @@ use Rattle.std.proofs.lemmas.Grind.{common_steps}
 use Rattle.std.proofs.lemmas.List.{drop_all}
 use Rattle.oer_types.proofs.Shapes.{type_of-Sequence, type_of-SequenceOf, type_of-Choice}
 use Rattle.oer_types.proofs.Values.{value_of-Seq, value_of-List, value_of-Chosen}
-use Rattle.oer_types.proofs.FillSteps.{◌then◌, no_field_left, no_addition_left, no_values_left, items-same, tags_differ_not, chosen_in_root, chosen_nowhere, chosen_later, same_chosen}
+use Rattle.oer_types.proofs.FillSteps.{◌then◌, no_field_left, no_addition_left, no_values_left, items-same, tags_differ_not, chosen_in_root, chosen_nowhere, chosen_later, same_chosen, levels}
 use Rattle.oer_types.specs.Filling.{filled}
 use Rattle.oer_types.specs.ShapeView.{type_of, choice_with, seen_field, seen_addition}
 use Rattle.oer_types.specs.ValueView.{value_of}
@@ -81,3 +81,73 @@ pub same_filled_at-returns-else-not-same_filled_fields : goal.same_filled_at-ret
 same_filled_at-returns-else-not-same_filled_fields t c =
     let at = c.in-Sequence-Seq-Seq in
     rw (at.is-0, at.is-1, at.is-2, type_of-Sequence, value_of-Seq, value_of-Seq, c.in-Some.is) (grind (arith, common_steps))
+
+-- the tactic that proves each, so that no other is tried before it
+pub same_filled_additions-returns-in_default-split_first : goal.same_filled_additions-returns-in_default-split_first
+same_filled_additions-returns-in_default-split_first t c = grind (arith, common_steps)
+
+pub same_filled_additions-returns-in_default-2 : goal.same_filled_additions-returns-in_default-2
+same_filled_additions-returns-in_default-2 t c = grind (arith, common_steps)
+
+pub same_filled_additions-returns-in_default-2-2 : goal.same_filled_additions-returns-in_default-2-2
+same_filled_additions-returns-in_default-2-2 t c = grind (arith, common_steps)
+
+pub same_filled_additions-returns-in_default-2-3 : goal.same_filled_additions-returns-in_default-2-3
+same_filled_additions-returns-in_default-2-3 t c = grind (arith, common_steps)
+
+pub same_filled_additions-loop-addition-preserved : goal.same_filled_additions-loop-addition-preserved
+same_filled_additions-loop-addition-preserved t c = grind (arith, common_steps)
+
+pub same_filled_additions-returns : goal.same_filled_additions-returns
+same_filled_additions-returns t c = grind (arith, common_steps)
+
+pub same_filled_alternative-returns-then-is_same_tag : goal.same_filled_alternative-returns-then-is_same_tag
+same_filled_alternative-returns-then-is_same_tag t c = grind (arith, common_steps)
+
+pub same_filled_alternative-loop-alt-preserved : goal.same_filled_alternative-loop-alt-preserved
+same_filled_alternative-loop-alt-preserved t c = grind (arith, common_steps)
+
+pub same_filled_alternative-returns : goal.same_filled_alternative-returns
+same_filled_alternative-returns t c = grind (arith, common_steps)
+
+pub same_filled_at-returns-then-not-same_unknown : goal.same_filled_at-returns-then-not-same_unknown
+same_filled_at-returns-then-not-same_unknown t c = grind (arith, levels)
+
+pub same_filled_at-returns-then-not-same_unknown-2 : goal.same_filled_at-returns-then-not-same_unknown-2
+same_filled_at-returns-then-not-same_unknown-2 t c = grind (arith, levels)
+
+pub same_filled_at-returns-then-ne : goal.same_filled_at-returns-then-ne
+same_filled_at-returns-then-ne t c = grind (arith, levels)
+
+pub same_filled_fields-returns-in_default-split_first : goal.same_filled_fields-returns-in_default-split_first
+same_filled_fields-returns-in_default-split_first t c = grind (arith, common_steps)
+
+pub same_filled_fields-returns-then-not-same_filled_place : goal.same_filled_fields-returns-then-not-same_filled_place
+same_filled_fields-returns-then-not-same_filled_place t c = grind (arith, common_steps)
+
+pub same_filled_fields-loop-field-preserved : goal.same_filled_fields-loop-field-preserved
+same_filled_fields-loop-field-preserved t c = grind (arith, common_steps)
+
+pub same_filled_fields-returns : goal.same_filled_fields-returns
+same_filled_fields-returns t c = grind (arith, common_steps)
+
+pub same_filled_place-returns-in-None-None : goal.same_filled_place-returns-in-None-None
+same_filled_place-returns-in-None-None t c = grind (arith, common_steps)
+
+pub same_filled_place-returns-in-Some-Some : goal.same_filled_place-returns-in-Some-Some
+same_filled_place-returns-in-Some-Some t c = grind (arith, common_steps)
+
+pub same_filled_place-returns-in_default : goal.same_filled_place-returns-in_default
+same_filled_place-returns-in_default t c = grind (arith, common_steps)
+
+pub same_filled_place-returns-in_default-2 : goal.same_filled_place-returns-in_default-2
+same_filled_place-returns-in_default-2 t c = grind (arith, common_steps)
+
+pub same_filled_values-returns-in_default : goal.same_filled_values-returns-in_default
+same_filled_values-returns-in_default t c = grind (arith, common_steps)
+
+pub same_filled_values-returns-then-not-same_filled_at : goal.same_filled_values-returns-then-not-same_filled_at
+same_filled_values-returns-then-not-same_filled_at t c = grind (arith, common_steps)
+
+pub same_filled_values-loop-one-preserved : goal.same_filled_values-loop-one-preserved
+same_filled_values-loop-one-preserved t c = grind (arith, common_steps)
