@@ -1,11 +1,10 @@
-use Rattle.std.proofs.Common.{◌∙◌, subst, Global, Option, Vec, Some, ◌-◌, ◌+◌, Bool, true, false, List, length, arith, rules, refl, sym, ap}
+use Rattle.std.proofs.Common.{◌∙◌, subst, Global, Option, Vec, Some, ◌-◌, ◌+◌, Bool, true, false, length, arith, rules, refl, sym, ap}
 use Rattle.oer_units.specs.Reader.{Reader}
 use Rattle.oer_types.specs.AsnType.{choice, extensible_sequence, ia5, no_alternatives, null, numeric, printable, restricted_string, sequence, sequence_of, visible}
 use Rattle.oer_types.specs.Checking.{check_open, check_value}
 use Rattle.oer_types.specs.Constraints.{KeepsLimits}
 use Rattle.oer_types.specs.Fits.{DefaultsFit}
 use Rattle.oer_types.specs.ShapeView.{additions_of, fields_of, later_of, need_of, root_of, type_of}
-use Rattle.oer_types.specs.declared.shape.Alt.{Alt}
 use Rattle.oer_types.specs.declared.shape.Addition.{Addition}
 use Rattle.oer_types.specs.declared.shape.Shape.{Sequence, Shape}
 use Rattle.oer_types.proofs.Shapes.{type_of-Ia5, type_of-Numeric, type_of-Printable, type_of-Visible}
