@@ -9,6 +9,7 @@ mod BitSteps
 mod TagSteps
 mod FieldSteps
 pub mod Shapes
+mod Sizes
 mod FrontSteps
 mod TypeSteps
 mod Entries

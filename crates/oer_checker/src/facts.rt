@@ -3,9 +3,9 @@ ghost use Rattle.oer_types.specs.AsnType.{no_alternatives};
 ghost use Rattle.oer_types.specs.Constraints.{AdditionsKeepLimits, AlternativesKeepLimits, FieldsKeepLimits, KeepsLimits};
 ghost use Rattle.oer_types.specs.Fits.{AdditionDefaultsFit, AlternativeDefaultsFit, DefaultFits, DefaultsFit, FieldDefaultsFit, Fits};
 ghost use Rattle.oer_types.specs.ShapeView.{additions_of, fields_of, later_of, need_of, root_of, type_of};
-ghost use Rattle.oer_checker.specs.Facts.{IsLater, IsOne, IsRoot};
+ghost use Rattle.oer_checker.specs.Facts.{IsOne};
 
-use oer_types::{Addition, Alt, Field, Shape};
+use oer_types::{Addition, Alt, Field};
 
 /// A component of a root.
 pub(crate) fn field_fits(fields: &[Field], field: &Field)
@@ -42,22 +42,4 @@ pub(crate) fn later_fits(alternatives: &[Alt], alternative: &Alt)
     requires defaults { AlternativeDefaultsFit (later_of alternatives.now) }
     ensures limits { KeepsLimits (type_of alternative.now.shape) }
     ensures defaults { DefaultsFit (type_of alternative.now.shape) }
-{}
-
-/// The root of a CHOICE.
-pub(crate) fn root_fits(shape: &Shape, root: &[Alt])
-    requires root { IsRoot shape.now root.now }
-    requires limits { KeepsLimits (type_of shape.now) }
-    requires defaults { DefaultsFit (type_of shape.now) }
-    ensures limits { AlternativesKeepLimits (root_of root.now no_alternatives) }
-    ensures defaults { AlternativeDefaultsFit (root_of root.now no_alternatives) }
-{}
-
-/// The alternatives of a CHOICE after its extension marker.
-pub(crate) fn later_fit(shape: &Shape, later: &[Alt])
-    requires later { IsLater shape.now later.now }
-    requires limits { KeepsLimits (type_of shape.now) }
-    requires defaults { DefaultsFit (type_of shape.now) }
-    ensures limits { AlternativesKeepLimits (later_of later.now) }
-    ensures defaults { AlternativeDefaultsFit (later_of later.now) }
 {}

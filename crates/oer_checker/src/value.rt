@@ -1,17 +1,18 @@
 //! How the encoding of a value is checked.
 ghost use Rattle.std.specs.Prelude.{◌≡◌, length};
-ghost use Rattle.oer_types.specs.AsnType.{no_alternatives};
+ghost use Rattle.oer_types.specs.AsnType.{no_alternatives, sequence, sequence_of};
 ghost use Rattle.oer_types.specs.Checking.{check_additions as additions_checked, check_alternative as alternative_checked, check_extension as extension_checked, check_fields as fields_checked, check_open as open_checked, check_times, check_value};
 ghost use Rattle.oer_types.specs.Constraints.{AdditionsKeepLimits, AlternativesKeepLimits, FieldsKeepLimits, KeepsLimits};
 ghost use Rattle.oer_types.specs.Fits.{AdditionDefaultsFit, AlternativeDefaultsFit, DefaultFits, DefaultsFit, FieldDefaultsFit, Fits};
 ghost use Rattle.oer_types.specs.ShapeView.{additions_of, fields_of, later_of, need_of, root_of, type_of};
 ghost use Rattle.oer_checker.specs.BitView.{bits_in};
+ghost use Rattle.oer_checker.specs.Facts.{IsChoice, IsExtensible};
 ghost use Rattle.oer_checker.specs.Places.{outcome, place_of, same};
 ghost use Rattle.oer_checker.specs.Steps.{check_if, check_later as later_checked, check_there};
 
 use crate::bit_strings::{addition_map, check_bit_string, preamble};
 use crate::bits::Bits;
-use crate::facts::{addition_fits, alternative_fits, field_fits, later_fit, later_fits, root_fits};
+use crate::facts::{addition_fits, alternative_fits, field_fits, later_fits};
 use crate::lengths::{check_octets, leave, octets_between, sized_length_at};
 use crate::numbers::{check_boolean, check_enumerated, check_integer, sized_quantity_at};
 use crate::parts::{check_unknown, is_default, presence};
@@ -19,7 +20,7 @@ use crate::place::{Place, both};
 use crate::stop::Stop;
 use crate::strings::{check_object_id, check_octet_string, check_text, check_utf8};
 use crate::units::tag_at;
-use oer_types::{Addition, Alphabet, Alt, Field, Shape, contains_tag, is_same_tag, optional};
+use oer_types::{Addition, Alphabet, Alt, Field, Shape, Size, contains_tag, is_same_tag, optional};
 use oer_units::{Tag, Why};
 
 /// The encoding of a value of the type, and whether it is canonical.
@@ -46,42 +47,84 @@ pub(crate) fn check_shape<'a>(
         Shape::Numeric(size) => check_text(Alphabet::Numeric, *size, place),
         Shape::Printable(size) => check_text(Alphabet::Printable, *size, place),
         Shape::Utf8(size) => check_utf8(*size, place),
-        Shape::SequenceOf { size, item } => {
-            let ((count, is_least), next) = sized_quantity_at(*size, place)?;
-            let (is_canonical, end) = check_elements(item, count, next)?;
-            Ok((both(is_least, is_canonical), end))
-        }
-        Shape::Sequence { root, additions } => {
-            let fields: &[Field] = root;
-            let Some(additions) = additions else {
-                let (bits, next) = preamble(optional(fields) as u64, place)?;
-                return check_fields(fields, bits, next);
-            };
-            let additions: &[Addition] = additions;
-            let (bits, next) = preamble(optional(fields) as u64 + 1, place)?;
-            let (is_canonical, next) = check_fields(fields, bits.later(), next)?;
-            let (is_extension, end) = check_extension(additions, bits.first(), next)?;
-            Ok((both(is_canonical, is_extension), end))
-        }
-        Shape::Choice { root, additions } => {
-            let (tag, next) = tag_at(place)?;
-            let alternatives: &[Alt] = root;
-            if contains_tag(alternatives, tag) {
-                root_fits(shape, alternatives);
-                return check_alternative(alternatives, tag, next);
-            }
-            match additions {
-                None => Err(Stop {
-                    why: Why::UnknownAlternative,
-                    rest: next.rest,
-                }),
-                Some(additions) => {
-                    let later: &[Alt] = additions;
-                    later_fit(shape, later);
-                    check_later(later, tag, next)
-                }
-            }
-        }
+        Shape::SequenceOf { size, item } => check_items(*size, item, place),
+        Shape::Sequence { root, additions } => match additions {
+            None => check_sequence(root, place),
+            Some(additions) => check_extensible(shape, root, additions, place),
+        },
+        Shape::Choice { root, additions } => check_choice(shape, root, additions, place),
+    }
+}
+
+/// A SEQUENCE OF.
+#[cycle(check)]
+fn check_items<'a>(
+    size: Size,
+    item: &Shape,
+    place: Place<'a>,
+) -> Result<(bool, Place<'a>), Stop<'a>>
+    requires limits { KeepsLimits (type_of item.now) }
+    requires defaults { DefaultsFit (type_of item.now) }
+    ensures { outcome same result ≡ check_value (sequence_of size (type_of item.now)) (place_of place.entry) }
+{
+    let ((count, is_least), next) = sized_quantity_at(size, place)?;
+    let (is_canonical, end) = check_elements(item, count, next)?;
+    Ok((both(is_least, is_canonical), end))
+}
+
+/// A SEQUENCE without an extension marker.
+#[cycle(check)]
+fn check_sequence<'a>(fields: &[Field], place: Place<'a>) -> Result<(bool, Place<'a>), Stop<'a>>
+    requires limits { FieldsKeepLimits (fields_of fields.now) }
+    requires defaults { FieldDefaultsFit (fields_of fields.now) }
+    ensures { outcome same result ≡ check_value (sequence (fields_of fields.now)) (place_of place.entry) }
+{
+    let (bits, next) = preamble(optional(fields) as u64, place)?;
+    check_fields(fields, bits, next)
+}
+
+/// A SEQUENCE with an extension marker.
+#[cycle(check)]
+fn check_extensible<'a>(
+    shape: &Shape,
+    fields: &[Field],
+    additions: &[Addition],
+    place: Place<'a>,
+) -> Result<(bool, Place<'a>), Stop<'a>>
+    requires is { IsExtensible shape.now fields.now additions.now }
+    requires limits { KeepsLimits (type_of shape.now) }
+    requires defaults { DefaultsFit (type_of shape.now) }
+    ensures { outcome same result ≡ check_value (type_of shape.now) (place_of place.entry) }
+{
+    let (bits, next) = preamble(optional(fields) as u64 + 1, place)?;
+    let (is_canonical, next) = check_fields(fields, bits.later(), next)?;
+    let (is_extension, end) = check_extension(additions, bits.first(), next)?;
+    Ok((both(is_canonical, is_extension), end))
+}
+
+/// A CHOICE.
+#[cycle(check)]
+fn check_choice<'a>(
+    shape: &Shape,
+    alternatives: &[Alt],
+    additions: &Option<Vec<Alt>>,
+    place: Place<'a>,
+) -> Result<(bool, Place<'a>), Stop<'a>>
+    requires is { IsChoice shape.now alternatives.now additions.now }
+    requires limits { KeepsLimits (type_of shape.now) }
+    requires defaults { DefaultsFit (type_of shape.now) }
+    ensures { outcome same result ≡ check_value (type_of shape.now) (place_of place.entry) }
+{
+    let (tag, next) = tag_at(place)?;
+    if contains_tag(alternatives, tag) {
+        return check_alternative(alternatives, tag, next);
+    }
+    match additions {
+        None => Err(Stop {
+            why: Why::UnknownAlternative,
+            rest: next.rest,
+        }),
+        Some(additions) => check_later(additions, tag, next),
     }
 }
 

@@ -1,6 +1,7 @@
 -- The words with which types begin, and Names.
-use Rattle.std.proofs.Common.{◌≡◌, ℕ, List, [], ◌∷◌, Bool, true, false, not, cond, inl, inr, Option, Some, None, refl, sym, ap, subst, ◌∙◌}
+use Rattle.std.proofs.Common.{◌≡◌, ℕ, List, [], ◌∷◌, Bool, true, false, not, cond, ◌||◌, inl, inr, Option, Some, None, refl, sym, ap, subst, ◌∙◌}
 use Rattle.std.specs.Prelude.{codes}
+use Rattle.std.specs.List.{list_any}
 use Rattle.std.specs.Str.{bytes_eq}
 use Rattle.std.proofs.lemmas.Bool.{and_parts}
 use Rattle.std.proofs.lemmas.Slice.Eq.{bytes_eq-Decides}
@@ -60,6 +61,22 @@ among w (v ∷ u ∷ us) = cond (bytes_eq w v) true (among w (u ∷ us))
 pub reserved_are : (w : List ℕ) → is_reserved w ≡ among w reserved
 unfolding is_reserved
 reserved_are w = refl
+
+or_is : (a b : Bool) → (a || b) ≡ cond a true b
+or_is true b = refl
+or_is false b = refl
+
+last_is : (a : Bool) → (a || false) ≡ a
+last_is true = refl
+last_is false = refl
+
+any_among : (vs : List (List ℕ)) (w : List ℕ) → list_any (bytes_eq w) vs ≡ among w vs
+any_among [] w = refl
+any_among (v ∷ []) w = last_is (bytes_eq w v)
+any_among (v ∷ u ∷ us) w = or_is (bytes_eq w v) (list_any (bytes_eq w) (u ∷ us)) ∙ ap (cond (bytes_eq w v) true) (any_among (u ∷ us) w)
+
+pub any_reserved : (w : List ℕ) → list_any (bytes_eq w) reserved ≡ is_reserved w
+any_reserved w = any_among reserved w ∙ sym (reserved_are w)
 
 not_this : (w v : List ℕ) → bytes_eq w v ≡ false → v ≡ w → ⊥
 not_this w v h e = let on = (bytes_eq-Decides w v).1 (sym e) in cc

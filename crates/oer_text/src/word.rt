@@ -1,7 +1,42 @@
 //! Words that stand for themselves, ids and Names.
 ghost use Rattle.std.specs.Prelude.{◌≡◌};
 ghost use Rattle.std.specs.Char.{is_ascii_uppercase};
+ghost use Rattle.std.specs.List.{list_any};
+ghost use Rattle.std.specs.Str.{bytes_eq};
 ghost use Rattle.oer_text.specs.Words.{begins, is_id, is_name, is_reserved, type_word};
+
+/// The words that are no Names.
+const RESERVED: [&str; 29] = [
+    "BOOLEAN",
+    "INTEGER",
+    "ENUMERATED",
+    "NULL",
+    "OCTET",
+    "BIT",
+    "STRING",
+    "OBJECT",
+    "IDENTIFIER",
+    "IA5String",
+    "VisibleString",
+    "NumericString",
+    "PrintableString",
+    "UTF8String",
+    "SEQUENCE",
+    "OF",
+    "CHOICE",
+    "OPTIONAL",
+    "DEFAULT",
+    "SIZE",
+    "MIN",
+    "MAX",
+    "TRUE",
+    "FALSE",
+    "UNIVERSAL",
+    "APPLICATION",
+    "PRIVATE",
+    "REAL",
+    "SET",
+];
 
 /// The types that are no Names, by the word with which they begin.
 #[derive(Clone, Copy)]
@@ -48,42 +83,22 @@ pub fn is_name(word: &str) -> bool
     begins_with_capital(word) && !is_reserved(word)
 }
 
-#[tactic(auto, unfolding(crate::specs::Words::is_reserved))]
 fn is_reserved(word: &str) -> bool
     ensures { result ≡ is_reserved word.now }
 {
-    match word {
-        "BOOLEAN" => true,
-        "INTEGER" => true,
-        "ENUMERATED" => true,
-        "NULL" => true,
-        "OCTET" => true,
-        "BIT" => true,
-        "STRING" => true,
-        "OBJECT" => true,
-        "IDENTIFIER" => true,
-        "IA5String" => true,
-        "VisibleString" => true,
-        "NumericString" => true,
-        "PrintableString" => true,
-        "UTF8String" => true,
-        "SEQUENCE" => true,
-        "OF" => true,
-        "CHOICE" => true,
-        "OPTIONAL" => true,
-        "DEFAULT" => true,
-        "SIZE" => true,
-        "MIN" => true,
-        "MAX" => true,
-        "TRUE" => true,
-        "FALSE" => true,
-        "UNIVERSAL" => true,
-        "APPLICATION" => true,
-        "PRIVATE" => true,
-        "REAL" => true,
-        "SET" => true,
-        _ => false,
+    let words: [&str; 29] = RESERVED;
+    is_among(word, words.as_slice())
+}
+
+fn is_among(word: &str, words: &[&str]) -> bool
+    ensures { result ≡ list_any (λ v. bytes_eq word.now v.now) words.now }
+{
+    for other in words {
+        if word == *other {
+            return true;
+        }
     }
+    false
 }
 
 /// The type that begins with this word.

@@ -1,11 +1,12 @@
-use Rattle.std.proofs.Common.{◌∙◌, Global, Option, Vec, ◌-◌, ◌+◌, Bool, true, false, List, length, arith, rules, refl, sym, ap}
+use Rattle.std.proofs.Common.{◌∙◌, subst, Global, Option, Vec, Some, ◌-◌, ◌+◌, Bool, true, false, length, arith, rules, refl, sym, ap}
 use Rattle.oer_units.specs.Reader.{Reader}
 use Rattle.oer_types.specs.AsnType.{choice, extensible_sequence, ia5, no_alternatives, null, numeric, printable, restricted_string, sequence, sequence_of, visible}
 use Rattle.oer_types.specs.Checking.{check_open, check_value}
-use Rattle.oer_types.specs.Constraints.{has_tag}
+use Rattle.oer_types.specs.Constraints.{KeepsLimits}
+use Rattle.oer_types.specs.Fits.{DefaultsFit}
 use Rattle.oer_types.specs.ShapeView.{additions_of, fields_of, later_of, need_of, root_of, type_of}
-use Rattle.oer_types.specs.declared.shape.Alt.{Alt}
-use Rattle.oer_types.specs.declared.shape.Shape.{Choice, Shape}
+use Rattle.oer_types.specs.declared.shape.Addition.{Addition}
+use Rattle.oer_types.specs.declared.shape.Shape.{Sequence, Shape}
 use Rattle.oer_types.proofs.Shapes.{type_of-Ia5, type_of-Numeric, type_of-Printable, type_of-Visible}
 use Rattle.oer_checker.specs.BitView.{bits_in}
 use Rattle.oer_checker.specs.Places.{place_of}
@@ -16,7 +17,8 @@ use Rattle.oer_checker.proofs.Joins.{give_got}
 use Rattle.oer_checker.proofs.LengthSteps.{open_stop, open_then}
 use Rattle.oer_checker.proofs.Shapes.{type_of-Null}
 use Rattle.oer_checker.proofs.TagSteps.{choice_later, choice_none, choice_root, choice_stop, later_end, later_here, later_next, root_end, root_here, root_next}
-use Rattle.oer_checker.proofs.TypeSteps.{as_choice, as_closed, as_extensible, as_items, as_open, as_sequence, by_type}
+use Rattle.oer_checker.proofs.Sizes.{additions_fall, alternatives_fall, fields_fall, later_fall}
+use Rattle.oer_checker.proofs.TypeSteps.{as_choice, as_closed, as_extensible, as_items, as_open, as_sequence, by_type, choice_defaults, choice_limits, open_defaults, open_limits}
 use Rattle.oer_checker.proofs.value.+check.Goals as goal
 
 pub check_addition-returns-else-is_present : goal.check_addition-returns-else-is_present
@@ -100,103 +102,123 @@ check_open-returns-in_err-count t c = rw (at_stop c.from_residual.result c.in_er
 pub check_open-returns : goal.check_open-returns
 check_open-returns t c = c.leave.ensures ∙ ap (left_open (place_of c.in_ok-count.next) c.in_ok-count.count c.in_ok-count.is_least) c.check_shape-answer.ensures ∙ open_then (check_value (type_of c.args.shape.now)) _ _ c.in_ok-count.count c.in_ok-count.is_least c.in_ok-count.ensures
 
-pub check_shape-returns-in_err-count-in-SequenceOf : goal.check_shape-returns-in_err-count-in-SequenceOf
-check_shape-returns-in_err-count-in-SequenceOf t c =
-    let s = c.in-SequenceOf in
-    let is = as_items c.args.shape.now s.size s.item s.is in
-    rw (at_stop c.from_residual.result c.in_err-count-in-SequenceOf.field-0.0 c.from_residual.ensures.1) (by_type (type_of c.args.shape.now) (sequence_of s.size (type_of s.item.value)) _ _ is (items_stop s.size (type_of s.item.value) _ _ _ c.in_err-count-in-SequenceOf.ensures))
+pub check_items-returns-in_err-count : goal.check_items-returns-in_err-count
+check_items-returns-in_err-count t c = rw (at_stop c.from_residual.result c.in_err-count.field-0.0 c.from_residual.ensures.1) (items_stop c.args.size (type_of c.args.item.now) _ _ _ c.in_err-count.ensures)
 
-pub check_shape-returns-in_err-is_canonical-in-SequenceOf : goal.check_shape-returns-in_err-is_canonical-in-SequenceOf
-check_shape-returns-in_err-is_canonical-in-SequenceOf t c =
+pub check_items-returns-in_err-is_canonical : goal.check_items-returns-in_err-is_canonical
+check_items-returns-in_err-is_canonical t c = rw (at_stop c.from_residual-in_err-is_canonical.result c.in_err-is_canonical.field-0.0 c.from_residual-in_err-is_canonical.ensures.1) (ap (and_after c.in_ok-count.is_least) c.in_err-is_canonical.ensures ∙ items_then c.args.size (type_of c.args.item.now) _ _ c.in_ok-count.count c.in_ok-count.is_least c.in_ok-count.ensures)
+
+pub check_items-returns : goal.check_items-returns
+check_items-returns t c = rw c.both.ensures (ap (and_after c.in_ok-count.is_least) c.in_ok-is_canonical.ensures ∙ items_then c.args.size (type_of c.args.item.now) _ _ c.in_ok-count.count c.in_ok-count.is_least c.in_ok-count.ensures)
+
+pub check_sequence-returns-in_err-bits : goal.check_sequence-returns-in_err-bits
+check_sequence-returns-in_err-bits t c = rw (at_stop c.from_residual.result c.in_err-bits.field-0.0 c.from_residual.ensures.1) (sequence_stop (fields_of c.args.fields.now) _ _ _ (rw c.optional.ensures.is at c.in_err-bits.ensures))
+
+pub check_sequence-returns : goal.check_sequence-returns
+check_sequence-returns t c = sequence_then (fields_of c.args.fields.now) _ _ (bits_in c.in_ok-bits.bits) _ (rw c.optional.ensures.is at c.in_ok-bits.ensures) c.check_fields.ensures
+
+pub check_extensible-returns-in_err-bits : goal.check_extensible-returns-in_err-bits
+check_extensible-returns-in_err-bits t c =
+    let many = c.optional.ensures.is in
+    let fs = c.args.fields.now in
+    let xs = c.args.additions.now in
+    let h = c.requires.is in
+    let is = as_extensible c.args.shape.now h.0 (Some h.1) h.1 fs xs h.2 refl h.3 h.4 in
+    rw (at_stop c.from_residual.result c.in_err-bits.field-0.0 c.from_residual.ensures.1) (by_type (type_of c.args.shape.now) (extensible_sequence (fields_of fs) (additions_of xs)) _ _ is (extensible_stop (fields_of fs) (additions_of xs) (c.optional.result + 1) _ _ _ (omega arith) c.in_err-bits.ensures))
+
+pub check_extensible-returns-in_err-is_canonical : goal.check_extensible-returns-in_err-is_canonical
+check_extensible-returns-in_err-is_canonical t c =
+    let many = c.optional.ensures.is in
+    let fs = c.args.fields.now in
+    let xs = c.args.additions.now in
+    let h = c.requires.is in
+    let is = as_extensible c.args.shape.now h.0 (Some h.1) h.1 fs xs h.2 refl h.3 h.4 in
+    rw (at_stop c.from_residual-in_err-is_canonical.result c.in_err-is_canonical.field-0.0 c.from_residual-in_err-is_canonical.ensures.1) (by_type (type_of c.args.shape.now) (extensible_sequence (fields_of fs) (additions_of xs)) _ _ is (root_stop (fields_of fs) (additions_of xs) (c.optional.result + 1) _ _ (bits_in c.in_ok-bits.bits) (bits_in c.later.result) _ _ (omega arith) c.in_ok-bits.ensures c.later.ensures c.in_err-is_canonical.ensures))
+
+pub check_extensible-returns-in_err-is_extension : goal.check_extensible-returns-in_err-is_extension
+check_extensible-returns-in_err-is_extension t c =
+    let many = c.optional.ensures.is in
+    let fs = c.args.fields.now in
+    let xs = c.args.additions.now in
+    let h = c.requires.is in
+    let is = as_extensible c.args.shape.now h.0 (Some h.1) h.1 fs xs h.2 refl h.3 h.4 in
+    rw (at_stop c.from_residual-in_err-is_extension.result c.in_err-is_extension.field-0.0 c.from_residual-in_err-is_extension.ensures.1) (by_type (type_of c.args.shape.now) (extensible_sequence (fields_of fs) (additions_of xs)) _ _ is (later_stop (fields_of fs) (additions_of xs) (c.optional.result + 1) _ _ _ (bits_in c.in_ok-bits.bits) (bits_in c.later.result) c.first.result c.in_ok-is_canonical.is_canonical _ _ (omega arith) c.in_ok-bits.ensures c.later.ensures c.first.ensures c.in_ok-is_canonical.ensures c.in_err-is_extension.ensures))
+
+pub check_extensible-returns : goal.check_extensible-returns
+check_extensible-returns t c =
+    let many = c.optional.ensures.is in
+    let fs = c.args.fields.now in
+    let xs = c.args.additions.now in
+    let h = c.requires.is in
+    let is = as_extensible c.args.shape.now h.0 (Some h.1) h.1 fs xs h.2 refl h.3 h.4 in
+    rw c.both.ensures (by_type (type_of c.args.shape.now) (extensible_sequence (fields_of fs) (additions_of xs)) _ _ is (later_got (fields_of fs) (additions_of xs) (c.optional.result + 1) _ _ _ _ (bits_in c.in_ok-bits.bits) (bits_in c.later.result) c.first.result c.in_ok-is_canonical.is_canonical c.in_ok-is_extension.is_extension (omega arith) c.in_ok-bits.ensures c.later.ensures c.first.ensures c.in_ok-is_canonical.ensures c.in_ok-is_extension.ensures))
+
+pub check_extensible-check_fields-requires : goal.check_extensible-check_fields-requires
+check_extensible-check_fields-requires t c =
+    let h = c.requires.is in
+    let is = as_extensible c.args.shape.now h.0 (Some h.1) h.1 c.args.fields.now c.args.additions.now h.2 refl h.3 h.4 in
+    (fields_fall c.args.shape.now h.0 h.1 c.args.fields.now _ _ t h.2 h.3 (omega arith) c.decreases, ((subst KeepsLimits is c.requires.limits).0, (subst DefaultsFit is c.requires.defaults).0))
+
+pub check_extensible-check_extension-requires : goal.check_extensible-check_extension-requires
+check_extensible-check_extension-requires t c =
+    let h = c.requires.is in
+    let is = as_extensible c.args.shape.now h.0 (Some h.1) h.1 c.args.fields.now c.args.additions.now h.2 refl h.3 h.4 in
+    (additions_fall c.args.shape.now h.0 h.1 c.args.additions.now _ _ t h.2 h.4 (omega arith) c.decreases, ((subst KeepsLimits is c.requires.limits).1, (subst DefaultsFit is c.requires.defaults).1))
+
+pub check_choice-returns-in_err-tag : goal.check_choice-returns-in_err-tag
+check_choice-returns-in_err-tag t c =
+    let h = c.requires.is in
+    let xs = c.args.alternatives.now in
+    let o = as_choice c.args.shape.now h.0 c.args.additions.now xs h.1 h.2 in
+    rw (at_stop c.from_residual.result c.in_err-tag.field-0.0 c.from_residual.ensures.1) (by_type (type_of c.args.shape.now) (choice o.extensible (root_of xs o.after)) _ _ o.is (choice_stop o.extensible (root_of xs o.after) _ _ _ c.in_err-tag.ensures))
+
+pub check_choice-returns-then-contains_tag : goal.check_choice-returns-then-contains_tag
+check_choice-returns-then-contains_tag t c =
+    let h = c.requires.is in
+    let xs = c.args.alternatives.now in
+    let o = as_choice c.args.shape.now h.0 c.args.additions.now xs h.1 h.2 in
+    by_type (type_of c.args.shape.now) (choice o.extensible (root_of xs o.after)) _ _ o.is (choice_root o.extensible xs o.after _ _ c.in_ok-tag.tag _ c.in_ok-tag.ensures (sym c.if-contains_tag.true ∙ c.contains_tag.ensures) c.check_alternative.ensures)
+
+pub check_choice-returns-in-None : goal.check_choice-returns-in-None
+check_choice-returns-in-None t c =
+    let h = c.requires.is in
+    let xs = c.args.alternatives.now in
+    by_type (type_of c.args.shape.now) (choice false (root_of xs no_alternatives)) _ _ (as_closed c.args.shape.now h.0 c.args.additions.now xs h.1 c.in-None.is h.2) (choice_none xs _ _ c.in_ok-tag.tag c.in_ok-tag.ensures (sym c.if-contains_tag.false ∙ c.contains_tag.ensures))
+
+pub check_choice-returns-in-Some : goal.check_choice-returns-in-Some
+check_choice-returns-in-Some t c =
+    let h = c.requires.is in
+    let xs = c.args.alternatives.now in
+    let ys = c.deref.result.now in
+    let is = as_open c.args.shape.now h.0 c.args.additions.now c.in-Some.additions xs ys h.1 c.in-Some.is h.2 c.deref.ensures.value in
+    by_type (type_of c.args.shape.now) (choice true (root_of xs (later_of ys))) _ _ is (choice_later xs ys _ _ c.in_ok-tag.tag _ c.in_ok-tag.ensures (sym c.if-contains_tag.false ∙ c.contains_tag.ensures) c.check_later.ensures)
+
+pub check_choice-check_alternative-requires : goal.check_choice-check_alternative-requires
+check_choice-check_alternative-requires t c =
+    let h = c.requires.is in
+    let xs = c.args.alternatives.now in
+    let more = c.args.additions.now in
+    (alternatives_fall c.args.shape.now h.0 more xs _ _ t h.1 h.2 (omega arith) c.decreases, (choice_limits c.args.shape.now h.0 more xs h.1 h.2 c.requires.limits, choice_defaults c.args.shape.now h.0 more xs h.1 h.2 c.requires.defaults))
+
+pub check_choice-check_later-requires : goal.check_choice-check_later-requires
+check_choice-check_later-requires t c =
+    let h = c.requires.is in
+    let more = c.args.additions.now in
+    let later = c.in-Some.additions in
+    let ys = c.deref.result.now in
+    (later_fall c.args.shape.now h.0 more later ys _ _ t h.1 c.in-Some.is c.deref.ensures.value (omega arith) c.decreases, (open_limits c.args.shape.now h.0 more later ys h.1 c.in-Some.is c.deref.ensures.value c.requires.limits, open_defaults c.args.shape.now h.0 more later ys h.1 c.in-Some.is c.deref.ensures.value c.requires.defaults))
+
+pub check_shape-returns-in-SequenceOf : goal.check_shape-returns-in-SequenceOf
+check_shape-returns-in-SequenceOf t c =
     let s = c.in-SequenceOf in
-    let x = c.deref-in-SequenceOf.result.now in
     let is = as_items c.args.shape.now s.size s.item s.is ∙ ap (λ (i : Shape). sequence_of s.size (type_of i)) (sym c.deref-in-SequenceOf.ensures) in
-    rw (at_stop c.from_residual-in_err-is_canonical-in-SequenceOf.result c.in_err-is_canonical-in-SequenceOf.field-0.0 c.from_residual-in_err-is_canonical-in-SequenceOf.ensures.1) (by_type (type_of c.args.shape.now) (sequence_of s.size (type_of x)) _ _ is (ap (and_after c.in_ok-count-in-SequenceOf.is_least) c.in_err-is_canonical-in-SequenceOf.ensures ∙ items_then s.size (type_of x) _ _ c.in_ok-count-in-SequenceOf.count c.in_ok-count-in-SequenceOf.is_least c.in_ok-count-in-SequenceOf.ensures))
-
-pub check_shape-returns-in_ok-is_canonical-in-SequenceOf : goal.check_shape-returns-in_ok-is_canonical-in-SequenceOf
-check_shape-returns-in_ok-is_canonical-in-SequenceOf t c =
-    let s = c.in-SequenceOf in
-    let x = c.deref-in-SequenceOf.result.now in
-    let is = as_items c.args.shape.now s.size s.item s.is ∙ ap (λ (i : Shape). sequence_of s.size (type_of i)) (sym c.deref-in-SequenceOf.ensures) in
-    rw c.both.ensures (by_type (type_of c.args.shape.now) (sequence_of s.size (type_of x)) _ _ is (ap (and_after c.in_ok-count-in-SequenceOf.is_least) c.in_ok-is_canonical-in-SequenceOf.ensures ∙ items_then s.size (type_of x) _ _ c.in_ok-count-in-SequenceOf.count c.in_ok-count-in-SequenceOf.is_least c.in_ok-count-in-SequenceOf.ensures))
-
-pub check_shape-returns-in_err-bits-in-Sequence : goal.check_shape-returns-in_err-bits-in-Sequence
-check_shape-returns-in_err-bits-in-Sequence t c =
-    let s = c.in-Sequence in
-    let fs = c.deref-fields.result.now in
-    let is = as_sequence c.args.shape.now s.root s.additions fs s.is c.in_default.is c.deref-fields.ensures.value in
-    rw (at_stop c.from_residual-in_err-bits-in-Sequence.result c.in_err-bits-in-Sequence.field-0.0 c.from_residual-in_err-bits-in-Sequence.ensures.1) (by_type (type_of c.args.shape.now) (sequence (fields_of fs)) _ _ is (sequence_stop (fields_of fs) _ _ _ (rw c.optional.ensures.is at c.in_err-bits-in-Sequence.ensures)))
-
-pub check_shape-returns-in_default : goal.check_shape-returns-in_default
-check_shape-returns-in_default t c =
-    let s = c.in-Sequence in
-    let fs = c.deref-fields.result.now in
-    let is = as_sequence c.args.shape.now s.root s.additions fs s.is c.in_default.is c.deref-fields.ensures.value in
-    by_type (type_of c.args.shape.now) (sequence (fields_of fs)) _ _ is (sequence_then (fields_of fs) _ _ (bits_in c.in_ok-bits-in-Sequence.bits) _ (rw c.optional.ensures.is at c.in_ok-bits-in-Sequence.ensures) c.check_fields.ensures)
-
-pub check_shape-returns-in_err-bits-in-Sequence-2 : goal.check_shape-returns-in_err-bits-in-Sequence-2
-check_shape-returns-in_err-bits-in-Sequence-2 t c =
-    let s = c.in-Sequence in
-    let fs = c.deref-fields.result.now in
-    let xs = c.deref-additions.result.now in
-    let many = c.optional-in-Sequence.ensures.is in
-    let is = as_extensible c.args.shape.now s.root s.additions c.in-Some.additions fs xs s.is c.in-Some.is c.deref-fields.ensures.value c.deref-additions.ensures.value in
-    rw (at_stop c.from_residual-in_err-bits-in-Sequence-2.result c.in_err-bits-in-Sequence-2.field-0.0 c.from_residual-in_err-bits-in-Sequence-2.ensures.1) (by_type (type_of c.args.shape.now) (extensible_sequence (fields_of fs) (additions_of xs)) _ _ is (extensible_stop (fields_of fs) (additions_of xs) (c.optional-in-Sequence.result + 1) _ _ _ (omega arith) c.in_err-bits-in-Sequence-2.ensures))
-
-pub check_shape-returns-in_err-is_canonical-in-Sequence : goal.check_shape-returns-in_err-is_canonical-in-Sequence
-check_shape-returns-in_err-is_canonical-in-Sequence t c =
-    let s = c.in-Sequence in
-    let fs = c.deref-fields.result.now in
-    let xs = c.deref-additions.result.now in
-    let many = c.optional-in-Sequence.ensures.is in
-    let is = as_extensible c.args.shape.now s.root s.additions c.in-Some.additions fs xs s.is c.in-Some.is c.deref-fields.ensures.value c.deref-additions.ensures.value in
-    rw (at_stop c.from_residual-in_err-is_canonical-in-Sequence.result c.in_err-is_canonical-in-Sequence.field-0.0 c.from_residual-in_err-is_canonical-in-Sequence.ensures.1) (by_type (type_of c.args.shape.now) (extensible_sequence (fields_of fs) (additions_of xs)) _ _ is (root_stop (fields_of fs) (additions_of xs) (c.optional-in-Sequence.result + 1) _ _ (bits_in c.in_ok-bits-in-Sequence-2.bits) (bits_in c.later.result) _ _ (omega arith) c.in_ok-bits-in-Sequence-2.ensures c.later.ensures c.in_err-is_canonical-in-Sequence.ensures))
-
-pub check_shape-returns-in_err-is_extension-in-Sequence : goal.check_shape-returns-in_err-is_extension-in-Sequence
-check_shape-returns-in_err-is_extension-in-Sequence t c =
-    let s = c.in-Sequence in
-    let fs = c.deref-fields.result.now in
-    let xs = c.deref-additions.result.now in
-    let many = c.optional-in-Sequence.ensures.is in
-    let is = as_extensible c.args.shape.now s.root s.additions c.in-Some.additions fs xs s.is c.in-Some.is c.deref-fields.ensures.value c.deref-additions.ensures.value in
-    rw (at_stop c.from_residual-in_err-is_extension-in-Sequence.result c.in_err-is_extension-in-Sequence.field-0.0 c.from_residual-in_err-is_extension-in-Sequence.ensures.1) (by_type (type_of c.args.shape.now) (extensible_sequence (fields_of fs) (additions_of xs)) _ _ is (later_stop (fields_of fs) (additions_of xs) (c.optional-in-Sequence.result + 1) _ _ _ (bits_in c.in_ok-bits-in-Sequence-2.bits) (bits_in c.later.result) c.first.result c.in_ok-is_canonical-in-Sequence.is_canonical _ _ (omega arith) c.in_ok-bits-in-Sequence-2.ensures c.later.ensures c.first.ensures c.in_ok-is_canonical-in-Sequence.ensures c.in_err-is_extension-in-Sequence.ensures))
-
-pub check_shape-returns-in_ok-is_extension-in-Sequence : goal.check_shape-returns-in_ok-is_extension-in-Sequence
-check_shape-returns-in_ok-is_extension-in-Sequence t c =
-    let s = c.in-Sequence in
-    let fs = c.deref-fields.result.now in
-    let xs = c.deref-additions.result.now in
-    let many = c.optional-in-Sequence.ensures.is in
-    let is = as_extensible c.args.shape.now s.root s.additions c.in-Some.additions fs xs s.is c.in-Some.is c.deref-fields.ensures.value c.deref-additions.ensures.value in
-    rw c.both-in-Sequence.ensures (by_type (type_of c.args.shape.now) (extensible_sequence (fields_of fs) (additions_of xs)) _ _ is (later_got (fields_of fs) (additions_of xs) (c.optional-in-Sequence.result + 1) _ _ _ _ (bits_in c.in_ok-bits-in-Sequence-2.bits) (bits_in c.later.result) c.first.result c.in_ok-is_canonical-in-Sequence.is_canonical c.in_ok-is_extension-in-Sequence.is_extension (omega arith) c.in_ok-bits-in-Sequence-2.ensures c.later.ensures c.first.ensures c.in_ok-is_canonical-in-Sequence.ensures c.in_ok-is_extension-in-Sequence.ensures))
-
-pub check_shape-returns-in_err-tag-in-Choice : goal.check_shape-returns-in_err-tag-in-Choice
-check_shape-returns-in_err-tag-in-Choice t c =
-    let s = c.in-Choice in
-    let xs = s.root.items in
-    let o = as_choice c.args.shape.now s.root s.additions xs s.is refl in
-    rw (at_stop c.from_residual-in_err-tag-in-Choice.result c.in_err-tag-in-Choice.field-0.0 c.from_residual-in_err-tag-in-Choice.ensures.1) (by_type (type_of c.args.shape.now) (choice o.extensible (root_of xs o.after)) _ _ o.is (choice_stop o.extensible (root_of xs o.after) _ _ _ c.in_err-tag-in-Choice.ensures))
-
-pub check_shape-returns-then-contains_tag : goal.check_shape-returns-then-contains_tag
-check_shape-returns-then-contains_tag t c =
-    let s = c.in-Choice in
-    let xs = c.deref-alternatives.result.now in
-    let o = as_choice c.args.shape.now s.root s.additions xs s.is c.deref-alternatives.ensures.value in
-    by_type (type_of c.args.shape.now) (choice o.extensible (root_of xs o.after)) _ _ o.is (choice_root o.extensible xs o.after _ _ c.in_ok-tag-in-Choice.tag _ c.in_ok-tag-in-Choice.ensures (sym c.if-contains_tag.true ∙ c.contains_tag.ensures ∙ ap (λ (l : List Alt). has_tag c.in_ok-tag-in-Choice.tag (root_of l no_alternatives)) (c.deref-alternatives.ensures.value ∙ sym c.deref-alternatives.ensures.value)) c.check_alternative.ensures)
+    by_type (type_of c.args.shape.now) (sequence_of s.size (type_of c.deref-in-SequenceOf.result.now)) _ _ is c.check_items.ensures
 
 pub check_shape-returns-in-None : goal.check_shape-returns-in-None
 check_shape-returns-in-None t c =
-    let s = c.in-Choice in
-    let xs = c.deref-alternatives.result.now in
-    by_type (type_of c.args.shape.now) (choice false (root_of xs no_alternatives)) _ _ (as_closed c.args.shape.now s.root s.additions xs s.is c.in-None.is c.deref-alternatives.ensures.value) (choice_none xs _ _ c.in_ok-tag-in-Choice.tag c.in_ok-tag-in-Choice.ensures (sym c.if-contains_tag.false ∙ c.contains_tag.ensures))
-
-pub check_shape-returns-in-Some-additions : goal.check_shape-returns-in-Some-additions
-check_shape-returns-in-Some-additions t c =
-    let s = c.in-Choice in
-    let xs = c.deref-alternatives.result.now in
-    let ys = c.deref-later.result.now in
-    let is = as_open c.args.shape.now s.root s.additions c.in-Some-additions.additions xs ys s.is c.in-Some-additions.is c.deref-alternatives.ensures.value c.deref-later.ensures.value in
-    by_type (type_of c.args.shape.now) (choice true (root_of xs (later_of ys))) _ _ is (choice_later xs ys _ _ c.in_ok-tag-in-Choice.tag _ c.in_ok-tag-in-Choice.ensures (sym c.if-contains_tag.false ∙ c.contains_tag.ensures) c.check_later.ensures)
+    let s = c.in-Sequence in
+    let fs = c.deref-in-None.result.now in
+    by_type (type_of c.args.shape.now) (sequence (fields_of fs)) _ _ (as_sequence c.args.shape.now s.root s.additions fs s.is c.in-None.is c.deref-in-None.ensures.value) c.check_sequence.ensures
 
 pub check_shape-returns-in-Null : goal.check_shape-returns-in-Null
 check_shape-returns-in-Null t c = by_type (type_of c.args.shape.now) null _ _ (ap type_of c.in-Null.is ∙ type_of-Null) (give_got true _)
@@ -225,8 +247,8 @@ check_alternative-alternative_fits-requires t c = record { one = (c.loop-alterna
 pub check_later-later_fits-requires : goal.check_later-later_fits-requires
 check_later-later_fits-requires t c = record { one = (c.loop-alternative.alternative-index, c.loop-alternative-test.true, c.alternative-item.is); limits = c.requires.limits; defaults = c.requires.defaults }
 
-pub check_shape-root_fits-requires : goal.check_shape-root_fits-requires
-check_shape-root_fits-requires t c = record { root = (c.in-Choice.root, c.in-Choice.additions, c.in-Choice.is, c.deref-alternatives.ensures.value); limits = c.requires.limits; defaults = c.requires.defaults }
-
-pub check_shape-later_fit-requires : goal.check_shape-later_fit-requires
-check_shape-later_fit-requires t c = record { later = (c.in-Choice.root, c.in-Some-additions.additions, c.in-Choice.is ∙ ap (λ (m : Option (Vec Alt Global)). Choice c.in-Choice.root m) c.in-Some-additions.is, c.deref-later.ensures.value); limits = c.requires.limits; defaults = c.requires.defaults }
+pub check_shape-check_extensible-requires : goal.check_shape-check_extensible-requires
+check_shape-check_extensible-requires t c =
+    let s = c.in-Sequence in
+    let d = c.decreases in
+    (omega arith, ((s.root, c.in-Some.additions, s.is ∙ ap (λ (m : Option (Vec Addition Global)). Sequence s.root m) c.in-Some.is, c.deref-in-Some.ensures.value, c.deref-in-Some-2.ensures.value), (c.requires.limits, c.requires.defaults)))
