@@ -83,6 +83,7 @@ pub fn is_name(word: &str) -> bool
     begins_with_capital(word) && !is_reserved(word)
 }
 
+// Whether it is one of the words that are no Names.
 fn is_reserved(word: &str) -> bool
     ensures { result ≡ is_reserved word.now }
 {
@@ -90,6 +91,7 @@ fn is_reserved(word: &str) -> bool
     is_among(word, words.as_slice())
 }
 
+// Whether it is one of these words.
 fn is_among(word: &str, words: &[&str]) -> bool
     ensures { result ≡ list_any (λ v. bytes_eq word.now v.now) words.now }
 {
