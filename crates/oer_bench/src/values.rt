@@ -4,8 +4,7 @@ ghost use Rattle.oer_types.specs.Schema.{the_type};
 ghost use Rattle.oer_types.specs.ValueView.{value_of};
 
 use crate::pieces::Pieces;
-use oer_checker::check;
-use oer_reader::{read, rewrite};
+use oer_reader::{check, read, rewrite};
 use oer_text::{parse_type, parse_types};
 use oer_types::{Schema, Value, fits};
 use oer_units::{Metered, Source};

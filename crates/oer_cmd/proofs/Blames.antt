@@ -11,8 +11,8 @@ use Rattle.oer_units.specs.declared.fault.Why.TheVariants as why
 use Rattle.oer_writer.specs.declared.fault.WriteFault.TheVariants as write
 use Rattle.oer_types.specs.AsnType.{AsnType}
 use Rattle.oer_types.specs.Parts.{Step}
-use Rattle.oer_reader.specs.declared.fault.RewriteFault.{RewriteFault}
-use Rattle.oer_reader.specs.declared.fault.RewriteFault.TheVariants as rewrite
+use Rattle.oer_decoder.specs.declared.fault.RewriteFault.{RewriteFault}
+use Rattle.oer_decoder.specs.declared.fault.RewriteFault.TheVariants as rewrite
 use Rattle.oer_cmd.specs.Faults.{IsOfRead, IsOfRewrite, status_of}
 use Rattle.oer_cmd.specs.Octets.{AreSpelt, IsTooLong}
 use Rattle.oer_cmd.specs.Run.{BlamesDigits, BlamesWords, IsNoPath, IsNotWhole, IsPath}

@@ -12,8 +12,8 @@ use Rattle.oer_types.specs.AsnType.{AsnType}
 use Rattle.oer_types.specs.AsnValue.{AsnValue}
 use Rattle.oer_types.specs.Encoding.{Encodes}
 use Rattle.oer_types.specs.Strict.{IsCanonical}
-use Rattle.oer_reader.specs.Rewriting.{IsRewritten}
-use Rattle.oer_reader.specs.Front.{Told}
+use Rattle.oer_decoder.specs.Rewriting.{IsRewritten}
+use Rattle.oer_decoder.specs.Front.{Told}
 use Rattle.serde_json.specs.Data.{Data}
 use Rattle.serde_json.specs.Written.{compact_text, has_float}
 use Rattle.oer_json.specs.Made.{made}

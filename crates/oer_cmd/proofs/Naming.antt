@@ -3,10 +3,10 @@ use Rattle.std.proofs.Common.{Result, ◌≡◌, ◌∙◌, ℕ, List, [], Optio
 use Rattle.std.specs.Prelude.{IfErr}
 use Rattle.clap.specs.Words.{Text}
 use Rattle.oer_types.specs.AsnType.{AsnType}
-use Rattle.oer_text.specs.Grammar.{IsDefined, IsNew, later_definition, this_definition}
-use Rattle.oer_text.specs.Laws.{OneType, ParseAllComplete, ParseAllSound, ParseSound}
-use Rattle.oer_text.specs.Parsing.{parse, parse_all}
-use Rattle.oer_text.specs.Reading.{Known}
+use Rattle.oer_notation.specs.Grammar.{IsDefined, IsNew, later_definition, this_definition}
+use Rattle.oer_notation.specs.Laws.{OneType, ParseAllComplete, ParseAllSound, ParseSound}
+use Rattle.oer_notation.specs.Parsing.{parse, parse_all}
+use Rattle.oer_notation.specs.Reading.{Known}
 use Rattle.oer_cmd.specs.Faults.{Refuses}
 use Rattle.oer_cmd.specs.Run.{Answers, IsLineOf, MayBe, NoLine, NoLineOf}
 use Rattle.oer_cmd.specs.Types.{AreDefinedIn, Defines, IsOnly, IsTypeIn, NamesNone, SpelledBy, Texts}

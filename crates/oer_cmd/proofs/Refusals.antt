@@ -27,10 +27,10 @@ use Rattle.oer_checker.specs.Check.{Tells, most}
 use Rattle.oer_checker.specs.Handing.{Begins, Follows, Hands}
 use Rattle.oer_checker.specs.declared.fault.PartFault.TheVariants as part
 use Rattle.oer_checker.specs.declared.fault.PartFault.{PartFault}
-use Rattle.oer_reader.specs.Front.{ReadsWhatComes}
-use Rattle.oer_reader.specs.Rewriting.{RewritesWhatComes}
-use Rattle.oer_reader.specs.declared.fault.RewriteFault.{RewriteFault}
-use Rattle.oer_reader.specs.declared.fault.RewriteFault.TheVariants as rewrite
+use Rattle.oer_decoder.specs.Front.{ReadsWhatComes}
+use Rattle.oer_decoder.specs.Rewriting.{RewritesWhatComes}
+use Rattle.oer_decoder.specs.declared.fault.RewriteFault.{RewriteFault}
+use Rattle.oer_decoder.specs.declared.fault.RewriteFault.TheVariants as rewrite
 use Rattle.oer_cmd.specs.Canon.{HasMore, IsNoEncoding}
 use Rattle.oer_cmd.specs.Faults.{IsOfRead, IsOfRewrite, Refuses, status_of}
 use Rattle.oer_cmd.specs.Octets.{AreAll, AreMore, AreSpelt, IsTooLong}

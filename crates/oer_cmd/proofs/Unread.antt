@@ -9,10 +9,10 @@ use Rattle.oer_units.specs.declared.fault.ReadFault.{ReadFault}
 use Rattle.oer_writer.specs.declared.fault.WriteFault.TheVariants as write
 use Rattle.oer_types.specs.AsnType.{AsnType}
 use Rattle.oer_types.specs.AsnValue.{AsnValue}
-use Rattle.oer_reader.specs.Front.{ReadsWhatComes, Takes}
-use Rattle.oer_reader.specs.Rewriting.{RewritesWhatComes}
-use Rattle.oer_reader.specs.declared.fault.RewriteFault.{RewriteFault}
-use Rattle.oer_reader.specs.declared.fault.RewriteFault.TheVariants as rewrite
+use Rattle.oer_decoder.specs.Front.{ReadsWhatComes, Takes}
+use Rattle.oer_decoder.specs.Rewriting.{RewritesWhatComes}
+use Rattle.oer_decoder.specs.declared.fault.RewriteFault.{RewriteFault}
+use Rattle.oer_decoder.specs.declared.fault.RewriteFault.TheVariants as rewrite
 use Rattle.oer_cmd.specs.Canon.{HasMore}
 use Rattle.oer_cmd.specs.Faults.{IsOfRead, IsOfRewrite, status_of}
 use Rattle.oer_cmd.specs.Run.{IsUnread, OfOctets, Says}

@@ -2,11 +2,11 @@
 use Rattle.std.specs.Prelude.{◌≡◌, ◌≢◌, ◌≤◌, ℕ, Result, Err, ⊤}
 use Rattle.oer_units.specs.declared.fault.ReadFault.{ReadFault}
 use Rattle.oer_units.specs.declared.fault.Why.TheVariants as why
-use Rattle.oer_text.specs.declared.fault.TextFault.{TextFault}
-use Rattle.oer_text.specs.declared.fault.TextWhy.TheVariants as text
+use Rattle.oer_notation.specs.declared.fault.TextFault.{TextFault}
+use Rattle.oer_notation.specs.declared.fault.TextWhy.TheVariants as text
 use Rattle.oer_writer.specs.declared.fault.WriteFault.TheVariants as write
-use Rattle.oer_reader.specs.declared.fault.RewriteFault.{RewriteFault}
-use Rattle.oer_reader.specs.declared.fault.RewriteFault.TheVariants as rewrite
+use Rattle.oer_decoder.specs.declared.fault.RewriteFault.{RewriteFault}
+use Rattle.oer_decoder.specs.declared.fault.RewriteFault.TheVariants as rewrite
 use Rattle.oer_types.specs.AsnValue.{AsnValue}
 use Rattle.oer_json.specs.declared.fault.JsonFault.{JsonFault}
 use Rattle.oer_cmd.specs.declared.fault.Fault.{Fault}

@@ -3,8 +3,8 @@ use Rattle.std.specs.Prelude.{◌≡◌, ◌≢◌, List, Option, Some, None}
 use Rattle.clap.specs.Words.{Text}
 use Rattle.oer_types.specs.AsnType.{AsnType}
 use Rattle.oer_types.specs.WellFormed.{IsWellFormed}
-use Rattle.oer_text.specs.Grammar.{AreWellFormed, IsDefined, Spells, SpellsAll}
-use Rattle.oer_text.specs.Reading.{Known}
+use Rattle.oer_notation.specs.Grammar.{AreWellFormed, IsDefined, Spells, SpellsAll}
+use Rattle.oer_notation.specs.Reading.{Known}
 use Rattle.oer_cmd.specs.declared.fault.Fault.{Fault}
 use Rattle.oer_cmd.specs.declared.fault.Fault.TheVariants.{Memory, NoName, NoTypes, OneType}
 use Rattle.oer_cmd.specs.declared.options.Options.{Options}

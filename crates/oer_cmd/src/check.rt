@@ -7,7 +7,7 @@ ghost use Rattle.oer_cmd.specs.Words.{behind};
 
 use crate::fault::Fault;
 use crate::octets::{all_octets, spelt};
-use oer_checker::check;
+use oer_reader::check;
 use oer_types::Schema;
 use oer_units::Source;
 use std::alloc::Global;

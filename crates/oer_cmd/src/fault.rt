@@ -2,9 +2,8 @@
 ghost use Rattle.std.specs.Prelude.{◌≡◌, ◌≤◌};
 ghost use Rattle.oer_cmd.specs.Faults.{IsOfRead, IsOfRewrite, IsOfText, status_of};
 
-use oer_json::JsonFault;
 use oer_reader::RewriteFault;
-use oer_text::{TextFault, TextWhy};
+use oer_text::{JsonFault, TextFault, TextWhy};
 use oer_units::{ReadFault, Why};
 use oer_writer::WriteFault;
 use thiserror::Error;

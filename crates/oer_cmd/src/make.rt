@@ -15,7 +15,7 @@ ghost use Rattle.oer_cmd.specs.Words.{behind};
 
 use crate::fault::Fault;
 use crate::octets::all_octets;
-use oer_json::{JsonFault, from_json};
+use oer_text::{JsonFault, from_json};
 use oer_types::{Schema, Value};
 use oer_units::{Metered, Source};
 use oer_writer::{WriteFault, write};

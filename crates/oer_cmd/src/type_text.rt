@@ -1,8 +1,8 @@
 //! The type that the options name.
 ghost use Rattle.std.specs.Prelude.{◌≡◌, IfErr, IfOk, MatchResult};
 ghost use Rattle.oer_types.specs.Schema.{the_type};
-ghost use Rattle.oer_text.specs.Grammar.{IsDefined, IsNew};
-ghost use Rattle.oer_text.specs.Views.{knowns};
+ghost use Rattle.oer_notation.specs.Grammar.{IsDefined, IsNew};
+ghost use Rattle.oer_notation.specs.Views.{knowns};
 ghost use Rattle.oer_cmd.specs.Types.{AreDefinedIn, DefinesNone, IsOnly, IsTypeIn, NamesNone, SpellsNone, lack_of, texts_at, texts_of};
 
 use crate::fault::Fault;

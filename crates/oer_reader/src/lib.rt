@@ -1,17 +1,9 @@
-//! Values are read from their Basic-OER encodings (X.696), and these are rewritten as canonical ones.
+//! Encodings (X.696, Basic-OER) and what is done with them. Values are read and rewritten as
+//! canonical octets (`oer_decoder`); octets that are there are checked without making a value, and
+//! their parts are handed out (`oer_checker`). Each call stands in one of these two crates, with its
+//! contract; here both are under one name.
 #![tactic(auto)]
 
-mod bit_strings;
-mod fault;
-mod front;
-pub mod laws;
-mod numbers;
-mod parts;
-mod preamble;
-mod rewriting;
-mod strings;
-mod value;
-
-pub use fault::RewriteFault;
-pub use front::{read, read_with_length};
-pub use rewriting::rewrite;
+pub use oer_checker::{PartFault, Step, Verdict, check, part};
+pub use oer_decoder::laws;
+pub use oer_decoder::{RewriteFault, read, read_with_length, rewrite};

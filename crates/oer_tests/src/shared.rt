@@ -1,8 +1,7 @@
 //! What the tests share: readers and writers that work octet by octet, types, values and octets by
 //! their texts, and what is said where an answer isn't the one that was wanted.
-use oer_json::from_json;
 use oer_reader::{RewriteFault, rewrite};
-use oer_text::parse_type;
+use oer_text::{from_json, parse_type};
 use oer_types::{Field, Need, Schema, Shape, Value};
 use oer_units::{Metered, Sink, Source};
 use serde_json::Value as Json;

@@ -1,20 +1,9 @@
-//! The notation of types.
+//! Types and values as text. Types are read from their notation and printed in it (`oer_notation`);
+//! values become JSON and are taken from it (`oer_json`). Each call stands in one of these two
+//! crates, with its contract; here both are under one name.
 #![tactic(auto)]
 
-mod constraint;
-mod cursor;
-mod fault;
-pub mod laws;
-mod literal;
-mod number;
-mod parse;
-mod printable;
-mod printer;
-mod printing;
-mod types;
-mod value;
-mod word;
-
-pub use fault::{PrintFault, TextFault, TextWhy};
-pub use printing::print_type;
-pub use types::{Types, parse_type, parse_types};
+pub use oer_json::laws as json_laws;
+pub use oer_json::{JsonFault, from_json, to_json};
+pub use oer_notation::laws;
+pub use oer_notation::{PrintFault, TextFault, TextWhy, Types, parse_type, parse_types, print_type};

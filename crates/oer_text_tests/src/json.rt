@@ -1,6 +1,5 @@
 //! JSON that is taken as values, what is made of these, and JSON that is refused.
-use oer_json::{from_json, to_json};
-use oer_text::parse_type;
+use oer_text::{from_json, parse_type, to_json};
 use serde_json::Value as Json;
 use std::alloc::Global;
 use std::process::Abort;

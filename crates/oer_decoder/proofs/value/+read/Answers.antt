@@ -1,0 +1,327 @@
+use Rattle.std.proofs.Common.{map, length, ◌-◌, ◌+◌, Ok, Err, arith, refl, rules, sym, ap, add-one}
+use Rattle.std.proofs.lemmas.Grind.{common_steps}
+use Rattle.oer_units.specs.Reading.{open_type}
+use Rattle.oer_units.proofs.ReadExits.{at_exit}
+use Rattle.oer_units.proofs.ReadOpen.{open_filled, open_stop, open_unfilled, open_value_stop}
+use Rattle.oer_units.proofs.ReadSteps.{Reads-give}
+use Rattle.oer_types.specs.AsnValue.{nothing}
+use Rattle.oer_types.specs.Reading.{read_value}
+use Rattle.oer_types.specs.ShapeView.{additions_of, fields_of, later_of, type_of}
+use Rattle.oer_types.specs.ValueView.{places_of, unknown_of, value_of}
+use Rattle.oer_types.proofs.Shapes.{type_of-Choice, type_of-Ia5, type_of-Numeric, type_of-Printable, type_of-Sequence, type_of-Visible}
+use Rattle.oer_types.proofs.Values.{value_of-List, value_of-Seq}
+use Rattle.oer_decoder.specs.Choices.{found_in}
+use Rattle.oer_decoder.specs.MarksView.{bits_in}
+use Rattle.oer_decoder.specs.Starts.{added_of, start_of}
+use Rattle.oer_decoder.proofs.Extensions.{extensible_stop, extensible_then, extension_known, extension_none, extension_stop, extension_then}
+use Rattle.oer_decoder.proofs.Loops.{addition_count_is, adds_end, adds_next, adds_none, adds_stop, elements_end, elements_next, elements_none, elements_stop, fields_end, fields_next, fields_none, fields_stop, items_stop, items_then, leads_memory, listed_is, place_none, place_then, root_stop, root_then, sequence_stop, sequence_then}
+use Rattle.oer_decoder.proofs.Picks.{choice_found, choice_later, choice_with-is, has_marker, more_of, choice_refused, choice_stop, chosen_stop, chosen_then, later_end, later_foreign, later_found, later_here, later_next, later_none, later_stop, root_end, root_here, root_next}
+use Rattle.oer_decoder.proofs.Shapes.{type_of-Null}
+use Rattle.oer_decoder.proofs.Values.{value_of-Null}
+use Rattle.oer_decoder.proofs.value.+read.Goals as goal
+
+-- ---- an open type
+
+pub read_open-returns-in_err-size : goal.read_open-returns-in_err-size
+read_open-returns-in_err-size g t c =
+    rw (at_exit c.from_residual.result c.in_err-size.field-0.0 c.from_residual.ensures.1) (open_stop (read_value (type_of c.args.shape.now)) _ _ _ c.in_err-size.ensures.reads)
+
+pub read_open-returns-in_err-value : goal.read_open-returns-in_err-value
+read_open-returns-in_err-value g t c =
+    rw (at_exit c.from_residual-in_err-value.result c.in_err-value.field-0.0 c.from_residual-in_err-value.ensures.1)
+    (open_value_stop (read_value (type_of c.args.shape.now)) _ _ _ _ c.in_ok-size.size _ c.in_ok-size.ensures.room c.in_ok-size.ensures.reads c.enter-outer.ensures.entered c.in_err-value.ensures.reads)
+
+pub read_open-returns-in_err-leave : goal.read_open-returns-in_err-leave
+read_open-returns-in_err-leave g t c =
+    let e = c.in_err-leave.ensures in
+    rw (at_exit c.from_residual-in_err-leave.result c.in_err-leave.field-0.0 c.from_residual-in_err-leave.ensures.1)
+    (open_unfilled (read_value (type_of c.args.shape.now)) _ _ _ _ _ c.in_ok-size.size (value_of c.in_ok-value.value) _ c.in_ok-size.ensures.room c.in_ok-size.ensures.reads c.enter-outer.ensures.entered c.in_ok-value.ensures.reads (omega (arith, e.unfilled)) e.fault.0 e.fault.1 e.err)
+
+pub read_open-returns : goal.read_open-returns
+read_open-returns g t c =
+    let e = c.in_ok-leave.ensures in
+    open_filled (read_value (type_of c.args.shape.now)) _ _ _ _ _ c.in_ok-size.size (value_of c.in_ok-value.value) _ _ c.in_ok-size.ensures.room c.in_ok-size.ensures.reads c.enter-outer.ensures.entered c.in_ok-value.ensures.reads (omega (arith, e.filled, c.read_shape.new.w.bound.ordered)) e.ok c.enter-outer.ensures.end c.enter-outer.ensures.inside
+
+-- ---- elements
+
+pub read_elements-loop-i-init : goal.read_elements-loop-i-init
+read_elements-loop-i-init g t c = elements_none c.args.count (read_value (type_of c.args.item.now)) _ _ c.new-values.ensures.items
+
+pub read_elements-returns-in_err-value : goal.read_elements-returns-in_err-value
+read_elements-returns-in_err-value g t c =
+    rw (at_exit c.from_residual.result c.in_err-value.field-0.0 c.from_residual.ensures.1)
+    (elements_stop (c.args.count - c.loop-i.i) (c.args.count - (c.loop-i.i + 1)) (read_value (type_of c.args.item.now)) c.loop-i.values.items _ _ _ _ _ (omega arith) c.loop-i.invariant c.in_err-value.ensures.reads)
+
+pub read_elements-loop-i-preserved : goal.read_elements-loop-i-preserved
+read_elements-loop-i-preserved g t c =
+    elements_next (c.args.count - c.loop-i.i) (c.args.count - (c.loop-i.i + 1)) (read_value (type_of c.args.item.now)) c.loop-i.values.items _ c.in_ok-value.value _ _ _ _ (omega arith) (grind (arith, common_steps)) c.loop-i.invariant c.in_ok-value.ensures.reads
+
+pub read_elements-returns-then-is_err : goal.read_elements-returns-then-is_err
+read_elements-returns-then-is_err g t c =
+    leads_memory _ _ _ _ _ _ c.fault.ensures.why c.fault.ensures.taken
+    (elements_next (c.args.count - c.loop-i.i) (c.args.count - (c.loop-i.i + 1)) (read_value (type_of c.args.item.now)) c.loop-i.values.items _ c.in_ok-value.value _ _ _ _ (omega arith) refl c.loop-i.invariant c.in_ok-value.ensures.reads)
+
+pub read_elements-returns : goal.read_elements-returns
+read_elements-returns g t c = elements_end (c.args.count - c.loop-i.i) (read_value (type_of c.args.item.now)) c.loop-i.values.items _ _ _ (omega arith) c.loop-i.invariant
+
+-- ---- components
+
+pub read_fields-loop-field-init : goal.read_fields-loop-field-init
+read_fields-loop-field-init g t c = fields_none c.args.fields.now c.args.bits.now _ _ c.new-places.ensures.items
+
+pub read_fields-returns-in_err-place : goal.read_fields-returns-in_err-place
+read_fields-returns-in_err-place g t c =
+    rw (at_exit c.from_residual.result c.in_err-place.field-0.0 c.from_residual.ensures.1)
+    (fields_stop c.args.fields.now c.loop-field.field-index c.field-item.result c.loop-field.left.now c.presence-is_present.result.0 c.loop-field.places.items _ _ _ _ _ c.loop-field-test.true c.field-item.is c.presence-is_present.ensures.there c.loop-field.invariant c.in_err-place.ensures)
+
+pub read_fields-returns-then-is_err : goal.read_fields-returns-then-is_err
+read_fields-returns-then-is_err g t c =
+    leads_memory _ _ _ _ _ _ c.fault.ensures.why c.fault.ensures.taken
+    (fields_next c.args.fields.now c.loop-field.field-index c.field-item.result c.loop-field.left.now c.presence-is_present.result.1.now c.presence-is_present.result.0 c.loop-field.places.items _ c.in_ok-place.place _ _ _ _ c.loop-field-test.true c.field-item.is c.presence-is_present.ensures.there c.presence-is_present.ensures.left refl c.loop-field.invariant c.in_ok-place.ensures)
+
+pub read_fields-loop-field-preserved : goal.read_fields-loop-field-preserved
+read_fields-loop-field-preserved g t c =
+    fields_next c.args.fields.now c.loop-field.field-index c.field-item.result c.loop-field.left.now c.presence-is_present.result.1.now c.presence-is_present.result.0 c.loop-field.places.items _ c.in_ok-place.place _ _ _ _ c.loop-field-test.true c.field-item.is c.presence-is_present.ensures.there c.presence-is_present.ensures.left (grind (arith, common_steps)) c.loop-field.invariant c.in_ok-place.ensures
+
+pub read_fields-returns : goal.read_fields-returns
+read_fields-returns g t c = fields_end c.args.fields.now c.loop-field.field-index c.loop-field.left.now c.loop-field.places.items _ _ _ c.loop-field-test.false c.loop-field.invariant
+
+-- ---- additions
+
+pub read_additions-loop-addition-init : goal.read_additions-loop-addition-init
+read_additions-loop-addition-init g t c = adds_none c.args.additions.now c.args.bits.now _ _ c.new-places.ensures.items
+
+pub read_additions-returns-in_err-place : goal.read_additions-returns-in_err-place
+read_additions-returns-in_err-place g t c =
+    rw (at_exit c.from_residual.result c.in_err-place.field-0.0 c.from_residual.ensures.1)
+    (adds_stop c.args.additions.now c.loop-addition.addition-index c.addition-item.result c.loop-addition.left.now c.first-is_present.result c.loop-addition.places.items _ _ _ _ _ c.loop-addition-test.true c.addition-item.is c.first-is_present.ensures c.loop-addition.invariant c.in_err-place.ensures)
+
+pub read_additions-returns-then-is_err : goal.read_additions-returns-then-is_err
+read_additions-returns-then-is_err g t c =
+    leads_memory _ _ _ _ _ _ c.fault.ensures.why c.fault.ensures.taken
+    (adds_next c.args.additions.now c.loop-addition.addition-index c.addition-item.result c.loop-addition.left.now c.after-rest.result.now c.first-is_present.result c.loop-addition.places.items _ c.in_ok-place.place _ _ _ _ c.loop-addition-test.true c.addition-item.is c.first-is_present.ensures c.after-rest.ensures refl c.loop-addition.invariant c.in_ok-place.ensures)
+
+pub read_additions-loop-addition-preserved : goal.read_additions-loop-addition-preserved
+read_additions-loop-addition-preserved g t c =
+    adds_next c.args.additions.now c.loop-addition.addition-index c.addition-item.result c.loop-addition.left.now c.after-rest.result.now c.first-is_present.result c.loop-addition.places.items _ c.in_ok-place.place _ _ _ _ c.loop-addition-test.true c.addition-item.is c.first-is_present.ensures c.after-rest.ensures (grind (arith, common_steps)) c.loop-addition.invariant c.in_ok-place.ensures
+
+pub read_additions-returns : goal.read_additions-returns
+read_additions-returns g t c = adds_end c.args.additions.now c.loop-addition.addition-index c.loop-addition.left.now c.loop-addition.places.items _ _ _ c.loop-addition-test.false c.loop-addition.invariant
+
+-- ---- a place
+
+pub read_place-returns-then-not-is_present : goal.read_place-returns-then-not-is_present
+read_place-returns-then-not-is_present g t c = place_none c.args.is_present _ _ (search rules)
+
+pub read_place-returns-in_err-value : goal.read_place-returns-in_err-value
+read_place-returns-in_err-value g t c =
+    rw (at_exit c.from_residual.result c.in_err-value.field-0.0 c.from_residual.ensures.1)
+    (place_then c.args.is_present (read_value (type_of c.args.shape.now)) _ _ (Err c.in_err-value.field-0.0) (search rules) c.in_err-value.ensures.reads)
+
+pub read_place-returns : goal.read_place-returns
+read_place-returns g t c = place_then c.args.is_present (read_value (type_of c.args.shape.now)) _ _ (Ok (value_of c.in_ok-value.value)) (search rules) c.in_ok-value.ensures.reads
+
+pub read_open_place-returns-then-not-is_present : goal.read_open_place-returns-then-not-is_present
+read_open_place-returns-then-not-is_present g t c = place_none c.args.is_present _ _ (search rules)
+
+pub read_open_place-returns-in_err-value : goal.read_open_place-returns-in_err-value
+read_open_place-returns-in_err-value g t c =
+    rw (at_exit c.from_residual.result c.in_err-value.field-0.0 c.from_residual.ensures.1)
+    (place_then c.args.is_present (open_type (read_value (type_of c.args.shape.now))) _ _ (Err c.in_err-value.field-0.0) (search rules) c.in_err-value.ensures)
+
+pub read_open_place-returns : goal.read_open_place-returns
+read_open_place-returns g t c = place_then c.args.is_present (open_type (read_value (type_of c.args.shape.now))) _ _ (Ok (value_of c.in_ok-value.value)) (search rules) c.in_ok-value.ensures
+
+-- ---- lists
+
+pub read_items-returns-in_err-count : goal.read_items-returns-in_err-count
+read_items-returns-in_err-count g t c =
+    rw (at_exit c.from_residual.result c.in_err-count.field-0.0 c.from_residual.ensures.1)
+    (items_stop c.args.size (read_value (type_of c.args.item.now)) _ _ _ c.in_err-count.ensures)
+
+pub read_items-returns-in_err-values : goal.read_items-returns-in_err-values
+read_items-returns-in_err-values g t c =
+    rw (at_exit c.from_residual-in_err-values.result c.in_err-values.field-0.0 c.from_residual-in_err-values.ensures.1)
+    (items_then c.args.size (read_value (type_of c.args.item.now)) _ _ _ c.in_ok-count.count (Err c.in_err-values.field-0.0) c.in_ok-count.ensures c.in_err-values.ensures)
+
+pub read_items-returns : goal.read_items-returns
+read_items-returns g t c =
+    rw (value_of-List c.in_ok-values.values, sym (listed_is c.in_ok-values.values.items))
+    (items_then c.args.size (read_value (type_of c.args.item.now)) _ _ _ c.in_ok-count.count (Ok (map value_of c.in_ok-values.values.items)) c.in_ok-count.ensures c.in_ok-values.ensures)
+
+-- ---- sequences
+
+pub read_sequence-returns-in_err-bits : goal.read_sequence-returns-in_err-bits
+read_sequence-returns-in_err-bits g t c =
+    rw (at_exit c.from_residual.result c.in_err-bits.field-0.0 c.from_residual.ensures.1)
+    (sequence_stop (fields_of c.args.root.now) _ _ _ (rw c.optional.ensures.is at c.in_err-bits.ensures))
+
+pub read_sequence-returns-in_err-root : goal.read_sequence-returns-in_err-root
+read_sequence-returns-in_err-root g t c =
+    rw (at_exit c.from_residual-in_err-root.result c.in_err-root.field-0.0 c.from_residual-in_err-root.ensures.1)
+    (sequence_then (fields_of c.args.root.now) _ _ _ (bits_in c.in_ok-bits.bits) (Err c.in_err-root.field-0.0) (rw c.optional.ensures.is at c.in_ok-bits.ensures) (rw c.as_slice.ensures at c.in_err-root.ensures))
+
+pub read_sequence-returns : goal.read_sequence-returns
+read_sequence-returns g t c =
+    rw (value_of-Seq c.in_ok-root.root c.new.result c.new-2.result, c.new.ensures.items, c.new-2.ensures.items)
+    (sequence_then (fields_of c.args.root.now) _ _ _ (bits_in c.in_ok-bits.bits) (Ok (places_of c.in_ok-root.root.items)) (rw c.optional.ensures.is at c.in_ok-bits.ensures) (rw c.as_slice.ensures at c.in_ok-root.ensures))
+
+pub read_root-returns-in_err-bits : goal.read_root-returns-in_err-bits
+read_root-returns-in_err-bits g t c =
+    rw (at_exit c.from_residual.result c.in_err-bits.field-0.0 c.from_residual.ensures.1)
+    (root_stop (fields_of c.args.root.now) _ _ _ (rw (c.optional.ensures.is, add-one) at c.in_err-bits.ensures))
+
+pub read_root-returns-in_err-places : goal.read_root-returns-in_err-places
+read_root-returns-in_err-places g t c =
+    rw (at_exit c.from_residual-in_err-places.result c.in_err-places.field-0.0 c.from_residual-in_err-places.ensures.1)
+    (root_then (fields_of c.args.root.now) _ _ _ (bits_in c.in_ok-bits.bits) (Err c.in_err-places.field-0.0) (rw (c.optional.ensures.is, add-one) at c.in_ok-bits.ensures) (rw (c.after.ensures, c.as_slice-marks.ensures) at c.in_err-places.ensures))
+
+pub read_root-returns : goal.read_root-returns
+read_root-returns g t c =
+    rw (c.first-is_extended.ensures, c.as_slice-marks.ensures)
+    (root_then (fields_of c.args.root.now) _ _ _ (bits_in c.in_ok-bits.bits) (Ok (places_of c.in_ok-places.places.items)) (rw (c.optional.ensures.is, add-one) at c.in_ok-bits.ensures) (rw (c.after.ensures, c.as_slice-marks.ensures) at c.in_ok-places.ensures))
+
+-- ---- additions
+
+pub read_extension-returns-then-not-is_extended : goal.read_extension-returns-then-not-is_extended
+read_extension-returns-then-not-is_extended g t c =
+    extension_none c.args.is_extended (additions_of c.args.additions.now) _ _ _ (search rules) c.in-Ok.ensures (ap (λ us. map unknown_of us) c.new.ensures.items)
+
+pub read_extension-returns-in_err-bits : goal.read_extension-returns-in_err-bits
+read_extension-returns-in_err-bits g t c =
+    rw (at_exit c.from_residual.result c.in_err-bits.field-0.0 c.from_residual.ensures.1)
+    (extension_stop c.args.is_extended (additions_of c.args.additions.now) _ _ _ (search rules) c.in_err-bits.ensures.reads)
+
+pub read_extension-returns-in_err-known : goal.read_extension-returns-in_err-known
+read_extension-returns-in_err-known g t c =
+    rw (at_exit c.from_residual-in_err-known.result c.in_err-known.field-0.0 c.from_residual-in_err-known.ensures.1)
+    (extension_known c.args.is_extended (additions_of c.args.additions.now) _ _ _ c.in_ok-bits.bits.items _ (search rules) c.in_ok-bits.ensures.reads (rw c.deref.ensures.value at c.in_err-known.ensures))
+
+pub read_extension-returns-in_err-unknown : goal.read_extension-returns-in_err-unknown
+read_extension-returns-in_err-unknown g t c =
+    rw (at_exit c.from_residual-in_err-unknown.result c.in_err-unknown.field-0.0 c.from_residual-in_err-unknown.ensures.1)
+    (extension_then c.args.is_extended (additions_of c.args.additions.now) (length c.args.additions.now) _ _ _ _ c.in_ok-bits.bits.items (places_of c.in_ok-known.known.items) (Err c.in_err-unknown.field-0.0) (search rules) (addition_count_is c.args.additions.now) c.in_ok-bits.ensures.reads
+    (rw c.deref.ensures.value at c.in_ok-known.ensures) (rw c.deref-2.ensures.value at c.in_err-unknown.ensures))
+
+pub read_extension-returns : goal.read_extension-returns
+read_extension-returns g t c =
+    extension_then c.args.is_extended (additions_of c.args.additions.now) (length c.args.additions.now) _ _ _ _ c.in_ok-bits.bits.items (places_of c.in_ok-known.known.items) (Ok (map unknown_of c.in_ok-unknown.unknown.items)) (search rules) (addition_count_is c.args.additions.now) c.in_ok-bits.ensures.reads
+    (rw c.deref.ensures.value at c.in_ok-known.ensures) (rw c.deref-2.ensures.value at c.in_ok-unknown.ensures)
+
+-- ---- alternatives
+
+pub read_alternative-returns-in_err-value : goal.read_alternative-returns-in_err-value
+read_alternative-returns-in_err-value g t c =
+    rw (at_exit c.from_residual.result c.in_err-value.field-0.0 c.from_residual.ensures.1)
+    (chosen_stop c.args.tag (read_value (type_of c.alternative-item.result.shape)) _ _ _ _ _ c.loop-alternative.invariant.still
+    (root_here c.args.alternatives.now c.loop-alternative.alternative-index c.alternative-item.result c.args.tag _ c.loop-alternative-test.true c.alternative-item.is c.if-is_same_tag.ensures c.loop-alternative.invariant.same) c.in_err-value.ensures.reads)
+
+pub read_alternative-returns-then-is_same_tag : goal.read_alternative-returns-then-is_same_tag
+read_alternative-returns-then-is_same_tag g t c =
+    chosen_then c.args.tag (read_value (type_of c.alternative-item.result.shape)) _ _ _ _ _ (value_of c.in_ok-value.value) _ c.loop-alternative.invariant.still
+    (root_here c.args.alternatives.now c.loop-alternative.alternative-index c.alternative-item.result c.args.tag _ c.loop-alternative-test.true c.alternative-item.is c.if-is_same_tag.ensures c.loop-alternative.invariant.same) c.in_ok-value.ensures.reads c.chosen.ensures
+
+pub read_alternative-loop-alternative-preserved : goal.read_alternative-loop-alternative-preserved
+read_alternative-loop-alternative-preserved g t c =
+    record {
+      same = root_next c.args.alternatives.now c.loop-alternative.alternative-index c.alternative-item.result c.args.tag _ c.loop-alternative-test.true c.alternative-item.is c.if-is_same_tag.ensures c.loop-alternative.invariant.same;
+      still = c.loop-alternative.invariant.still;
+    }
+
+pub read_alternative-returns : goal.read_alternative-returns
+read_alternative-returns g t c = root_end c.args.alternatives.now c.loop-alternative.alternative-index c.args.tag _ _ _ c.loop-alternative.invariant.still c.loop-alternative-test.false c.loop-alternative.invariant.same
+
+pub read_open_alternative-returns-in_err-value : goal.read_open_alternative-returns-in_err-value
+read_open_alternative-returns-in_err-value g t c =
+    rw (at_exit c.from_residual.result c.in_err-value.field-0.0 c.from_residual.ensures.1)
+    (chosen_stop c.args.tag (open_type (read_value (type_of c.alternative-item.result.shape))) _ _ _ _ _ c.loop-alternative.invariant.still
+    (later_here c.args.alternatives.now c.loop-alternative.alternative-index c.alternative-item.result c.args.tag _ c.loop-alternative-test.true c.alternative-item.is c.if-is_same_tag.ensures c.loop-alternative.invariant.same) c.in_err-value.ensures)
+
+pub read_open_alternative-returns-then-is_same_tag : goal.read_open_alternative-returns-then-is_same_tag
+read_open_alternative-returns-then-is_same_tag g t c =
+    chosen_then c.args.tag (open_type (read_value (type_of c.alternative-item.result.shape))) _ _ _ _ _ (value_of c.in_ok-value.value) _ c.loop-alternative.invariant.still
+    (later_here c.args.alternatives.now c.loop-alternative.alternative-index c.alternative-item.result c.args.tag _ c.loop-alternative-test.true c.alternative-item.is c.if-is_same_tag.ensures c.loop-alternative.invariant.same) c.in_ok-value.ensures c.chosen.ensures
+
+pub read_open_alternative-loop-alternative-preserved : goal.read_open_alternative-loop-alternative-preserved
+read_open_alternative-loop-alternative-preserved g t c =
+    record {
+      same = later_next c.args.alternatives.now c.loop-alternative.alternative-index c.alternative-item.result c.args.tag _ c.loop-alternative-test.true c.alternative-item.is c.if-is_same_tag.ensures c.loop-alternative.invariant.same;
+      still = c.loop-alternative.invariant.still;
+    }
+
+pub read_open_alternative-returns : goal.read_open_alternative-returns
+read_open_alternative-returns g t c = later_end c.args.alternatives.now c.loop-alternative.alternative-index c.args.tag _ _ _ c.loop-alternative.invariant.still c.loop-alternative-test.false c.loop-alternative.invariant.same
+
+-- ---- what follows a tag that no alternative of the root has
+
+pub read_later_alternative-returns-in_err-found-in-Some : goal.read_later_alternative-returns-in_err-found-in-Some
+read_later_alternative-returns-in_err-found-in-Some g t c =
+    rw (at_exit c.from_residual.result c.in_err-found-in-Some.field-0.0 c.from_residual.ensures.1, c.in-Choice.is, c.in-Some.is, type_of-Choice)
+    (later_stop c.in-Choice.root.items c.in-Some.additions.items c.args.tag _ _ _ (rw c.deref.ensures.value at c.in_err-found-in-Some.ensures))
+
+pub read_later_alternative-returns-in-Some-found : goal.read_later_alternative-returns-in-Some-found
+read_later_alternative-returns-in-Some-found g t c =
+    rw (c.in-Choice.is, c.in-Some.is, type_of-Choice)
+    (later_found c.in-Choice.root.items c.in-Some.additions.items c.args.tag _ _ (value_of c.in-Some-found.value) (rw (c.deref.ensures.value, c.in-Some-found.is) at c.in_ok-found-in-Some.ensures))
+
+pub read_later_alternative-returns-in-None-found : goal.read_later_alternative-returns-in-None-found
+read_later_alternative-returns-in-None-found g t c =
+    rw (c.in-Choice.is, c.in-Some.is, type_of-Choice)
+    (later_foreign c.in-Choice.root.items c.in-Some.additions.items c.args.tag _ _ _ _ (rw (c.deref.ensures.value, c.in-None-found.is) at c.in_ok-found-in-Some.ensures) c.foreign.ensures)
+
+pub read_later_alternative-returns-in-None : goal.read_later_alternative-returns-in-None
+read_later_alternative-returns-in-None g t c =
+    rw (c.in-Choice.is, c.in-None.is, type_of-Choice) (later_none c.in-Choice.root.items c.args.tag _ _ c.fault.ensures.why c.fault.ensures.taken)
+
+-- ---- shapes
+
+pub read_shape-returns-in-Null-clause-reads : goal.read_shape-returns-in-Null-clause-reads
+read_shape-returns-in-Null-clause-reads g t c = rw (c.in-Null.is, type_of-Null, value_of-Null) (Reads-give nothing _)
+
+pub read_shape-returns-in-Ia5-clause-reads : goal.read_shape-returns-in-Ia5-clause-reads
+read_shape-returns-in-Ia5-clause-reads g t c = rw (c.in-Ia5.is, type_of-Ia5) c.read_text.ensures
+
+pub read_shape-returns-in-Visible-clause-reads : goal.read_shape-returns-in-Visible-clause-reads
+read_shape-returns-in-Visible-clause-reads g t c = rw (c.in-Visible.is, type_of-Visible) c.read_text-in-Visible.ensures
+
+pub read_shape-returns-in-Numeric-clause-reads : goal.read_shape-returns-in-Numeric-clause-reads
+read_shape-returns-in-Numeric-clause-reads g t c = rw (c.in-Numeric.is, type_of-Numeric) c.read_text-in-Numeric.ensures
+
+pub read_shape-returns-in-Printable-clause-reads : goal.read_shape-returns-in-Printable-clause-reads
+read_shape-returns-in-Printable-clause-reads g t c = rw (c.in-Printable.is, type_of-Printable) c.read_text-in-Printable.ensures
+
+pub read_extensible-returns-in_err-start-in-Some : goal.read_extensible-returns-in_err-start-in-Some
+read_extensible-returns-in_err-start-in-Some g t c =
+    rw (at_exit c.from_residual.result c.in_err-start-in-Some.field-0.0 c.from_residual.ensures.1, c.in-Sequence.is, c.in-Some.is, type_of-Sequence)
+    (extensible_stop (fields_of c.in-Sequence.root.items) (additions_of c.in-Some.field-0.items) _ _ _ (rw c.deref.ensures.value at c.in_err-start-in-Some.ensures))
+
+pub read_extensible-returns-in_err-added-in-Some : goal.read_extensible-returns-in_err-added-in-Some
+read_extensible-returns-in_err-added-in-Some g t c =
+    rw (at_exit c.from_residual-in_err-added-in-Some.result c.in_err-added-in-Some.field-0.0 c.from_residual-in_err-added-in-Some.ensures.1, c.in-Sequence.is, c.in-Some.is, type_of-Sequence)
+    (extensible_then (fields_of c.in-Sequence.root.items) (additions_of c.in-Some.field-0.items) _ _ _ (start_of c.in_ok-start-in-Some.start) (Err c.in_err-added-in-Some.field-0.0) (rw c.deref.ensures.value at c.in_ok-start-in-Some.ensures) (rw (c.in-Sequence.is, c.in-Some.is, type_of-Sequence) at c.in_err-added-in-Some.ensures))
+
+pub read_extensible-returns-in_ok-added-in-Some : goal.read_extensible-returns-in_ok-added-in-Some
+read_extensible-returns-in_ok-added-in-Some g t c =
+    rw (c.in-Sequence.is, c.in-Some.is, type_of-Sequence, value_of-Seq c.in_ok-start-in-Some.start.places c.in_ok-added-in-Some.added.known c.in_ok-added-in-Some.added.unknown)
+    (extensible_then (fields_of c.in-Sequence.root.items) (additions_of c.in-Some.field-0.items) _ _ _ (start_of c.in_ok-start-in-Some.start) (Ok (added_of c.in_ok-added-in-Some.added)) (rw c.deref.ensures.value at c.in_ok-start-in-Some.ensures) (rw (c.in-Sequence.is, c.in-Some.is, type_of-Sequence) at c.in_ok-added-in-Some.ensures))
+
+pub read_choice-returns-in_err-tag-in-Choice : goal.read_choice-returns-in_err-tag-in-Choice
+read_choice-returns-in_err-tag-in-Choice g t c =
+    rw (at_exit c.from_residual.result c.in_err-tag-in-Choice.field-0.0 c.from_residual.ensures.1, c.in-Choice.is, type_of-Choice, choice_with-is)
+    (choice_stop (has_marker c.in-Choice.additions) c.in-Choice.root.items (later_of (more_of c.in-Choice.additions)) _ _ _ c.in_err-tag-in-Choice.ensures.reads)
+
+pub read_choice-returns-in_err-found-in-Choice : goal.read_choice-returns-in_err-found-in-Choice
+read_choice-returns-in_err-found-in-Choice g t c =
+    rw (at_exit c.from_residual-in_err-found-in-Choice.result c.in_err-found-in-Choice.field-0.0 c.from_residual-in_err-found-in-Choice.ensures.1, c.in-Choice.is, type_of-Choice, choice_with-is)
+    (choice_refused (has_marker c.in-Choice.additions) c.in-Choice.root.items (later_of (more_of c.in-Choice.additions)) _ _ _ c.in_ok-tag-in-Choice.tag _ c.in_ok-tag-in-Choice.ensures.reads (rw c.deref.ensures.value at c.in_err-found-in-Choice.ensures))
+
+pub read_choice-returns-in-Some : goal.read_choice-returns-in-Some
+read_choice-returns-in-Some g t c =
+    rw (c.in-Choice.is, type_of-Choice, choice_with-is)
+    (choice_found (has_marker c.in-Choice.additions) c.in-Choice.root.items (later_of (more_of c.in-Choice.additions)) _ _ _ c.in_ok-tag-in-Choice.tag (value_of c.in-Some.value) c.in_ok-tag-in-Choice.ensures.reads (rw (c.deref.ensures.value, c.in-Some.is) at c.in_ok-found-in-Choice.ensures))
+
+pub read_choice-returns-in-None : goal.read_choice-returns-in-None
+read_choice-returns-in-None g t c =
+    rw (c.in-Choice.is, type_of-Choice, choice_with-is)
+    (choice_later (has_marker c.in-Choice.additions) c.in-Choice.root.items (later_of (more_of c.in-Choice.additions)) (more_of c.in-Choice.additions) _ _ _ _ c.in_ok-tag-in-Choice.tag _ refl c.in_ok-tag-in-Choice.ensures.reads (rw (c.deref.ensures.value, c.in-None.is) at c.in_ok-found-in-Choice.ensures)
+    (rw (c.in-Choice.is, type_of-Choice, choice_with-is) at c.read_later_alternative.ensures))

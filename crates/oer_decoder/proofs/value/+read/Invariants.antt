@@ -1,0 +1,41 @@
+use Rattle.std.proofs.Common.{◌≡◌, ◌-◌, ◌++◌, drop, map, option_map}
+use Rattle.oer_units.specs.Reader.{times}
+use Rattle.oer_units.specs.Reads.{Leads, state}
+use Rattle.oer_types.specs.AsnType.{no_alternatives}
+use Rattle.oer_types.specs.Reading.{read_additions, read_fields, read_value}
+use Rattle.oer_types.specs.ShapeView.{additions_of, fields_of, later_of, root_of, type_of}
+use Rattle.oer_types.specs.ValueView.{value_of}
+use Rattle.oer_decoder.specs.Choices.{found_in}
+use Rattle.oer_decoder.specs.Places.{put_all}
+use Rattle.oer_decoder.proofs.value.+read.Given as goal
+
+abbrev pub invariant-read_additions-loop-addition : goal.invariant-read_additions-loop-addition
+invariant-read_additions-loop-addition g l =
+    let now = state g.R.Source.remaining g.R.Source.failed in
+    Leads (read_additions (additions_of (drop l.addition-index l.additions)) l.left) (now l.w) (put_all (map (option_map value_of) l.places.items)) (read_additions (additions_of l.additions) l.bits) (now l.fn.w)
+
+abbrev pub invariant-read_elements-loop-i : goal.invariant-read_elements-loop-i
+invariant-read_elements-loop-i g l =
+    let now = state g.R.Source.remaining g.R.Source.failed in
+    Leads (times (l.count - l.i) (read_value (type_of l.item))) (now l.w) (λ w. map value_of l.values.items ++ w) (times l.count (read_value (type_of l.item))) (now l.fn.w)
+
+abbrev pub invariant-read_fields-loop-field : goal.invariant-read_fields-loop-field
+invariant-read_fields-loop-field g l =
+    let now = state g.R.Source.remaining g.R.Source.failed in
+    Leads (read_fields (fields_of (drop l.field-index l.fields)) l.left) (now l.w) (put_all (map (option_map value_of) l.places.items)) (read_fields (fields_of l.fields) l.bits) (now l.fn.w)
+
+abbrev pub invariant-read_alternative-loop-alternative : goal.invariant-read_alternative-loop-alternative
+invariant-read_alternative-loop-alternative g l =
+    let now = state g.R.Source.remaining g.R.Source.failed in
+    record {
+      same : found_in (root_of (drop l.alternative-index l.alternatives) no_alternatives) l.tag ≡ found_in (root_of l.alternatives no_alternatives) l.tag;
+      still : now l.w ≡ now l.fn.w;
+    }
+
+abbrev pub invariant-read_open_alternative-loop-alternative : goal.invariant-read_open_alternative-loop-alternative
+invariant-read_open_alternative-loop-alternative g l =
+    let now = state g.R.Source.remaining g.R.Source.failed in
+    record {
+      same : found_in (later_of (drop l.alternative-index l.alternatives)) l.tag ≡ found_in (later_of l.alternatives) l.tag;
+      still : now l.w ≡ now l.fn.w;
+    }

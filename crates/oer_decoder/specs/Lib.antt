@@ -1,0 +1,11 @@
+pub mod Numbers
+pub mod BitReading
+pub mod Places
+pub mod Choices
+pub mod Memory
+pub mod Starts
+pub mod Front
+pub mod Rewriting
+pub mod Headline
+pub mod MarksView
+pub mod Relaying

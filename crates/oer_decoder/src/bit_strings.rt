@@ -1,0 +1,237 @@
+//! Bits: BIT STRING and the presence bitmap of a SEQUENCE.
+ghost use Rattle.std.specs.Prelude.{◌≡◌, ◌≤◌, ◌<◌, ◌-◌, ◌+◌, ◌*◌, ◌^◌, ◌∷◌, [], ℕ, Bool, List, IfOk, None, length, drop, take, zero};
+ghost use Rattle.oer_units.specs.Reader.{group};
+ghost use Rattle.oer_units.specs.Reads.{Reads, bound_of, seen, state};
+ghost use Rattle.oer_types.specs.AsnType.{bit_string as bit_string_type};
+ghost use Rattle.oer_types.specs.Bits.{bit as the_bit, bits_of as the_bits, all_false, octets_for};
+ghost use Rattle.oer_types.specs.Reading.{read_bits, read_value};
+ghost use Rattle.oer_types.specs.ValueView.{value_of};
+ghost use Rattle.oer_decoder.specs.BitReading.{addition_map_at, fixed_bits_at, initial_octet_at, sized_octet_at, unused_fits, used};
+
+use oer_types::{Bits, Size, Value};
+use oer_units::{ReadFault, Source, Why, Window, length, octet, octets};
+use std::alloc::{AllocError, Global};
+
+/// A BIT STRING (X.696, 13). Bits past the last one may have any values.
+pub(crate) fn read_bit_string<R: Source>(
+    alloc: Global,
+    size: Size,
+    w: &mut Window<R>,
+) -> Result<Value, ReadFault>
+    ensures { Reads (read_value (bit_string_type size)) (state R.remaining R.failed w.old) (seen value_of result)
+        (state R.remaining R.failed w.new) }
+{
+    if let Some(count) = size.fixed() {
+        let bits = fixed_bits(alloc, count, w)?;
+        return Ok(Value::Bits(bits));
+    }
+    let bits = counted_bits(alloc, size, w)?;
+    Ok(Value::Bits(bits))
+}
+
+// As many bits, and any bits to the octet's end.
+fn fixed_bits<R: Source>(alloc: Global, count: u64, w: &mut Window<R>) -> Result<Bits, ReadFault>
+    ensures { Reads (fixed_bits_at count) (state R.remaining R.failed w.old) result
+        (state R.remaining R.failed w.new) }
+{
+    let octets = octets(alloc, w, octets_needed(count))?;
+    Ok(packed(octets, count))
+}
+
+// A length, the initial octet, and the bits.
+fn counted_bits<R: Source>(alloc: Global, size: Size, w: &mut Window<R>) -> Result<Bits, ReadFault>
+    ensures { Reads (read_bits None size) (state R.remaining R.failed w.old) result
+        (state R.remaining R.failed w.new) }
+{
+    let length = length(w)?;
+    let unused = sized_octet(size, length, w)?;
+    let octets = octets(alloc, w, length - 1)?;
+    Ok(packed(octets, bits_used(length, unused) as u64))
+}
+
+// The number of unused bits in the last of `length - 1` octets (X.696, 13.3).
+fn initial_octet<R: Source>(length: u64, w: &mut Window<R>) -> Result<u8, ReadFault>
+    ensures room { IfOk result (λ u. (1 ≤ length) × (u ≤ 7) × (u ≤ 8 * (length - 1))) }
+    ensures reads { Reads (initial_octet_at length) (state R.remaining R.failed w.old) result
+        (state R.remaining R.failed w.new) }
+{
+    if length == 0 {
+        return Err(w.fault(Why::BitUnused));
+    }
+    let unused = octet(w)?;
+    if !may_be_unused(unused, length) {
+        return Err(w.fault(Why::BitUnused));
+    }
+    Ok(unused)
+}
+
+// The number of unused bits, where the size allows as many bits as are used.
+fn sized_octet<R: Source>(size: Size, length: u64, w: &mut Window<R>) -> Result<u8, ReadFault>
+    ensures room { IfOk result (λ u. (1 ≤ length) × (u ≤ 7) × (u ≤ 8 * (length - 1)) × (8 * (length - 1) - u < 2 ^ 64)) }
+    ensures reads { Reads (sized_octet_at size length) (state R.remaining R.failed w.old) result
+        (state R.remaining R.failed w.new) }
+{
+    let unused = initial_octet(length, w)?;
+    let count = bits_used(length, unused);
+    if !size.allows(count) {
+        return Err(w.fault(Why::Size));
+    }
+    Ok(unused)
+}
+
+// How many bits are used where a length counts the initial octet.
+fn bits_used(length: u64, unused: u8) -> u128
+    requires some { 1 ≤ length }
+    requires room { unused ≤ 8 * (length - 1) }
+    ensures { result ≡ 8 * (length - 1) - unused }
+{
+    8 * u128::from(length - 1) - u128::from(unused)
+}
+
+// Whether so many bits may be unused where a length counts the initial octet.
+fn may_be_unused(unused: u8, length: u64) -> bool
+    ensures { result ≡ unused_fits length unused }
+{
+    unused <= 7 && (length >= 2 || unused == 0)
+}
+
+// The first `count` bits of the octets.
+fn packed(octets: Vec<u8>, count: u64) -> Bits
+    requires { length octets.items ≡ octets_for count }
+    ensures { result ≡ take count (the_bits octets.items) }
+{
+    match Bits::from_octets(octets, count) {
+        Ok(bits) => bits,
+        Err(_) => unreachable!(),
+    }
+}
+
+// How many octets hold so many bits.
+pub(crate) fn octets_needed(count: u64) -> u64
+    ensures { result ≡ octets_for count }
+{
+    if count % 8 == 0 {
+        count / 8
+    } else {
+        count / 8 + 1
+    }
+}
+
+/// The presence bitmap of the additions (X.696, 16.4), as far as additions are kept: up to place
+/// 65,535. It is a BIT STRING without size constraint, so more than 2^64 - 1 bits are refused as
+/// `Size`. A set bit past place 65,535 is refused as `UnknownAddition`.
+pub(crate) fn addition_map<R: Source>(
+    alloc: Global,
+    w: &mut Window<R>,
+) -> Result<Vec<bool>, ReadFault>
+    ensures few { IfOk result (λ v. length v.items ≤ 65536) }
+    ensures reads { Reads addition_map_at (state R.remaining R.failed w.old) (seen (λ v. v.items) result)
+        (state R.remaining R.failed w.new) }
+{
+    let length = length(w)?;
+    let unused = sized_octet(Size::any(), length, w)?;
+    let octets = octets(alloc, w, length - 1)?;
+    if !is_clear_past(&octets, unused) {
+        return Err(w.fault(Why::UnknownAddition));
+    }
+    let Ok(bits) = kept_bits(alloc, &octets, unused) else {
+        return Err(w.fault(Why::Memory));
+    };
+    Ok(bits)
+}
+
+// Whether no bit but the last `unused` ones is set from bit 65,536 on.
+fn is_clear_past(octets: &[u8], unused: u8) -> bool
+    requires { unused ≤ 7 }
+    ensures { result ≡ all_false (drop 65536 (used unused octets.now)) }
+{
+    if octets.len() <= 8192 {
+        return true;
+    }
+    is_clear(&octets[8192..], unused)
+}
+
+// Whether no bit but the last `unused` ones is set.
+fn is_clear(octets: &[u8], unused: u8) -> bool
+    requires { unused ≤ 7 }
+    ensures { result ≡ all_false (used unused octets.now) }
+{
+    match octets {
+        [first @ .., last] => {
+            let bits = bits_of_octet(*last);
+            are_zero(first) && are_false_from(&bits[..8 - usize::from(unused)], 0)
+        }
+        [] => true,
+    }
+}
+
+fn are_zero(octets: &[u8]) -> bool
+    ensures { result ≡ all_false (the_bits octets.now) }
+{
+    for octet in octets {
+        if *octet != 0 {
+            return false;
+        }
+    }
+    true
+}
+
+// The bits before bit 65,536, without the last `unused` ones.
+fn kept_bits(alloc: Global, octets: &[u8], unused: u8) -> Result<Vec<bool>, AllocError>
+    requires { unused ≤ 7 }
+    ensures { IfOk result (λ v. v.items ≡ take 65536 (used unused octets.now)) }
+{
+    if octets.len() > 8192 {
+        return bits_of(alloc, &octets[..8192]);
+    }
+    let mut bits = bits_of(alloc, octets)?;
+    let count = bits.len().saturating_sub(usize::from(unused));
+    bits.truncate(count);
+    Ok(bits)
+}
+
+// The bits of the octets, the most significant first.
+pub(crate) fn bits_of(alloc: Global, octets: &[u8]) -> Result<Vec<bool>, AllocError>
+    ensures { IfOk result (λ v. v.items ≡ the_bits octets.now) }
+{
+    let mut bits = Vec::new(alloc);
+    for octet in octets {
+        bits.extend_from_slice(&bits_of_octet(*octet))?;
+    }
+    Ok(bits)
+}
+
+pub(crate) fn bits_of_octet(x: u8) -> [bool; 8]
+    ensures { result ≡ the_bits (x ∷ []) }
+{
+    [
+        bit(x, 7),
+        bit(x, 6),
+        bit(x, 5),
+        bit(x, 4),
+        bit(x, 3),
+        bit(x, 2),
+        bit(x, 1),
+        bit(x, 0),
+    ]
+}
+
+// The bit of the octet; bit 7 is the most significant.
+fn bit(octet: u8, index: u8) -> bool
+    requires { index < 8 }
+    ensures { result ≡ the_bit octet index }
+{
+    (octet >> index) % 2 == 1
+}
+
+// Whether no bit from this one on is set.
+pub(crate) fn are_false_from(bits: &[bool], from: usize) -> bool
+    ensures { result ≡ all_false (drop from bits.now) }
+{
+    for i in from..bits.len() {
+        if bits[i] {
+            return false;
+        }
+    }
+    true
+}

@@ -1,0 +1,25 @@
+//! What the calls of this crate promise together. Each function does nothing; its contract is the
+//! law.
+
+ghost use Rattle.oer_decoder.specs.Headline.{Headline};
+ghost use Rattle.oer_decoder.specs.Relaying.{KeepsUnknown};
+
+use oer_types::laws;
+
+/// For every well-formed type: two values have equal canonical octets exactly where they are equal
+/// after defaults are filled in; [`read`](crate::read) accepts exactly the inputs that begin with
+/// a Basic-OER encoding within its limit, gives its one value and takes exactly its octets; and
+/// [`rewrite`](crate::rewrite) of an accepted encoding gives that value's canonical octets, which
+/// it leaves unchanged.
+pub fn headline()
+    ensures holds { Headline }
+{}
+
+/// Where an encoding is rewritten, the octets of parts that the type doesn't know stand unchanged,
+/// and at the same paths; but for those in a DEFAULT component that equals its default, which is
+/// left out.
+pub fn relaying()
+    ensures keeps { KeepsUnknown }
+{
+    laws::relaying();
+}

@@ -1,0 +1,17 @@
+//! Values are read from their Basic-OER encodings (X.696), and these are rewritten as canonical ones.
+#![tactic(auto)]
+
+mod bit_strings;
+mod fault;
+mod front;
+pub mod laws;
+mod numbers;
+mod parts;
+mod preamble;
+mod rewriting;
+mod strings;
+mod value;
+
+pub use fault::RewriteFault;
+pub use front::{read, read_with_length};
+pub use rewriting::rewrite;

@@ -1,0 +1,123 @@
+//! BOOLEAN, INTEGER and ENUMERATED, which take no memory.
+ghost use Rattle.std.specs.Prelude.{◌≡◌, ◌||◌, map};
+ghost use Rattle.oer_units.specs.Reads.{Reads, TakesNoMemory, seen, state};
+ghost use Rattle.oer_types.specs.AsnType.{boolean, enumerated as enumerated_type, integer as integer_type};
+ghost use Rattle.oer_types.specs.Constraints.{above, below, form_of, has_number, in_range};
+ghost use Rattle.oer_types.specs.Reading.{read_integer, read_value};
+ghost use Rattle.oer_types.specs.ShapeView.{named_number};
+ghost use Rattle.oer_types.specs.ValueView.{value_of};
+ghost use Rattle.oer_decoder.specs.Numbers.{number_in};
+ghost use Rattle.oer_types.specs.FormView.{form_seen};
+
+use oer_types::{Form, Item, Value};
+use oer_units::{
+    ReadFault, Source, Why, Window, enumerated, octet, signed_counted, signed_fixed,
+    unsigned_counted, unsigned_fixed,
+};
+
+/// A BOOLEAN (X.696, 9): every octet but `00` is TRUE.
+pub(crate) fn read_boolean<R: Source>(w: &mut Window<R>) -> Result<Value, ReadFault>
+    ensures memory { TakesNoMemory result }
+    ensures reads { Reads (read_value boolean) (state R.remaining R.failed w.old) (seen value_of result)
+        (state R.remaining R.failed w.new) }
+{
+    let octet = octet(w)?;
+    Ok(Value::Bool(octet != 0))
+}
+
+/// An INTEGER within the bounds (X.696, 10), in the form that they choose.
+pub(crate) fn read_integer<R: Source>(
+    low: Option<i128>,
+    high: Option<i128>,
+    w: &mut Window<R>,
+) -> Result<Value, ReadFault>
+    ensures memory { TakesNoMemory result }
+    ensures reads { Reads (read_value (integer_type low high)) (state R.remaining R.failed w.old) (seen value_of result)
+        (state R.remaining R.failed w.new) }
+{
+    let number = number(Form::of_bounds(low, high), w)?;
+    if !is_in_range(low, high, number) {
+        return Err(w.fault(Why::IntegerRange));
+    }
+    Ok(Value::Int(number))
+}
+
+// A number of this form.
+fn number<R: Source>(form: Form, w: &mut Window<R>) -> Result<i128, ReadFault>
+    ensures memory { TakesNoMemory result }
+    ensures reads { Reads (number_in (form_seen form)) (state R.remaining R.failed w.old) result
+        (state R.remaining R.failed w.new) }
+{
+    match form {
+        Form::UnsignedFixed(width) => {
+            let number = unsigned_fixed(w, width)?;
+            Ok(i128::from(number))
+        }
+        Form::SignedFixed(width) => {
+            let number = signed_fixed(w, width)?;
+            Ok(i128::from(number))
+        }
+        Form::UnsignedCounted => unsigned_counted(w),
+        Form::SignedCounted => signed_counted(w),
+    }
+}
+
+// Whether the number is within the bounds.
+fn is_in_range(low: Option<i128>, high: Option<i128>, number: i128) -> bool
+    ensures { result ≡ in_range low high number }
+{
+    is_above(low, number) && is_below(high, number)
+}
+
+fn is_above(low: Option<i128>, number: i128) -> bool
+    ensures { result ≡ above low number }
+{
+    match low {
+        Some(low) => low <= number,
+        None => true,
+    }
+}
+
+fn is_below(high: Option<i128>, number: i128) -> bool
+    ensures { result ≡ below high number }
+{
+    match high {
+        Some(high) => number <= high,
+        None => true,
+    }
+}
+
+/// An ENUMERATED (X.696, 11): the number of an item, or any where the type is extensible.
+pub(crate) fn read_enumerated<R: Source>(
+    items: &[Item],
+    extensible: bool,
+    w: &mut Window<R>,
+) -> Result<Value, ReadFault>
+    ensures memory { TakesNoMemory result }
+    ensures reads { Reads (read_value (enumerated_type (map named_number items.now) extensible))
+        (state R.remaining R.failed w.old) (seen value_of result) (state R.remaining R.failed w.new) }
+{
+    let number = enumerated(w)?;
+    if !is_known(items, extensible, number) {
+        return Err(w.fault(Why::UnknownEnum));
+    }
+    Ok(Value::Enum(number))
+}
+
+fn is_known(items: &[Item], extensible: bool, number: i64) -> bool
+    ensures { result ≡ (extensible || has_number (map named_number items.now) number) }
+{
+    extensible || is_listed(items, number)
+}
+
+// Whether an item has the number.
+fn is_listed(items: &[Item], number: i64) -> bool
+    ensures { result ≡ has_number (map named_number items.now) number }
+{
+    for item in items {
+        if item.number == number {
+            return true;
+        }
+    }
+    false
+}

@@ -1,0 +1,84 @@
+//! The preamble of a SEQUENCE.
+ghost use Rattle.std.specs.Prelude.{◌≡◌, ◌≤◌};
+ghost use Rattle.oer_units.specs.Reads.{Reads, seen, state};
+ghost use Rattle.oer_types.specs.Reading.{preamble as preamble_at};
+ghost use Rattle.oer_decoder.specs.MarksView.{bits_in};
+
+use crate::bit_strings::{are_false_from, bits_of, bits_of_octet, octets_needed};
+use oer_units::{ReadFault, Source, Why, Window, octets, octets_into};
+use std::alloc::Global;
+
+/// The bits of a preamble: the first so many of eight, without memory, or any number of them.
+#[derive(Drop)]
+pub(crate) enum Marks {
+    Few([bool; 8], usize),
+    Many(Vec<bool>),
+}
+
+impl Marks {
+    /// The bits.
+    pub(crate) fn as_slice(&self) -> &[bool]
+        ensures { result.now ≡ bits_in self.now }
+    {
+        match self {
+            Marks::Few(bits, count) => &bits[..(*count).min(8)],
+            Marks::Many(bits) => bits,
+        }
+    }
+}
+
+/// The preamble of a SEQUENCE (X.696, 16.2): so many bits, and zeros to the octet's end. Up to
+/// eight bits take no memory.
+pub(crate) fn preamble<R: Source>(
+    alloc: Global,
+    count: u64,
+    w: &mut Window<R>,
+) -> Result<Marks, ReadFault>
+    ensures { Reads (preamble_at count) (state R.remaining R.failed w.old) (seen bits_in result)
+        (state R.remaining R.failed w.new) }
+{
+    if count == 0 {
+        return Ok(Marks::Few([false; 8], 0));
+    }
+    if count <= 8 {
+        return short_preamble(count as usize, w);
+    }
+    long_preamble(alloc, count, w)
+}
+
+// A preamble of one octet.
+fn short_preamble<R: Source>(count: usize, w: &mut Window<R>) -> Result<Marks, ReadFault>
+    requires some { 1 ≤ count }
+    requires most { count ≤ 8 }
+    ensures { Reads (preamble_at count) (state R.remaining R.failed w.old) (seen bits_in result)
+        (state R.remaining R.failed w.new) }
+{
+    let mut octet = [0u8; 1];
+    octets_into(w, &mut octet)?;
+    let bits = bits_of_octet(octet[0]);
+    if !are_false_from(&bits, count) {
+        return Err(w.fault(Why::PreamblePadding));
+    }
+    Ok(Marks::Few(bits, count))
+}
+
+// A preamble of any number of octets.
+fn long_preamble<R: Source>(
+    alloc: Global,
+    count: u64,
+    w: &mut Window<R>,
+) -> Result<Marks, ReadFault>
+    ensures { Reads (preamble_at count) (state R.remaining R.failed w.old) (seen bits_in result)
+        (state R.remaining R.failed w.new) }
+{
+    let octets = octets(alloc, w, octets_needed(count))?;
+    let Ok(bits) = bits_of(alloc, &octets) else {
+        return Err(w.fault(Why::Memory));
+    };
+    let mut bits = bits;
+    if !are_false_from(&bits, count as usize) {
+        return Err(w.fault(Why::PreamblePadding));
+    }
+    bits.truncate(count as usize);
+    Ok(Marks::Many(bits))
+}

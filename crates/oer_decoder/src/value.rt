@@ -1,0 +1,411 @@
+//! How a value is read.
+ghost use Rattle.std.specs.Prelude.{◌≡◌, ◌≤◌, map, option_map, length};
+ghost use Rattle.oer_units.specs.Reader.{times};
+ghost use Rattle.oer_units.specs.Reading.{open_type};
+ghost use Rattle.oer_units.specs.Reads.{Reads, TakesNoMemory, seen, state};
+ghost use Rattle.oer_types.specs.AsnType.{no_alternatives, sequence, sequence_of};
+ghost use Rattle.oer_types.specs.Reading.{read_additions as additions_read, read_extension as extension_read, read_fields as fields_read, read_value};
+ghost use Rattle.oer_types.specs.ShapeView.{additions_of, fields_of, later_of, root_of, type_of};
+ghost use Rattle.oer_types.specs.ValueView.{places_of, value_of};
+ghost use Rattle.oer_decoder.specs.Choices.{found_in, later_in};
+ghost use Rattle.oer_decoder.specs.Memory.{NeedsNoMemory};
+ghost use Rattle.oer_decoder.specs.Places.{additions_in, place_by, root_at};
+ghost use Rattle.oer_decoder.specs.Starts.{added_of, start_of};
+
+use crate::bit_strings::{addition_map, read_bit_string};
+use crate::numbers::{read_boolean, read_enumerated, read_integer};
+use crate::parts::{absent_places, after, chosen, count, first, foreign, presence, read_unknown};
+use crate::preamble::preamble;
+use crate::strings::{read_object_id, read_octet_string, read_text, read_utf8};
+use oer_types::{
+    Addition, Alphabet, Alt, Field, Shape, Size, Unknown, Value, is_same_tag, optional,
+};
+use oer_units::{ReadFault, Source, Tag, Why, Window, length, tag};
+use std::alloc::Global;
+
+/// The root of a SEQUENCE with an extension marker, and the extension bit before it.
+#[derive(Drop)]
+pub(crate) struct Start {
+    pub is_extended: bool,
+    pub places: Vec<Option<Value>>,
+}
+
+/// The additions of a SEQUENCE: those that the type knows, and the others.
+#[derive(Drop)]
+pub(crate) struct Added {
+    pub known: Vec<Option<Value>>,
+    pub unknown: Vec<Unknown>,
+}
+
+/// A value of the type.
+#[cycle(read)]
+pub(crate) fn read_shape<R: Source>(
+    shape: &Shape,
+    alloc: Global,
+    w: &mut Window<R>,
+) -> Result<Value, ReadFault>
+    ensures memory { NeedsNoMemory (type_of shape.now) → TakesNoMemory result }
+    ensures reads { Reads (read_value (type_of shape.now)) (state R.remaining R.failed w.old) (seen value_of result)
+        (state R.remaining R.failed w.new) }
+{
+    match shape {
+        Shape::Boolean => read_boolean(w),
+        Shape::Null => Ok(Value::Null),
+        Shape::Integer { low, high } => read_integer(*low, *high, w),
+        Shape::Enumerated { items, extensible } => read_enumerated(items, *extensible, w),
+        Shape::BitString(size) => read_bit_string(alloc, *size, w),
+        Shape::OctetString(size) => read_octet_string(alloc, *size, w),
+        Shape::ObjectId => read_object_id(alloc, w),
+        Shape::Ia5(size) => read_text(alloc, Alphabet::Ia5, *size, w),
+        Shape::Visible(size) => read_text(alloc, Alphabet::Visible, *size, w),
+        Shape::Numeric(size) => read_text(alloc, Alphabet::Numeric, *size, w),
+        Shape::Printable(size) => read_text(alloc, Alphabet::Printable, *size, w),
+        Shape::Utf8(size) => read_utf8(alloc, *size, w),
+        Shape::SequenceOf { size, item } => read_items(item, alloc, *size, w),
+        Shape::Sequence { root, additions } => match additions {
+            None => read_sequence(root, alloc, w),
+            Some(_) => read_extensible(shape, alloc, w),
+        },
+        Shape::Choice { .. } => read_choice(shape, alloc, w),
+    }
+}
+
+/// A SEQUENCE with an extension marker (X.696, 16).
+#[cycle(read)]
+fn read_extensible<R: Source>(
+    shape: &Shape,
+    alloc: Global,
+    w: &mut Window<R>,
+) -> Result<Value, ReadFault>
+    ensures { Reads (read_value (type_of shape.now)) (state R.remaining R.failed w.old) (seen value_of result)
+        (state R.remaining R.failed w.new) }
+{
+    match shape {
+        Shape::Sequence { root, additions } => match additions {
+            Some(_) => {
+                let start = read_root(root, alloc, w)?;
+                let added = read_later(shape, alloc, start.is_extended, w)?;
+                Ok(Value::Seq {
+                    root: start.places,
+                    added: added.known,
+                    unknown: added.unknown,
+                })
+            }
+            // Not reached, nor the arm below: the caller has seen the marker.
+            None => Err(w.fault(Why::Memory)),
+        },
+        _ => Err(w.fault(Why::Memory)),
+    }
+}
+
+/// A CHOICE (X.696, 20).
+#[cycle(read)]
+fn read_choice<R: Source>(
+    shape: &Shape,
+    alloc: Global,
+    w: &mut Window<R>,
+) -> Result<Value, ReadFault>
+    ensures { Reads (read_value (type_of shape.now)) (state R.remaining R.failed w.old) (seen value_of result)
+        (state R.remaining R.failed w.new) }
+{
+    match shape {
+        Shape::Choice { root, additions: _ } => {
+            let tag = tag(w)?;
+            let found = read_alternative(root, alloc, tag, w)?;
+            match found {
+                Some(value) => Ok(value),
+                None => read_later_alternative(shape, alloc, tag, w),
+            }
+        }
+        // Not reached: the caller has seen a CHOICE.
+        _ => Err(w.fault(Why::Memory)),
+    }
+}
+
+/// A SEQUENCE OF (X.696, 17).
+#[cycle(read)]
+fn read_items<R: Source>(
+    item: &Shape,
+    alloc: Global,
+    size: Size,
+    w: &mut Window<R>,
+) -> Result<Value, ReadFault>
+    ensures { Reads (read_value (sequence_of size (type_of item.now))) (state R.remaining R.failed w.old) (seen value_of result)
+        (state R.remaining R.failed w.new) }
+{
+    let count = count(size, w)?;
+    let values = read_elements(item, alloc, count, w)?;
+    Ok(Value::List(values))
+}
+
+/// So many elements. Memory grows with those that came.
+#[cycle(read)]
+fn read_elements<R: Source>(
+    item: &Shape,
+    alloc: Global,
+    count: u64,
+    w: &mut Window<R>,
+) -> Result<Vec<Value>, ReadFault>
+    ensures { Reads (times count (read_value (type_of item.now))) (state R.remaining R.failed w.old)
+        (seen (λ v. map value_of v.items) result) (state R.remaining R.failed w.new) }
+{
+    let mut values = Vec::new(alloc);
+    for i in 0..count {
+        let value = read_shape(item, alloc, w)?;
+        if values.push(value).is_err() {
+            return Err(w.fault(Why::Memory));
+        }
+    }
+    Ok(values)
+}
+
+/// What an open type holds (X.696, 30), as a value of the type.
+#[cycle(read)]
+fn read_open<R: Source>(shape: &Shape, alloc: Global, w: &mut Window<R>) -> Result<Value, ReadFault>
+    ensures { Reads (open_type (read_value (type_of shape.now))) (state R.remaining R.failed w.old) (seen value_of result)
+        (state R.remaining R.failed w.new) }
+{
+    let size = length(w)?;
+    let outer = w.enter(size);
+    let value = read_shape(shape, alloc, w)?;
+    w.leave(outer)?;
+    Ok(value)
+}
+
+/// A component of the root, if it is there.
+#[cycle(read)]
+fn read_place<R: Source>(
+    shape: &Shape,
+    alloc: Global,
+    is_present: bool,
+    w: &mut Window<R>,
+) -> Result<Option<Value>, ReadFault>
+    ensures { Reads (place_by is_present (read_value (type_of shape.now))) (state R.remaining R.failed w.old)
+        (seen (option_map value_of) result) (state R.remaining R.failed w.new) }
+{
+    if !is_present {
+        return Ok(None);
+    }
+    let value = read_shape(shape, alloc, w)?;
+    Ok(Some(value))
+}
+
+/// An addition, if it is there.
+#[cycle(read)]
+fn read_open_place<R: Source>(
+    shape: &Shape,
+    alloc: Global,
+    is_present: bool,
+    w: &mut Window<R>,
+) -> Result<Option<Value>, ReadFault>
+    ensures { Reads (place_by is_present (open_type (read_value (type_of shape.now)))) (state R.remaining R.failed w.old)
+        (seen (option_map value_of) result) (state R.remaining R.failed w.new) }
+{
+    if !is_present {
+        return Ok(None);
+    }
+    let value = read_open(shape, alloc, w)?;
+    Ok(Some(value))
+}
+
+/// The components of a root, by their presence bits.
+#[cycle(read)]
+fn read_fields<R: Source>(
+    fields: &[Field],
+    alloc: Global,
+    bits: &[bool],
+    w: &mut Window<R>,
+) -> Result<Vec<Option<Value>>, ReadFault>
+    ensures { Reads (fields_read (fields_of fields.now) bits.now) (state R.remaining R.failed w.old)
+        (seen (λ v. places_of v.items) result) (state R.remaining R.failed w.new) }
+{
+    let mut places = Vec::new(alloc);
+    let mut left = bits;
+    for field in fields {
+        let (is_present, rest) = presence(&field.need, left);
+        left = rest;
+        let place = read_place(&field.shape, alloc, is_present, w)?;
+        if places.push(place).is_err() {
+            return Err(w.fault(Why::Memory));
+        }
+    }
+    Ok(places)
+}
+
+/// The additions that the type knows, by their presence bits.
+#[cycle(read)]
+fn read_additions<R: Source>(
+    additions: &[Addition],
+    alloc: Global,
+    bits: &[bool],
+    w: &mut Window<R>,
+) -> Result<Vec<Option<Value>>, ReadFault>
+    ensures { Reads (additions_read (additions_of additions.now) bits.now) (state R.remaining R.failed w.old)
+        (seen (λ v. places_of v.items) result) (state R.remaining R.failed w.new) }
+{
+    let mut places = Vec::new(alloc);
+    let mut left = bits;
+    for addition in additions {
+        let is_present = first(left);
+        let rest = after(left);
+        left = rest;
+        let place = read_open_place(&addition.shape, alloc, is_present, w)?;
+        if places.push(place).is_err() {
+            return Err(w.fault(Why::Memory));
+        }
+    }
+    Ok(places)
+}
+
+/// A SEQUENCE without an extension marker (X.696, 16).
+#[cycle(read)]
+fn read_sequence<R: Source>(
+    root: &[Field],
+    alloc: Global,
+    w: &mut Window<R>,
+) -> Result<Value, ReadFault>
+    ensures { Reads (read_value (sequence (fields_of root.now))) (state R.remaining R.failed w.old) (seen value_of result)
+        (state R.remaining R.failed w.new) }
+{
+    let bits = preamble(alloc, optional(root) as u64, w)?;
+    let root = read_fields(root, alloc, bits.as_slice(), w)?;
+    Ok(Value::Seq {
+        root,
+        added: Vec::new(alloc),
+        unknown: Vec::new(alloc),
+    })
+}
+
+/// The root of a SEQUENCE with an extension marker, after its preamble.
+#[cycle(read)]
+fn read_root<R: Source>(
+    root: &[Field],
+    alloc: Global,
+    w: &mut Window<R>,
+) -> Result<Start, ReadFault>
+    ensures { Reads (root_at (fields_of root.now)) (state R.remaining R.failed w.old) (seen start_of result)
+        (state R.remaining R.failed w.new) }
+{
+    let bits = preamble(alloc, optional(root) as u64 + 1, w)?;
+    let marks = bits.as_slice();
+    let is_extended = first(marks);
+    let places = read_fields(root, alloc, after(marks), w)?;
+    Ok(Start {
+        is_extended,
+        places,
+    })
+}
+
+/// The additions of a SEQUENCE with an extension marker.
+#[cycle(read)]
+fn read_later<R: Source>(
+    shape: &Shape,
+    alloc: Global,
+    is_extended: bool,
+    w: &mut Window<R>,
+) -> Result<Added, ReadFault>
+    ensures { Reads (extension_read is_extended (additions_in (type_of shape.now)) (additions_read (additions_in (type_of shape.now))))
+        (state R.remaining R.failed w.old) (seen added_of result) (state R.remaining R.failed w.new) }
+{
+    match shape {
+        Shape::Sequence { root: _, additions } => match additions {
+            Some(additions) => read_extension(additions, alloc, is_extended, w),
+            // Not reached, nor the arm below: the caller has seen the marker.
+            None => Err(w.fault(Why::Memory)),
+        },
+        _ => Err(w.fault(Why::Memory)),
+    }
+}
+
+/// The additions, of which there are none where the extension bit isn't set.
+#[cycle(read)]
+fn read_extension<R: Source>(
+    additions: &[Addition],
+    alloc: Global,
+    is_extended: bool,
+    w: &mut Window<R>,
+) -> Result<Added, ReadFault>
+    ensures { Reads (extension_read is_extended (additions_of additions.now) (additions_read (additions_of additions.now)))
+        (state R.remaining R.failed w.old) (seen added_of result) (state R.remaining R.failed w.new) }
+{
+    if !is_extended {
+        let Ok(known) = absent_places(alloc, additions) else {
+            return Err(w.fault(Why::Memory));
+        };
+        return Ok(Added {
+            known,
+            unknown: Vec::new(alloc),
+        });
+    }
+    let bits = addition_map(alloc, w)?;
+    let known = read_additions(additions, alloc, &bits, w)?;
+    let unknown = read_unknown(alloc, &bits, additions.len(), w)?;
+    Ok(Added { known, unknown })
+}
+
+/// The value of the alternative of the root that has the tag, if one has it.
+#[cycle(read)]
+fn read_alternative<R: Source>(
+    alternatives: &[Alt],
+    alloc: Global,
+    tag: Tag,
+    w: &mut Window<R>,
+) -> Result<Option<Value>, ReadFault>
+    ensures { Reads (found_in (root_of alternatives.now no_alternatives) tag) (state R.remaining R.failed w.old)
+        (seen (option_map value_of) result) (state R.remaining R.failed w.new) }
+{
+    for alternative in alternatives {
+        if is_same_tag(alternative.tag, tag) {
+            let value = read_shape(&alternative.shape, alloc, w)?;
+            return chosen(alloc, tag, value, w);
+        }
+    }
+    Ok(None)
+}
+
+/// The value of the alternative after the extension marker that has the tag, if one has it.
+#[cycle(read)]
+fn read_open_alternative<R: Source>(
+    alternatives: &[Alt],
+    alloc: Global,
+    tag: Tag,
+    w: &mut Window<R>,
+) -> Result<Option<Value>, ReadFault>
+    ensures { Reads (found_in (later_of alternatives.now) tag) (state R.remaining R.failed w.old)
+        (seen (option_map value_of) result) (state R.remaining R.failed w.new) }
+{
+    for alternative in alternatives {
+        if is_same_tag(alternative.tag, tag) {
+            let value = read_open(&alternative.shape, alloc, w)?;
+            return chosen(alloc, tag, value, w);
+        }
+    }
+    Ok(None)
+}
+
+/// What follows a tag that no alternative of the root has.
+#[cycle(read)]
+fn read_later_alternative<R: Source>(
+    shape: &Shape,
+    alloc: Global,
+    tag: Tag,
+    w: &mut Window<R>,
+) -> Result<Value, ReadFault>
+    ensures { Reads (later_in (type_of shape.now) tag) (state R.remaining R.failed w.old) (seen value_of result)
+        (state R.remaining R.failed w.new) }
+{
+    match shape {
+        Shape::Choice { root: _, additions } => match additions {
+            Some(additions) => {
+                let found = read_open_alternative(additions, alloc, tag, w)?;
+                match found {
+                    Some(value) => Ok(value),
+                    None => foreign(alloc, tag, w),
+                }
+            }
+            None => Err(w.fault(Why::UnknownAlternative)),
+        },
+        // Not reached: the caller has seen a CHOICE.
+        _ => Err(w.fault(Why::Memory)),
+    }
+}

@@ -1,0 +1,188 @@
+-- The turns of the loops over items, components, alternatives and arcs.
+use Rattle.std.proofs.Common.{◌≡◌, ℕ, zero, suc, ◌+◌, ◌-◌, ◌≤◌, ◌<◌, List, [], ◌∷◌, ◌++◌, length, drop, Bool, true, false, ◌==◌, Some, None, Ok, Err, refl, sym, ap, arith, sub-one}
+use Rattle.std.proofs.lemmas.Bool.Decides.{nat_tests}
+use Rattle.hex.specs.Hex.{decode_of}
+use Rattle.hex.specs.declared.error.FromHexError.{FromHexError}
+use Rattle.oer_lexer.specs.Token.{spots_of}
+use Rattle.oer_lexer.specs.declared.token.Spot.{Spot as RawSpot}
+use Rattle.oer_types.specs.AsnType.{AsnType, NamedNumber}
+use Rattle.oer_types.specs.ShapeView.{SeenAlternative}
+use Rattle.oer_lexer.specs.declared.token.Sign.TheVariants.{Comma}
+use Rattle.oer_notation.specs.Numbers.{number_at, arc_of}
+use Rattle.oer_notation.specs.Parsing.{entry_at, is_last, end_of, entries_more}
+use Rattle.oer_notation.specs.State.{State, Read, first, bump, at_sign}
+use Rattle.oer_notation.specs.Values.{ok_part, octets_in, is_number, arcs_more, octet_of, octets_more, text_step, text_after}
+use Rattle.oer_notation.specs.Reading.{Known, NamedItems, Components, with_marker, Choices, with_alternative, with_choice_marker, past_marker, item_at, items_more, component_at, components_more, alternative_at, alternatives_more}
+use Rattle.oer_notation.specs.declared.fault.TextFault.{TextFault}
+use Rattle.oer_notation.specs.declared.value.TextPlace.{TextPlace}
+
+pub items_err : (numbered : Bool) (n place : ℕ) (found : NamedItems) (s : State) (e : TextFault) → 0 < n → item_at numbered place s ≡ Err e → items_more numbered n place found s ≡ Err e
+unfolding items_more
+items_err numbered zero place found s e some h = absurd (omega arith)
+items_err numbered (suc n) place found s e some h = rw h refl
+
+pub items_step : (numbered : Bool) (n place : ℕ) (found : NamedItems) (s : State) (i : NamedNumber) (r : State) (seen : Bool) (r2 : State) → 0 < n → item_at numbered place s ≡ Ok (i, r) → past_marker found.1 r ≡ (seen, r2) → at_sign Comma r2 ≡ true
+    → items_more numbered n place found s ≡ items_more numbered (n - 1) (place + 1) (found.0 ++ i ∷ [], seen) (bump r2)
+unfolding items_more
+items_step numbered zero place found s i r seen r2 some h m c = absurd (omega arith)
+items_step numbered (suc n) place found s i r seen r2 some h m c = rw (h, m, c, sub-one) refl
+
+pub items_end : (numbered : Bool) (n place : ℕ) (found : NamedItems) (s : State) (i : NamedNumber) (r : State) (seen : Bool) (r2 : State) → 0 < n → item_at numbered place s ≡ Ok (i, r) → past_marker found.1 r ≡ (seen, r2) → at_sign Comma r2 ≡ false
+    → items_more numbered n place found s ≡ Ok ((found.0 ++ i ∷ [], seen), r2)
+unfolding items_more
+items_end numbered zero place found s i r seen r2 some h m c = absurd (omega arith)
+items_end numbered (suc n) place found s i r seen r2 some h m c = rw (h, m, c) refl
+
+pub items_over : (numbered : Bool) (n place : ℕ) (found : NamedItems) (s : State) → n ≤ 0 → items_more numbered n place found s ≡ Err s.stop
+unfolding items_more
+items_over numbered zero place found s none = refl
+items_over numbered (suc n) place found s none = absurd (omega arith)
+
+by_marker : (a : SeenAlternative) (c : Choices) (b : Bool) → c.extensible ≡ b → (with_alternative a c).extensible ≡ c.extensible
+by_marker a c true h = rw h refl
+by_marker a c false h = rw h refl
+
+module _ (type : State → Read AsnType) where
+  pub components_err : (n : ℕ) (found : Components) (s : State) (e : TextFault) → 0 < n → component_at type found s ≡ Err e → components_more type n found s ≡ Err e
+  unfolding components_more
+  components_err zero found s e some h = absurd (omega arith)
+  components_err (suc n) found s e some h = rw h refl
+
+  pub components_step : (n : ℕ) (found : Components) (s : State) (c : Components) (r : State) (seen : Bool) (r2 : State) → 0 < n → component_at type found s ≡ Ok (c, r) → past_marker c.extensible r ≡ (seen, r2) → at_sign Comma r2 ≡ true
+      → components_more type n found s ≡ components_more type (n - 1) (with_marker seen c) (bump r2)
+  unfolding components_more
+  components_step zero found s c r seen r2 some h m g = absurd (omega arith)
+  components_step (suc n) found s c r seen r2 some h m g = rw (h, m, g, sub-one) refl
+
+  pub components_end : (n : ℕ) (found : Components) (s : State) (c : Components) (r : State) (seen : Bool) (r2 : State) → 0 < n → component_at type found s ≡ Ok (c, r) → past_marker c.extensible r ≡ (seen, r2) → at_sign Comma r2 ≡ false
+      → components_more type n found s ≡ Ok (with_marker seen c, r2)
+  unfolding components_more
+  components_end zero found s c r seen r2 some h m g = absurd (omega arith)
+  components_end (suc n) found s c r seen r2 some h m g = rw (h, m, g) refl
+
+  pub components_over : (n : ℕ) (found : Components) (s : State) → n ≤ 0 → components_more type n found s ≡ Err s.stop
+  unfolding components_more
+  components_over zero found s none = refl
+  components_over (suc n) found s none = absurd (omega arith)
+
+  pub alternatives_err : (tagged : Bool) (n place : ℕ) (found : Choices) (s : State) (e : TextFault) → 0 < n → alternative_at type tagged place s ≡ Err e → alternatives_more type tagged n place found s ≡ Err e
+  unfolding alternatives_more
+  alternatives_err tagged zero place found s e some h = absurd (omega arith)
+  alternatives_err tagged (suc n) place found s e some h = rw h refl
+
+  pub alternatives_step : (tagged : Bool) (n place : ℕ) (found : Choices) (s : State) (a : SeenAlternative) (r : State) (seen : Bool) (r2 : State) → 0 < n → alternative_at type tagged place s ≡ Ok (a, r) → past_marker found.extensible r ≡ (seen, r2) → at_sign Comma r2 ≡ true
+      → alternatives_more type tagged n place found s ≡ alternatives_more type tagged (n - 1) (place + 1) (with_choice_marker seen (with_alternative a found)) (bump r2)
+  unfolding alternatives_more
+  alternatives_step tagged zero place found s a r seen r2 some h m g = absurd (omega arith)
+  alternatives_step tagged (suc n) place found s a r seen r2 some h m g = rw (h, m, g, sub-one) refl
+
+  pub alternatives_end : (tagged : Bool) (n place : ℕ) (found : Choices) (s : State) (a : SeenAlternative) (r : State) (seen : Bool) (r2 : State) → 0 < n → alternative_at type tagged place s ≡ Ok (a, r) → past_marker found.extensible r ≡ (seen, r2) → at_sign Comma r2 ≡ false
+      → alternatives_more type tagged n place found s ≡ Ok (with_choice_marker seen (with_alternative a found), r2)
+  unfolding alternatives_more
+  alternatives_end tagged zero place found s a r seen r2 some h m g = absurd (omega arith)
+  alternatives_end tagged (suc n) place found s a r seen r2 some h m g = rw (h, m, g) refl
+
+  pub alternatives_over : (tagged : Bool) (n place : ℕ) (found : Choices) (s : State) → n ≤ 0 → alternatives_more type tagged n place found s ≡ Err s.stop
+  unfolding alternatives_more
+  alternatives_over tagged zero place found s none = refl
+  alternatives_over tagged (suc n) place found s none = absurd (omega arith)
+
+pub same_marker : (a : SeenAlternative) (c : Choices) → (with_alternative a c).extensible ≡ c.extensible
+same_marker a c = by_marker a c c.extensible refl
+
+-- ---- octets of bits
+
+pub octets_done : (n : ℕ) (w : List ℕ) → length w ≤ 0 → octets_more n w ≡ []
+unfolding octets_more
+octets_done zero w h = refl
+octets_done (suc n) [] h = refl
+octets_done (suc n) (c ∷ cs) h = absurd (omega arith)
+
+pub octets_turn : (n : ℕ) (w : List ℕ) → 0 < n → (length w ≡ 0 → ⊥) → octets_more n w ≡ octet_of w ∷ octets_more (n - 1) (drop 8 w)
+unfolding octets_more
+octets_turn zero w some h = absurd (omega arith)
+octets_turn (suc n) [] some h = absurd (h refl)
+octets_turn (suc n) (c ∷ cs) some h = rw sub-one refl
+
+pub octets_over : (n : ℕ) (w : List ℕ) → n ≤ 0 → octets_more n w ≡ []
+unfolding octets_more
+octets_over zero w h = refl
+octets_over (suc n) w h = absurd (omega arith)
+
+-- ---- arcs
+
+pub arcs_end : (n : ℕ) (found : List ℕ) (s : State) → 0 < n → is_number (first s) ≡ false → arcs_more n found s ≡ Ok (found, s)
+unfolding arcs_more
+arcs_end zero found s some h = absurd (omega arith)
+arcs_end (suc n) found s some h = rw h refl
+
+pub arcs_err : (n : ℕ) (found : List ℕ) (s : State) (e : TextFault) → 0 < n → is_number (first s) ≡ true → number_at arc_of s ≡ Err e → arcs_more n found s ≡ Err e
+unfolding arcs_more
+arcs_err zero found s e some h a = absurd (omega arith)
+arcs_err (suc n) found s e some h a = rw (h, a) refl
+
+pub arcs_step : (n : ℕ) (found : List ℕ) (s : State) (a : ℕ) (r : State) → 0 < n → is_number (first s) ≡ true → number_at arc_of s ≡ Ok (a, r) → arcs_more n found s ≡ arcs_more (n - 1) (found ++ a ∷ []) r
+unfolding arcs_more
+arcs_step zero found s a r some h e = absurd (omega arith)
+arcs_step (suc n) found s a r some h e = rw (h, e, sub-one) refl
+
+pub arcs_over : (n : ℕ) (found : List ℕ) (s : State) → n ≤ 0 → arcs_more n found s ≡ Err s.stop
+unfolding arcs_more
+arcs_over zero found s h = refl
+arcs_over (suc n) found s h = absurd (omega arith)
+
+-- ---- definitions
+
+pub entries_err : (n : ℕ) (known : List Known) (s : State) (e : TextFault) → 0 < n → entry_at known s ≡ Err e → entries_more n known s ≡ Err e
+unfolding entries_more
+entries_err zero known s e some h = absurd (omega arith)
+entries_err (suc n) known s e some h = rw h refl
+
+pub entries_step : (n : ℕ) (known : List Known) (s : State) (k : Known) (r : State) → 0 < n → entry_at known s ≡ Ok (k, r) → is_last r.left ≡ false → entries_more n known s ≡ entries_more (n - 1) (known ++ k ∷ []) r
+unfolding entries_more
+entries_step zero known s k r some h l = absurd (omega arith)
+entries_step (suc n) known s k r some h l = rw (h, l, sub-one) refl
+
+pub entries_end : (n : ℕ) (known : List Known) (s : State) (k : Known) (r : State) (u : Unit {0}) → 0 < n → entry_at known s ≡ Ok (k, r) → is_last r.left ≡ true → end_of r ≡ Ok u → entries_more n known s ≡ Ok (known ++ k ∷ [])
+unfolding entries_more
+entries_end zero known s k r u some h l e = absurd (omega arith)
+entries_end (suc n) known s k r u some h l e = rw (h, l, e) refl
+
+pub entries_stop : (n : ℕ) (known : List Known) (s : State) (k : Known) (r : State) (f : TextFault) → 0 < n → entry_at known s ≡ Ok (k, r) → is_last r.left ≡ true → end_of r ≡ Err f → entries_more n known s ≡ Err f
+unfolding entries_more
+entries_stop zero known s k r f some h l e = absurd (omega arith)
+entries_stop (suc n) known s k r f some h l e = rw (h, l, e) refl
+
+pub entries_over : (n : ℕ) (known : List Known) (s : State) → n ≤ 0 → entries_more n known s ≡ Err s.stop
+unfolding entries_more
+entries_over zero known s h = refl
+entries_over (suc n) known s h = absurd (omega arith)
+
+-- ---- characters of a text
+
+pub text_push : (p : TextPlace × List ℕ) (xs : List ℕ) (c : ℕ) → text_after p (xs ++ c ∷ []) ≡ text_step (text_after p xs) c
+text_push p [] c = refl
+text_push p (x ∷ xs) c = text_push (text_step p x) xs c
+
+pub octets_given : (w xs : List ℕ) → decode_of w ≡ Ok xs → octets_in w ≡ Some xs
+unfolding octets_in
+octets_given w xs h = ap (λ r. ok_part r) h
+
+pub octets_none : (w : List ℕ) (e : FromHexError) → decode_of w ≡ Err e → octets_in w ≡ None
+unfolding octets_in
+octets_none w e h = ap (λ r. ok_part r) h
+
+pub spots_count : (ss : List RawSpot) → length (spots_of ss) ≡ length ss
+spots_count [] = refl
+spots_count (s ∷ ss) = ap suc (spots_count ss)
+
+pub no_zero : (m : ℕ) → suc m == 0 ≡ false
+no_zero m = grind (arith, nat_tests)
+
+pub last_spots : (ss : List RawSpot) → is_last (spots_of ss) ≡ (length ss == 0)
+last_spots [] = refl
+last_spots (s ∷ ss) = sym (no_zero (length ss))
+
+pub empty_of : (xs : List ℕ) → length xs ≡ 0 → xs ≡ []
+empty_of [] h = refl
+empty_of (x ∷ xs) h = absurd (omega arith)

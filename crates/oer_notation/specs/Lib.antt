@@ -1,0 +1,12 @@
+pub mod Grammar
+pub mod Laws
+pub mod Numbers
+pub mod Parsing
+pub mod Printer
+pub mod Printing
+pub mod Reading
+pub mod State
+pub mod Values
+pub mod Views
+pub mod Words
+pub mod Refusing

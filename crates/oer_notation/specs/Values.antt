@@ -1,0 +1,198 @@
+-- Values behind DEFAULT: what is read and what is left, or the first fault.
+use Rattle.std.specs.Prelude.{ℕ, zero, suc, ◌+◌, ◌*◌, ◌-◌, ◌%◌, ℤ, nat_lt, List, [], ◌∷◌, ◌++◌, length, take, drop, slice_index, ◌==◌, Bool, true, false, not, Option, Some, None, Result, Ok, Err, codes, if◌then◌else◌}
+use Rattle.std.specs.Str.{bytes_eq}
+use Rattle.std.specs.Char.{encode_utf8}
+use Rattle.std.specs.Str.{chars}
+use Rattle.hex.specs.Hex.{decode_of}
+use Rattle.oer_lexer.specs.Token.{Token, word, number, bits, digits, text, sign}
+use Rattle.oer_lexer.specs.declared.token.Sign.TheVariants.{OpenBrace, CloseBrace}
+use Rattle.oer_types.specs.AsnType.{Need, must, may, default, NamedNumber, AsnType, boolean, null, integer, enumerated, bit_string, octet_string, object_id, restricted_string, utf8_string, sequence, extensible_sequence, sequence_of, choice}
+use Rattle.oer_types.specs.AsnValue.{AsnValue, bool, nothing, int, enum, bit_list, octets, text as string, oid}
+use Rattle.oer_types.specs.Bits.{bits_of, octets_for}
+use Rattle.oer_notation.specs.Numbers.{bound_of, arc_of, number_at}
+use Rattle.oer_notation.specs.State.{State, Read, ◌>>=◌, first, fault, bump, at_word, same_sign, skip_sign}
+use Rattle.oer_notation.specs.Words.{is_id}
+use Rattle.oer_notation.specs.declared.fault.TextWhy.TheVariants as why
+use Rattle.oer_notation.specs.declared.value.TextPlace.{TextPlace}
+use Rattle.oer_notation.specs.declared.value.TextPlace.TheVariants as place
+use Rattle.oer_notation.specs.declared.value.ValueKind.{ValueKind}
+use Rattle.oer_notation.specs.declared.value.ValueKind.TheVariants as kind
+
+-- the notation that a type's values have
+abbrev pub kind_of : AsnType → ValueKind
+kind_of boolean = kind.Truth
+kind_of null = kind.Nothing
+kind_of (integer low high) = kind.Number
+kind_of (enumerated items extensible) = kind.Named
+kind_of (bit_string size) = kind.Bits
+kind_of (octet_string size) = kind.Octets
+kind_of object_id = kind.Arcs
+kind_of (restricted_string letters size) = kind.Text
+kind_of (utf8_string size) = kind.Text
+kind_of (sequence _) = kind.Constructed
+kind_of (extensible_sequence _ _) = kind.Constructed
+kind_of (sequence_of size T) = kind.Constructed
+kind_of (choice extensible more) = kind.Constructed
+
+abbrev pub kind_number : ValueKind → ℕ
+kind_number kind.Truth = 0
+kind_number kind.Nothing = 1
+kind_number kind.Number = 2
+kind_number kind.Named = 3
+kind_number kind.Bits = 4
+kind_number kind.Octets = 5
+kind_number kind.Arcs = 6
+kind_number kind.Text = 7
+kind_number kind.Constructed = 8
+
+abbrev pub is_kind : ValueKind → AsnType → Bool
+is_kind k T = kind_number k == kind_number (kind_of T)
+
+abbrev pub items_of : AsnType → List NamedNumber
+items_of boolean = []
+items_of null = []
+items_of (integer low high) = []
+items_of (enumerated items extensible) = items
+items_of (bit_string size) = []
+items_of (octet_string size) = []
+items_of object_id = []
+items_of (restricted_string letters size) = []
+items_of (utf8_string size) = []
+items_of (sequence _) = []
+items_of (extensible_sequence _ _) = []
+items_of (sequence_of size T) = []
+items_of (choice extensible more) = []
+
+-- the number of the first item with this name
+abbrev pub number_named : List NamedNumber → List ℕ → Option ℤ
+number_named [] w = None
+number_named (i ∷ is) w = if bytes_eq i.name w then Some i.number else number_named is w
+
+-- between the quotes
+abbrev pub inside : List ℕ → List ℕ
+inside w = take (length w - 3) (drop 1 w)
+
+abbrev pub ok_part : {A E : Type 0} → Result A E → Option A
+ok_part (Ok x) = Some x
+ok_part (Err e) = None
+
+-- the octets that pairs of hexadecimal digits stand for, if all have a pair
+unfoldable pub octets_in : List ℕ → Option (List ℕ)
+octets_in w = ok_part (decode_of w)
+
+-- the first bits of octets, if these are just as many as the bits need
+abbrev pub bits_from : Option (List ℕ) → ℕ → Option (List Bool)
+bits_from None n = None
+bits_from (Some xs) n = if length xs == octets_for n then Some (take n (bits_of xs)) else None
+
+-- a zero at the end of an odd number of digits
+abbrev pub paired : List ℕ → List ℕ
+paired w = if length w % 2 == 1 then w ++ 48 ∷ [] else w
+
+-- the bits of hexadecimal digits, four each; none where they are too many to be counted with 64 bits
+unfoldable pub digit_bits : List ℕ → Option (List Bool)
+digit_bits w = if nat_lt (length w) 4611686018427387904 then bits_from (octets_in (paired w)) (4 * length w) else None
+
+-- 1 for the digit 1
+abbrev pub one_at : List ℕ → ℕ → ℕ
+one_at w i = if slice_index w i == 49 then 1 else 0
+
+-- the octet of the first eight digits 0 and 1, with zeros for those that are missing
+unfoldable pub octet_of : List ℕ → ℕ
+octet_of w = 128 * one_at w 0 + 64 * one_at w 1 + 32 * one_at w 2 + 16 * one_at w 3 + 8 * one_at w 4 + 4 * one_at w 5 + 2 * one_at w 6 + one_at w 7
+
+abbrev pub is_empty : {A : Type 0} → List A → Bool
+is_empty [] = true
+is_empty (x ∷ xs) = false
+
+-- the octets of digits 0 and 1, eight each; the number bounds the turns, and the count of the digits is always enough
+unfoldable pub octets_more : ℕ → List ℕ → List ℕ
+octets_more zero w = []
+octets_more (suc n) w = if is_empty w then [] else octet_of w ∷ octets_more n (drop 8 w)
+
+-- the bits of digits 0 and 1
+unfoldable pub bits_in : List ℕ → Option (List Bool)
+bits_in w = bits_from (Some (octets_more (length w) w)) (length w)
+
+-- A quote that begins or ends a text, or is the first of two, is left out. The text so far, by the place that was reached.
+abbrev pub text_step : TextPlace × List ℕ → ℕ → TextPlace × List ℕ
+text_step (place.First, out) c = (place.Plain, out)
+text_step (place.Plain, out) c = if c == 34 then (place.Quoted, out) else (place.Plain, out ++ encode_utf8 c)
+text_step (place.Quoted, out) c = (place.Plain, out ++ encode_utf8 c)
+
+abbrev pub text_after : TextPlace × List ℕ → List ℕ → TextPlace × List ℕ
+text_after p [] = p
+text_after p (c ∷ cs) = text_after (text_step p c) cs
+
+-- what stands between the quotes of a text, each quote inside once
+unfoldable pub text_in : List ℕ → List ℕ
+text_in w = (text_after (place.First, []) (chars w)).1
+
+abbrev pub is_number : Option Token → Bool
+is_number None = false
+is_number (Some (word w)) = false
+is_number (Some (number w)) = true
+is_number (Some (bits w)) = false
+is_number (Some (digits w)) = false
+is_number (Some (text w)) = false
+is_number (Some (sign u)) = false
+
+-- arcs, after those found. The number bounds the turns; the count of the tokens is always enough.
+unfoldable pub arcs_more : ℕ → List ℕ → State → Read (List ℕ)
+arcs_more zero found s = Err s.stop
+arcs_more (suc n) found s = if is_number (first s) then (number_at arc_of s >>= λ a. arcs_more n (found ++ a.0 ∷ []) a.1) else Ok (found, s)
+
+-- two arcs or more and the closing brace
+unfoldable pub arcs_at : State → Read AsnValue
+arcs_at s = arcs_more (suc (length s.left)) [] s >>= λ r. if nat_lt 1 (length r.0) then (skip_sign CloseBrace r.1 >>= λ e. Ok (oid r.0, e.1)) else Err (fault why.Syntax r.1)
+
+-- the value, if the type has this kind of notation
+abbrev pub only_for : ValueKind → AsnType → AsnValue → State → Read AsnValue
+only_for k T v s = if is_kind k T then Ok (v, bump s) else Err (fault why.Default s)
+
+abbrev pub some_value : {A : Type 0} → (A → AsnValue) → Option A → State → Read AsnValue
+some_value make (Some x) s = Ok (make x, bump s)
+some_value make None s = Err (fault why.Default s)
+
+unfoldable pub word_value : AsnType → List ℕ → State → Read AsnValue
+word_value T w s =
+    if bytes_eq w (codes "TRUE") then only_for kind.Truth T (bool true) s
+    else if bytes_eq w (codes "FALSE") then only_for kind.Truth T (bool false) s
+    else if bytes_eq w (codes "NULL") then only_for kind.Nothing T nothing s
+    else if is_id w then some_value enum (number_named (items_of T) w) s
+    else Err (fault why.Syntax s)
+
+unfoldable pub number_value : AsnType → State → Read AsnValue
+number_value T s = if is_kind kind.Number T then (number_at bound_of s >>= λ n. Ok (int n.0, n.1)) else Err (fault why.Default s)
+
+unfoldable pub digits_value : AsnType → List ℕ → State → Read AsnValue
+digits_value T w s =
+    if is_kind kind.Octets T then some_value octets (octets_in (inside w)) s
+    else if is_kind kind.Bits T then some_value bit_list (digit_bits (inside w)) s
+    else Err (fault why.Default s)
+
+unfoldable pub bits_value : AsnType → List ℕ → State → Read AsnValue
+bits_value T w s = if is_kind kind.Bits T then some_value bit_list (bits_in (inside w)) s else Err (fault why.Default s)
+
+unfoldable pub sign_value : AsnType → Bool → State → Read AsnValue
+sign_value T brace s = if not brace then Err (fault why.Syntax s) else if is_kind kind.Arcs T then arcs_at (bump s) else Err (fault why.Default s)
+
+abbrev pub value_by : AsnType → Option Token → State → Read AsnValue
+value_by T None s = Err (fault why.Syntax s)
+value_by T (Some (word w)) s = word_value T w s
+value_by T (Some (number w)) s = number_value T s
+value_by T (Some (bits w)) s = bits_value T w s
+value_by T (Some (digits w)) s = digits_value T w s
+value_by T (Some (text w)) s = only_for kind.Text T (string (text_in w)) s
+value_by T (Some (sign u)) s = sign_value T (same_sign u OpenBrace) s
+
+-- a value of the type
+unfoldable pub value_at : AsnType → State → Read AsnValue
+value_at T s = value_by T (first s) s
+
+-- what makes a component of the type optional
+unfoldable pub need_at : AsnType → State → Read Need
+need_at T s =
+    if at_word (codes "OPTIONAL") s then Ok (may, bump s)
+    else if at_word (codes "DEFAULT") s then (value_at T (bump s) >>= λ v. Ok (default v.0, v.1))
+    else Ok (must, s)

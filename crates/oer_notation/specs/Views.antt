@@ -1,0 +1,32 @@
+-- What the types of the code stand for.
+use Rattle.std.specs.Prelude.{List, map, string_bytes}
+use Rattle.oer_types.specs.ShapeView.{named_number, seen_addition, seen_alternative, seen_field}
+use Rattle.oer_notation.specs.Reading.{Known, Start, nothing, of_word, of_name, NamedItems, Components, Choices}
+use Rattle.oer_types.specs.Schema.{the_type}
+use Rattle.oer_notation.specs.declared.parse.Definition.{Definition}
+use Rattle.oer_notation.specs.declared.types.Types.{Types}
+use Rattle.oer_notation.specs.declared.parse.Body as raw_body
+use Rattle.oer_notation.specs.declared.parse.Alternatives as raw_alternatives
+use Rattle.oer_notation.specs.declared.parse.Items as raw_items
+use Rattle.oer_notation.specs.declared.parse.Start as raw
+use Rattle.oer_notation.specs.declared.parse.Start.TheVariants.{Nothing, Word, Name}
+
+abbrev pub known : Definition → Known
+known d = record { name = string_bytes d.name; type = the_type d.schema }
+
+abbrev pub knowns : Types → List Known
+knowns t = map known t.definitions.items
+
+abbrev pub start_of : raw.Start → Start
+start_of Nothing = nothing
+start_of (Word k) = of_word k
+start_of (Name w) = of_name w.now
+
+abbrev pub named : raw_items.Items → NamedItems
+named i = (map named_number i.items.items, i.extensible)
+
+abbrev pub components : raw_body.Body → Components
+components b = record { root = map seen_field b.root.items; added = map seen_addition b.added.items; extensible = b.extensible }
+
+abbrev pub choices : raw_alternatives.Alternatives → Choices
+choices a = record { root = map seen_alternative a.root.items; added = map seen_alternative a.added.items; extensible = a.extensible }

@@ -1,0 +1,92 @@
+//! What is wrong with a text.
+ghost use Rattle.std.specs.Prelude.{◌≡◌};
+ghost use Rattle.oer_notation.specs.declared.fault.TextWhy.TheVariants.{Memory};
+ghost use Rattle.oer_notation.specs.declared.fault.PrintFault.TheVariants as print;
+
+use oer_types::SchemaFault;
+use std::alloc::{AllocError, AllocFailed};
+use thiserror::Error;
+
+/// Why a text is refused. The reasons are numbered from 1 in this order.
+#[derive(Clone, Copy, Debug, PartialEq, Eq, Error)]
+pub enum TextWhy {
+    /// A growth of memory was refused.
+    #[error("Memory")]
+    Memory,
+    /// No token begins here, or it has no end.
+    #[error("Token")]
+    Token,
+    /// A token that the grammar doesn't have here.
+    #[error("Syntax")]
+    Syntax,
+    /// A number out of range for its place: bounds and INTEGER defaults have 128 bits and a sign,
+    /// items 64 bits and a sign, sizes 64 bits, tags 32 bits, arcs 128 bits.
+    #[error("Number")]
+    Number,
+    /// A Name that no earlier definition has.
+    #[error("Name")]
+    Name,
+    /// A Name that is defined twice.
+    #[error("Repeated")]
+    Repeated,
+    /// Tags on some alternatives only, or numbers on some items only.
+    #[error("Mixed")]
+    Mixed,
+    /// A value that isn't in the notation of the component's type.
+    #[error("Default")]
+    Default,
+    /// The type isn't well-formed.
+    #[error("{0}")]
+    Schema(SchemaFault),
+}
+
+/// What is wrong with a text, and the byte at which the token or type begins that shows it; at the
+/// text's end it is the text's length.
+#[derive(Clone, Copy, Debug, PartialEq, Eq, Error)]
+#[error("{why} at {at}")]
+pub struct TextFault {
+    pub at: usize,
+    pub why: TextWhy,
+}
+
+/// Why a type has no text.
+#[derive(Clone, Copy, Debug, PartialEq, Eq, Error)]
+pub enum PrintFault {
+    /// A growth of memory was refused.
+    #[error("Memory")]
+    Memory,
+    /// A default is of constructed type, is an enumeration number that no item has, or is a text
+    /// with a character below U+0020.
+    #[error("NoNotation")]
+    NoNotation,
+}
+
+impl From<AllocError> for PrintFault {
+    ghost from_gives = { λ _ e. e ≡ print.Memory };
+
+    fn from(_: AllocError) -> PrintFault {
+        PrintFault::Memory
+    }
+}
+
+impl From<AllocError> for TextFault {
+    ghost from_gives = { λ _ e. e.why ≡ Memory };
+
+    fn from(_: AllocError) -> TextFault {
+        TextFault {
+            at: 0,
+            why: TextWhy::Memory,
+        }
+    }
+}
+
+impl<T: Drop> From<AllocFailed<T>> for TextFault {
+    ghost from_gives = { λ _ e. e.why ≡ Memory };
+
+    fn from(_: AllocFailed<T>) -> TextFault {
+        TextFault {
+            at: 0,
+            why: TextWhy::Memory,
+        }
+    }
+}

@@ -1,0 +1,37 @@
+//! What holds of the notation. Each function does nothing; its contract is the law.
+
+ghost use Rattle.oer_notation.specs.Laws.{ParseSound, ParseAllSound, ParseComplete, ParseAllComplete, ParseRefuses, ParseAllRefuses, OneType, PrintedIsRead};
+
+use oer_lexer::laws::{lex_complete, lex_sound};
+use oer_types::laws::{defaults_fit, first_fault};
+
+/// What is read of a text is a well-formed type that the text spells; and definitions that are read
+/// are those that the text spells, their types well-formed.
+pub fn sound()
+    ensures one { ParseSound }
+    ensures all { ParseAllSound }
+{
+    lex_sound();
+    first_fault();
+}
+
+/// A well-formed type that a text spells is read of it, and so are definitions whose types are
+/// well-formed: what is refused spells none. A text spells at most one well-formed type.
+pub fn complete()
+    ensures one { ParseComplete }
+    ensures all { ParseAllComplete }
+    ensures refused { ParseRefuses }
+    ensures all_refused { ParseAllRefuses }
+    ensures alone { OneType }
+{
+    lex_complete();
+    first_fault();
+}
+
+/// What is printed of a well-formed type is read as the same type.
+pub fn printing()
+    ensures { PrintedIsRead }
+{
+    complete();
+    defaults_fit();
+}

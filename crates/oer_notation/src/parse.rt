@@ -1,0 +1,642 @@
+//! From tokens to a type.
+ghost use Rattle.std.specs.Prelude.{◌≡◌, [], map, option_map, IfOk, Some, false};
+ghost use Rattle.oer_types.specs.Schema.{the_type};
+ghost use Rattle.oer_types.specs.ShapeView.{named_number, seen_addition, seen_alternative, seen_field, type_of};
+ghost use Rattle.oer_notation.specs.State.{Gives, state_of};
+ghost use Rattle.oer_notation.specs.Reading.{addition_at, alternative_at, alternatives_more, body_at, choice_at, choice_of_choices, class_at, component_at, components_more, field_at, find, is_start, item_at, item_number_at, items_at, items_more, list_at, missing_number, missing_tag, most, named_at, no_choices, numbered_at, past_marker, past_optional, sequence_at, sequence_of_components, simple_type, start_at, structure_at, tag_at, tagged_at, type_at, with_alternative, word_type};
+ghost use Rattle.oer_notation.specs.Views.{choices, components, known, named, start_of};
+
+use crate::cursor::Cursor;
+use crate::fault::{TextFault, TextWhy};
+use crate::number::{
+    read_bounds, read_bracketed_size, read_item_number, read_list_size, read_string_size,
+    read_tag_number,
+};
+use crate::value::read_need;
+use crate::word::{TypeWord, is_name, type_word};
+use oer_lexer::{Sign, Token};
+use oer_types::{
+    Addition, Alt, Field, Item, Schema, SchemaFault, Shape, is_within_depth, parts_left,
+};
+use oer_units::{Class, Tag};
+use std::alloc::{AllocFailed, Global};
+
+/// A Name and its type.
+#[derive(Drop)]
+pub struct Definition {
+    pub name: String,
+    pub schema: Schema,
+}
+
+/// With what a type begins.
+#[derive(Clone, Copy)]
+pub enum Start<'t> {
+    Nothing,
+    Word(TypeWord),
+    Name(&'t str),
+}
+
+/// The items of an enumeration, and whether there is an extension marker.
+#[derive(Drop)]
+pub struct Items {
+    pub items: Vec<Item>,
+    pub extensible: bool,
+}
+
+/// What stands in the braces of a SEQUENCE, and whether there is an extension marker.
+#[derive(Drop)]
+pub struct Body {
+    pub root: Vec<Field>,
+    pub added: Vec<Addition>,
+    pub extensible: bool,
+}
+
+/// The alternatives of a CHOICE, before the extension marker and behind it, and whether there is one.
+#[derive(Drop)]
+pub struct Alternatives {
+    pub root: Vec<Alt>,
+    pub added: Vec<Alt>,
+    pub extensible: bool,
+}
+
+/// With what the type at the next token begins.
+#[tactic(auto, unfolding(crate::specs::Reading::start_at))]
+fn begin<'t>(cursor: &Cursor<'_, 't>) -> Start<'t>
+    ensures { start_of result ≡ start_at (state_of cursor.now) }
+{
+    let Some(Token::Word(word)) = cursor.peek() else {
+        return Start::Nothing;
+    };
+    if let Some(found) = type_word(word) {
+        return Start::Word(found);
+    }
+    if is_name(word) {
+        return Start::Name(word);
+    }
+    Start::Nothing
+}
+
+fn is_at_start(cursor: &Cursor<'_, '_>) -> bool
+    ensures { result ≡ is_start (start_at (state_of cursor.now)) }
+{
+    match begin(cursor) {
+        Start::Nothing => false,
+        _ => true,
+    }
+}
+
+/// Whether the extension marker was seen before or stands behind a comma here; then it is taken.
+fn past_marker(cursor: &mut Cursor<'_, '_>, seen: bool) -> bool
+    ensures { past_marker seen (state_of cursor.old) ≡ (result, state_of cursor.new) }
+{
+    if seen || !cursor.is_at(Sign::Comma) || !cursor.is_before(Sign::Ellipsis) {
+        return seen;
+    }
+    cursor.bump();
+    cursor.bump();
+    true
+}
+
+/// Mixed where the other items have numbers and this one has none.
+fn missing_number(cursor: &Cursor<'_, '_>) -> TextFault
+    ensures { result ≡ missing_number (state_of cursor.now) }
+{
+    if cursor.is_at(Sign::Comma) || cursor.is_at(Sign::CloseBrace) {
+        return cursor.fault(TextWhy::Mixed);
+    }
+    cursor.fault(TextWhy::Syntax)
+}
+
+#[tactic(auto, unfolding(crate::specs::Reading::item_number_at))]
+fn read_number_in_brackets(cursor: &mut Cursor<'_, '_>) -> Result<i64, TextFault>
+    ensures { Gives (λ n. (n, state_of cursor.new)) result (item_number_at (state_of cursor.old)) }
+{
+    if !cursor.take(Sign::OpenParenthesis) {
+        return Err(missing_number(cursor));
+    }
+    let number = read_item_number(cursor)?;
+    cursor.expect(Sign::CloseParenthesis)?;
+    Ok(number)
+}
+
+#[tactic(auto, unfolding(crate::specs::Reading::numbered_at))]
+fn read_numbered(cursor: &mut Cursor<'_, '_>, numbered: bool, place: u16) -> Result<i64, TextFault>
+    ensures { Gives (λ n. (n, state_of cursor.new)) result (numbered_at numbered place (state_of cursor.old)) }
+{
+    if numbered {
+        return read_number_in_brackets(cursor);
+    }
+    if cursor.is_at(Sign::OpenParenthesis) {
+        return Err(cursor.fault(TextWhy::Mixed));
+    }
+    Ok(i64::from(place))
+}
+
+#[tactic(auto, unfolding(crate::specs::Reading::item_at))]
+fn read_item(
+    alloc: Global,
+    cursor: &mut Cursor<'_, '_>,
+    numbered: bool,
+    place: u16,
+) -> Result<Item, TextFault>
+    ensures { Gives (λ i. (named_number i, state_of cursor.new)) result (item_at numbered place (state_of cursor.old)) }
+{
+    let full = cursor.full();
+    let name = cursor.id()?;
+    cursor.part(full)?;
+    let number = read_numbered(cursor, numbered, place)?;
+    let name = String::from_str(alloc, name)?;
+    Ok(Item { name, number })
+}
+
+fn read_items(
+    alloc: Global,
+    cursor: &mut Cursor<'_, '_>,
+    numbered: bool,
+) -> Result<Items, TextFault>
+    ensures { Gives (λ i. (named i, state_of cursor.new)) result (items_more numbered most 0 ([], false) (state_of cursor.old)) }
+{
+    let mut found = Items {
+        items: Vec::new(alloc),
+        extensible: false,
+    };
+    'items: for place in 0..u16::MAX {
+        let item = read_item(alloc, cursor, numbered, place)?;
+        found.items.push(item)?;
+        found.extensible = past_marker(cursor, found.extensible);
+        if !cursor.take(Sign::Comma) {
+            return Ok(found);
+        }
+    }
+    Err(cursor.stop)
+}
+
+#[tactic(auto, unfolding(crate::specs::Reading::items_at))]
+fn read_enumerated(alloc: Global, cursor: &mut Cursor<'_, '_>) -> Result<Items, TextFault>
+    ensures { Gives (λ i. (named i, state_of cursor.new)) result (items_at (state_of cursor.old)) }
+{
+    cursor.expect(Sign::OpenBrace)?;
+    let numbered = cursor.is_before(Sign::OpenParenthesis);
+    let found = read_items(alloc, cursor, numbered)?;
+    cursor.expect(Sign::CloseBrace)?;
+    Ok(found)
+}
+
+/// The class word of a tag; without one the class is context.
+fn read_class(cursor: &mut Cursor<'_, '_>) -> Class
+    ensures { class_at (state_of cursor.old) ≡ (result, state_of cursor.new) }
+{
+    if cursor.take_word("UNIVERSAL") {
+        return Class::Universal;
+    }
+    if cursor.take_word("APPLICATION") {
+        return Class::Application;
+    }
+    if cursor.take_word("PRIVATE") {
+        return Class::Private;
+    }
+    Class::Context
+}
+
+/// A tag, behind its opening bracket.
+#[tactic(auto, unfolding(crate::specs::Reading::tag_at))]
+fn read_tag(cursor: &mut Cursor<'_, '_>) -> Result<Tag, TextFault>
+    ensures { Gives (λ t. (t, state_of cursor.new)) result (tag_at (state_of cursor.old)) }
+{
+    let class = read_class(cursor);
+    let number = read_tag_number(cursor)?;
+    cursor.expect(Sign::CloseBracket)?;
+    Ok(Tag { class, number })
+}
+
+/// Mixed where the other alternatives have tags and this one has none.
+fn missing_tag(cursor: &Cursor<'_, '_>) -> TextFault
+    ensures { result ≡ missing_tag (state_of cursor.now) }
+{
+    if is_at_start(cursor) {
+        return cursor.fault(TextWhy::Mixed);
+    }
+    cursor.fault(TextWhy::Syntax)
+}
+
+#[tactic(auto, unfolding(crate::specs::Reading::tagged_at))]
+fn read_tagged(cursor: &mut Cursor<'_, '_>, tagged: bool, place: u16) -> Result<Tag, TextFault>
+    ensures { Gives (λ t. (t, state_of cursor.new)) result (tagged_at tagged place (state_of cursor.old)) }
+{
+    if !tagged {
+        if cursor.is_at(Sign::OpenBracket) {
+            return Err(cursor.fault(TextWhy::Mixed));
+        }
+        return Ok(Tag {
+            class: Class::Context,
+            number: u32::from(place),
+        });
+    }
+    if !cursor.take(Sign::OpenBracket) {
+        return Err(missing_tag(cursor));
+    }
+    read_tag(cursor)
+}
+
+/// The type that a definition gave the Name.
+pub fn find<'d>(types: &'d [Definition], name: &str) -> Option<&'d Schema>
+    ensures { option_map (λ s. the_type s.now) result ≡ find (map known types.now) name.now }
+{
+    for definition in types {
+        if definition.name.as_str() == name {
+            return Some(&definition.schema);
+        }
+    }
+    None
+}
+
+/// The type that a definition gave a Name, as if it were written out.
+#[tactic(auto, unfolding(crate::specs::Reading::named_at))]
+fn read_named(
+    alloc: Global,
+    types: &[Definition],
+    cursor: &mut Cursor<'_, '_>,
+    levels: u8,
+    name: &str,
+) -> Result<Shape, TextFault>
+    ensures { Gives (λ s. (type_of s, state_of cursor.new)) result (named_at levels (find (map known types.now) name.now) (state_of cursor.old)) }
+{
+    let Some(schema) = find(types, name) else {
+        return Err(cursor.fault(TextWhy::Name));
+    };
+    read_known(alloc, schema.shape(), cursor, levels)
+}
+
+#[tactic(auto, using(crate::proofs::Definitions::named_none, crate::proofs::Definitions::named_deep, crate::proofs::Definitions::named_full, crate::proofs::Definitions::named_taken))]
+fn read_known(
+    alloc: Global,
+    shape: &Shape,
+    cursor: &mut Cursor<'_, '_>,
+    levels: u8,
+) -> Result<Shape, TextFault>
+    ensures { Gives (λ s. (type_of s, state_of cursor.new)) result (named_at levels (Some (type_of shape.now)) (state_of cursor.old)) }
+{
+    let deep = cursor.fault(TextWhy::Schema(SchemaFault::TooDeep));
+    if levels == 0 {
+        return Err(deep);
+    }
+    if !is_within_depth(shape, levels) {
+        return Err(deep);
+    }
+    let Some(left) = parts_left(shape, cursor.parts) else {
+        return Err(cursor.full());
+    };
+    let shape = shape.clone_in(alloc)?;
+    cursor.parts = left;
+    cursor.bump();
+    Ok(shape)
+}
+
+/// A type, in which so many levels of types may nest.
+#[cycle(types)]
+#[tactic(auto, unfolding(crate::specs::Reading::type_at))]
+pub fn read_type(
+    alloc: Global,
+    types: &[Definition],
+    cursor: &mut Cursor<'_, '_>,
+    levels: u8,
+) -> Result<Shape, TextFault>
+    ensures { Gives (λ s. (type_of s, state_of cursor.new)) result (type_at (map known types.now) levels (state_of cursor.old)) }
+{
+    match begin(cursor) {
+        Start::Nothing => Err(cursor.fault(TextWhy::Syntax)),
+        Start::Name(name) => read_named(alloc, types, cursor, levels, name),
+        Start::Word(word) => {
+            if levels == 0 {
+                return Err(cursor.fault(TextWhy::Schema(SchemaFault::TooDeep)));
+            }
+            let full = cursor.full();
+            cursor.part(full)?;
+            cursor.bump();
+            read_word_type(alloc, types, cursor, levels - 1, word)
+        }
+    }
+}
+
+/// What follows the word with which a type begins.
+#[cycle(types)]
+#[tactic(auto, unfolding(crate::specs::Reading::word_type))]
+fn read_word_type(
+    alloc: Global,
+    types: &[Definition],
+    cursor: &mut Cursor<'_, '_>,
+    levels: u8,
+    word: TypeWord,
+) -> Result<Shape, TextFault>
+    ensures { Gives (λ s. (type_of s, state_of cursor.new)) result (word_type (type_at (map known types.now) levels) word (state_of cursor.old)) }
+{
+    match word {
+        TypeWord::Sequence => read_sequence(alloc, types, cursor, levels),
+        TypeWord::Choice => read_choice(alloc, types, cursor, levels),
+        _ => read_simple(alloc, cursor, word),
+    }
+}
+
+/// A type without types in it.
+#[tactic(auto, unfolding(crate::specs::Reading::simple_type))]
+fn read_simple(
+    alloc: Global,
+    cursor: &mut Cursor<'_, '_>,
+    word: TypeWord,
+) -> Result<Shape, TextFault>
+    ensures { Gives (λ s. (type_of s, state_of cursor.new)) result (simple_type word (state_of cursor.old)) }
+{
+    match word {
+        TypeWord::Boolean => Ok(Shape::Boolean),
+        TypeWord::Null => Ok(Shape::Null),
+        TypeWord::Object => {
+            cursor.expect_word("IDENTIFIER")?;
+            Ok(Shape::ObjectId)
+        }
+        TypeWord::Integer => {
+            let bounds = read_bounds(cursor)?;
+            Ok(Shape::Integer {
+                low: bounds.low,
+                high: bounds.high,
+            })
+        }
+        TypeWord::Enumerated => {
+            let found = read_enumerated(alloc, cursor)?;
+            Ok(Shape::Enumerated {
+                items: found.items,
+                extensible: found.extensible,
+            })
+        }
+        TypeWord::Octet => Ok(Shape::OctetString(read_string_size(cursor)?)),
+        TypeWord::Bit => Ok(Shape::BitString(read_string_size(cursor)?)),
+        TypeWord::Ia5 => Ok(Shape::Ia5(read_bracketed_size(cursor)?)),
+        TypeWord::Visible => Ok(Shape::Visible(read_bracketed_size(cursor)?)),
+        TypeWord::Numeric => Ok(Shape::Numeric(read_bracketed_size(cursor)?)),
+        TypeWord::Printable => Ok(Shape::Printable(read_bracketed_size(cursor)?)),
+        TypeWord::Utf8 => Ok(Shape::Utf8(read_bracketed_size(cursor)?)),
+        TypeWord::Sequence | TypeWord::Choice => Err(cursor.stop),
+    }
+}
+
+#[cycle(types)]
+#[tactic(auto, unfolding(crate::specs::Reading::sequence_at))]
+fn read_sequence(
+    alloc: Global,
+    types: &[Definition],
+    cursor: &mut Cursor<'_, '_>,
+    levels: u8,
+) -> Result<Shape, TextFault>
+    ensures { Gives (λ s. (type_of s, state_of cursor.new)) result (sequence_at (type_at (map known types.now) levels) (state_of cursor.old)) }
+{
+    if cursor.take(Sign::OpenBrace) {
+        return read_structure(alloc, types, cursor, levels);
+    }
+    read_list(alloc, types, cursor, levels)
+}
+
+#[cycle(types)]
+#[tactic(auto, unfolding(crate::specs::Reading::list_at))]
+fn read_list(
+    alloc: Global,
+    types: &[Definition],
+    cursor: &mut Cursor<'_, '_>,
+    levels: u8,
+) -> Result<Shape, TextFault>
+    ensures { Gives (λ s. (type_of s, state_of cursor.new)) result (list_at (type_at (map known types.now) levels) (state_of cursor.old)) }
+{
+    let size = read_list_size(cursor)?;
+    cursor.expect_word("OF")?;
+    let item = read_type(alloc, types, cursor, levels)?;
+    Ok(Shape::SequenceOf {
+        size,
+        item: Box::new(alloc, item)?,
+    })
+}
+
+#[cycle(types)]
+#[tactic(auto, unfolding(crate::specs::Reading::structure_at))]
+fn read_structure(
+    alloc: Global,
+    types: &[Definition],
+    cursor: &mut Cursor<'_, '_>,
+    levels: u8,
+) -> Result<Shape, TextFault>
+    ensures { Gives (λ s. (type_of s, state_of cursor.new)) result (structure_at (type_at (map known types.now) levels) (state_of cursor.old)) }
+{
+    let body = read_body(alloc, types, cursor, levels)?;
+    cursor.expect(Sign::CloseBrace)?;
+    Ok(sequence(body))
+}
+
+fn sequence(body: Body) -> Shape
+    ensures { type_of result ≡ sequence_of_components (components body) }
+{
+    if body.extensible {
+        return Shape::Sequence {
+            root: body.root,
+            additions: Some(body.added),
+        };
+    }
+    Shape::Sequence {
+        root: body.root,
+        additions: None,
+    }
+}
+
+#[cycle(types)]
+#[tactic(auto, unfolding(crate::specs::Reading::body_at))]
+fn read_body(
+    alloc: Global,
+    types: &[Definition],
+    cursor: &mut Cursor<'_, '_>,
+    levels: u8,
+) -> Result<Body, TextFault>
+    ensures { Gives (λ b. (components b, state_of cursor.new)) result (body_at (type_at (map known types.now) levels) (state_of cursor.old)) }
+{
+    let mut body = Body {
+        root: Vec::new(alloc),
+        added: Vec::new(alloc),
+        extensible: false,
+    };
+    if cursor.is_at(Sign::CloseBrace) {
+        return Ok(body);
+    }
+    if !cursor.take(Sign::Ellipsis) {
+        return read_components(alloc, types, cursor, levels, body);
+    }
+    body.extensible = true;
+    if !cursor.take(Sign::Comma) {
+        return Ok(body);
+    }
+    read_components(alloc, types, cursor, levels, body)
+}
+
+#[cycle(types)]
+fn read_components(
+    alloc: Global,
+    types: &[Definition],
+    cursor: &mut Cursor<'_, '_>,
+    levels: u8,
+    before: Body,
+) -> Result<Body, TextFault>
+    ensures { Gives (λ b. (components b, state_of cursor.new)) result (components_more (type_at (map known types.now) levels) most (components before) (state_of cursor.old)) }
+{
+    let mut body = before;
+    'components: for turn in 0..u16::MAX {
+        body = read_component(alloc, types, cursor, levels, body)?;
+        body.extensible = past_marker(cursor, body.extensible);
+        if !cursor.take(Sign::Comma) {
+            return Ok(body);
+        }
+    }
+    Err(cursor.stop)
+}
+
+/// A component, or behind the extension marker an addition, beside those before it.
+#[cycle(types)]
+#[tactic(auto, unfolding(crate::specs::Reading::component_at))]
+fn read_component(
+    alloc: Global,
+    types: &[Definition],
+    cursor: &mut Cursor<'_, '_>,
+    levels: u8,
+    before: Body,
+) -> Result<Body, TextFault>
+    ensures { Gives (λ b. (components b, state_of cursor.new)) result (component_at (type_at (map known types.now) levels) (components before) (state_of cursor.old)) }
+{
+    let mut body = before;
+    if body.extensible {
+        let addition = read_addition(alloc, types, cursor, levels)?;
+        body.added.push(addition)?;
+        return Ok(body);
+    }
+    let field = read_field(alloc, types, cursor, levels)?;
+    body.root.push(field)?;
+    Ok(body)
+}
+
+#[cycle(types)]
+#[tactic(auto, unfolding(crate::specs::Reading::field_at))]
+fn read_field(
+    alloc: Global,
+    types: &[Definition],
+    cursor: &mut Cursor<'_, '_>,
+    levels: u8,
+) -> Result<Field, TextFault>
+    ensures { Gives (λ f. (seen_field f, state_of cursor.new)) result (field_at (type_at (map known types.now) levels) (state_of cursor.old)) }
+{
+    let name = cursor.id()?;
+    let shape = read_type(alloc, types, cursor, levels)?;
+    let need = read_need(alloc, cursor, &shape)?;
+    let name = String::from_str(alloc, name)?;
+    Ok(Field { name, shape, need })
+}
+
+#[cycle(types)]
+#[tactic(auto, unfolding(crate::specs::Reading::addition_at))]
+fn read_addition(
+    alloc: Global,
+    types: &[Definition],
+    cursor: &mut Cursor<'_, '_>,
+    levels: u8,
+) -> Result<Addition, TextFault>
+    ensures { Gives (λ a. (seen_addition a, state_of cursor.new)) result (addition_at (type_at (map known types.now) levels) (state_of cursor.old)) }
+{
+    let name = cursor.id()?;
+    let shape = read_type(alloc, types, cursor, levels)?;
+    let _ = cursor.take_word("OPTIONAL");
+    let name = String::from_str(alloc, name)?;
+    Ok(Addition { name, shape })
+}
+
+#[cycle(types)]
+#[tactic(auto, unfolding(crate::specs::Reading::choice_at))]
+fn read_choice(
+    alloc: Global,
+    types: &[Definition],
+    cursor: &mut Cursor<'_, '_>,
+    levels: u8,
+) -> Result<Shape, TextFault>
+    ensures { Gives (λ s. (type_of s, state_of cursor.new)) result (choice_at (type_at (map known types.now) levels) (state_of cursor.old)) }
+{
+    cursor.expect(Sign::OpenBrace)?;
+    let tagged = cursor.is_before(Sign::OpenBracket);
+    let found = read_alternatives(alloc, types, cursor, levels, tagged)?;
+    cursor.expect(Sign::CloseBrace)?;
+    Ok(choice(found))
+}
+
+fn choice(found: Alternatives) -> Shape
+    ensures { type_of result ≡ choice_of_choices (choices found) }
+{
+    if found.extensible {
+        return Shape::Choice {
+            root: found.root,
+            additions: Some(found.added),
+        };
+    }
+    Shape::Choice {
+        root: found.root,
+        additions: None,
+    }
+}
+
+#[cycle(types)]
+fn read_alternatives(
+    alloc: Global,
+    types: &[Definition],
+    cursor: &mut Cursor<'_, '_>,
+    levels: u8,
+    tagged: bool,
+) -> Result<Alternatives, TextFault>
+    ensures { Gives (λ a. (choices a, state_of cursor.new)) result (alternatives_more (type_at (map known types.now) levels) tagged most 0 no_choices (state_of cursor.old)) }
+{
+    let mut found = Alternatives {
+        root: Vec::new(alloc),
+        added: Vec::new(alloc),
+        extensible: false,
+    };
+    'alternatives: for place in 0..u16::MAX {
+        let alternative = read_alternative(alloc, types, cursor, levels, tagged, place)?;
+        found = with_alternative(found, alternative)?;
+        found.extensible = past_marker(cursor, found.extensible);
+        if !cursor.take(Sign::Comma) {
+            return Ok(found);
+        }
+    }
+    Err(cursor.stop)
+}
+
+fn with_alternative(
+    before: Alternatives,
+    alternative: Alt,
+) -> Result<Alternatives, AllocFailed<Alt>>
+    ensures { IfOk result (λ a. choices a ≡ with_alternative (seen_alternative alternative) (choices before)) }
+{
+    let mut found = before;
+    if found.extensible {
+        found.added.push(alternative)?;
+        return Ok(found);
+    }
+    found.root.push(alternative)?;
+    Ok(found)
+}
+
+#[cycle(types)]
+#[tactic(auto, unfolding(crate::specs::Reading::alternative_at))]
+fn read_alternative(
+    alloc: Global,
+    types: &[Definition],
+    cursor: &mut Cursor<'_, '_>,
+    levels: u8,
+    tagged: bool,
+    place: u16,
+) -> Result<Alt, TextFault>
+    ensures { Gives (λ a. (seen_alternative a, state_of cursor.new)) result (alternative_at (type_at (map known types.now) levels) tagged place (state_of cursor.old)) }
+{
+    let name = cursor.id()?;
+    let tag = read_tagged(cursor, tagged, place)?;
+    let shape = read_type(alloc, types, cursor, levels)?;
+    let name = String::from_str(alloc, name)?;
+    Ok(Alt { name, tag, shape })
+}

@@ -1,0 +1,195 @@
+//! From a text to its type, or to its definitions.
+ghost use Rattle.std.specs.Prelude.{◌≡◌, [], IfErr, IfOk, MatchOption, length, map, option_map, suc};
+ghost use Rattle.oer_lexer.specs.Lexing.{lex};
+ghost use Rattle.oer_lexer.specs.Token.{spots_of};
+ghost use Rattle.oer_types.specs.Schema.{the_type};
+ghost use Rattle.oer_notation.specs.Grammar.{IsDefined, IsNew, Spells, SpellsAll};
+ghost use Rattle.oer_notation.specs.Refusing.{AreNoTypes, IsNoType};
+ghost use Rattle.oer_notation.specs.State.{Gives, state_of};
+ghost use Rattle.oer_notation.specs.Reading.{find};
+ghost use Rattle.oer_notation.specs.Parsing.{definition_at, end_of, entries_more, entry_at, name_at, parse, parse_all, start};
+ghost use Rattle.oer_notation.specs.Views.{known, knowns};
+
+use crate::cursor::Cursor;
+use crate::fault::{TextFault, TextWhy};
+use crate::laws::{complete, sound};
+use crate::parse::{Definition, find, read_type};
+use crate::word::is_name;
+use oer_lexer::{Sign, Token, Tokens, lex};
+use oer_types::Schema;
+use oer_types::laws::first_fault;
+use std::alloc::Global;
+
+/// How deep types may nest.
+const MAX_DEPTH: u8 = 32;
+
+/// How many parts a type may have.
+const MAX_PARTS: u16 = 4096;
+
+/// Types by their Names.
+#[derive(Drop)]
+pub struct Types {
+    definitions: Vec<Definition>,
+}
+
+impl Types {
+    /// The type that the Name was given, or `None` where the Name isn't defined.
+    pub fn get(&self, name: &str) -> Option<&Schema>
+        ensures found { option_map (λ s. the_type s.now) result ≡ find (knowns self.now) name.now }
+        ensures defined { MatchOption result (IsNew name.now (knowns self.now)) (λ s. IsDefined name.now (the_type s.now) (knowns self.now)) }
+    {
+        find(&self.definitions, name)
+    }
+}
+
+/// The type that the text spells (NOTATION.md): one type, in which no Name may stand. Of a text that
+/// is refused the fault is the first one from the left, with the byte where it stands; or Memory.
+pub fn parse_type(alloc: Global, text: &str) -> Result<Schema, TextFault>
+    ensures exact { Gives the_type result (parse text.now) }
+    ensures spells { IfOk result (λ schema. Spells (the_type schema) text.now) }
+    ensures refused { IfErr result (λ fault. IsNoType fault text.now) }
+{
+    sound();
+    complete();
+    read_text(alloc, text)
+}
+
+/// The definitions that the text spells (NOTATION.md): one or more `Name ::= type`, in which earlier
+/// Names may stand for their types. The fault is the first one from the left, or Memory.
+pub fn parse_types(alloc: Global, text: &str) -> Result<Types, TextFault>
+    ensures exact { Gives knowns result (parse_all text.now) }
+    ensures spells { IfOk result (λ types. SpellsAll (knowns types) text.now) }
+    ensures refused { IfErr result (λ fault. AreNoTypes fault text.now) }
+{
+    sound();
+    complete();
+    read_definitions(alloc, text)
+}
+
+/// The type of a text.
+#[tactic(auto, unfolding(crate::specs::Parsing::parse))]
+fn read_text(alloc: Global, text: &str) -> Result<Schema, TextFault>
+    ensures { Gives the_type result (parse text.now) }
+{
+    let tokens = lex(alloc, text)?;
+    let mut cursor = first(&tokens);
+    let schema = read_definition(alloc, &[], &mut cursor)?;
+    expect_end(&cursor)?;
+    Ok(schema)
+}
+
+/// The definitions of a text.
+#[tactic(auto, unfolding(crate::specs::Parsing::parse_all))]
+fn read_definitions(alloc: Global, text: &str) -> Result<Types, TextFault>
+    ensures { Gives knowns result (parse_all text.now) }
+{
+    let tokens = lex(alloc, text)?;
+    let mut cursor = first(&tokens);
+    read_entries(alloc, &mut cursor)
+}
+
+/// Before the first token.
+fn first<'s, 't>(tokens: &'s Tokens<'t>) -> Cursor<'s, 't>
+    ensures { state_of result ≡ start (record { spots = spots_of tokens.now.spots.items; end = tokens.now.end; complete = tokens.now.complete }) }
+{
+    let why = if tokens.complete {
+        TextWhy::Syntax
+    } else {
+        TextWhy::Token
+    };
+    Cursor {
+        spots: tokens.spots.as_slice(),
+        parts: MAX_PARTS,
+        stop: TextFault {
+            at: tokens.end,
+            why,
+        },
+    }
+}
+
+/// Whether the text ends here.
+fn expect_end(cursor: &Cursor<'_, '_>) -> Result<(), TextFault>
+    ensures { Gives (λ x. x) result (end_of (state_of cursor.now)) }
+{
+    if cursor.peek().is_some() {
+        return Err(cursor.fault(TextWhy::Syntax));
+    }
+    match cursor.stop.why {
+        TextWhy::Syntax => Ok(()),
+        _ => Err(cursor.stop),
+    }
+}
+
+/// A well-formed type.
+#[tactic(auto, unfolding(crate::specs::Parsing::definition_at))]
+fn read_definition(
+    alloc: Global,
+    types: &[Definition],
+    cursor: &mut Cursor<'_, '_>,
+) -> Result<Schema, TextFault>
+    ensures { Gives (λ s. (the_type s, state_of cursor.new)) result (definition_at (map known types.now) (state_of cursor.old)) }
+{
+    let at = cursor.fault(TextWhy::Syntax).at;
+    cursor.parts = MAX_PARTS;
+    let shape = read_type(alloc, types, cursor, MAX_DEPTH)?;
+    // The law that the fault found is the one that `Schema::new` names.
+    first_fault();
+    match Schema::new(shape) {
+        Ok(schema) => Ok(schema),
+        Err((fault, _)) => Err(TextFault {
+            at,
+            why: TextWhy::Schema(fault),
+        }),
+    }
+}
+
+/// A Name that isn't defined yet.
+#[tactic(auto, unfolding(crate::specs::Parsing::name_at))]
+fn read_new_name<'t>(
+    types: &[Definition],
+    cursor: &mut Cursor<'_, 't>,
+) -> Result<&'t str, TextFault>
+    ensures { Gives (λ w. (w.now, state_of cursor.new)) result (name_at (map known types.now) (state_of cursor.old)) }
+{
+    let Some(Token::Word(name)) = cursor.peek() else {
+        return Err(cursor.fault(TextWhy::Syntax));
+    };
+    if !is_name(name) {
+        return Err(cursor.fault(TextWhy::Syntax));
+    }
+    if find(types, name).is_some() {
+        return Err(cursor.fault(TextWhy::Repeated));
+    }
+    cursor.bump();
+    Ok(name)
+}
+
+#[tactic(auto, unfolding(crate::specs::Parsing::entry_at))]
+fn read_entry(
+    alloc: Global,
+    types: &[Definition],
+    cursor: &mut Cursor<'_, '_>,
+) -> Result<Definition, TextFault>
+    ensures { Gives (λ d. (known d, state_of cursor.new)) result (entry_at (map known types.now) (state_of cursor.old)) }
+{
+    let name = read_new_name(types, cursor)?;
+    cursor.expect(Sign::Assign)?;
+    let schema = read_definition(alloc, types, cursor)?;
+    let name = String::from_str(alloc, name)?;
+    Ok(Definition { name, schema })
+}
+
+fn read_entries(alloc: Global, cursor: &mut Cursor<'_, '_>) -> Result<Types, TextFault>
+    ensures { Gives knowns result (entries_more (suc (length (state_of cursor.old).left)) [] (state_of cursor.old)) }
+{
+    let mut definitions = Vec::new(alloc);
+    'entries: for turn in 0..cursor.spots.len() + 1 {
+        let entry = read_entry(alloc, &definitions, cursor)?;
+        definitions.push(entry)?;
+        if cursor.spots.is_empty() {
+            expect_end(cursor)?;
+            return Ok(Types { definitions });
+        }
+    }
+    Err(cursor.stop)
+}

@@ -1,6 +1,0 @@
-use Rattle.std.proofs.Common.{◌≡◌, drop}
-use Rattle.oer_types.specs.Bits.{all_false, bits_of}
-use Rattle.oer_reader.proofs.bit_strings.are_zero.Given as goal
-
-abbrev pub invariant-loop-octet : goal.invariant-loop-octet
-invariant-loop-octet l = all_false (bits_of (drop l.octet-index l.octets)) ≡ all_false (bits_of l.octets)

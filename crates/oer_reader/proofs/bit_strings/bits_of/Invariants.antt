@@ -1,6 +1,0 @@
-use Rattle.std.proofs.Common.{◌≡◌, ◌++◌, drop}
-use Rattle.oer_types.specs.Bits.{bits_of}
-use Rattle.oer_reader.proofs.bit_strings.bits_of.Given as goal
-
-abbrev pub invariant-loop-octet : goal.invariant-loop-octet
-invariant-loop-octet l = l.bits.items ++ bits_of (drop l.octet-index l.octets) ≡ bits_of l.octets

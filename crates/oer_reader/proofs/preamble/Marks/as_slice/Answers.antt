@@ -1,5 +1,0 @@
-use Rattle.std.proofs.Common.{ap, take}
-use Rattle.oer_reader.proofs.preamble.Marks.as_slice.Goals as goal
-
-pub returns-in-Few : goal.returns-in-Few
-returns-in-Few c = rw (c.in-Few.is) (ap (λ n. take n c.in-Few.bits) c.min.ensures)

@@ -1,9 +1,0 @@
-use Rattle.std.proofs.Common.{◌≡◌, ◌-◌, [], false}
-use Rattle.oer_text.specs.Reading.{items_more, most}
-use Rattle.oer_text.specs.State.{state_of}
-use Rattle.oer_text.specs.Views.{named}
-use Rattle.oer_text.proofs.parse.read_items.Given as goal
-
--- the items found and those of what is left are all of them
-abbrev pub invariant-items : goal.invariant-items
-invariant-items l = items_more l.numbered most 0 ([], false) (state_of l.fn.cursor) ≡ items_more l.numbered (most - l.place) l.place (named l.found) (state_of l.cursor)
