@@ -3,5 +3,6 @@ pub mod Denotes
 pub mod Keys
 pub mod Laws
 pub mod Made
+pub mod Shapes
 pub mod Take
 pub mod Texts

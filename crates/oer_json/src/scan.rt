@@ -243,8 +243,7 @@ fn bits_of_text(alloc: Global, digits: &[u8]) -> Result<Bits, JsonFault>
     let octets = octets_of(alloc, digits)?;
     match Bits::from_octets(octets, digits.len() as u64) {
         Ok(bits) => Ok(bits),
-        // Not reached: there are as many octets as the bits need.
-        Err(_) => Err(JsonFault::Kind),
+        Err(_) => unreachable!(),
     }
 }
 

@@ -10,6 +10,7 @@ ghost use Rattle.oer_types.specs.ValueView.{places_of, value_of, values_of};
 ghost use Rattle.oer_json.specs.Answer.{Gives, Tries};
 ghost use Rattle.oer_json.specs.Denotes.{Takes};
 ghost use Rattle.oer_json.specs.Made.{made};
+ghost use Rattle.oer_json.specs.Shapes.{IsChoice, IsExtensible};
 ghost use Rattle.oer_json.specs.Take.{take, taken, take_additions as additions_taken, take_alternative as alternative_taken, take_fields as fields_taken, take_items as items_taken, take_place as place_taken};
 ghost use Rattle.oer_json.specs.declared.fault.JsonFault.TheVariants.{Memory};
 
@@ -95,29 +96,27 @@ fn take_sequence(root: &[Field], alloc: Global, json: &Json) -> Result<Value, Js
 /// A SEQUENCE with an extension marker.
 #[cycle(take)]
 fn take_extensible(shape: &Shape, alloc: Global, json: &Json) -> Result<Value, JsonFault>
+    requires { IsExtensible shape.now }
     ensures { Gives value_of result (take (type_of shape.now) (view json.now)) }
 {
-    match shape {
-        Shape::Sequence { root, additions } => match additions {
-            Some(additions) => {
-                let members = members_in(json)?;
-                if !are_keys(members, root, additions) {
-                    return Err(JsonFault::Name);
-                }
-                let root = take_fields(root, alloc, members)?;
-                let added = take_additions(additions, alloc, members)?;
-                let unknown = take_unknown(alloc, additions.len(), members)?;
-                Ok(Value::Seq {
-                    root,
-                    added,
-                    unknown,
-                })
-            }
-            // Not reached, nor the arm below: the caller has seen the marker.
-            None => Err(JsonFault::Memory),
-        },
-        _ => Err(JsonFault::Memory),
+    let Shape::Sequence { root, additions } = shape else {
+        unreachable!()
+    };
+    let Some(additions) = additions else {
+        unreachable!()
+    };
+    let members = members_in(json)?;
+    if !are_keys(members, root, additions) {
+        return Err(JsonFault::Name);
     }
+    let root = take_fields(root, alloc, members)?;
+    let added = take_additions(additions, alloc, members)?;
+    let unknown = take_unknown(alloc, additions.len(), members)?;
+    Ok(Value::Seq {
+        root,
+        added,
+        unknown,
+    })
 }
 
 /// The components of a root.
@@ -208,28 +207,26 @@ fn take_items(item: &Shape, alloc: Global, items: &[Json]) -> Result<Vec<Value>,
 /// A CHOICE.
 #[cycle(take)]
 fn take_choice(shape: &Shape, alloc: Global, json: &Json) -> Result<Value, JsonFault>
+    requires { IsChoice shape.now }
     ensures { Gives value_of result (take (type_of shape.now) (view json.now)) }
 {
-    match shape {
-        Shape::Choice { root, additions } => {
-            let (key, json) = one_member(json)?;
-            let found = take_alternative(root, alloc, key, json)?;
-            match found {
-                Some(value) => Ok(value),
-                None => match additions {
-                    None => Err(JsonFault::Name),
-                    Some(additions) => {
-                        let found = take_alternative(additions, alloc, key, json)?;
-                        match found {
-                            Some(value) => Ok(value),
-                            None => foreign_in(shape, alloc, key, json),
-                        }
-                    }
-                },
+    let Shape::Choice { root, additions } = shape else {
+        unreachable!()
+    };
+    let (key, json) = one_member(json)?;
+    let found = take_alternative(root, alloc, key, json)?;
+    match found {
+        Some(value) => Ok(value),
+        None => match additions {
+            None => Err(JsonFault::Name),
+            Some(additions) => {
+                let found = take_alternative(additions, alloc, key, json)?;
+                match found {
+                    Some(value) => Ok(value),
+                    None => foreign_in(shape, alloc, key, json),
+                }
             }
-        }
-        // Not reached: the caller has seen a CHOICE.
-        _ => Err(JsonFault::Memory),
+        },
     }
 }
 

@@ -2,13 +2,13 @@ use Rattle.std.proofs.Common.{length, Ok, sym, ap, ◌∙◌, arith}
 use Rattle.oer_json.proofs.BitDigits.{bits_whole, octets_count}
 use Rattle.oer_json.proofs.scan.bits_of_text.Goals as goal
 
-pub returns-in-Ok : goal.returns-in-Ok
-returns-in-Ok c =
+pub returns : goal.returns
+returns c =
     let w = c.args.digits.now in
     let h = rw c.in_ok-octets.ensures at c.in-Ok.ensures in
     rw (sym c.are_bits.ensures ∙ c.if-not-are_bits.false) (ap Ok (sym (h.1 ∙ bits_whole (length w) w (omega arith))))
 
-pub returns : goal.returns
-returns c =
+pub unreachable-requires : goal.unreachable-requires
+unreachable-requires c =
     let w = c.args.digits.now in
     absurd (c.in-Err.ensures.0 (ap length c.in_ok-octets.ensures ∙ octets_count (length w) w (omega arith)))

@@ -1,8 +1,10 @@
-use Rattle.std.proofs.Common.{◌≡◌, Ok, drop, suc, length, sym, ap, ◌∙◌, add-one, arith, option_map}
+use Rattle.std.proofs.Common.{◌≡◌, Ok, drop, suc, length, sym, ap, ◌∙◌, add-one, arith, option_map, Option, Vec, Global}
 use Rattle.std.proofs.lemmas.Result.{err_from_is_err_and}
 use Rattle.serde_json.specs.View.{items_view, members_view, view}
 use Rattle.oer_types.specs.ShapeView.{additions_of, fields_of, type_of}
 use Rattle.oer_types.specs.ValueView.{attached, value_of}
+use Rattle.oer_types.specs.declared.shape.Addition.{Addition}
+use Rattle.oer_types.specs.declared.shape.Shape.TheVariants.{Sequence}
 use Rattle.oer_types.proofs.FitSteps.{counted_additions}
 use Rattle.oer_types.proofs.Shapes.{type_of-Choice, type_of-Sequence}
 use Rattle.oer_types.proofs.Values.{value_of-Seq}
@@ -84,45 +86,45 @@ take_additions-returns t c =
 
 -- ---- alternatives
 
-pub take_choice-returns-in_err-found-in-Choice : goal.take_choice-returns-in_err-found-in-Choice
-take_choice-returns-in_err-found-in-Choice t c =
-    let k = c.in_ok-key-in-Choice in
-    let q = err_from_is_err_and c.from_residual-in_err-found-in-Choice.result c.from_residual-in_err-found-in-Choice.ensures.1 in
-    let h = rw c.deref.ensures.value at c.in_err-found-in-Choice.ensures in
+pub take_choice-returns-in_err-found : goal.take_choice-returns-in_err-found
+take_choice-returns-in_err-found t c =
+    let k = c.in_ok-key in
+    let q = err_from_is_err_and c.from_residual-in_err-found.result c.from_residual-in_err-found.ensures.1 in
+    let h = rw c.deref.ensures.value at c.in_err-found.ensures in
     rw (q.1, q.2, c.in-Choice.is, type_of-Choice) (λ not_memory. choice_found c.in-Choice.root.items (view c.args.json.now) k.key.now (view k.json.now) k.ensures c.in-Choice.additions _ (h not_memory))
 
 pub take_choice-returns-in-Some : goal.take_choice-returns-in-Some
 take_choice-returns-in-Some t c =
-    let k = c.in_ok-key-in-Choice in
-    let h = rw (c.deref.ensures.value, c.in-Some.is) at c.in_ok-found-in-Choice.ensures in
+    let k = c.in_ok-key in
+    let h = rw (c.deref.ensures.value, c.in-Some.is) at c.in_ok-found.ensures in
     rw (c.in-Choice.is, type_of-Choice) (choice_found c.in-Choice.root.items (view c.args.json.now) k.key.now (view k.json.now) k.ensures c.in-Choice.additions _ h)
 
 pub take_choice-returns-in-None-additions : goal.take_choice-returns-in-None-additions
 take_choice-returns-in-None-additions t c =
-    let k = c.in_ok-key-in-Choice in
-    let none = rw (c.deref.ensures.value, c.in-None.is) at c.in_ok-found-in-Choice.ensures in
+    let k = c.in_ok-key in
+    let none = rw (c.deref.ensures.value, c.in-None.is) at c.in_ok-found.ensures in
     rw (c.in-Choice.is, type_of-Choice, c.in-None-additions.is) (λ not_memory. choice_nowhere c.in-Choice.root.items (view c.args.json.now) k.key.now (view k.json.now) k.ensures none)
 
 pub take_choice-returns-in_err-found-in-Some-additions : goal.take_choice-returns-in_err-found-in-Some-additions
 take_choice-returns-in_err-found-in-Some-additions t c =
-    let k = c.in_ok-key-in-Choice in
+    let k = c.in_ok-key in
     let q = err_from_is_err_and c.from_residual-in_err-found-in-Some-additions.result c.from_residual-in_err-found-in-Some-additions.ensures.1 in
-    let none = rw (c.deref.ensures.value, c.in-None.is) at c.in_ok-found-in-Choice.ensures in
+    let none = rw (c.deref.ensures.value, c.in-None.is) at c.in_ok-found.ensures in
     let h = rw c.deref-in-Some-additions.ensures.value at c.in_err-found-in-Some-additions.ensures in
     rw (q.1, q.2, c.in-Choice.is, type_of-Choice, c.in-Some-additions.is)
     (λ not_memory. choice_later c.in-Choice.root.items (view c.args.json.now) k.key.now (view k.json.now) k.ensures none c.in-Some-additions.additions _ (h not_memory))
 
 pub take_choice-returns-in-Some-found : goal.take_choice-returns-in-Some-found
 take_choice-returns-in-Some-found t c =
-    let k = c.in_ok-key-in-Choice in
-    let none = rw (c.deref.ensures.value, c.in-None.is) at c.in_ok-found-in-Choice.ensures in
+    let k = c.in_ok-key in
+    let none = rw (c.deref.ensures.value, c.in-None.is) at c.in_ok-found.ensures in
     let h = rw (c.deref-in-Some-additions.ensures.value, c.in-Some-found.is) at c.in_ok-found-in-Some-additions.ensures in
     rw (c.in-Choice.is, type_of-Choice, c.in-Some-additions.is) (choice_later c.in-Choice.root.items (view c.args.json.now) k.key.now (view k.json.now) k.ensures none c.in-Some-additions.additions _ h)
 
 pub take_choice-returns-in-None-found : goal.take_choice-returns-in-None-found
 take_choice-returns-in-None-found t c =
-    let k = c.in_ok-key-in-Choice in
-    let none = rw (c.deref.ensures.value, c.in-None.is) at c.in_ok-found-in-Choice.ensures in
+    let k = c.in_ok-key in
+    let none = rw (c.deref.ensures.value, c.in-None.is) at c.in_ok-found.ensures in
     let h = rw (c.deref-in-Some-additions.ensures.value, c.in-None-found.is) at c.in_ok-found-in-Some-additions.ensures in
     let e = choice_foreign c.in-Choice.root.items (view c.args.json.now) k.key.now (view k.json.now) k.ensures none c.in-Some-additions.additions h in
     let f = rw (c.in-Choice.is, type_of-Choice, c.in-Some-additions.is) at c.foreign_in.ensures in
@@ -132,58 +134,65 @@ take_choice-returns-in-None-found t c =
 
 pub take_extensible-returns-then-not-are_keys : goal.take_extensible-returns-then-not-are_keys
 take_extensible-returns-then-not-are_keys t c =
-    let m = c.in_ok-members-in-Some in
+    let m = c.in_ok-members in
     let fs = fields_of c.in-Sequence.root.items in
     let more = additions_of c.in-Some.additions.items in
-    let k = rw (c.deref.ensures.value, c.deref-in-Some.ensures.value) at c.are_keys.ensures in
+    let k = rw (c.deref.ensures.value, c.deref-2.ensures.value) at c.are_keys.ensures in
     rw (c.in-Sequence.is, type_of-Sequence, c.in-Some.is) (λ not_memory. ext_name fs more (view c.args.json.now) (members_view m.members.now.entries) m.ensures (sym k ∙ c.if-not-are_keys.true))
 
-pub take_extensible-returns-in_err-root-in-Some : goal.take_extensible-returns-in_err-root-in-Some
-take_extensible-returns-in_err-root-in-Some t c =
-    let m = c.in_ok-members-in-Some in
+pub take_extensible-returns-in_err-root : goal.take_extensible-returns-in_err-root
+take_extensible-returns-in_err-root t c =
+    let m = c.in_ok-members in
     let fs = fields_of c.in-Sequence.root.items in
     let more = additions_of c.in-Some.additions.items in
-    let q = err_from_is_err_and c.from_residual-in_err-root-in-Some.result c.from_residual-in_err-root-in-Some.ensures.1 in
-    let k = rw (c.deref.ensures.value, c.deref-in-Some.ensures.value) at c.are_keys.ensures in
-    let r = rw c.deref-in-Some-2.ensures.value at c.in_err-root-in-Some.ensures in
+    let q = err_from_is_err_and c.from_residual-in_err-root.result c.from_residual-in_err-root.ensures.1 in
+    let k = rw (c.deref.ensures.value, c.deref-2.ensures.value) at c.are_keys.ensures in
+    let r = rw c.deref-3.ensures.value at c.in_err-root.ensures in
     rw (q.1, q.2, c.in-Sequence.is, type_of-Sequence, c.in-Some.is)
     (λ not_memory. ext_root fs more (view c.args.json.now) (members_view m.members.now.entries) m.ensures _ (sym k ∙ c.if-not-are_keys.false) (r not_memory))
 
-pub take_extensible-returns-in_err-added-in-Some : goal.take_extensible-returns-in_err-added-in-Some
-take_extensible-returns-in_err-added-in-Some t c =
-    let m = c.in_ok-members-in-Some in
+pub take_extensible-returns-in_err-added : goal.take_extensible-returns-in_err-added
+take_extensible-returns-in_err-added t c =
+    let m = c.in_ok-members in
     let fs = fields_of c.in-Sequence.root.items in
     let more = additions_of c.in-Some.additions.items in
-    let q = err_from_is_err_and c.from_residual-in_err-added-in-Some.result c.from_residual-in_err-added-in-Some.ensures.1 in
-    let k = rw (c.deref.ensures.value, c.deref-in-Some.ensures.value) at c.are_keys.ensures in
-    let r = rw c.deref-in-Some-2.ensures.value at c.in_ok-root-in-Some.ensures in
-    let a = rw c.deref-in-Some-3.ensures.value at c.in_err-added-in-Some.ensures in
+    let q = err_from_is_err_and c.from_residual-in_err-added.result c.from_residual-in_err-added.ensures.1 in
+    let k = rw (c.deref.ensures.value, c.deref-2.ensures.value) at c.are_keys.ensures in
+    let r = rw c.deref-3.ensures.value at c.in_ok-root.ensures in
+    let a = rw c.deref-4.ensures.value at c.in_err-added.ensures in
     rw (q.1, q.2, c.in-Sequence.is, type_of-Sequence, c.in-Some.is)
     (λ not_memory. ext_added fs more (view c.args.json.now) (members_view m.members.now.entries) m.ensures _ _ (sym k ∙ c.if-not-are_keys.false) r (a not_memory))
 
-pub take_extensible-returns-in_err-unknown-in-Some : goal.take_extensible-returns-in_err-unknown-in-Some
-take_extensible-returns-in_err-unknown-in-Some t c =
-    let m = c.in_ok-members-in-Some in
+pub take_extensible-returns-in_err-unknown : goal.take_extensible-returns-in_err-unknown
+take_extensible-returns-in_err-unknown t c =
+    let m = c.in_ok-members in
     let fs = fields_of c.in-Sequence.root.items in
     let more = additions_of c.in-Some.additions.items in
-    let q = err_from_is_err_and c.from_residual-in_err-unknown-in-Some.result c.from_residual-in_err-unknown-in-Some.ensures.1 in
-    let k = rw (c.deref.ensures.value, c.deref-in-Some.ensures.value) at c.are_keys.ensures in
-    let r = rw c.deref-in-Some-2.ensures.value at c.in_ok-root-in-Some.ensures in
-    let a = rw c.deref-in-Some-3.ensures.value at c.in_ok-added-in-Some.ensures in
+    let q = err_from_is_err_and c.from_residual-in_err-unknown.result c.from_residual-in_err-unknown.ensures.1 in
+    let k = rw (c.deref.ensures.value, c.deref-2.ensures.value) at c.are_keys.ensures in
+    let r = rw c.deref-3.ensures.value at c.in_ok-root.ensures in
+    let a = rw c.deref-4.ensures.value at c.in_ok-added.ensures in
     let n : c.len.result ≡ length c.in-Some.additions.items = omega (arith, c.in-Some.additions.ok.0) in
-    let u = rw (n ∙ sym (counted_additions c.in-Some.additions.items)) at c.in_err-unknown-in-Some.ensures in
+    let u = rw (n ∙ sym (counted_additions c.in-Some.additions.items)) at c.in_err-unknown.ensures in
     rw (q.1, q.2, c.in-Sequence.is, type_of-Sequence, c.in-Some.is)
     (λ not_memory. ext_unknown fs more (view c.args.json.now) (members_view m.members.now.entries) m.ensures _ _ _ (sym k ∙ c.if-not-are_keys.false) r a (u not_memory))
 
-pub take_extensible-returns-in_ok-unknown-in-Some : goal.take_extensible-returns-in_ok-unknown-in-Some
-take_extensible-returns-in_ok-unknown-in-Some t c =
-    let m = c.in_ok-members-in-Some in
+pub take_extensible-returns : goal.take_extensible-returns
+take_extensible-returns t c =
+    let m = c.in_ok-members in
     let fs = fields_of c.in-Sequence.root.items in
     let more = additions_of c.in-Some.additions.items in
-    let k = rw (c.deref.ensures.value, c.deref-in-Some.ensures.value) at c.are_keys.ensures in
-    let r = rw c.deref-in-Some-2.ensures.value at c.in_ok-root-in-Some.ensures in
-    let a = rw c.deref-in-Some-3.ensures.value at c.in_ok-added-in-Some.ensures in
+    let k = rw (c.deref.ensures.value, c.deref-2.ensures.value) at c.are_keys.ensures in
+    let r = rw c.deref-3.ensures.value at c.in_ok-root.ensures in
+    let a = rw c.deref-4.ensures.value at c.in_ok-added.ensures in
     let n : c.len.result ≡ length c.in-Some.additions.items = omega (arith, c.in-Some.additions.ok.0) in
-    let u = rw (n ∙ sym (counted_additions c.in-Some.additions.items)) at c.in_ok-unknown-in-Some.ensures in
-    rw (c.in-Sequence.is, type_of-Sequence, c.in-Some.is, value_of-Seq c.in_ok-root-in-Some.root c.in_ok-added-in-Some.added c.in_ok-unknown-in-Some.unknown)
+    let u = rw (n ∙ sym (counted_additions c.in-Some.additions.items)) at c.in_ok-unknown.ensures in
+    rw (c.in-Sequence.is, type_of-Sequence, c.in-Some.is, value_of-Seq c.in_ok-root.root c.in_ok-added.added c.in_ok-unknown.unknown)
     (ext_ok fs more (view c.args.json.now) (members_view m.members.now.entries) m.ensures _ _ _ (sym k ∙ c.if-not-are_keys.false) r a u)
+
+-- ---- kinds of shapes
+
+pub take_value-take_extensible-requires : goal.take_value-take_extensible-requires
+take_value-take_extensible-requires t c =
+    let s = c.in-Sequence in
+    (omega arith, (s.root, c.in-Some.field-0, s.is ∙ ap (λ (m : Option (Vec Addition Global)). Sequence s.root m) c.in-Some.is))
