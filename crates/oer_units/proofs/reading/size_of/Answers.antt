@@ -1,4 +1,4 @@
-use Rattle.std.proofs.Common.{◌≡◌, ◌+◌, ◌*◌, ◌≤◌, ◌^◌, ◌∙◌, ℕ, List, arith, refl, sym, ap, subst, length, drop}
+use Rattle.std.proofs.Common.{◌≡◌, ◌+◌, ◌*◌, ◌≤◌, ◌^◌, ◌∙◌, ℕ, arith, refl, subst, length}
 use Rattle.oer_units.proofs.ReadNumbers.{size_at, size_room, size_end}
 use Rattle.oer_units.proofs.reading.size_of.Goals as goal
 
