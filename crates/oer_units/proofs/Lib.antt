@@ -28,3 +28,4 @@ pub mod TagReaders
 pub mod Units
 pub mod UnitLaws
 pub mod FixedWidths
+pub mod WrittenWidths

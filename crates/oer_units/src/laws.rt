@@ -1,10 +1,11 @@
 //! Laws of units, over the definitions alone.
 ghost use Rattle.std.specs.Prelude.{⊤, ℕ};
 ghost use Rattle.oer_units.specs.Spelling.{IsLength, IsEnumerated, IsBase128, IsTag, IsCounted, IsObjectId};
-ghost use Rattle.oer_units.specs.Least.{length_octets, counted, unsigned_octets, signed_octets, enumerated_octets, base128_octets, tag_octets};
+ghost use Rattle.oer_units.specs.Least.{big_endian, fixed_signed_octets, length_octets, counted, unsigned_octets, signed_octets, enumerated_octets, base128_octets, tag_octets};
 ghost use Rattle.oer_units.specs.Fixed.{unsigned_fixed_at, signed_fixed_at};
 ghost use Rattle.oer_units.specs.Lawful.{Lawful};
 ghost use Rattle.oer_units.specs.declared.width.Width.{Width};
+ghost use Rattle.oer_units.specs.Width.{octets_of_width, FitsUnsignedWidth, FitsSignedWidth};
 ghost use Rattle.oer_units.specs.Numbers.{natural, unsigned, signed};
 ghost use Rattle.oer_units.specs.Reader.{group};
 ghost use Rattle.oer_units.specs.Reading.{octet, determinant, number, counted_number, counted_octets, is_int128, enumerated, tag, subidentifier, object_identifier};
@@ -19,6 +20,8 @@ pub fn no_unit_begins_another()
     ensures enumerations { NoneBeginsAnother IsEnumerated }
     ensures base128 { NoneBeginsAnother IsBase128 }
     ensures tags { NoneBeginsAnother IsTag }
+    ensures unsigned_widths { (width : Width) → NoneBeginsAnother (IsOfWidth unsigned width) }
+    ensures signed_widths { (width : Width) → NoneBeginsAnother (IsOfWidth signed width) }
 {}
 
 /// A list spells one number or tag.
@@ -29,9 +32,12 @@ pub fn a_list_has_one_number()
     ensures enumerations { EachSpellsOne IsEnumerated }
     ensures base128 { EachSpellsOne IsBase128 }
     ensures tags { EachSpellsOne IsTag }
+    ensures unsigned_widths { (width : Width) → EachSpellsOne (IsOfWidth unsigned width) }
+    ensures signed_widths { (width : Width) → EachSpellsOne (IsOfWidth signed width) }
 {}
 
-/// Each number and tag has one shortest list, which is what the writers append.
+/// Each number and tag has one shortest list, which is what the writers append. A number that fits
+/// a width has one list of that many octets, which is what the writers of fixed width append.
 pub fn a_number_has_one_shortest_list()
     ensures lengths { HasOneShortest IsLength Is127Octets length_octets }
     ensures unsigned_numbers { HasOneShortest IsUnsignedCounted Is127Octets
@@ -41,6 +47,10 @@ pub fn a_number_has_one_shortest_list()
     ensures enumerations { HasOneShortest IsEnumerated Is64Bits enumerated_octets }
     ensures base128 { HasOneShortest IsBase128 (λ n. ⊤) base128_octets }
     ensures tags { HasOneShortest IsTag HasTagNumber tag_octets }
+    ensures unsigned_widths { (width : Width) → HasOneShortest (IsOfWidth unsigned width)
+        (FitsUnsignedWidth width) (λ n. big_endian (octets_of_width width) n) }
+    ensures signed_widths { (width : Width) → HasOneShortest (IsOfWidth signed width)
+        (FitsSignedWidth width) (λ z. fixed_signed_octets (octets_of_width width) z) }
 {}
 
 /// What a reader of a unit reads is a spelling, a spelling that comes next is read, and a refusal

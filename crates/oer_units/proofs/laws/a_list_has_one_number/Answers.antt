@@ -1,6 +1,8 @@
+use Rattle.oer_units.specs.Numbers.{unsigned, signed}
 use Rattle.oer_units.specs.Spelling.{IsLength, IsEnumerated, IsBase128, IsTag}
-use Rattle.oer_units.specs.Laws.{IsUnsignedCounted, IsSignedCounted}
-use Rattle.oer_units.proofs.UnitLaws.{alone_spells, lengths_alone, unsigned_alone, signed_alone, enumerations_alone, base128_alone, tags_alone}
+use Rattle.oer_units.specs.Laws.{IsUnsignedCounted, IsSignedCounted, IsOfWidth}
+use Rattle.oer_units.proofs.UnitLaws.{alone_spells, lawful_alone, lengths_alone, unsigned_alone, signed_alone, enumerations_alone, base128_alone, tags_alone}
+use Rattle.oer_units.proofs.FixedWidths.{unsigned_width_lawful, signed_width_lawful}
 use Rattle.oer_units.proofs.laws.a_list_has_one_number.Goals as goal
 
 pub returns-clause-lengths : goal.returns-clause-lengths
@@ -20,3 +22,9 @@ returns-clause-base128 c = alone_spells IsBase128 base128_alone
 
 pub returns-clause-tags : goal.returns-clause-tags
 returns-clause-tags c = alone_spells IsTag tags_alone
+
+pub returns-clause-unsigned_widths : goal.returns-clause-unsigned_widths
+returns-clause-unsigned_widths c width = alone_spells (IsOfWidth unsigned width) (lawful_alone (unsigned_width_lawful width))
+
+pub returns-clause-signed_widths : goal.returns-clause-signed_widths
+returns-clause-signed_widths c width = alone_spells (IsOfWidth signed width) (lawful_alone (signed_width_lawful width))
