@@ -5,5 +5,4 @@
 #![tactic(auto)]
 
 pub use oer_checker::{PartFault, Step, Verdict, check, part};
-pub use oer_decoder::laws;
-pub use oer_decoder::{RewriteFault, read, read_with_length, rewrite};
+pub use oer_decoder::{RewriteFault, laws, read, read_with_length, rewrite};

@@ -3,7 +3,7 @@
 //! crates, with its contract; here both are under one name.
 #![tactic(auto)]
 
-pub use oer_json::laws as json_laws;
-pub use oer_json::{JsonFault, from_json, to_json};
-pub use oer_notation::laws;
-pub use oer_notation::{PrintFault, TextFault, TextWhy, Types, parse_type, parse_types, print_type};
+pub use oer_json::{JsonFault, from_json, laws as json_laws, to_json};
+pub use oer_notation::{
+    PrintFault, TextFault, TextWhy, Types, laws, parse_type, parse_types, print_type,
+};
