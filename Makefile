@@ -1,18 +1,21 @@
 # make: proves and builds the program, as bin/oer
+# make quick: proves and tests all but the must-fail edits, over what earlier runs kept, for use before a commit
 # make test: the whole gate, then the commands that the documents show; make install PREFIX=..: puts the program into PREFIX/bin
 PREFIX ?= /usr/local
 
-.PHONY: all test install clean
+.PHONY: all quick test install clean
 
 all: bin/oer
 
 bin/oer: crates.txt $(shell find crates -name out -prune -o -type f \( -name '*.rt' -o -name '*.antt' \) -print)
-	cd crates/oer && rt run -- --help > /dev/null
-	mkdir -p bin
-	cp crates/oer/out/oer bin/oer
+	@tools/build
+
+quick:
+	@tools/quick
 
 test:
-	rt ci
+	@rm -rf out/side_by_side
+	RT_JOBS=$${RT_JOBS-$$(tools/jobs)} rt ci
 	@mkdir -p bin
 	@cp crates/oer/out/oer bin/oer
 	@examples/check
@@ -22,4 +25,4 @@ install: bin/oer
 	install -m 755 bin/oer $(DESTDIR)$(PREFIX)/bin/oer
 
 clean:
-	rm -rf bin crates/*/out
+	rm -rf bin out crates/*/out
