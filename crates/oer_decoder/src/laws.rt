@@ -8,9 +8,13 @@ use oer_types::laws;
 
 /// For every well-formed type: two values have equal canonical octets exactly where they are equal
 /// after defaults are filled in; [`read`](crate::read) accepts exactly the inputs that begin with
-/// a Basic-OER encoding within its limit, gives its one value and takes exactly its octets; and
-/// [`rewrite`](crate::rewrite) of an accepted encoding gives that value's canonical octets, which
-/// it leaves unchanged.
+/// a Basic-OER encoding within its limit, however cut, gives its one value and takes exactly its
+/// octets; and [`rewrite`](crate::rewrite) of an accepted encoding gives that value's canonical
+/// octets, which it leaves unchanged.
+///
+/// It speaks of runs of both, by what their contracts promise: those in which the reader and the
+/// sink tell their octets, neither failed, and no growth was refused. Where the canonical octets
+/// are 2^64 or more, the answer is `TooLong`.
 pub fn headline()
     ensures holds { Headline }
 {}
