@@ -2,7 +2,7 @@
 //! law.
 
 ghost use Rattle.oer_decoder.specs.Headline.{Headline};
-ghost use Rattle.oer_decoder.specs.Relaying.{KeepsUnknown};
+ghost use Rattle.oer_decoder.specs.Relaying.{CanonicalKeepsUnknown, RewritingKeepsUnknown};
 
 use oer_types::laws;
 
@@ -19,11 +19,14 @@ pub fn headline()
     ensures holds { Headline }
 {}
 
-/// Where an encoding is rewritten, the octets of parts that the type doesn't know stand unchanged,
-/// and at the same paths; but for those in a DEFAULT component that equals its default, which is
-/// left out.
+/// The octets of parts that the type doesn't know stand unchanged, and at the same paths, in an
+/// encoding of a value and in its canonical octets; but for those in a DEFAULT component that
+/// equals its default, which is left out.
 pub fn relaying()
-    ensures keeps { KeepsUnknown }
+    // Of an encoding of a value, and its canonical octets.
+    ensures octets { CanonicalKeepsUnknown }
+    // Of what `rewrite` takes, and what it appends.
+    ensures runs { RewritingKeepsUnknown }
 {
     laws::relaying();
 }
