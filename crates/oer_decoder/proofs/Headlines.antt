@@ -113,14 +113,14 @@ rewritten_as T wf v b c s canonical short limit rest old reader reader' sink sin
 rewritten_as T wf v b c s canonical short limit rest old reader reader' sink sink' (Err (Write TooLong)) tells le holds run reads writes memory =
     let (w, t, takes, (long, kept)) = run.refused in
     absurd (never_long w t takes long) where
-  never_long : (w : AsnValue) (t : List ℕ) → Takes T limit reader.octets reader'.octets w t → IsTooLong T w → ⊥
-  never_long w t takes long =
-    let left : reader'.octets ≡ Some rest = run.comes v b rest tells s le in
-    let before : Takes T limit (Some (b ++ rest)) reader'.octets w t = subst (λ (k : Known). Takes T limit k reader'.octets w t) tells takes in
-    let (eq, le', u) : Consumes (Some (b ++ rest)) (Some rest) t × (length t ≤ limit) × Encodes T w t = subst (λ (k : Known). Takes T limit (Some (b ++ rest)) k w t) left before in
-    let one = one_front T wf v w b t rest rest s u eq in
-    let many : 2 ^ 64 ≤ length c = long c (subst (λ (x : AsnValue). IsCanonical T x c) one.0 canonical) in
-    omega arith
+      never_long : (w : AsnValue) (t : List ℕ) → Takes T limit reader.octets reader'.octets w t → IsTooLong T w → ⊥
+      never_long w t takes long =
+          let left : reader'.octets ≡ Some rest = run.comes v b rest tells s le in
+          let before : Takes T limit (Some (b ++ rest)) reader'.octets w t = subst (λ (k : Known). Takes T limit k reader'.octets w t) tells takes in
+          let (eq, le', u) : Consumes (Some (b ++ rest)) (Some rest) t × (length t ≤ limit) × Encodes T w t = subst (λ (k : Known). Takes T limit (Some (b ++ rest)) k w t) left before in
+          let one = one_front T wf v w b t rest rest s u eq in
+          let many : 2 ^ 64 ≤ length c = long c (subst (λ (x : AsnValue). IsCanonical T x c) one.0 canonical) in
+          omega arith
 
 refused_long : (T : AsnType) (v : AsnValue) (b : List ℕ) → Encodes T v b → IsTooLong T v → EachRun T b (Err (Write TooLong)) []
 refused_long T v b s long limit rest old reader reader' sink sink' (Ok (m, n)) tells le holds run reads writes memory =
@@ -140,13 +140,13 @@ rewrites : (T : AsnType) → KeepsLimits T → Rewrites T
 rewrites T wf v b s = by_length (cases_lt (length (canonical_octets T v)) (2 ^ 64)) where
   by_length : (length (canonical_octets T v) < 2 ^ 64) ⊎ (2 ^ 64 ≤ length (canonical_octets T v)) → RewritesCanonically T v b ⊎ RefusesTooLong T v b
   by_length (inl short) =
-    let c = canonical_octets T v in
-    let canonical : IsCanonical T v c = canon_given T wf v s.1 short in
-    let again = canonical_encodes T v c canonical in
-    inl (c, canonical, short, rewritten_as T wf v b c s canonical short, rewritten_as T wf again.0 c c again.1 again.2 short)
+      let c = canonical_octets T v in
+      let canonical : IsCanonical T v c = canon_given T wf v s.1 short in
+      let again = canonical_encodes T v c canonical in
+      inl (c, canonical, short, rewritten_as T wf v b c s canonical short, rewritten_as T wf again.0 c c again.1 again.2 short)
   by_length (inr many) =
-    let long = too_long T v canon_computed many in
-    inr (long, refused_long T v b s long)
+      let long = too_long T v canon_computed many in
+      inr (long, refused_long T v b s long)
 
 pub headlines : Headline
 headlines T w = (tells_values T w.limits, reads_exactly T w.limits, rewrites T w.limits)

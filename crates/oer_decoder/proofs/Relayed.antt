@@ -1,5 +1,5 @@
 -- From the law on encodings to what rewriting keeps.
-use Rattle.std.proofs.Common.{length, refl}
+use Rattle.std.proofs.Common.{refl}
 use Rattle.oer_types.specs.Laws.{KeepsUnknown}
 use Rattle.oer_decoder.specs.Relaying.{RewritingKeepsUnknown}
 
