@@ -68,6 +68,7 @@ reads_exactly T wf limit xs reader reader' answer tells run =
     let exact : ReadsFront (read_value T) limit (Some xs) reader.failed answer reader'.octets reader'.failed = subst (λ (k : Known). ReadsFront (read_value T) limit k reader.failed answer reader'.octets reader'.failed) tells run.exact in
     record {
       accepts = accepted T limit reader.failed reader'.failed xs reader'.octets answer told comes exact;
+      refuses = λ e is. never_refused T limit xs reader'.octets e (subst (λ (r : Result AsnValue ReadFault). ReadsWhatComes T limit (Some xs) reader'.octets r) is comes);
       gives = λ v is. given T limit xs reader'.octets v (subst (λ (r : Result AsnValue ReadFault). Told T limit (Some xs) reader'.octets r) is told);
       one = λ v w b c rest more e f s u. let one = one_front T wf v w b c rest more s u (sym e ∙ f) in (one.0, sym one.2);
     }

@@ -1,6 +1,7 @@
 -- The headline, of the calls.
-use Rattle.std.specs.Prelude.{◌≡◌, ◌↔◌, ℕ, ◌-◌, ◌^◌, ◌<◌, ◌≤◌, List, [], ◌++◌, length, Some, Result, Ok, Err, IfErr, IfOk, IsOk, ◌⊎◌}
+use Rattle.std.specs.Prelude.{◌≡◌, ◌≢◌, ◌↔◌, ℕ, ◌-◌, ◌^◌, ◌<◌, ◌≤◌, List, [], ◌++◌, length, Some, Result, Ok, Err, IfErr, IfOk, IsOk, ◌⊎◌}
 use Rattle.oer_units.specs.Reads.{ReadsFront, TakesNoMemory}
+use Rattle.oer_units.specs.declared.fault.Why.TheVariants.{Device, Memory}
 use Rattle.oer_units.specs.declared.fault.ReadFault.{ReadFault}
 use Rattle.oer_types.specs.AsnType.{AsnType}
 use Rattle.oer_types.specs.AsnValue.{AsnValue}
@@ -67,6 +68,8 @@ pub record AcceptsExactly (T : AsnType) (limit : ℕ) (xs : List ℕ) (reader re
     : Type 0 where
   -- Where the reader didn't fail and no growth was refused, it is Ok exactly where the input begins with an encoding within the limit.
   pub accepts : NeverFailed reader reader' → TakesNoMemory answer → (IsOk answer ↔ BeginsWithEncoding T limit xs)
+  -- A refusal, but for the device or for memory, comes only where it begins with none.
+  pub refuses : (e : ReadFault) → answer ≡ Err e → e.why ≢ Device → e.why ≢ Memory → BeginsWithEncoding T limit xs → ⊥
   -- The value is that of an encoding at the front of the input, and just this one's octets were taken.
   pub gives : (v : AsnValue) → answer ≡ Ok v → (b : List ℕ) × (rest : List ℕ) × Begins T limit xs v b rest × Tells reader' rest
   -- No other value has an encoding at the front of the input, and no other front of it, within the limit or not, is an encoding.
