@@ -1,5 +1,5 @@
 -- Bits that are read after an initial octet.
-use Rattle.std.proofs.Common.{◌∙◌, ◌≡◌, ◌≢◌, ℕ, ◌-◌, ◌*◌, ◌≤◌, Bool, true, false, ◌&&◌, ◌||◌, leb, eqb, List, take, drop, Option, None, Result, Ok, Err, refl, ap₂, subst, arith, zero, suc, ◌+◌, [], ◌∷◌, get_or, length, sym, ap}
+use Rattle.std.proofs.Common.{◌∙◌, ◌≡◌, ◌≢◌, ℕ, ◌-◌, ◌*◌, ◌≤◌, Bool, true, false, ◌&&◌, ◌||◌, leb, eqb, List, take, drop, Option, None, Result, Ok, Err, refl, ap₂, subst, arith, [], ◌∷◌, get_or, length}
 use Rattle.std.proofs.lemmas.Bool.{eqb-true, le-leb, lt-leb, leb-true}
 use Rattle.oer_units.specs.declared.fault.Why.TheVariants.{BitUnused, PreamblePadding, Size, UnknownAddition}
 use Rattle.oer_units.specs.declared.fault.ReadFault.{ReadFault}

@@ -17,7 +17,7 @@ use Rattle.oer_types.specs.Reading.{bitmap, bits_sized, preamble, read_additions
 use Rattle.oer_types.specs.ValueView.{unknown_of}
 use Rattle.oer_types.specs.declared.value.Unknown as rust_unknown
 use Rattle.oer_decoder.specs.BitReading.{addition_map_at, initial_octet_at, kept_map, sized_octet_at, unused_fits, used}
-use Rattle.oer_decoder.specs.Places.{root_at, Started, started}
+use Rattle.oer_decoder.specs.Places.{rest_at, root_at, Started, started}
 use Rattle.oer_decoder.proofs.BitReads.{sized_after}
 use Rattle.oer_decoder.proofs.Joins.{seen_twice}
 
@@ -155,26 +155,28 @@ extension_then x more n s s' s'' s3 bits ps result does count h k r =
 
 -- ---- a sequence with an extension marker
 
-abbrev rest_of : Additions → Started → Reader AsnValue
-rest_of more x = bind (read_extension x.extended more (read_additions more)) (λ added. give (seq x.root added.0 added.1))
-
-extensible_is : (fs : Fields) (more : Additions) (p : Place) → bind (root_at fs) (rest_of more) p ≡ read_value (extensible_sequence fs more) p
+extensible_is : (fs : Fields) (more : Additions) (p : Place) → bind (root_at fs) (rest_at more) p ≡ read_value (extensible_sequence fs more) p
 unfolding read_extensible bind give
 extensible_is fs more p = cases (preamble (suc (optional fs)) p) where
-  inner : (s : List Bool) (o : Outcome Places) → then_read (rest_of more) (then_read (λ root q. got (started s root) q) o) ≡ then_read (λ root. rest_of more (started s root)) o
+  inner : (s : List Bool) (o : Outcome Places) → then_read (rest_at more) (then_read (λ root q. got (started s root) q) o) ≡ then_read (λ root. rest_at more (started s root)) o
   inner s (got x q) = refl
   inner s (refused w l) = refl
 
-  cases : (o : Outcome (List Bool)) → then_read (rest_of more) (then_read (λ s q. then_read (λ root t. got (started s root) t) (read_fields fs (later_bits s) q)) o) ≡ then_read (λ s q. then_read (λ root. rest_of more (started s root)) (read_fields fs (later_bits s) q)) o
+  cases : (o : Outcome (List Bool)) → then_read (rest_at more) (then_read (λ s q. then_read (λ root t. got (started s root) t) (read_fields fs (later_bits s) q)) o) ≡ then_read (λ s q. then_read (λ root. rest_at more (started s root)) (read_fields fs (later_bits s) q)) o
   cases (got s q) = inner s (read_fields fs (later_bits s) q)
   cases (refused w l) = refl
 
 pub extensible_stop : (fs : Fields) (more : Additions) (s s' : State) (e : ReadFault) → Reads (root_at fs) s (Err e) s' → Reads (read_value (extensible_sequence fs more)) s (Err e) s'
-extensible_stop fs more s s' e h = Reads-same (bind (root_at fs) (rest_of more)) (read_value (extensible_sequence fs more)) s s' (Err e) (λ xs. extensible_is fs more (place xs s.bound)) (Reads-stop (root_at fs) (rest_of more) s s' e h)
+extensible_stop fs more s s' e h = Reads-same (bind (root_at fs) (rest_at more)) (read_value (extensible_sequence fs more)) s s' (Err e) (λ xs. extensible_is fs more (place xs s.bound)) (Reads-stop (root_at fs) (rest_at more) s s' e h)
 
-pub extensible_then : (fs : Fields) (more : Additions) (s s' s'' : State) (x : Started) (result : Result (Places × List Unknown) ReadFault) → Reads (root_at fs) s (Ok x) s' → Reads (read_extension x.extended more (read_additions more)) s' result s'' → Reads (read_value (extensible_sequence fs more)) s (seen (λ added. seq x.root added.0 added.1) result) s''
-extensible_then fs more s s' s'' x result h k = Reads-same (bind (root_at fs) (rest_of more)) (read_value (extensible_sequence fs more)) s s'' (seen (λ added. seq x.root added.0 added.1) result) (λ xs. extensible_is fs more (place xs s.bound))
-    (Reads-then (root_at fs) (rest_of more) s s' s'' x (seen (λ added. seq x.root added.0 added.1) result) h (Reads-map (read_extension x.extended more (read_additions more)) (λ added. seq x.root added.0 added.1) s' s'' result k))
+pub extensible_then : (fs : Fields) (more : Additions) (s s' s'' : State) (x : Started) (result : Result AsnValue ReadFault) → Reads (root_at fs) s (Ok x) s'
+    → Reads (rest_at more x) s' result s'' → Reads (read_value (extensible_sequence fs more)) s result s''
+extensible_then fs more s s' s'' x result h k =
+    Reads-same (bind (root_at fs) (rest_at more)) (read_value (extensible_sequence fs more)) s s'' result (λ xs. extensible_is fs more (place xs s.bound)) (Reads-then (root_at fs) (rest_at more) s s' s'' x result h k)
+
+pub rest_then : (more : Additions) (x : Started) (s s' : State) (result : Result (Places × List Unknown) ReadFault) → Reads (read_extension x.extended more (read_additions more)) s result s'
+    → Reads (rest_at more x) s (seen (λ added. seq x.root added.0 added.1) result) s'
+rest_then more x s s' result h = Reads-map (read_extension x.extended more (read_additions more)) (λ added. seq x.root added.0 added.1) s s' result h
 
 -- ---- unknown additions, one after another
 

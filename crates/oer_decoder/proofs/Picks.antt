@@ -14,7 +14,7 @@ use Rattle.oer_types.specs.Constraints.{has_tag, same_tag}
 use Rattle.oer_types.specs.Reading.{read_alternative, read_by_tag, read_choice, read_chosen, read_value}
 use Rattle.oer_types.specs.ShapeView.{choice_with, later_of, root_of, type_of}
 use Rattle.oer_types.specs.declared.shape.Alt.{Alt}
-use Rattle.oer_decoder.specs.Choices.{after_root, chosen_by, foreign_at, found_in, later_in, or_else, pick}
+use Rattle.oer_decoder.specs.Choices.{chosen_by, foreign_at, found_in, later_at, or_else, pick}
 use Rattle.oer_decoder.proofs.Joins.{alternative_plain, guard_no}
 
 -- ---- what follows a tag, in two steps
@@ -50,15 +50,6 @@ later_split [] t other p = nothing_found other p
 later_split (a ∷ xs) t other p =
     picked (same_tag a.tag t) (has_tag t (later_of xs)) t (open_type (read_value (type_of a.shape))) (read_alternative (later_of xs) t) (found_in (later_of xs) t) other other p (later_split xs t other p)
 
-after_root-is : (xs more : List Alt) → after_root (root_of xs (later_of more)) ≡ later_of more
-after_root-is [] [] = refl
-after_root-is [] (a ∷ more) = refl
-after_root-is (x ∷ xs) more = after_root-is xs more
-
-after_root-none : (xs : List Alt) → after_root (root_of xs no_alternatives) ≡ no_alternatives
-after_root-none [] = refl
-after_root-none (x ∷ xs) = after_root-none xs
-
 -- what is left to do without an alternative of the root
 abbrev others : Bool → Tag → Reader AsnValue
 others extensible t = guard extensible UnknownAlternative (foreign_at t)
@@ -87,31 +78,32 @@ choice_refused extensible xs after s s' s'' t e h k = choice_then extensible xs 
 pub choice_found : (extensible : Bool) (xs : List Alt) (after : Alternatives) (s s' s'' : State) (t : Tag) (v : AsnValue) → Reads tag s (Ok t) s' → Reads (found_in (root_of xs no_alternatives) t) s' (Ok (Some v)) s'' → Reads (read_value (choice extensible (root_of xs after))) s (Ok v) s''
 choice_found extensible xs after s s' s'' t v h k = choice_then extensible xs after s s' s'' t (Ok v) h (Reads-then (found_in (root_of xs no_alternatives) t) (or_else (by_tag after t (others extensible t))) s' s'' s'' (Some v) (Ok v) k (Reads-give v s''))
 
-later_any : (extensible : Bool) (xs : List Alt) (after : Alternatives) (more : List Alt) (t : Tag) (p : Place) → after ≡ later_of more → later_in (choice extensible (root_of xs after)) t p ≡ by_tag after t (others extensible t) p
-later_any extensible xs after more t p is =
-    ap (λ (l : Alternatives). later_in (choice extensible (root_of xs l)) t p) is
-    ∙ ap (λ (l : Alternatives). bind (found_in l t) (or_else (others extensible t)) p) (after_root-is xs more)
-    ∙ sym (later_split more t (others extensible t) p)
-    ∙ ap (λ (l : Alternatives). by_tag l t (others extensible t) p) (sym is)
+pub choice_later : (xs more : List Alt) (s s' s'' s3 : State) (t : Tag) (result : Result AsnValue ReadFault) → Reads tag s (Ok t) s'
+    → Reads (found_in (root_of xs no_alternatives) t) s' (Ok None) s'' → Reads (later_at (later_of more) t) s'' result s3
+    → Reads (read_value (choice true (root_of xs (later_of more)))) s result s3
+choice_later xs more s s' s'' s3 t result h k r =
+    let other : Reader AsnValue = by_tag (later_of more) t (others true t) in
+    let last : Reads other s'' result s3 = Reads-same (later_at (later_of more) t) other s'' s3 result (λ ys. sym (later_split more t (others true t) (place ys s''.bound))) r in
+    choice_then true xs (later_of more) s s' s3 t result h (Reads-then (found_in (root_of xs no_alternatives) t) (or_else other) s' s'' s3 None result k last)
 
-pub choice_later : (extensible : Bool) (xs : List Alt) (after : Alternatives) (more : List Alt) (s s' s'' s3 : State) (t : Tag) (result : Result AsnValue ReadFault) → after ≡ later_of more → Reads tag s (Ok t) s' → Reads (found_in (root_of xs no_alternatives) t) s' (Ok None) s'' → Reads (later_in (choice extensible (root_of xs after)) t) s'' result s3 → Reads (read_value (choice extensible (root_of xs after))) s result s3
-choice_later extensible xs after more s s' s'' s3 t result is h k r =
-    choice_then extensible xs after s s' s3 t result h (Reads-then (found_in (root_of xs no_alternatives) t) (or_else (by_tag after t (others extensible t))) s' s'' s3 None result k
-    (Reads-same (later_in (choice extensible (root_of xs after)) t) (by_tag after t (others extensible t)) s'' s3 result (λ ys. later_any extensible xs after more t (place ys s''.bound) is) r))
+pub choice_none : (xs : List Alt) (s s' s'' : State) (t : Tag) (e : ReadFault) → Reads tag s (Ok t) s'
+    → Reads (found_in (root_of xs no_alternatives) t) s' (Ok None) s'' → e.why ≡ UnknownAlternative → e.taken ≡ s''.bound.taken
+    → Reads (read_value (choice false (root_of xs no_alternatives))) s (Err e) s''
+choice_none xs s s' s'' t e h k why taken =
+    let other : Reader AsnValue = by_tag no_alternatives t (others false t) in
+    let last : Reads other s'' (Err e) s'' = guard_no false UnknownAlternative (foreign_at t) s'' e refl alternative_plain why taken in
+    choice_then false xs no_alternatives s s' s'' t (Err e) h (Reads-then (found_in (root_of xs no_alternatives) t) (or_else other) s' s'' s'' None (Err e) k last)
 
 -- ---- later alternatives, and unknown ones
 
-pub later_none : (xs : List Alt) (t : Tag) (s : State) (e : ReadFault) → e.why ≡ UnknownAlternative → e.taken ≡ s.bound.taken → Reads (later_in (choice false (root_of xs no_alternatives)) t) s (Err e) s
-later_none xs t s e why taken = rw (after_root-none xs) (Reads-then (give None) (or_else (others false t)) s s s None (Err e) (Reads-give None s) (guard_no false UnknownAlternative (foreign_at t) s e refl alternative_plain why taken))
+pub later_stop : (more : List Alt) (t : Tag) (s s' : State) (e : ReadFault) → Reads (found_in (later_of more) t) s (Err e) s' → Reads (later_at (later_of more) t) s (Err e) s'
+later_stop more t s s' e h = Reads-stop (found_in (later_of more) t) (or_else (foreign_at t)) s s' e h
 
-pub later_stop : (xs more : List Alt) (t : Tag) (s s' : State) (e : ReadFault) → Reads (found_in (later_of more) t) s (Err e) s' → Reads (later_in (choice true (root_of xs (later_of more))) t) s (Err e) s'
-later_stop xs more t s s' e h = rw (after_root-is xs more) (Reads-stop (found_in (later_of more) t) (or_else (others true t)) s s' e h)
+pub later_found : (more : List Alt) (t : Tag) (s s' : State) (v : AsnValue) → Reads (found_in (later_of more) t) s (Ok (Some v)) s' → Reads (later_at (later_of more) t) s (Ok v) s'
+later_found more t s s' v h = Reads-then (found_in (later_of more) t) (or_else (foreign_at t)) s s' s' (Some v) (Ok v) h (Reads-give v s')
 
-pub later_found : (xs more : List Alt) (t : Tag) (s s' : State) (v : AsnValue) → Reads (found_in (later_of more) t) s (Ok (Some v)) s' → Reads (later_in (choice true (root_of xs (later_of more))) t) s (Ok v) s'
-later_found xs more t s s' v h = rw (after_root-is xs more) (Reads-then (found_in (later_of more) t) (or_else (others true t)) s s' s' (Some v) (Ok v) h (Reads-give v s'))
-
-pub later_foreign : (xs more : List Alt) (t : Tag) (s s' s'' : State) (result : Result AsnValue ReadFault) → Reads (found_in (later_of more) t) s (Ok None) s' → Reads (foreign_at t) s' result s'' → Reads (later_in (choice true (root_of xs (later_of more))) t) s result s''
-later_foreign xs more t s s' s'' result h k = rw (after_root-is xs more) (Reads-then (found_in (later_of more) t) (or_else (others true t)) s s' s'' None result h k)
+pub later_foreign : (more : List Alt) (t : Tag) (s s' s'' : State) (result : Result AsnValue ReadFault) → Reads (found_in (later_of more) t) s (Ok None) s' → Reads (foreign_at t) s' result s'' → Reads (later_at (later_of more) t) s result s''
+later_foreign more t s s' s'' result h k = Reads-then (found_in (later_of more) t) (or_else (foreign_at t)) s s' s'' None result h k
 
 -- ---- one alternative after another
 

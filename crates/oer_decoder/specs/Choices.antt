@@ -1,10 +1,9 @@
 -- Alternatives of a CHOICE, one after another.
 use Rattle.std.specs.Prelude.{Bool, true, false, Option, Some, None}
-use Rattle.oer_units.specs.Reader.{Reader, bind, give, guard, refuse}
+use Rattle.oer_units.specs.Reader.{Reader, bind, give}
 use Rattle.oer_units.specs.Reading.{counted_octets, open_type}
-use Rattle.oer_units.specs.declared.fault.Why.TheVariants.{UnknownAlternative}
 use Rattle.oer_units.specs.declared.tagging.Tag.{Tag}
-use Rattle.oer_types.specs.AsnType.{Alternatives, AsnType, alternative, choice, later, no_alternatives}
+use Rattle.oer_types.specs.AsnType.{Alternatives, alternative, later, no_alternatives}
 use Rattle.oer_types.specs.AsnValue.{AsnValue, chosen, foreign}
 use Rattle.oer_types.specs.Constraints.{same_tag}
 use Rattle.oer_types.specs.Reading.{read_value}
@@ -32,13 +31,6 @@ or_else r None = r
 abbrev pub foreign_at : Tag → Reader AsnValue
 foreign_at t = bind counted_octets (λ w. give (foreign t w))
 
--- the alternatives after the extension marker
-abbrev pub after_root : Alternatives → Alternatives
-after_root no_alternatives = no_alternatives
-after_root (alternative name u T more) = after_root more
-after_root (later name u T more) = later name u T more
-
--- what follows a tag that no alternative of the root has
-abbrev pub later_in : AsnType → Tag → Reader AsnValue
-later_in (choice extensible more) t = bind (found_in (after_root more) t) (or_else (guard extensible UnknownAlternative (foreign_at t)))
-later_in T t = refuse UnknownAlternative
+-- what follows a tag that no alternative of the root has: one of those after the extension marker, or one that the type doesn't know
+abbrev pub later_at : Alternatives → Tag → Reader AsnValue
+later_at more t = bind (found_in more t) (or_else (foreign_at t))

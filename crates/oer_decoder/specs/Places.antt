@@ -2,11 +2,11 @@
 use Rattle.std.specs.Prelude.{ℕ, suc, Bool, true, false, List, [], ◌∷◌, Option, Some, None}
 use Rattle.oer_units.specs.Reader.{Reader, bind, give, guard, within}
 use Rattle.oer_units.specs.declared.fault.Why.TheVariants as reason
-use Rattle.oer_types.specs.AsnType.{Additions, AsnType, Fields, Need, default, extensible_sequence, may, must, no_additions}
-use Rattle.oer_types.specs.AsnValue.{AsnValue, Places, absent, present}
+use Rattle.oer_types.specs.AsnType.{Additions, Fields, Need, default, may, must}
+use Rattle.oer_types.specs.AsnValue.{AsnValue, Places, absent, present, seq}
 use Rattle.oer_types.specs.Bits.{first_bit, later_bits}
 use Rattle.oer_types.specs.Constraints.{optional, size_fits}
-use Rattle.oer_types.specs.Reading.{preamble, quantity, read_fields}
+use Rattle.oer_types.specs.Reading.{preamble, quantity, read_additions, read_extension, read_fields}
 use Rattle.oer_types.specs.declared.size.Size.{Size}
 
 -- whether a component is there, by the presence bits from its own on
@@ -49,7 +49,6 @@ started s root = record { extended = first_bit s; root = root }
 abbrev pub root_at : Fields → Reader Started
 root_at fs = bind (preamble (suc (optional fs))) (λ s. bind (read_fields fs (later_bits s)) (λ root. give (started s root)))
 
--- the additions of a type
-abbrev pub additions_in : AsnType → Additions
-additions_in (extensible_sequence fs more) = more
-additions_in T = no_additions
+-- what follows it: the additions
+abbrev pub rest_at : Additions → Started → Reader AsnValue
+rest_at more x = bind (read_extension x.extended more (read_additions more)) (λ added. give (seq x.root added.0 added.1))

@@ -7,9 +7,9 @@ ghost use Rattle.oer_types.specs.AsnType.{no_alternatives, sequence, sequence_of
 ghost use Rattle.oer_types.specs.Reading.{read_additions as additions_read, read_extension as extension_read, read_fields as fields_read, read_value};
 ghost use Rattle.oer_types.specs.ShapeView.{additions_of, fields_of, later_of, root_of, type_of};
 ghost use Rattle.oer_types.specs.ValueView.{places_of, value_of};
-ghost use Rattle.oer_decoder.specs.Choices.{found_in, later_in};
+ghost use Rattle.oer_decoder.specs.Choices.{found_in, later_at};
 ghost use Rattle.oer_decoder.specs.Memory.{NeedsNoMemory};
-ghost use Rattle.oer_decoder.specs.Places.{additions_in, place_by, root_at};
+ghost use Rattle.oer_decoder.specs.Places.{place_by, rest_at, root_at};
 ghost use Rattle.oer_decoder.specs.Starts.{added_of, start_of};
 
 use crate::bit_strings::{addition_map, read_bit_string};
@@ -64,61 +64,22 @@ pub(crate) fn read_shape<R: Source>(
         Shape::SequenceOf { size, item } => read_items(item, alloc, *size, w),
         Shape::Sequence { root, additions } => match additions {
             None => read_sequence(root, alloc, w),
-            Some(_) => read_extensible(shape, alloc, w),
-        },
-        Shape::Choice { .. } => read_choice(shape, alloc, w),
-    }
-}
-
-/// A SEQUENCE with an extension marker (X.696, 16).
-#[cycle(read)]
-fn read_extensible<R: Source>(
-    shape: &Shape,
-    alloc: Global,
-    w: &mut Window<R>,
-) -> Result<Value, ReadFault>
-    ensures { Reads (read_value (type_of shape.now)) (state R.remaining R.failed w.old) (seen value_of result)
-        (state R.remaining R.failed w.new) }
-{
-    match shape {
-        Shape::Sequence { root, additions } => match additions {
-            Some(_) => {
+            Some(additions) => {
                 let start = read_root(root, alloc, w)?;
-                let added = read_later(shape, alloc, start.is_extended, w)?;
-                Ok(Value::Seq {
-                    root: start.places,
-                    added: added.known,
-                    unknown: added.unknown,
-                })
+                read_rest(additions, alloc, start, w)
             }
-            // Not reached, nor the arm below: the caller has seen the marker.
-            None => Err(w.fault(Why::Memory)),
         },
-        _ => Err(w.fault(Why::Memory)),
-    }
-}
-
-/// A CHOICE (X.696, 20).
-#[cycle(read)]
-fn read_choice<R: Source>(
-    shape: &Shape,
-    alloc: Global,
-    w: &mut Window<R>,
-) -> Result<Value, ReadFault>
-    ensures { Reads (read_value (type_of shape.now)) (state R.remaining R.failed w.old) (seen value_of result)
-        (state R.remaining R.failed w.new) }
-{
-    match shape {
-        Shape::Choice { root, additions: _ } => {
+        Shape::Choice { root, additions } => {
             let tag = tag(w)?;
             let found = read_alternative(root, alloc, tag, w)?;
             match found {
                 Some(value) => Ok(value),
-                None => read_later_alternative(shape, alloc, tag, w),
+                None => match additions {
+                    Some(additions) => read_later_alternative(additions, alloc, tag, w),
+                    None => Err(w.fault(Why::UnknownAlternative)),
+                },
             }
         }
-        // Not reached: the caller has seen a CHOICE.
-        _ => Err(w.fault(Why::Memory)),
     }
 }
 
@@ -296,25 +257,23 @@ fn read_root<R: Source>(
     })
 }
 
-/// The additions of a SEQUENCE with an extension marker.
+/// What follows the root of a SEQUENCE with an extension marker.
 #[cycle(read)]
-fn read_later<R: Source>(
-    shape: &Shape,
+fn read_rest<R: Source>(
+    additions: &[Addition],
     alloc: Global,
-    is_extended: bool,
+    start: Start,
     w: &mut Window<R>,
-) -> Result<Added, ReadFault>
-    ensures { Reads (extension_read is_extended (additions_in (type_of shape.now)) (additions_read (additions_in (type_of shape.now))))
-        (state R.remaining R.failed w.old) (seen added_of result) (state R.remaining R.failed w.new) }
+) -> Result<Value, ReadFault>
+    ensures { Reads (rest_at (additions_of additions.now) (start_of start)) (state R.remaining R.failed w.old) (seen value_of result)
+        (state R.remaining R.failed w.new) }
 {
-    match shape {
-        Shape::Sequence { root: _, additions } => match additions {
-            Some(additions) => read_extension(additions, alloc, is_extended, w),
-            // Not reached, nor the arm below: the caller has seen the marker.
-            None => Err(w.fault(Why::Memory)),
-        },
-        _ => Err(w.fault(Why::Memory)),
-    }
+    let added = read_extension(additions, alloc, start.is_extended, w)?;
+    Ok(Value::Seq {
+        root: start.places,
+        added: added.known,
+        unknown: added.unknown,
+    })
 }
 
 /// The additions, of which there are none where the extension bit isn't set.
@@ -383,29 +342,20 @@ fn read_open_alternative<R: Source>(
     Ok(None)
 }
 
-/// What follows a tag that no alternative of the root has.
+/// What follows a tag that no alternative of the root has, where there is an extension marker.
 #[cycle(read)]
 fn read_later_alternative<R: Source>(
-    shape: &Shape,
+    alternatives: &[Alt],
     alloc: Global,
     tag: Tag,
     w: &mut Window<R>,
 ) -> Result<Value, ReadFault>
-    ensures { Reads (later_in (type_of shape.now) tag) (state R.remaining R.failed w.old) (seen value_of result)
+    ensures { Reads (later_at (later_of alternatives.now) tag) (state R.remaining R.failed w.old) (seen value_of result)
         (state R.remaining R.failed w.new) }
 {
-    match shape {
-        Shape::Choice { root: _, additions } => match additions {
-            Some(additions) => {
-                let found = read_open_alternative(additions, alloc, tag, w)?;
-                match found {
-                    Some(value) => Ok(value),
-                    None => foreign(alloc, tag, w),
-                }
-            }
-            None => Err(w.fault(Why::UnknownAlternative)),
-        },
-        // Not reached: the caller has seen a CHOICE.
-        _ => Err(w.fault(Why::Memory)),
+    let found = read_open_alternative(alternatives, alloc, tag, w)?;
+    match found {
+        Some(value) => Ok(value),
+        None => foreign(alloc, tag, w),
     }
 }

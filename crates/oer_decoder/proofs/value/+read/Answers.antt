@@ -10,12 +10,12 @@ use Rattle.oer_types.specs.ShapeView.{additions_of, fields_of, later_of, type_of
 use Rattle.oer_types.specs.ValueView.{places_of, unknown_of, value_of}
 use Rattle.oer_types.proofs.Shapes.{type_of-Choice, type_of-Ia5, type_of-Numeric, type_of-Printable, type_of-Sequence, type_of-Visible}
 use Rattle.oer_types.proofs.Values.{value_of-List, value_of-Seq}
-use Rattle.oer_decoder.specs.Choices.{found_in}
+use Rattle.oer_writer.proofs.Sizes.{additions_fall, later_fall}
 use Rattle.oer_decoder.specs.MarksView.{bits_in}
 use Rattle.oer_decoder.specs.Starts.{added_of, start_of}
-use Rattle.oer_decoder.proofs.Extensions.{extensible_stop, extensible_then, extension_known, extension_none, extension_stop, extension_then}
+use Rattle.oer_decoder.proofs.Extensions.{extensible_stop, extensible_then, extension_known, extension_none, extension_stop, extension_then, rest_then}
 use Rattle.oer_decoder.proofs.Loops.{addition_count_is, adds_end, adds_next, adds_none, adds_stop, elements_end, elements_next, elements_none, elements_stop, fields_end, fields_next, fields_none, fields_stop, items_stop, items_then, leads_memory, listed_is, place_none, place_then, root_stop, root_then, sequence_stop, sequence_then}
-use Rattle.oer_decoder.proofs.Picks.{choice_found, choice_later, choice_with-is, has_marker, more_of, choice_refused, choice_stop, chosen_stop, chosen_then, later_end, later_foreign, later_found, later_here, later_next, later_none, later_stop, root_end, root_here, root_next}
+use Rattle.oer_decoder.proofs.Picks.{choice_found, choice_later, choice_none, choice_with-is, has_marker, more_of, choice_refused, choice_stop, chosen_stop, chosen_then, later_end, later_foreign, later_found, later_here, later_next, later_stop, root_end, root_here, root_next}
 use Rattle.oer_decoder.proofs.Shapes.{type_of-Null}
 use Rattle.oer_decoder.proofs.Values.{value_of-Null}
 use Rattle.oer_decoder.proofs.value.+read.Goals as goal
@@ -208,6 +208,16 @@ read_extension-returns g t c =
     extension_then c.args.is_extended (additions_of c.args.additions.now) (length c.args.additions.now) _ _ _ _ c.in_ok-bits.bits.items (places_of c.in_ok-known.known.items) (Ok (map unknown_of c.in_ok-unknown.unknown.items)) (search rules) (addition_count_is c.args.additions.now) c.in_ok-bits.ensures.reads
     (rw c.deref.ensures.value at c.in_ok-known.ensures) (rw c.deref-2.ensures.value at c.in_ok-unknown.ensures)
 
+pub read_rest-returns-in_err-added : goal.read_rest-returns-in_err-added
+read_rest-returns-in_err-added g t c =
+    rw (at_exit c.from_residual.result c.in_err-added.field-0.0 c.from_residual.ensures.1)
+    (rest_then (additions_of c.args.additions.now) (start_of c.args.start) _ _ (Err c.in_err-added.field-0.0) c.in_err-added.ensures)
+
+pub read_rest-returns : goal.read_rest-returns
+read_rest-returns g t c =
+    rw (value_of-Seq c.args.start.places c.in_ok-added.added.known c.in_ok-added.added.unknown)
+    (rest_then (additions_of c.args.additions.now) (start_of c.args.start) _ _ (Ok (added_of c.in_ok-added.added)) c.in_ok-added.ensures)
+
 -- ---- alternatives
 
 pub read_alternative-returns-in_err-value : goal.read_alternative-returns-in_err-value
@@ -254,24 +264,16 @@ read_open_alternative-returns g t c = later_end c.args.alternatives.now c.loop-a
 
 -- ---- what follows a tag that no alternative of the root has
 
-pub read_later_alternative-returns-in_err-found-in-Some : goal.read_later_alternative-returns-in_err-found-in-Some
-read_later_alternative-returns-in_err-found-in-Some g t c =
-    rw (at_exit c.from_residual.result c.in_err-found-in-Some.field-0.0 c.from_residual.ensures.1, c.in-Choice.is, c.in-Some.is, type_of-Choice)
-    (later_stop c.in-Choice.root.items c.in-Some.additions.items c.args.tag _ _ _ (rw c.deref.ensures.value at c.in_err-found-in-Some.ensures))
+pub read_later_alternative-returns-in_err-found : goal.read_later_alternative-returns-in_err-found
+read_later_alternative-returns-in_err-found g t c =
+    rw (at_exit c.from_residual.result c.in_err-found.field-0.0 c.from_residual.ensures.1)
+    (later_stop c.args.alternatives.now c.args.tag _ _ _ c.in_err-found.ensures)
 
-pub read_later_alternative-returns-in-Some-found : goal.read_later_alternative-returns-in-Some-found
-read_later_alternative-returns-in-Some-found g t c =
-    rw (c.in-Choice.is, c.in-Some.is, type_of-Choice)
-    (later_found c.in-Choice.root.items c.in-Some.additions.items c.args.tag _ _ (value_of c.in-Some-found.value) (rw (c.deref.ensures.value, c.in-Some-found.is) at c.in_ok-found-in-Some.ensures))
-
-pub read_later_alternative-returns-in-None-found : goal.read_later_alternative-returns-in-None-found
-read_later_alternative-returns-in-None-found g t c =
-    rw (c.in-Choice.is, c.in-Some.is, type_of-Choice)
-    (later_foreign c.in-Choice.root.items c.in-Some.additions.items c.args.tag _ _ _ _ (rw (c.deref.ensures.value, c.in-None-found.is) at c.in_ok-found-in-Some.ensures) c.foreign.ensures)
+pub read_later_alternative-returns-in-Some : goal.read_later_alternative-returns-in-Some
+read_later_alternative-returns-in-Some g t c = later_found c.args.alternatives.now c.args.tag _ _ (value_of c.in-Some.value) (rw c.in-Some.is at c.in_ok-found.ensures)
 
 pub read_later_alternative-returns-in-None : goal.read_later_alternative-returns-in-None
-read_later_alternative-returns-in-None g t c =
-    rw (c.in-Choice.is, c.in-None.is, type_of-Choice) (later_none c.in-Choice.root.items c.args.tag _ _ c.fault.ensures.why c.fault.ensures.taken)
+read_later_alternative-returns-in-None g t c = later_foreign c.args.alternatives.now c.args.tag _ _ _ _ (rw c.in-None.is at c.in_ok-found.ensures) c.foreign.ensures
 
 -- ---- shapes
 
@@ -290,38 +292,55 @@ read_shape-returns-in-Numeric-clause-reads g t c = rw (c.in-Numeric.is, type_of-
 pub read_shape-returns-in-Printable-clause-reads : goal.read_shape-returns-in-Printable-clause-reads
 read_shape-returns-in-Printable-clause-reads g t c = rw (c.in-Printable.is, type_of-Printable) c.read_text-in-Printable.ensures
 
-pub read_extensible-returns-in_err-start-in-Some : goal.read_extensible-returns-in_err-start-in-Some
-read_extensible-returns-in_err-start-in-Some g t c =
+-- ---- a sequence with an extension marker
+
+pub read_shape-read_rest-requires : goal.read_shape-read_rest-requires
+read_shape-read_rest-requires g t c κs within =
+    let s = c.in-Sequence in
+    let smaller = additions_fall c.args.shape.now s.root s.additions c.in-Some.additions _ s.is c.in-Some.is refl in
+    (rw c.deref-in-Some-2.ensures.value (omega (arith, smaller, c.decreases)), within)
+
+pub read_shape-returns-in_err-start-in-Some-clause-reads : goal.read_shape-returns-in_err-start-in-Some-clause-reads
+read_shape-returns-in_err-start-in-Some-clause-reads g t c =
     rw (at_exit c.from_residual.result c.in_err-start-in-Some.field-0.0 c.from_residual.ensures.1, c.in-Sequence.is, c.in-Some.is, type_of-Sequence)
-    (extensible_stop (fields_of c.in-Sequence.root.items) (additions_of c.in-Some.field-0.items) _ _ _ (rw c.deref.ensures.value at c.in_err-start-in-Some.ensures))
+    (extensible_stop (fields_of c.in-Sequence.root.items) (additions_of c.in-Some.additions.items) _ _ _ (rw c.deref-in-Some.ensures.value at c.in_err-start-in-Some.ensures))
 
-pub read_extensible-returns-in_err-added-in-Some : goal.read_extensible-returns-in_err-added-in-Some
-read_extensible-returns-in_err-added-in-Some g t c =
-    rw (at_exit c.from_residual-in_err-added-in-Some.result c.in_err-added-in-Some.field-0.0 c.from_residual-in_err-added-in-Some.ensures.1, c.in-Sequence.is, c.in-Some.is, type_of-Sequence)
-    (extensible_then (fields_of c.in-Sequence.root.items) (additions_of c.in-Some.field-0.items) _ _ _ (start_of c.in_ok-start-in-Some.start) (Err c.in_err-added-in-Some.field-0.0) (rw c.deref.ensures.value at c.in_ok-start-in-Some.ensures) (rw (c.in-Sequence.is, c.in-Some.is, type_of-Sequence) at c.in_err-added-in-Some.ensures))
+pub read_shape-returns-in_ok-start-in-Some-clause-reads : goal.read_shape-returns-in_ok-start-in-Some-clause-reads
+read_shape-returns-in_ok-start-in-Some-clause-reads g t c =
+    rw (c.in-Sequence.is, c.in-Some.is, type_of-Sequence)
+    (extensible_then (fields_of c.in-Sequence.root.items) (additions_of c.in-Some.additions.items) _ _ _ (start_of c.in_ok-start-in-Some.start) _ (rw c.deref-in-Some.ensures.value at c.in_ok-start-in-Some.ensures) (rw c.deref-in-Some-2.ensures.value at c.read_rest.ensures))
 
-pub read_extensible-returns-in_ok-added-in-Some : goal.read_extensible-returns-in_ok-added-in-Some
-read_extensible-returns-in_ok-added-in-Some g t c =
-    rw (c.in-Sequence.is, c.in-Some.is, type_of-Sequence, value_of-Seq c.in_ok-start-in-Some.start.places c.in_ok-added-in-Some.added.known c.in_ok-added-in-Some.added.unknown)
-    (extensible_then (fields_of c.in-Sequence.root.items) (additions_of c.in-Some.field-0.items) _ _ _ (start_of c.in_ok-start-in-Some.start) (Ok (added_of c.in_ok-added-in-Some.added)) (rw c.deref.ensures.value at c.in_ok-start-in-Some.ensures) (rw (c.in-Sequence.is, c.in-Some.is, type_of-Sequence) at c.in_ok-added-in-Some.ensures))
+-- ---- a choice
 
-pub read_choice-returns-in_err-tag-in-Choice : goal.read_choice-returns-in_err-tag-in-Choice
-read_choice-returns-in_err-tag-in-Choice g t c =
-    rw (at_exit c.from_residual.result c.in_err-tag-in-Choice.field-0.0 c.from_residual.ensures.1, c.in-Choice.is, type_of-Choice, choice_with-is)
+pub read_shape-read_later_alternative-requires : goal.read_shape-read_later_alternative-requires
+read_shape-read_later_alternative-requires g t c κs within =
+    let s = c.in-Choice in
+    let smaller = later_fall c.args.shape.now s.root s.additions c.in-Some-additions.additions _ s.is c.in-Some-additions.is refl in
+    (rw c.deref-in-Some-additions.ensures.value (omega (arith, smaller, c.decreases)), within)
+
+pub read_shape-returns-in_err-tag-in-Choice-clause-reads : goal.read_shape-returns-in_err-tag-in-Choice-clause-reads
+read_shape-returns-in_err-tag-in-Choice-clause-reads g t c =
+    rw (at_exit c.from_residual-in_err-tag-in-Choice.result c.in_err-tag-in-Choice.field-0.0 c.from_residual-in_err-tag-in-Choice.ensures.1, c.in-Choice.is, type_of-Choice, choice_with-is)
     (choice_stop (has_marker c.in-Choice.additions) c.in-Choice.root.items (later_of (more_of c.in-Choice.additions)) _ _ _ c.in_err-tag-in-Choice.ensures.reads)
 
-pub read_choice-returns-in_err-found-in-Choice : goal.read_choice-returns-in_err-found-in-Choice
-read_choice-returns-in_err-found-in-Choice g t c =
+pub read_shape-returns-in_err-found-in-Choice-clause-reads : goal.read_shape-returns-in_err-found-in-Choice-clause-reads
+read_shape-returns-in_err-found-in-Choice-clause-reads g t c =
     rw (at_exit c.from_residual-in_err-found-in-Choice.result c.in_err-found-in-Choice.field-0.0 c.from_residual-in_err-found-in-Choice.ensures.1, c.in-Choice.is, type_of-Choice, choice_with-is)
-    (choice_refused (has_marker c.in-Choice.additions) c.in-Choice.root.items (later_of (more_of c.in-Choice.additions)) _ _ _ c.in_ok-tag-in-Choice.tag _ c.in_ok-tag-in-Choice.ensures.reads (rw c.deref.ensures.value at c.in_err-found-in-Choice.ensures))
+    (choice_refused (has_marker c.in-Choice.additions) c.in-Choice.root.items (later_of (more_of c.in-Choice.additions)) _ _ _ c.in_ok-tag-in-Choice.tag _ c.in_ok-tag-in-Choice.ensures.reads (rw c.deref-in-Choice.ensures.value at c.in_err-found-in-Choice.ensures))
 
-pub read_choice-returns-in-Some : goal.read_choice-returns-in-Some
-read_choice-returns-in-Some g t c =
+pub read_shape-returns-in-Some-found-clause-reads : goal.read_shape-returns-in-Some-found-clause-reads
+read_shape-returns-in-Some-found-clause-reads g t c =
     rw (c.in-Choice.is, type_of-Choice, choice_with-is)
-    (choice_found (has_marker c.in-Choice.additions) c.in-Choice.root.items (later_of (more_of c.in-Choice.additions)) _ _ _ c.in_ok-tag-in-Choice.tag (value_of c.in-Some.value) c.in_ok-tag-in-Choice.ensures.reads (rw (c.deref.ensures.value, c.in-Some.is) at c.in_ok-found-in-Choice.ensures))
+    (choice_found (has_marker c.in-Choice.additions) c.in-Choice.root.items (later_of (more_of c.in-Choice.additions)) _ _ _ c.in_ok-tag-in-Choice.tag (value_of c.in-Some-found.value) c.in_ok-tag-in-Choice.ensures.reads (rw (c.deref-in-Choice.ensures.value, c.in-Some-found.is) at c.in_ok-found-in-Choice.ensures))
 
-pub read_choice-returns-in-None : goal.read_choice-returns-in-None
-read_choice-returns-in-None g t c =
-    rw (c.in-Choice.is, type_of-Choice, choice_with-is)
-    (choice_later (has_marker c.in-Choice.additions) c.in-Choice.root.items (later_of (more_of c.in-Choice.additions)) (more_of c.in-Choice.additions) _ _ _ _ c.in_ok-tag-in-Choice.tag _ refl c.in_ok-tag-in-Choice.ensures.reads (rw (c.deref.ensures.value, c.in-None.is) at c.in_ok-found-in-Choice.ensures)
-    (rw (c.in-Choice.is, type_of-Choice, choice_with-is) at c.read_later_alternative.ensures))
+pub read_shape-returns-in-Some-additions-clause-reads : goal.read_shape-returns-in-Some-additions-clause-reads
+read_shape-returns-in-Some-additions-clause-reads g t c =
+    rw (c.in-Choice.is, c.in-Some-additions.is, type_of-Choice)
+    (choice_later c.in-Choice.root.items c.in-Some-additions.additions.items _ _ _ _ c.in_ok-tag-in-Choice.tag _ c.in_ok-tag-in-Choice.ensures.reads
+    (rw (c.deref-in-Choice.ensures.value, c.in-None-found.is) at c.in_ok-found-in-Choice.ensures) (rw c.deref-in-Some-additions.ensures.value at c.read_later_alternative.ensures))
+
+pub read_shape-returns-in-None-additions-clause-reads : goal.read_shape-returns-in-None-additions-clause-reads
+read_shape-returns-in-None-additions-clause-reads g t c =
+    rw (c.in-Choice.is, c.in-None-additions.is, type_of-Choice)
+    (choice_none c.in-Choice.root.items _ _ _ c.in_ok-tag-in-Choice.tag _ c.in_ok-tag-in-Choice.ensures.reads
+    (rw (c.deref-in-Choice.ensures.value, c.in-None-found.is) at c.in_ok-found-in-Choice.ensures) c.fault.ensures.why c.fault.ensures.taken)
