@@ -6,3 +6,4 @@ pub mod Made
 pub mod Shapes
 pub mod Take
 pub mod Texts
+pub mod Faults
