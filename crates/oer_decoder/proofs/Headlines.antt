@@ -30,10 +30,7 @@ use Rattle.oer_decoder.proofs.Rewritten.{one_front}
 -- ---- two values
 
 tells_values : (T : AsnType) → KeepsLimits T → TellsValues T
-tells_values T wf v w c d s u = (
-  λ e. (canonical_tells T wf v w c s.0 u.0 s).0 (subst (λ (l : List ℕ). IsCanonical T w l) (sym e) u),
-  λ e. canon_one T w c d ((canonical_tells T wf v w c s.0 u.0 s).1 e) u,
-)
+tells_values T wf v w c f g s = (canonical_tells T wf v w c f g s, λ d t. canon_one T v d c t s)
 
 -- ---- reading
 

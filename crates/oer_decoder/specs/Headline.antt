@@ -7,6 +7,7 @@ use Rattle.oer_types.specs.AsnType.{AsnType}
 use Rattle.oer_types.specs.AsnValue.{AsnValue}
 use Rattle.oer_types.specs.Encoding.{Encodes}
 use Rattle.oer_types.specs.Filling.{filled}
+use Rattle.oer_types.specs.Fits.{Fits}
 use Rattle.oer_types.specs.Reading.{read_value}
 use Rattle.oer_types.specs.Strict.{IsCanonical}
 use Rattle.oer_types.specs.WellFormed.{IsWellFormed}
@@ -49,9 +50,11 @@ pub record RewritePromises (T : AsnType) (limit : ℕ) (reader reader' sink sink
 
 -- ---- two values
 
--- Two values have equal canonical octets exactly where they are equal after defaults are filled in.
+-- Two values that fit have equal canonical octets exactly where they are equal after defaults are filled in: where c are those of v, they are
+-- those of w, too, exactly then. No other octets are those of v.
 abbrev pub TellsValues : AsnType → Type 0
-TellsValues T = (v w : AsnValue) (c d : List ℕ) → IsCanonical T v c → IsCanonical T w d → ((c ≡ d) ↔ (filled T v ≡ filled T w))
+TellsValues T = (v w : AsnValue) (c : List ℕ) → Fits T v → Fits T w → IsCanonical T v c
+    → (IsCanonical T w c ↔ (filled T v ≡ filled T w)) × ((d : List ℕ) → IsCanonical T v d → d ≡ c)
 
 -- ---- reading
 
@@ -98,7 +101,7 @@ IsRewrittenAs T b c = EachRun T b (Ok (length b, length c)) c
 abbrev pub RewritesCanonically : AsnType → AsnValue → List ℕ → Type 0
 RewritesCanonically T v b = (c : List ℕ) × IsCanonical T v c × (length c < 2 ^ 64) × IsRewrittenAs T b c × IsRewrittenAs T c c
 
--- v has no canonical octets of fewer than 2 ^ 64: where an encoding b of v is rewritten, the answer is TooLong, and nothing is written.
+-- v has no canonical octets, or 2 ^ 64 or more: where an encoding b of v is rewritten, the answer is TooLong, and nothing is written.
 abbrev pub RefusesTooLong : AsnType → AsnValue → List ℕ → Type 0
 RefusesTooLong T v b = IsTooLong T v × EachRun T b (Err (Write TooLong)) []
 
