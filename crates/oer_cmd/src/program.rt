@@ -1,9 +1,12 @@
 //! The command.
-ghost use Rattle.std.specs.Prelude.{◌≡◌, ◌≤◌, ◌∷◌, [], ◌++◌, true, map, IfErr, IfOk, OnOk, string_bytes};
+ghost use Rattle.std.specs.Prelude.{◌≡◌, ◌≢◌, ◌≤◌, ◌∷◌, [], ◌++◌, List, None, true, map, IfErr, IfOk, OnOk, string_bytes};
 ghost use Rattle.std.specs.Io.KnownBytes.{Appends, Keeps};
 ghost use Rattle.clap.specs.Words.{kind_of, takes};
 ghost use Rattle.clap.specs.declared.error.kind.ErrorKind.TheVariants.{OutOfMemory};
+ghost use Rattle.oer_types.specs.Parts.{Step};
 ghost use Rattle.oer_types.specs.Schema.{the_type};
+ghost use Rattle.oer_cmd.specs.Answer.{IsPathOf, answer_of, expected_answer, path_text, source_text, task_answer};
+ghost use Rattle.oer_cmd.specs.Expected.{Expected, Meets};
 ghost use Rattle.oer_cmd.specs.Faults.{Refuses, status_of};
 ghost use Rattle.oer_cmd.specs.Run.{Answers, IsLineOf, NoLine, NoLineOf, NoneAnswers, Prints};
 ghost use Rattle.oer_cmd.specs.Types.{texts_at, texts_of};
@@ -35,6 +38,9 @@ fn line_of<'a, R: Source>(
         (the_type schema.now) options.entry.limit (string_bytes line)) }
     ensures refused { IfErr result (λ fault. Refuses fault
         (NoLineOf options.entry.task (R.remaining input.old) (the_type schema.now) options.entry.limit)) }
+    ensures exact { (path : Expected (List Step)) → IsPathOf (path_text options.entry.task) path
+        → Meets string_bytes (task_answer options.entry.task (the_type schema.now) options.entry.limit path (R.remaining input.old)) result }
+    ensures untouched { source_text options.entry.task ≢ None → input.new ≡ input.old }
 {
     let limit = options.limit;
     match options.task {
@@ -57,6 +63,9 @@ fn line_of_one<'a, R: Source>(
         options.entry.limit (R.remaining input.old) (string_bytes line)) }
     ensures refused { IfErr result (λ fault. Refuses fault (NoLine (R.remaining input.old)
         (Answers (texts_at (One text.entry)) options.entry.task options.entry.limit))) }
+    ensures exact { (path : Expected (List Step)) → IsPathOf (path_text options.entry.task) path
+        → Meets string_bytes (answer_of (texts_at (One text.entry)) options.entry.task options.entry.limit path (R.remaining input.old)) result }
+    ensures untouched { source_text options.entry.task ≢ None → input.new ≡ input.old }
 {
     let schema = one_type(alloc, text)?;
     line_of(alloc, &schema, options, input)
@@ -74,6 +83,9 @@ fn line_of_named<'a, R: Source>(
         options.entry.limit (R.remaining input.old) (string_bytes line)) }
     ensures refused { IfErr result (λ fault. Refuses fault (NoLine (R.remaining input.old)
         (Answers (texts_at (Named types.entry name.entry)) options.entry.task options.entry.limit))) }
+    ensures exact { (path : Expected (List Step)) → IsPathOf (path_text options.entry.task) path
+        → Meets string_bytes (answer_of (texts_at (Named types.entry name.entry)) options.entry.task options.entry.limit path (R.remaining input.old)) result }
+    ensures untouched { source_text options.entry.task ≢ None → input.new ≡ input.old }
 {
     let types = definitions(alloc, types)?;
     let schema = named_type(&types, name)?;
@@ -90,6 +102,9 @@ fn answer<'a, R: Source>(
         options.entry.limit (R.remaining input.old) (string_bytes line)) }
     ensures refused { IfErr result (λ fault. Refuses fault (NoLine (R.remaining input.old)
         (Answers (texts_of options.entry) options.entry.task options.entry.limit))) }
+    ensures exact { (path : Expected (List Step)) → IsPathOf (path_text options.entry.task) path
+        → Meets string_bytes (expected_answer options.entry path (R.remaining input.old)) result }
+    ensures untouched { source_text options.entry.task ≢ None → input.new ≡ input.old }
 {
     match type_text(options)? {
         TypeText::One(text) => line_of_one(alloc, text, options, input),
