@@ -1,68 +1,53 @@
 //! Why the program prints no line.
-ghost use Rattle.std.specs.Prelude.{◌≡◌, ◌≤◌};
-ghost use Rattle.oer_cmd.specs.Faults.{IsOfRead, IsOfRewrite, IsOfText, status_of};
+ghost use Rattle.std.specs.Prelude.{◌≡◌, ◌≤◌, IfOk, Some, string_bytes};
+ghost use Rattle.oer_cmd.specs.Faults.{IsOfRead, IsOfRewrite, IsOfText, error_line, status_of, text_of};
 
 use oer_reader::RewriteFault;
 use oer_text::{JsonFault, TextFault, TextWhy};
 use oer_units::{ReadFault, Why};
 use oer_writer::WriteFault;
-use thiserror::Error;
+use std::alloc::{AllocError, Global};
+use std::fmt;
 
-/// Why the program prints no line: its text is the line on the standard error.
-#[derive(Clone, Copy, Debug, PartialEq, Eq, Error)]
+/// Why the program prints no line. It displays as what stands after `oer: ` in the line on the
+/// standard error.
+#[derive(Clone, Copy, Debug, PartialEq, Eq)]
 pub enum Fault<'a> {
     /// The octets begin with no encoding.
-    #[error("{0}")]
     Read(ReadFault),
     /// An octet follows the value, which took so many.
-    #[error("octets follow the value at {0}")]
     Follows(u64),
     /// There are more octets than the limit, which is this.
-    #[error("input longer than {0}")]
     Longer(u64),
     /// The path has a step that the type doesn't have, one past the last element, or one to an
     /// addition that the type doesn't know and that isn't there; or it goes on from a part that the
     /// type doesn't know.
-    #[error("NoSuchStep")]
     NoSuchStep,
     /// The path leads to a component, or to an addition that the type knows, that is absent.
-    #[error("Absent")]
     Absent,
     /// Neither `--type` nor `--types` is given, or both are.
-    #[error("one of --type and --types")]
     OneType,
     /// `--types` without `--name`.
-    #[error("--types needs --name")]
     NoName,
     /// `--name` without `--types`.
-    #[error("--name needs --types")]
     NoTypes,
     /// The text of the type, or of the definitions, is refused.
-    #[error("type: {0}")]
     Type(TextFault),
     /// No definition has this Name.
-    #[error("no type {0}")]
     Unnamed(&'a str),
     /// The text of `--hex` is not an even number of hexadecimal digits.
-    #[error("hex refused")]
     Hex,
     /// The text of `--path` is no path.
-    #[error("path refused")]
     Path,
     /// The text is not JSON.
-    #[error("json: not JSON")]
     NotJson,
     /// The JSON is taken as no value of the type.
-    #[error("json: {0}")]
     Json(JsonFault),
     /// A read of the input failed.
-    #[error("input failed")]
     Input,
     /// A write to the output failed, or its flush.
-    #[error("output failed")]
     Output,
     /// A growth of memory was refused.
-    #[error("out of memory")]
     Memory,
 }
 
@@ -115,4 +100,37 @@ impl<'a> Fault<'a> {
             Fault::Input | Fault::Output | Fault::Memory => 3,
         }
     }
+}
+
+impl fmt::Display for Fault<'_> {
+    ghost output = { λ fault. Some (text_of fault) };
+
+    fn fmt<W: fmt::Write>(&self, f: &mut fmt::Formatter<W>) -> fmt::Result {
+        match self {
+            Fault::Read(fault) => write!(f, "{} at {}", fault.why.name(), fault.taken),
+            Fault::Follows(taken) => write!(f, "octets follow the value at {taken}"),
+            Fault::Longer(limit) => write!(f, "input longer than {limit}"),
+            Fault::NoSuchStep => f.write_str("NoSuchStep"),
+            Fault::Absent => f.write_str("Absent"),
+            Fault::OneType => f.write_str("one of --type and --types"),
+            Fault::NoName => f.write_str("--types needs --name"),
+            Fault::NoTypes => f.write_str("--name needs --types"),
+            Fault::Type(fault) => write!(f, "type: {} at {}", fault.why.name(), fault.at),
+            Fault::Unnamed(name) => write!(f, "no type {name}"),
+            Fault::Hex => f.write_str("hex refused"),
+            Fault::Path => f.write_str("path refused"),
+            Fault::NotJson => f.write_str("json: not JSON"),
+            Fault::Json(fault) => write!(f, "json: {}", fault.name()),
+            Fault::Input => f.write_str("input failed"),
+            Fault::Output => f.write_str("output failed"),
+            Fault::Memory => f.write_str("out of memory"),
+        }
+    }
+}
+
+/// The line on the standard error, with its line feed.
+pub fn error_line(alloc: Global, fault: Fault<'_>) -> Result<String, AllocError>
+    ensures { IfOk result (λ line. string_bytes line ≡ error_line fault.entry) }
+{
+    format!(in alloc; "oer: {fault}\n")
 }

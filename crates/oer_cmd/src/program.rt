@@ -1,13 +1,14 @@
 //! The command.
-ghost use Rattle.std.specs.Prelude.{◌≡◌, ◌≢◌, ◌≤◌, ◌∷◌, [], ◌++◌, List, None, true, map, IfErr, IfOk, OnOk, string_bytes};
-ghost use Rattle.std.specs.Io.KnownBytes.{Appends, Keeps};
+ghost use Rattle.std.specs.Prelude.{◌≡◌, ◌≢◌, ◌≤◌, ◌⊎◌, List, None, true, map, IfErr, IfOk, string_bytes};
+ghost use Rattle.std.specs.Io.KnownBytes.{Keeps};
 ghost use Rattle.clap.specs.Words.{kind_of, takes};
-ghost use Rattle.clap.specs.declared.error.kind.ErrorKind.TheVariants.{OutOfMemory};
+ghost use Rattle.clap.specs.declared.error.kind.ErrorKind.TheVariants.{DisplayHelp, DisplayVersion, OutOfMemory};
 ghost use Rattle.oer_types.specs.Parts.{Step};
 ghost use Rattle.oer_types.specs.Schema.{the_type};
 ghost use Rattle.oer_cmd.specs.Answer.{IsPathOf, answer_of, expected_answer, path_text, source_text, task_answer};
 ghost use Rattle.oer_cmd.specs.Expected.{Expected, Meets};
-ghost use Rattle.oer_cmd.specs.Faults.{Refuses, status_of};
+ghost use Rattle.oer_cmd.specs.Faults.{Printed, Refuses, Reports, Tells, status_of};
+ghost use Rattle.oer_cmd.specs.Ending.{Ends};
 ghost use Rattle.oer_cmd.specs.Run.{Answers, IsLineOf, NoLine, NoLineOf, NoneAnswers, Prints};
 ghost use Rattle.oer_cmd.specs.Types.{texts_at, texts_of};
 ghost use Rattle.oer_cmd.specs.Words.{oer};
@@ -15,7 +16,7 @@ ghost use Rattle.oer_cmd.specs.declared.type_text.TypeText.TheVariants.{Named, O
 
 use crate::canon::canon_line;
 use crate::check::check_line;
-use crate::fault::Fault;
+use crate::fault::{Fault, error_line};
 use crate::make::make_line;
 use crate::options::{Options, Task, parsed};
 use crate::part::part_line;
@@ -23,7 +24,7 @@ use crate::show::show_line;
 use crate::type_text::{TypeText, definitions, named_type, one_type, type_text};
 use clap::error::ErrorKind;
 use oer_types::Schema;
-use oer_units::{Metered, Source};
+use oer_units::{Metered, Sink, Source, put_octets};
 use std::alloc::Global;
 use std::io::{Read, Write};
 
@@ -112,16 +113,15 @@ fn answer<'a, R: Source>(
     }
 }
 
-// Writes a line, all of it.
-fn print_line<'a, W: Write>(output: &mut W, line: &str) -> Result<(), Fault<'a>>
-    ensures printed { OnOk result (Appends (W.contents output.old) (W.contents output.new)
-        (line.now ++ 10 ∷ [])) }
-    ensures fails { IfErr result (λ fault. fault ≡ Fault.Output) }
+// Writes the line and its line feed in one push, and flushes. A push that fails isn't tried again.
+fn print_line<'a, W: Write>(mut line: String, output: &mut W) -> Result<(), Fault<'a>>
+    ensures printed { Printed (string_bytes line.entry) (W.contents output.old) (W.contents output.new) result }
+    ensures fails { IfErr result (λ fault. status_of fault ≡ 3) }
 {
-    if output.write_all(line.as_bytes()).is_err() {
-        return Err(Fault::Output);
+    if line.push('\n').is_err() {
+        return Err(Fault::Memory);
     }
-    if output.write_all(b"\n").is_err() {
+    if put_octets(line.as_bytes(), &mut Metered::new(&mut *output)).is_err() {
         return Err(Fault::Output);
     }
     if output.flush().is_err() {
@@ -130,31 +130,65 @@ fn print_line<'a, W: Write>(output: &mut W, line: &str) -> Result<(), Fault<'a>>
     Ok(())
 }
 
-// Writes why there is no line. A failure to write it is ignored.
-fn report<E: Write>(fault: Fault<'_>, errors: &mut E) -> u8
-    ensures status { result ≡ status_of fault.entry }
-    ensures fails { 1 ≤ result }
-    ensures output { fault.entry ≡ Fault.Output → result ≡ 3 }
+// Writes the line of the fault in one push, and answers the status. Where memory for the line is
+// refused, it is that of `Memory`. A failure to write it is ignored.
+fn tell<W: Sink>(alloc: Global, fault: Fault<'_>, errors: &mut W) -> u8
+    ensures { Tells fault.entry result (W.contents errors.old) (W.failed errors.old) (W.contents errors.new) (W.failed errors.new) }
 {
-    let _ = writeln!(errors, "oer: {fault}");
-    fault.status()
+    match error_line(alloc, fault) {
+        Ok(line) => {
+            let _ = put_octets(line.as_bytes(), errors);
+            fault.status()
+        }
+        Err(_) => {
+            let _ = put_octets(b"oer: out of memory\n", errors);
+            Fault::Memory.status()
+        }
+    }
 }
 
-// Writes what `clap` says where it takes no words: help to the output with status 0, all else to the errors with status 2.
-fn refused<W: Write, E: Write>(error: &clap::Error, output: &mut W, errors: &mut E) -> u8
+// Writes why there is no line.
+fn report<E: Write>(alloc: Global, fault: Fault<'_>, errors: &mut E) -> u8
+    ensures line { Reports fault.entry result (E.contents errors.old) (E.contents errors.new) }
+    ensures status { result ≤ 2 → result ≡ status_of fault.entry }
+    ensures fails { 1 ≤ result }
+    ensures most { result ≤ 3 }
+    ensures failed { status_of fault.entry ≡ 3 → result ≡ 3 }
+{
+    tell(alloc, fault, &mut Metered::new(errors))
+}
+
+// Writes what `clap` says where it takes no words: help to the output with status 0, and all else to the
+// errors with status 2. Where memory was refused, or the output fails, it writes the line of that fault.
+fn refused<W: Write, E: Write>(
+    alloc: Global,
+    error: &clap::Error,
+    output: &mut W,
+    errors: &mut E,
+) -> u8
     ensures memory { kind_of error.now ≡ OutOfMemory → result ≡ 3 }
     ensures quiet { 1 ≤ result → result ≤ 2
         → Keeps (W.contents output.old) (W.contents output.new) }
+    ensures most { result ≤ 3 }
+    // Only help and the version have status 0, and then nothing is on the errors.
+    ensures shows { result ≡ 0 → (kind_of error.now ≡ DisplayHelp) ⊎ (kind_of error.now ≡ DisplayVersion) }
+    ensures alone { result ≡ 0 → Keeps (E.contents errors.old) (E.contents errors.new) }
+    // The line where memory was refused, and where the output failed.
+    ensures kept { kind_of error.now ≡ OutOfMemory → Keeps (W.contents output.old) (W.contents output.new) }
+    ensures line { kind_of error.now ≡ OutOfMemory
+        → Reports Fault.Memory 3 (E.contents errors.old) (E.contents errors.new) }
+    ensures failed { kind_of error.now ≢ OutOfMemory → result ≡ 3
+        → Reports Fault.Output 3 (E.contents errors.old) (E.contents errors.new) }
 {
     if error.kind() == ErrorKind::OutOfMemory {
-        return report(Fault::Memory, errors);
+        return report(alloc, Fault::Memory, errors);
     }
     if error.use_stderr() {
         let _ = write!(errors, "{error}");
         return 2;
     }
     if write!(output, "{error}").is_err() || output.flush().is_err() {
-        return report(Fault::Output, errors);
+        return report(alloc, Fault::Output, errors);
     }
     0
 }
@@ -177,18 +211,24 @@ pub fn run<R: Read, W: Write, E: Write>(
     // It refuses only where there is no answer.
     ensures refuses { takes oer (map string_bytes words.now) ≡ true → 1 ≤ result → result ≤ 2
         → NoneAnswers (map string_bytes words.now) (R.remaining input.old) }
+    ensures statuses { result ≤ 3 }
+    // The status, and what stands on the output and the errors, is what plain functions of the words and
+    // the octets say, unless memory ran out or a device failed. Input that isn't needed is untouched.
+    ensures exact { takes oer (map string_bytes words.now) ≡ true
+        → Ends (map string_bytes words.now) (R.remaining input.old) (input.new ≡ input.old) result
+        (W.contents output.old) (W.contents output.new) (E.contents errors.old) (E.contents errors.new) }
 {
     let options = match parsed(alloc, words) {
         Ok(options) => options,
-        Err(error) => return refused(&error, output, errors),
+        Err(error) => return refused(alloc, &error, output, errors),
     };
     let mut source = Metered::new(input);
     let line = match answer(alloc, options, &mut source) {
         Ok(line) => line,
-        Err(fault) => return report(fault, errors),
+        Err(fault) => return report(alloc, fault, errors),
     };
-    match print_line(output, line.as_str()) {
+    match print_line(line, output) {
         Ok(()) => 0,
-        Err(fault) => report(fault, errors),
+        Err(fault) => report(alloc, fault, errors),
     }
 }

@@ -5,3 +5,4 @@ pub mod Laws
 pub mod Made
 pub mod Take
 pub mod Texts
+pub mod Faults

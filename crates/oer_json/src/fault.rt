@@ -1,13 +1,15 @@
 //! Why JSON is refused.
 ghost use Rattle.std.specs.Prelude.{◌≡◌};
+ghost use Rattle.oer_json.specs.Faults.{json_fault_name};
 ghost use Rattle.oer_json.specs.declared.fault.JsonFault.TheVariants.{Memory};
 
 use std::alloc::{AllocError, AllocFailed};
 use thiserror::Error;
 
-/// Why JSON is not taken as a value of a type. The faults are numbered from 1 in this order.
+/// Why JSON is not taken as a value of a type. The faults are numbered from 1 in this
+/// order. It displays as its name.
 #[derive(Clone, Copy, Debug, PartialEq, Eq, Error)]
-#[error("{:?}", self)]
+#[error("{}", self.name())]
 pub enum JsonFault {
     /// A growth of memory was refused.
     Memory,
@@ -23,6 +25,22 @@ pub enum JsonFault {
     Range,
     /// The value is of the right form and doesn't fit the type.
     Misfit,
+}
+
+impl JsonFault {
+    /// The name of the fault, as it is written here.
+    pub fn name(self) -> &'static str
+        ensures { result.now ≡ json_fault_name self }
+    {
+        match self {
+            JsonFault::Memory => "Memory",
+            JsonFault::Kind => "Kind",
+            JsonFault::Name => "Name",
+            JsonFault::Missing => "Missing",
+            JsonFault::Range => "Range",
+            JsonFault::Misfit => "Misfit",
+        }
+    }
 }
 
 impl From<AllocError> for JsonFault {

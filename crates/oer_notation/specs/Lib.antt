@@ -10,3 +10,4 @@ pub mod Values
 pub mod Views
 pub mod Words
 pub mod Refusing
+pub mod Faults

@@ -1,5 +1,6 @@
 //! What is wrong with a text.
 ghost use Rattle.std.specs.Prelude.{◌≡◌};
+ghost use Rattle.oer_notation.specs.Faults.{text_why_name};
 ghost use Rattle.oer_notation.specs.declared.fault.TextWhy.TheVariants.{Memory};
 ghost use Rattle.oer_notation.specs.declared.fault.PrintFault.TheVariants as print;
 
@@ -7,37 +8,49 @@ use oer_types::SchemaFault;
 use std::alloc::{AllocError, AllocFailed};
 use thiserror::Error;
 
-/// Why a text is refused. The reasons are numbered from 1 in this order.
+/// Why a text is refused. The reasons are numbered from 1 in this order. It displays as its
+/// name.
 #[derive(Clone, Copy, Debug, PartialEq, Eq, Error)]
+#[error("{}", self.name())]
 pub enum TextWhy {
     /// A growth of memory was refused.
-    #[error("Memory")]
     Memory,
     /// No token begins here, or it has no end.
-    #[error("Token")]
     Token,
     /// A token that the grammar doesn't have here.
-    #[error("Syntax")]
     Syntax,
     /// A number out of range for its place: bounds and INTEGER defaults have 128 bits and a sign,
     /// items 64 bits and a sign, sizes 64 bits, tags 32 bits, arcs 128 bits.
-    #[error("Number")]
     Number,
     /// A Name that no earlier definition has.
-    #[error("Name")]
     Name,
     /// A Name that is defined twice.
-    #[error("Repeated")]
     Repeated,
     /// Tags on some alternatives only, or numbers on some items only.
-    #[error("Mixed")]
     Mixed,
     /// A value that isn't in the notation of the component's type.
-    #[error("Default")]
     Default,
     /// The type isn't well-formed.
-    #[error("{0}")]
     Schema(SchemaFault),
+}
+
+impl TextWhy {
+    /// The name of the reason, as it is written here; for `Schema` that of the fault.
+    pub fn name(self) -> &'static str
+        ensures { result.now ≡ text_why_name self }
+    {
+        match self {
+            TextWhy::Memory => "Memory",
+            TextWhy::Token => "Token",
+            TextWhy::Syntax => "Syntax",
+            TextWhy::Number => "Number",
+            TextWhy::Name => "Name",
+            TextWhy::Repeated => "Repeated",
+            TextWhy::Mixed => "Mixed",
+            TextWhy::Default => "Default",
+            TextWhy::Schema(fault) => fault.name(),
+        }
+    }
 }
 
 /// What is wrong with a text, and the byte at which the token or type begins that shows it; at the

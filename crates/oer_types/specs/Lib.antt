@@ -26,3 +26,4 @@ pub mod Counting
 pub mod AtMostOne
 pub mod Parts
 pub mod Headline
+pub mod Faults

@@ -1,9 +1,12 @@
 //! Why a shape is no type.
+ghost use Rattle.std.specs.Prelude.{◌≡◌};
+ghost use Rattle.oer_types.specs.Faults.{schema_fault_name};
+
 use thiserror::Error;
 
-/// Why a shape is no type. The faults are numbered from 1 in this order.
+/// Why a shape is no type. The faults are numbered from 1 in this order. It displays as its name.
 #[derive(Clone, Copy, Debug, PartialEq, Eq, Error)]
-#[error("{:?}", self)]
+#[error("{}", self.name())]
 pub enum SchemaFault {
     /// More than 32 levels.
     TooDeep,
@@ -28,4 +31,25 @@ pub enum SchemaFault {
     DefaultMisfit,
     /// A SEQUENCE OF whose elements may take no octets.
     EmptyElement,
+}
+
+impl SchemaFault {
+    /// The name of the fault, as it is written here.
+    pub fn name(self) -> &'static str
+        ensures { result.now ≡ schema_fault_name self }
+    {
+        match self {
+            SchemaFault::TooDeep => "TooDeep",
+            SchemaFault::TooManyParts => "TooManyParts",
+            SchemaFault::BoundOrder => "BoundOrder",
+            SchemaFault::SizeOrder => "SizeOrder",
+            SchemaFault::BadName => "BadName",
+            SchemaFault::RepeatedName => "RepeatedName",
+            SchemaFault::NoItems => "NoItems",
+            SchemaFault::RepeatedNumber => "RepeatedNumber",
+            SchemaFault::RepeatedTag => "RepeatedTag",
+            SchemaFault::DefaultMisfit => "DefaultMisfit",
+            SchemaFault::EmptyElement => "EmptyElement",
+        }
+    }
 }
