@@ -6,7 +6,7 @@ use Rattle.oer_units.specs.declared.fault.Why.{Why}
 use Rattle.oer_units.specs.declared.fault.Why.TheVariants as why
 use Rattle.oer_units.specs.Reader.{Outcome, Reader, at, got, refused}
 use Rattle.oer_units.specs.Reads.{Exactly, ReadsFront, Span, Took, renamed}
-use Rattle.oer_cmd.specs.Answer.{ended, whole}
+use Rattle.oer_cmd.specs.Answer.{ended, input_octets, whole}
 use Rattle.oer_cmd.specs.Canon.{HasMore, IsEmpty}
 use Rattle.oer_cmd.specs.Expected.{Expected, Meets, Refusal, refusal, refusal_of, stop, unknown, value, ◌>>=◌}
 use Rattle.oer_cmd.specs.Faults.{IsOfRead, status_of}
@@ -14,10 +14,16 @@ use Rattle.oer_cmd.specs.declared.fault.Fault.{Fault}
 use Rattle.oer_cmd.specs.declared.fault.Fault.TheVariants.{Follows, Input, Memory, Read}
 
 -- A failure of the machine is always allowed.
-pub fails : {X Y : Type 0} (view : X → Y) (m : Expected Y) (fault : Fault) → status_of fault ≡ 3 → Meets view m (Err fault)
-fails view unknown fault three = tt
-fails view (value y) fault three = three
-fails view (refusal r) fault three = λ small. absurd (omega (arith, three, small))
+pub fails : {X Y : Type 0} (view : X → Y) (m : Expected Y) (fault : Fault) → (status_of fault ≤ 2 → ⊥) → Meets view m (Err fault)
+fails view unknown fault high = tt
+fails view (value y) fault high = high
+fails view (refusal r) fault high = λ small. absurd (high small)
+
+-- A fault of the words or the octets is the one that is expected.
+pub refusing : {X Y : Type 0} (view : X → Y) (m : Expected Y) (fault : Fault) → (status_of fault ≤ 2 → m ≡ stop fault) → Meets view m (Err fault)
+refusing view unknown fault h = tt
+refusing view (value y) fault h = λ small. let no = h small in cc
+refusing view (refusal r) fault h = λ small. let e = h small in cc
 
 -- Where a step is refused, what goes on from it is.
 pub stops : {X Y Z W : Type 0} (view : X → Y) (view' : Z → W) (m : Expected Y) (next : Y → Expected W) (fault : Fault) → Meets view m (Err fault) → Meets view' (m >>= next) (Err fault)
@@ -34,10 +40,6 @@ goes view view' (refusal r) next x result h k = absurd h
 -- what is expected, by another name
 pub same : {X Y : Type 0} (view : X → Y) (m n : Expected Y) (result : Result X Fault) → m ≡ n → Meets view m result → Meets view n result
 same view m n result e h = subst (λ o. Meets view o result) e h
-
--- A fault that is what is expected.
-pub faulty : {X Y : Type 0} (view : X → Y) (m : Expected Y) (fault same : Fault) → m ≡ stop same → (status_of fault ≤ 2 → fault ≡ same) → Meets view m (Err fault)
-faulty view m fault same is h = subst (λ o. Meets view o (Err fault)) (sym is) (λ small. ap refusal_of (h small))
 
 -- ---- reading
 
@@ -85,3 +87,31 @@ is_read e fault is small =
     (device, memory, is.other device memory) where
   high : (x : Fault) → fault ≡ x → status_of x ≡ 3 → ⊥
   high x same three = let e = ap status_of same in omega (arith, e, three, small)
+
+-- Reading is refused.
+pub unread : {X Y A : Type 0} (view : X → Y) (r : Reader A) (next : A → Expected Y) (limit failed failed' : ℕ) (known known' : Option (List ℕ)) (e : ReadFault) (fault : Fault)
+    → IsOfRead e fault → ReadsFront r limit known failed (Err e) known' failed' → Meets view (input_octets known >>= λ b. whole b (r (at b limit)) >>= next) (Err fault)
+unread view r next limit failed failed' None known' e fault is h = tt
+unread view r next limit failed failed' (Some xs) None e fault is h = absurd h.reads.exact
+unread view r next limit failed failed' (Some xs) (Some ys) e fault is h = refusing view (whole xs (r (at xs limit)) >>= next) fault (λ small.
+    let told = is_read e fault is small in
+    ap (λ o. o >>= next) (read_none r limit failed failed' xs ys e h told.0 told.1) ∙ ap stop (sym told.2))
+
+-- Octets follow what was read.
+pub followed : {X Y A : Type 0} (view : X → Y) (r : Reader A) (next : A → Expected Y) (limit failed failed' n : ℕ) (known known' : Option (List ℕ)) (x : A) (t : List ℕ) (fault : Fault)
+    → ReadsFront r limit known failed (Ok x) known' failed' → Consumes known known' t → n ≡ length t → (status_of fault ≤ 2 → HasMore known') → (status_of fault ≤ 2 → fault ≡ Follows n)
+    → Meets view (input_octets known >>= λ b. whole b (r (at b limit)) >>= next) (Err fault)
+followed view r next limit failed failed' n None known' x t fault h takes count some is = tt
+followed view r next limit failed failed' n (Some xs) None x t fault h takes count some is = absurd takes
+followed view r next limit failed failed' n (Some xs) (Some ys) x t fault h takes count some is = refusing view (whole xs (r (at xs limit)) >>= next) fault (λ small.
+    let size : length xs ≡ n + length ys = omega (arith, ap length takes, length-append t ys, count) in
+    ap (λ o. o >>= next) (read_more r limit failed failed' n xs ys x h (some small) size) ∙ ap stop (sym (is small)))
+
+-- All was read, and next is made of it.
+pub wholly : {X Y A : Type 0} (view : X → Y) (r : Reader A) (next : A → Expected Y) (limit failed failed' : ℕ) (known known' : Option (List ℕ)) (x : A) (made : X)
+    → ReadsFront r limit known failed (Ok x) known' failed' → IsEmpty known' → next x ≡ value (view made) → Meets view (input_octets known >>= λ b. whole b (r (at b limit)) >>= next) (Ok made)
+wholly view r next limit failed failed' None known' x made h end is = tt
+wholly view r next limit failed failed' (Some xs) None x made h end is = absurd h.reads.exact
+wholly view r next limit failed failed' (Some xs) (Some ys) x made h end is =
+    let all : (whole xs (r (at xs limit)) >>= next) ≡ value (view made) = ap (λ o. o >>= next) (read_whole r limit failed failed' xs ys x h end) ∙ is in
+    subst (λ o. Meets view o (Ok made)) (sym all) refl

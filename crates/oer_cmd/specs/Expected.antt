@@ -32,6 +32,6 @@ unknown >>= next = unknown
 abbrev pub Meets : {X Y : Type 0} → (X → Y) → Expected Y → Result X Fault → Type 0
 Meets view unknown result = ⊤
 Meets view (value y) (Ok x) = view x ≡ y
-Meets view (value y) (Err fault) = status_of fault ≡ 3
+Meets view (value y) (Err fault) = status_of fault ≤ 2 → ⊥
 Meets view (refusal r) (Ok x) = ⊥
 Meets view (refusal r) (Err fault) = status_of fault ≤ 2 → refusal_of fault ≡ r
