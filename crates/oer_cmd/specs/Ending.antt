@@ -47,8 +47,8 @@ abbrev pub Breaks : Expected Text → ℕ → Streams → Type 0
 Breaks expected status s = (status ≡ 3) × HoldsFront expected s × ((line : Text) × IsMachineLine line × AppendsFront s.errors s.errors' line)
 
 -- Memory for the words was refused, and the errors say so; all else is as it was.
-abbrev pub IsUnread : Type 0 → ℕ → Streams → Type 0
-IsUnread untouched status s = (status ≡ 3) × untouched × Keeps s.output s.output' × AppendsFront s.errors s.errors' (error_line Memory)
+abbrev pub IsUnstarted : Type 0 → ℕ → Streams → Type 0
+IsUnstarted untouched status s = (status ≡ 3) × untouched × Keeps s.output s.output' × AppendsFront s.errors s.errors' (error_line Memory)
 
 -- The words ask for these options, and their answer is given, or the machine failed. Where they have the octets or the JSON, the input is untouched.
 pub record Does (words : List Text) (told : Option (List ℕ)) (untouched : Type 0) (status : ℕ) (s : Streams) : Type 0 where
@@ -61,5 +61,5 @@ pub record Does (words : List Text) (told : Option (List ℕ)) (untouched : Type
 -- What the program does with words that it takes. told: what the input had left, if it is known; untouched: the input is as it was.
 abbrev pub Ends : List Text → Option (List ℕ) → Type 0 → ℕ → Option (List ℕ) → Option (List ℕ) → Option (List ℕ) → Option (List ℕ) → Type 0
 Ends words told untouched status output output' errors errors' =
-    let s = record { output = output; output' = output'; errors = errors; errors' = errors' } in
-    IsUnread untouched status s ⊎ Does words told untouched status s
+    let s : Streams = record { output = output; output' = output'; errors = errors; errors' = errors' } in
+    IsUnstarted untouched status s ⊎ Does words told untouched status s

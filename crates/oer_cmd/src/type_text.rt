@@ -5,8 +5,8 @@ ghost use Rattle.oer_notation.specs.Grammar.{IsDefined, IsNew};
 ghost use Rattle.oer_notation.specs.Parsing.{parse, parse_all};
 ghost use Rattle.oer_notation.specs.Reading.{find};
 ghost use Rattle.oer_notation.specs.Views.{knowns};
-ghost use Rattle.oer_cmd.specs.Answer.{named_as, parsed};
-ghost use Rattle.oer_cmd.specs.Expected.{Meets};
+ghost use Rattle.oer_cmd.specs.Answer.{expected_type, named_as, parsed};
+ghost use Rattle.oer_cmd.specs.Expected.{Meets, stop};
 ghost use Rattle.oer_cmd.specs.Types.{AreDefinedIn, DefinesNone, IsOnly, IsTypeIn, NamesNone, SpellsNone, lack_of, texts_at, texts_of};
 
 use crate::fault::Fault;
@@ -30,8 +30,9 @@ pub enum TypeText<'a> {
 /// `--types` is given or both are, as `NoTypes` where `--name` is given beside `--type`, and as
 /// `NoName` where it isn't beside `--types`.
 pub fn type_text(options: Options<'_>) -> Result<TypeText<'_>, Fault<'_>>
-    ensures { MatchResult result (λ text. texts_at text ≡ texts_of options.entry)
+    ensures named { MatchResult result (λ text. texts_at text ≡ texts_of options.entry)
         (λ fault. (fault ≡ lack_of (texts_of options.entry)) × NamesNone (texts_of options.entry)) }
+    ensures lacking { IfErr result (λ fault. expected_type (texts_of options.entry) ≡ stop fault) }
 {
     if let Some(text) = options.type_text {
         if options.types.is_some() {

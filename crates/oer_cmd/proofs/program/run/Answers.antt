@@ -1,7 +1,33 @@
-use Rattle.std.proofs.Common.{arith, map, refl, string_bytes}
+use Rattle.std.proofs.Common.{Err, Ok, String, Global, inl, inr, arith, map, refl, string_bytes}
+use Rattle.oer_cmd.specs.Answer.{expected_answer}
+use Rattle.oer_cmd.specs.Ending.{Streams}
+use Rattle.oer_cmd.proofs.Endings.{broken_end, bytes, does, printed_end, refused_end, told_same, unread_end}
 use Rattle.oer_cmd.proofs.Lines.{none_answers}
 use Rattle.oer_cmd.proofs.program.run.Goals as goal
 
 pub returns-in-Err-answer-clause-refuses : goal.returns-in-Err-answer-clause-refuses
 returns-in-Err-answer-clause-refuses g c = λ taken low high.
     none_answers (map string_bytes c.args.words.now) c.in-Ok.options _ (g.R.Read.remaining c.args.input.now) c.in-Ok.ensures.ok (c.in-Err-answer.ensures.refused (omega (arith, c.report.ensures.status, high))) (rw c.new-source.ensures.inner refl)
+
+pub returns-in-Err-clause-exact : goal.returns-in-Err-clause-exact
+returns-in-Err-clause-exact g c = λ taken.
+    let kind = c.in-Err.ensures.err taken in
+    inl (c.refused.ensures.memory kind, refl, c.refused.ensures.kept kind, unread_end 3 _ _ (c.refused.ensures.line kind))
+
+pub returns-in-Err-answer-clause-exact : goal.returns-in-Err-answer-clause-exact
+returns-in-Err-answer-clause-exact g c = λ taken. inr (does (map string_bytes c.args.words.now) _ _ c.report.result _ c.in-Ok.options c.in-Ok.ensures.ok
+    (λ path of. refused_end (expected_answer c.in-Ok.options path (g.R.Read.remaining c.args.input.now)) c.in-Err-answer.fault c.report.result _
+    (told_same {X = String Global} bytes c.in-Ok.options path _ (g.R.Read.remaining c.args.input.now) (Err c.in-Err-answer.fault) (rw c.new-source.ensures.inner refl) (c.in-Err-answer.ensures.exact path of)) c.report.ensures.line ?)
+    ?)
+
+pub returns-in-Ok-print_line-clause-exact : goal.returns-in-Ok-print_line-clause-exact
+returns-in-Ok-print_line-clause-exact g c = λ taken. inr (does (map string_bytes c.args.words.now) _ _ 0 _ c.in-Ok.options c.in-Ok.ensures.ok
+    (λ path of. printed_end (expected_answer c.in-Ok.options path (g.R.Read.remaining c.args.input.now)) c.in-Ok-answer.line _
+    (told_same {X = String Global} bytes c.in-Ok.options path _ (g.R.Read.remaining c.args.input.now) (Ok c.in-Ok-answer.line) (rw c.new-source.ensures.inner refl) (c.in-Ok-answer.ensures.exact path of)) c.in-Ok-print_line.ensures.printed ?)
+    ?)
+
+pub returns-in-Err-print_line-clause-exact : goal.returns-in-Err-print_line-clause-exact
+returns-in-Err-print_line-clause-exact g c = λ taken. inr (does (map string_bytes c.args.words.now) _ _ c.report.result _ c.in-Ok.options c.in-Ok.ensures.ok
+    (λ path of. broken_end (expected_answer c.in-Ok.options path (g.R.Read.remaining c.args.input.now)) c.in-Ok-answer.line c.in-Err-print_line.fault c.report.result _
+    (told_same {X = String Global} bytes c.in-Ok.options path _ (g.R.Read.remaining c.args.input.now) (Ok c.in-Ok-answer.line) (rw c.new-source.ensures.inner refl) (c.in-Ok-answer.ensures.exact path of)) c.in-Err-print_line.ensures.printed c.report.ensures.line)
+    ?)
