@@ -4,8 +4,6 @@ use Rattle.std.specs.Fmt.{decimal}
 use Rattle.std.specs.Io.KnownBytes.{Appends, Keeps}
 use Rattle.clap.specs.Words.{Text}
 use Rattle.oer_units.specs.Faults.{why_name}
-use Rattle.oer_units.specs.Writing.{Puts}
-use Rattle.oer_units.specs.declared.fault.SinkFault.{SinkFault}
 use Rattle.oer_units.specs.declared.fault.ReadFault.{ReadFault}
 use Rattle.oer_units.specs.declared.fault.Why.TheVariants as why
 use Rattle.oer_notation.specs.declared.fault.TextFault.{TextFault}
@@ -99,10 +97,6 @@ IsLineFor fault status line = ((status ≡ status_of fault) × (line ≡ error_l
 -- known bytes grew by a front of the text, which may be all of it or nothing
 abbrev pub AppendsFront : Option (List ℕ) → Option (List ℕ) → Text → Type 0
 AppendsFront old new text = (n : ℕ) × (n ≤ length text) × Appends old new (take n text)
-
--- A sink got the line of the fault, all of it, or up to a failure, which it counts.
-abbrev pub Tells : Fault → ℕ → Option (List ℕ) → ℕ → Option (List ℕ) → ℕ → Type 0
-Tells fault status old failed new failed' = (line : Text) × IsLineFor fault status line × ((result : Result ⊤ SinkFault) × Puts line old failed result new failed')
 
 -- A writer got a front of the line of the fault.
 abbrev pub Reports : Fault → ℕ → Option (List ℕ) → Option (List ℕ) → Type 0

@@ -13,4 +13,4 @@ mod program;
 mod show;
 mod type_text;
 
-pub use program::run;
+pub use program::{put_all, run};

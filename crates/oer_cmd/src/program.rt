@@ -1,14 +1,14 @@
 //! The command.
 ghost use Rattle.std.specs.Prelude.{◌≡◌, ◌≢◌, ◌≤◌, ◌⊎◌, List, None, true, map, IfErr, IfOk, string_bytes};
-ghost use Rattle.std.specs.Io.KnownBytes.{Keeps};
+ghost use Rattle.std.specs.Io.KnownBytes.{Appends, Keeps};
 ghost use Rattle.clap.specs.Words.{kind_of, takes};
 ghost use Rattle.clap.specs.declared.error.kind.ErrorKind.TheVariants.{DisplayHelp, DisplayVersion, OutOfMemory};
 ghost use Rattle.oer_types.specs.Parts.{Step};
 ghost use Rattle.oer_types.specs.Schema.{the_type};
 ghost use Rattle.oer_cmd.specs.Answer.{IsPathOf, answer_of, expected_answer, path_text, source_text, task_answer};
-ghost use Rattle.oer_cmd.specs.Expected.{Expected, Meets};
-ghost use Rattle.oer_cmd.specs.Faults.{Printed, Refuses, Reports, Tells, status_of};
 ghost use Rattle.oer_cmd.specs.Ending.{Ends};
+ghost use Rattle.oer_cmd.specs.Expected.{Expected, Meets};
+ghost use Rattle.oer_cmd.specs.Faults.{AppendsFront, Printed, Refuses, Reports, status_of};
 ghost use Rattle.oer_cmd.specs.Run.{Answers, IsLineOf, NoLine, NoLineOf, NoneAnswers, Prints};
 ghost use Rattle.oer_cmd.specs.Types.{texts_at, texts_of};
 ghost use Rattle.oer_cmd.specs.Words.{oer};
@@ -24,7 +24,7 @@ use crate::show::show_line;
 use crate::type_text::{TypeText, definitions, named_type, one_type, type_text};
 use clap::error::ErrorKind;
 use oer_types::Schema;
-use oer_units::{Metered, Sink, Source, put_octets};
+use oer_units::{Metered, Source};
 use std::alloc::Global;
 use std::io::{Read, Write};
 
@@ -113,15 +113,32 @@ fn answer<'a, R: Source>(
     }
 }
 
-// Writes the line and its line feed in one push, and flushes. A push that fails isn't tried again.
+/// Writes the octets in one call, and goes on with the rest where a call took only some. A call that
+/// fails, by an error (an interruption too) or by taking none, isn't tried again. Whether all were taken.
+pub fn put_all<W: Write>(octets: &[u8], w: &mut W) -> bool
+    ensures whole { result ≡ true → Appends (W.contents w.old) (W.contents w.new) octets.now }
+    ensures front { AppendsFront (W.contents w.old) (W.contents w.new) octets.now }
+{
+    let mut at = 0;
+    while at < octets.len() {
+        match w.write(&octets[at..]) {
+            Ok(0) => return false,
+            Ok(taken) => at += taken,
+            Err(_) => return false,
+        }
+    }
+    true
+}
+
+// Writes the line and its line feed in one call, and flushes.
 fn print_line<'a, W: Write>(mut line: String, output: &mut W) -> Result<(), Fault<'a>>
-    ensures printed { Printed (string_bytes line.entry) (W.contents output.old) (W.contents output.new) result }
+    ensures printed { Printed (string_bytes line) (W.contents output.old) (W.contents output.new) result }
     ensures fails { IfErr result (λ fault. status_of fault ≡ 3) }
 {
     if line.push('\n').is_err() {
         return Err(Fault::Memory);
     }
-    if put_octets(line.as_bytes(), &mut Metered::new(&mut *output)).is_err() {
+    if !put_all(line.as_bytes(), output) {
         return Err(Fault::Output);
     }
     if output.flush().is_err() {
@@ -130,24 +147,8 @@ fn print_line<'a, W: Write>(mut line: String, output: &mut W) -> Result<(), Faul
     Ok(())
 }
 
-// Writes the line of the fault in one push, and answers the status. Where memory for the line is
+// Writes the line of the fault in one call, and answers the status. Where memory for the line is
 // refused, it is that of `Memory`. A failure to write it is ignored.
-fn tell<W: Sink>(alloc: Global, fault: Fault<'_>, errors: &mut W) -> u8
-    ensures { Tells fault.entry result (W.contents errors.old) (W.failed errors.old) (W.contents errors.new) (W.failed errors.new) }
-{
-    match error_line(alloc, fault) {
-        Ok(line) => {
-            let _ = put_octets(line.as_bytes(), errors);
-            fault.status()
-        }
-        Err(_) => {
-            let _ = put_octets(b"oer: out of memory\n", errors);
-            Fault::Memory.status()
-        }
-    }
-}
-
-// Writes why there is no line.
 fn report<E: Write>(alloc: Global, fault: Fault<'_>, errors: &mut E) -> u8
     ensures line { Reports fault.entry result (E.contents errors.old) (E.contents errors.new) }
     ensures status { result ≤ 2 → result ≡ status_of fault.entry }
@@ -155,7 +156,16 @@ fn report<E: Write>(alloc: Global, fault: Fault<'_>, errors: &mut E) -> u8
     ensures most { result ≤ 3 }
     ensures failed { status_of fault.entry ≡ 3 → result ≡ 3 }
 {
-    tell(alloc, fault, &mut Metered::new(errors))
+    match error_line(alloc, fault) {
+        Ok(line) => {
+            put_all(line.as_bytes(), errors);
+            fault.status()
+        }
+        Err(_) => {
+            put_all(b"oer: out of memory\n", errors);
+            Fault::Memory.status()
+        }
+    }
 }
 
 // Writes what `clap` says where it takes no words: help to the output with status 0, and all else to the
