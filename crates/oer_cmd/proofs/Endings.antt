@@ -16,22 +16,23 @@ use Rattle.oer_cmd.specs.Answer.{IsPathOf, answer_of, expected_answer, expected_
 use Rattle.oer_cmd.specs.Ending.{Answers, Breaks, Does, Ends, HoldsFront, IsMachineLine, IsUnstarted, MayPrint, Streams, refusal_line}
 use Rattle.oer_cmd.specs.Expected.{Expected, Meets, refusal, refusal_of, stop, unknown, value, ◌>>=◌}
 use Rattle.oer_cmd.specs.Faults.{AppendsFront, IsLineFor, Printed, Reports, error_line, status_of}
-use Rattle.oer_cmd.specs.Types.{lack_of, texts_at, texts_of}
+use Rattle.oer_cmd.specs.Types.{Texts, lack_of, texts_at, texts_of}
 use Rattle.oer_cmd.specs.Words.{Asks, behind}
 use Rattle.oer_cmd.specs.declared.fault.Fault.{Fault}
 use Rattle.oer_cmd.specs.declared.fault.Fault.TheVariants.{Absent, Follows, Hex, Input, Json, Longer, Memory, NoName, NoSuchStep, NotJson, NoTypes, OneType, Output, Path, Read, «Type», Unnamed}
 use Rattle.oer_cmd.specs.declared.options.Options.{Options}
 use Rattle.oer_cmd.specs.declared.options.Task.{Task}
-use Rattle.oer_cmd.proofs.Meeting.{goes, stops}
-
-abbrev bytes : String Global → Text
-bytes line = string_bytes line
+use Rattle.oer_cmd.proofs.Meeting.{bytes, goes, stops}
 
 -- ---- the type, and then the task
 
 pub for_task : (task same : Task) (T : AsnType) (limit : ℕ) (told : Option (List ℕ)) (result : Result (String Global) Fault) → task ≡ same
     → ((path : Expected (List Step)) → IsPathOf (path_text same) path → Meets bytes (task_answer same T limit path told) result) → (path : Expected (List Step)) → IsPathOf (path_text task) path → Meets bytes (task_answer task T limit path told) result
 for_task task same T limit told result is h = subst (λ t. (path : Expected (List Step)) → IsPathOf (path_text t) path → Meets bytes (task_answer t T limit path told) result) (sym is) h
+
+pub for_texts : (texts same : Texts) (task : Task) (limit : ℕ) (told : Option (List ℕ)) (result : Result (String Global) Fault) → same ≡ texts
+    → ((path : Expected (List Step)) → IsPathOf (path_text task) path → Meets bytes (answer_of same task limit path told) result) → (path : Expected (List Step)) → IsPathOf (path_text task) path → Meets bytes (answer_of texts task limit path told) result
+for_texts texts same task limit told result is h = subst (λ t. (path : Expected (List Step)) → IsPathOf (path_text task) path → Meets bytes (answer_of t task limit path told) result) is h
 
 pub keeps_task : {A : Type 0} (task same : Task) → task ≡ same → (source_text same ≢ None → A) → source_text task ≢ None → A
 keeps_task task same is h some = h (λ none. some (ap source_text is ∙ none))

@@ -51,14 +51,8 @@ use Rattle.oer_cmd.specs.declared.fault.Fault.{Fault}
 use Rattle.oer_cmd.specs.declared.fault.Fault.TheVariants.{Absent, Follows, Json as Json_fault, Longer, Memory, NoSuchStep, NotJson, Output, Path, Read}
 use Rattle.oer_cmd.proofs.Floats.{made_none}
 use Rattle.oer_cmd.specs.Words.{behind}
-use Rattle.oer_cmd.proofs.Meeting.{fails, followed, goes, is_read, refusing, stops, unread, wholly}
-
--- the bytes of a line
-abbrev bytes : String Global → Text
-bytes line = string_bytes line
-
-low : (fault : Fault) → status_of fault ≤ 2 → fault ≢ Memory
-low fault small is = let e = ap status_of is in omega (arith, e, small)
+use Rattle.oer_cmd.proofs.Refusals.{not_memory}
+use Rattle.oer_cmd.proofs.Meeting.{bytes, fails, followed, goes, is_read, refusing, stops, unread, wholly}
 
 -- ---- canonical octets
 
@@ -227,8 +221,8 @@ no_path (Some t) steps path other none of = absurd (other t refl)
 
 pub path_refused : (text : Option Text) (steps : Expected (List Step)) (fault : Fault) → IsPathOf text steps → (fault ≢ Memory → (fault ≡ Path) × ((path : List Step) → IsPath text path → ⊥)) → Meets {X = Vec Code Global} (λ v. steps_of v.items) steps (Err fault)
 path_refused text unknown fault of h = tt
-path_refused text (refusal r) fault of h = refusing {X = Vec Code Global} (λ v. steps_of v.items) (refusal r) fault (λ small. of.0 ∙ ap stop (sym (h (low fault small)).0))
-path_refused text (value p) fault of h = λ small. (h (low fault small)).1 p of
+path_refused text (refusal r) fault of h = refusing {X = Vec Code Global} (λ v. steps_of v.items) (refusal r) fault (λ small. of.0 ∙ ap stop (sym (h (not_memory fault small)).0))
+path_refused text (value p) fault of h = λ small. (h (not_memory fault small)).1 p of
 
 -- ---- JSON
 

@@ -1,5 +1,5 @@
 -- How answers that are expected are put together.
-use Rattle.std.proofs.Common.{Result, ◌≡◌, ◌≢◌, ◌∙◌, ℕ, ◌+◌, ◌-◌, ◌<◌, ◌≤◌, leb, Bool, true, false, List, [], ◌∷◌, ◌++◌, length, drop, Option, Some, None, Ok, Err, refl, sym, ap, subst, arith, length-append}
+use Rattle.std.proofs.Common.{Result, ◌≡◌, ◌≢◌, ◌∙◌, ℕ, ◌+◌, ◌-◌, ◌<◌, ◌≤◌, leb, Bool, true, false, List, [], ◌∷◌, ◌++◌, length, drop, Option, Some, None, Ok, Err, refl, sym, ap, subst, arith, length-append, String, Global, string_bytes}
 use Rattle.std.specs.Io.KnownBytes.{Consumes}
 use Rattle.oer_units.specs.declared.fault.ReadFault.{ReadFault}
 use Rattle.oer_units.specs.declared.fault.Why.{Why}
@@ -12,6 +12,10 @@ use Rattle.oer_cmd.specs.Expected.{Expected, Meets, Refusal, refusal, refusal_of
 use Rattle.oer_cmd.specs.Faults.{IsOfRead, status_of}
 use Rattle.oer_cmd.specs.declared.fault.Fault.{Fault}
 use Rattle.oer_cmd.specs.declared.fault.Fault.TheVariants.{Follows, Input, Memory, Read}
+
+-- the bytes of a line
+abbrev pub bytes : String Global → List ℕ
+bytes line = string_bytes line
 
 -- A failure of the machine is always allowed.
 pub fails : {X Y : Type 0} (view : X → Y) (m : Expected Y) (fault : Fault) → (status_of fault ≤ 2 → ⊥) → Meets view m (Err fault)

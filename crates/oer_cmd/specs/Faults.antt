@@ -36,12 +36,6 @@ IsOfRewrite (rewrite.Read e) fault = IsOfRead e fault
 IsOfRewrite (rewrite.Write (write.Device n)) fault = fault ≡ Memory
 IsOfRewrite (rewrite.Write write.TooLong) fault = fault ≡ Output
 
--- Unless memory ran out, the fault is that of the answer.
-abbrev pub IsOfJson : Result AsnValue JsonFault → Fault → Type 0
-IsOfJson answer (Json e) = answer ≡ Err e
-IsOfJson answer Memory = ⊤
-IsOfJson answer fault = ⊥
-
 -- the status of the program: 1 where the octets are refused, 2 where the words are, 3 where the machine fails
 abbrev pub status_of : Fault → ℕ
 status_of (Read e) = 1

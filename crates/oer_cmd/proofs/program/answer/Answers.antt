@@ -2,10 +2,7 @@ use Rattle.std.proofs.Common.{◌∙◌, ap, sym}
 use Rattle.std.proofs.lemmas.Result.{err_from_is_err_and}
 use Rattle.oer_cmd.specs.Types.{texts_at, texts_of}
 use Rattle.oer_cmd.proofs.Naming.{of_texts, unnamed}
-use Rattle.std.proofs.Common.{string_bytes, subst}
-use Rattle.oer_cmd.specs.Answer.{answer_of}
-use Rattle.oer_cmd.specs.Expected.{Meets}
-use Rattle.oer_cmd.proofs.Endings.{lacking}
+use Rattle.oer_cmd.proofs.Endings.{for_texts, lacking}
 use Rattle.oer_cmd.proofs.program.answer.Goals as goal
 
 pub returns-in_err-text-clause-refused : goal.returns-in_err-text-clause-refused
@@ -25,7 +22,7 @@ returns-in_err-text-clause-exact g c =
     rw (p.1, p.2) (λ path of. lacking c.args.options path _ _ c.in_err-text.ensures.lacking)
 
 pub returns-in-One-clause-exact : goal.returns-in-One-clause-exact
-returns-in-One-clause-exact g c = λ path of. subst (λ t. Meets string_bytes (answer_of t c.args.options.task c.args.options.limit path _) c.line_of_one.result) (ap texts_at (sym c.in-One.is) ∙ c.in_ok-text.ensures.named) (c.line_of_one.ensures.exact path of)
+returns-in-One-clause-exact g c = for_texts (texts_of c.args.options) _ c.args.options.task c.args.options.limit _ c.line_of_one.result (ap texts_at (sym c.in-One.is) ∙ c.in_ok-text.ensures.named) c.line_of_one.ensures.exact
 
 pub returns-in-Named-clause-exact : goal.returns-in-Named-clause-exact
-returns-in-Named-clause-exact g c = λ path of. subst (λ t. Meets string_bytes (answer_of t c.args.options.task c.args.options.limit path _) c.line_of_named.result) (ap texts_at (sym c.in-Named.is) ∙ c.in_ok-text.ensures.named) (c.line_of_named.ensures.exact path of)
+returns-in-Named-clause-exact g c = for_texts (texts_of c.args.options) _ c.args.options.task c.args.options.limit _ c.line_of_named.result (ap texts_at (sym c.in-Named.is) ∙ c.in_ok-text.ensures.named) c.line_of_named.ensures.exact

@@ -1,7 +1,8 @@
 use Rattle.std.proofs.Common.{Err, Ok, String, Global, inl, inr, arith, map, refl, string_bytes}
 use Rattle.oer_cmd.specs.Answer.{expected_answer}
 use Rattle.oer_cmd.specs.Ending.{Streams}
-use Rattle.oer_cmd.proofs.Endings.{broken_end, bytes, does, printed_end, refused_end, told_same, unread_end}
+use Rattle.oer_cmd.proofs.Endings.{broken_end, does, printed_end, refused_end, told_same, unread_end}
+use Rattle.oer_cmd.proofs.Meeting.{bytes}
 use Rattle.oer_cmd.proofs.Lines.{none_answers}
 use Rattle.oer_cmd.proofs.program.run.Goals as goal
 
@@ -27,7 +28,7 @@ returns-in-Ok-print_line-clause-exact g c = λ taken. inr (does (map string_byte
     ?)
 
 pub returns-in-Err-print_line-clause-exact : goal.returns-in-Err-print_line-clause-exact
-returns-in-Err-print_line-clause-exact g c = λ taken. inr (does (map string_bytes c.args.words.now) _ _ c.report.result _ c.in-Ok.options c.in-Ok.ensures.ok
-    (λ path of. broken_end (expected_answer c.in-Ok.options path (g.R.Read.remaining c.args.input.now)) c.in-Ok-answer.line c.in-Err-print_line.fault c.report.result _
-    (told_same {X = String Global} bytes c.in-Ok.options path _ (g.R.Read.remaining c.args.input.now) (Ok c.in-Ok-answer.line) (rw c.new-source.ensures.inner refl) (c.in-Ok-answer.ensures.exact path of)) c.in-Err-print_line.ensures.printed c.report.ensures.line)
+returns-in-Err-print_line-clause-exact g c = λ taken. inr (does (map string_bytes c.args.words.now) _ _ c.report-in-Err-print_line.result _ c.in-Ok.options c.in-Ok.ensures.ok
+    (λ path of. broken_end (expected_answer c.in-Ok.options path (g.R.Read.remaining c.args.input.now)) c.in-Ok-answer.line c.in-Err-print_line.fault c.report-in-Err-print_line.result _
+    (told_same {X = String Global} bytes c.in-Ok.options path _ (g.R.Read.remaining c.args.input.now) (Ok c.in-Ok-answer.line) (rw c.new-source.ensures.inner refl) (c.in-Ok-answer.ensures.exact path of)) c.in-Err-print_line.ensures.printed c.report-in-Err-print_line.ensures.line)
     ?)
