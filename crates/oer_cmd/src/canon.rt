@@ -18,6 +18,7 @@ use oer_reader::rewrite;
 use oer_types::Schema;
 use oer_units::{Metered, ReadFault, Source, Why, Window, octet};
 use std::alloc::Global;
+use std::io::Read;
 
 // The next octet.
 fn octet_at_front<R: Source>(reader: &mut R) -> Result<u8, ReadFault>
@@ -109,7 +110,7 @@ fn hex_line<'a>(
 }
 
 /// The line of `canon` for the octets that the options or the input give.
-pub fn canon_line<'a, R: Source>(
+pub fn canon_line<'a, R: Read>(
     alloc: Global,
     schema: &Schema,
     hex: Option<&str>,
@@ -125,6 +126,6 @@ pub fn canon_line<'a, R: Source>(
 {
     match hex {
         Some(digits) => hex_line(alloc, schema, digits, limit),
-        None => read_line(alloc, schema, input, limit),
+        None => read_line(alloc, schema, &mut Metered::new(input), limit),
     }
 }

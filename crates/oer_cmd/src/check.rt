@@ -11,8 +11,8 @@ use crate::fault::Fault;
 use crate::octets::{all_octets, spelt};
 use oer_reader::check;
 use oer_types::Schema;
-use oer_units::Source;
 use std::alloc::Global;
+use std::io::Read;
 
 /// Whether the octets, which have to be all of one encoding, are canonical. Refused as `Read` where no
 /// encoding stands at their front, and as `Follows` where octets follow it.
@@ -51,7 +51,7 @@ fn verdict_line<'a>(alloc: Global, is_canonical: bool, octets: &[u8]) -> Result<
 }
 
 /// The line of `check` for the octets that the options or the input give.
-pub fn check_line<'a, R: Source>(
+pub fn check_line<'a, R: Read>(
     alloc: Global,
     schema: &Schema,
     hex: Option<&str>,

@@ -21,10 +21,11 @@ use crate::fault::Fault;
 use crate::octets::all_octets;
 use oer_text::{JsonFault, from_json};
 use oer_types::{Schema, Value};
-use oer_units::{Metered, Source};
+use oer_units::Metered;
 use oer_writer::{WriteFault, write};
 use serde_json::Value as Json;
 use std::alloc::Global;
+use std::io::Read;
 
 // The JSON of a text; refused as `NotJson`, or as `Memory`.
 fn json_of<'a>(alloc: Global, text: &str) -> Result<Json, Fault<'a>>
@@ -89,7 +90,7 @@ fn text_line<'a>(alloc: Global, schema: &Schema, text: &str) -> Result<String, F
 }
 
 // The line for the text that the input has left.
-fn input_line<'a, R: Source>(
+fn input_line<'a, R: Read>(
     alloc: Global,
     schema: &Schema,
     limit: u64,
@@ -110,7 +111,7 @@ fn input_line<'a, R: Source>(
 
 /// The line of `make` for the JSON that the options or the input give. Refused as `Longer` where its
 /// text has more octets than the limit.
-pub fn make_line<'a, R: Source>(
+pub fn make_line<'a, R: Read>(
     alloc: Global,
     schema: &Schema,
     json: Option<&str>,

@@ -9,8 +9,9 @@ ghost use Rattle.oer_cmd.specs.Words.{behind};
 use crate::fault::Fault;
 use hex::FromHexError;
 use oer_input::{GatherFault, gather};
-use oer_units::Source;
+use oer_units::Metered;
 use std::alloc::Global;
+use std::io::Read;
 
 /// The octets that the digits spell; refused as `Hex`, or as `Memory`.
 pub fn decoded<'a>(alloc: Global, digits: &str) -> Result<Vec<u8>, Fault<'a>>
@@ -42,13 +43,13 @@ pub fn spelt<'a>(alloc: Global, hex: Option<&str>) -> Result<Option<Vec<u8>>, Fa
 }
 
 // All that the input has left, within the limit.
-fn gathered<'a, R: Source>(alloc: Global, input: &mut R, limit: u64) -> Result<Vec<u8>, Fault<'a>>
+fn gathered<'a, R: Read>(alloc: Global, input: &mut R, limit: u64) -> Result<Vec<u8>, Fault<'a>>
     ensures exact { Meets octets_of (limited_octets limit None (R.remaining input.old)) result }
     ensures within { IfOk result (λ b. length b.items ≤ limit) }
     ensures all { IfOk result (λ b. AreAll None (R.remaining input.old) b.items) }
     ensures refused { IfErr result (IsTooLong limit None (R.remaining input.old)) }
 {
-    match gather(alloc, input, limit) {
+    match gather(alloc, &mut Metered::new(input), limit) {
         Ok(octets) => Ok(octets),
         Err(GatherFault::Memory) => Err(Fault::Memory),
         Err(GatherFault::Device) => Err(Fault::Input),
@@ -58,7 +59,7 @@ fn gathered<'a, R: Source>(alloc: Global, input: &mut R, limit: u64) -> Result<V
 
 /// All the octets: those of `--hex`, else all that the input has left. Refused as `Longer` where there
 /// are more than the limit, as `Input` or as `Memory`.
-pub fn all_octets<'a, R: Source>(
+pub fn all_octets<'a, R: Read>(
     alloc: Global,
     spelt: Option<Vec<u8>>,
     input: &mut R,

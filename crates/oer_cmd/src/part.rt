@@ -16,8 +16,8 @@ use oer_input::laws::one_path;
 use oer_input::{PathFault, read_path};
 use oer_reader::{PartFault, Step, part};
 use oer_types::Schema;
-use oer_units::Source;
 use std::alloc::Global;
+use std::io::Read;
 
 // The path of `--path`; refused as `Path`, or as `Memory`.
 fn path_of<'a>(alloc: Global, text: Option<&str>) -> Result<Vec<Step>, Fault<'a>>
@@ -63,7 +63,7 @@ fn digits_of_part<'a>(
 }
 
 /// The line of `part` for the octets that the options or the input give.
-pub fn part_line<'a, R: Source>(
+pub fn part_line<'a, R: Read>(
     alloc: Global,
     schema: &Schema,
     hex: Option<&str>,

@@ -24,12 +24,11 @@ use crate::show::show_line;
 use crate::type_text::{TypeText, definitions, named_type, one_type, type_text};
 use clap::error::ErrorKind;
 use oer_types::Schema;
-use oer_units::{Metered, Source};
 use std::alloc::Global;
 use std::io::{Read, Write};
 
 // The line of the task.
-fn line_of<'a, R: Source>(
+fn line_of<'a, R: Read>(
     alloc: Global,
     schema: &Schema,
     options: Options<'a>,
@@ -54,7 +53,7 @@ fn line_of<'a, R: Source>(
 }
 
 // The line for the type that the text spells.
-fn line_of_one<'a, R: Source>(
+fn line_of_one<'a, R: Read>(
     alloc: Global,
     text: &'a str,
     options: Options<'a>,
@@ -73,7 +72,7 @@ fn line_of_one<'a, R: Source>(
 }
 
 // The line for the type that the Name has among the definitions that the text spells.
-fn line_of_named<'a, R: Source>(
+fn line_of_named<'a, R: Read>(
     alloc: Global,
     types: &'a str,
     name: &'a str,
@@ -94,7 +93,7 @@ fn line_of_named<'a, R: Source>(
 }
 
 // The line that the options ask for.
-fn answer<'a, R: Source>(
+fn answer<'a, R: Read>(
     alloc: Global,
     options: Options<'a>,
     input: &mut R,
@@ -232,8 +231,7 @@ pub fn run<R: Read, W: Write, E: Write>(
         Ok(options) => options,
         Err(error) => return refused(alloc, &error, output, errors),
     };
-    let mut source = Metered::new(input);
-    let line = match answer(alloc, options, &mut source) {
+    let line = match answer(alloc, options, input) {
         Ok(line) => line,
         Err(fault) => return report(alloc, fault, errors),
     };

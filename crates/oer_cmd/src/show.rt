@@ -19,6 +19,7 @@ use oer_types::Schema;
 use oer_units::{Metered, Source};
 use serde_json::Value as Json;
 use std::alloc::Global;
+use std::io::Read;
 
 // The JSON of the one value of the type that the reader has left, which takes no more octets than the
 // limit. Refused as `Read`, `Input` or `Memory` by the reader, as `Follows` where an octet follows the
@@ -85,7 +86,7 @@ fn hex_line<'a>(
 }
 
 /// The line of `show` for the octets that the options or the input give.
-pub fn show_line<'a, R: Source>(
+pub fn show_line<'a, R: Read>(
     alloc: Global,
     schema: &Schema,
     hex: Option<&str>,
@@ -101,6 +102,6 @@ pub fn show_line<'a, R: Source>(
 {
     match hex {
         Some(digits) => hex_line(alloc, schema, digits, limit),
-        None => read_line(alloc, schema, input, limit),
+        None => read_line(alloc, schema, &mut Metered::new(input), limit),
     }
 }
