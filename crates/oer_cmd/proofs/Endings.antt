@@ -3,7 +3,10 @@ use Rattle.std.proofs.Common.{Result, ◌≡◌, ◌≢◌, ◌∙◌, ℕ, ◌�
 use Rattle.std.specs.Prelude.{is_some}
 use Rattle.std.specs.Borrow.{Bor}
 use Rattle.std.specs.Io.KnownBytes.{Appends, Keeps}
-use Rattle.clap.specs.Words.{Text}
+use Rattle.clap.specs.Words.{IsAmong, Kinds, Text, fault_of, kind_of, takes}
+use Rattle.clap.specs.declared.error.Error.{Error}
+use Rattle.clap.specs.declared.error.kind.ErrorKind.{ErrorKind}
+use Rattle.clap.specs.declared.error.kind.ErrorKind.TheVariants.{DisplayHelp, DisplayVersion, OutOfMemory}
 use Rattle.oer_types.specs.AsnType.{AsnType}
 use Rattle.oer_types.specs.Parts.{Step}
 use Rattle.oer_types.specs.Schema.{the_type}
@@ -13,11 +16,11 @@ use Rattle.oer_notation.specs.Reading.{Known, find}
 use Rattle.oer_notation.specs.Views.{knowns}
 use Rattle.oer_notation.specs.declared.types.Types.{Types}
 use Rattle.oer_cmd.specs.Answer.{IsPathOf, answer_of, expected_answer, expected_type, named_as, parsed, path_text, source_text, task_answer, type_among}
-use Rattle.oer_cmd.specs.Ending.{Answers, Breaks, Does, Ends, HoldsFront, IsMachineLine, IsUnstarted, MayPrint, Streams, refusal_line}
+use Rattle.oer_cmd.specs.Ending.{Answers, Breaks, Does, Ends, HoldsFront, IsMachineLine, IsNotTaken, IsUnstarted, MayPrint, Streams, refusal_line}
 use Rattle.oer_cmd.specs.Expected.{Expected, Meets, refusal, refusal_of, stop, unknown, value, ◌>>=◌}
 use Rattle.oer_cmd.specs.Faults.{AppendsFront, IsLineFor, Printed, Reports, error_line, status_of}
 use Rattle.oer_cmd.specs.Types.{Texts, lack_of, texts_at, texts_of}
-use Rattle.oer_cmd.specs.Words.{Asks, behind}
+use Rattle.oer_cmd.specs.Words.{Asks, behind, oer}
 use Rattle.oer_cmd.specs.declared.fault.Fault.{Fault}
 use Rattle.oer_cmd.specs.declared.fault.Fault.TheVariants.{Absent, Follows, Hex, Input, Json, Longer, Memory, NoName, NoSuchStep, NotJson, NoTypes, OneType, Output, Path, Read, «Type», Unnamed}
 use Rattle.oer_cmd.specs.declared.options.Options.{Options}
@@ -150,6 +153,30 @@ broken_end expected line fault status s meets printed (told, inr (three, is), fr
 pub unread_end : (status : ℕ) (old new : Option (List ℕ)) → Reports Memory 3 old new → AppendsFront old new (error_line Memory)
 unread_end status old new (line, inl (same, is), front) = subst (λ l. AppendsFront old new l) is front
 unread_end status old new (line, inr (three, is), front) = subst (λ l. AppendsFront old new l) is front
+
+-- The line of a machine that fails is told.
+told_machine : (fault : Fault) (old new : Option (List ℕ)) → IsMachineLine (error_line fault) → Reports fault 3 old new → (line : Text) × IsMachineLine line × AppendsFront old new line
+told_machine fault old new own (line, inl (same, is), front) = (line, moved line (error_line fault) is own, front)
+told_machine fault old new own (line, inr (three, is), front) = (line, inr (inr is), front)
+
+among_help : (kinds : Kinds) (kind : ErrorKind) → IsAmong kind kinds → (kind ≡ DisplayHelp) ⊎ (kind ≡ DisplayVersion) → IsAmong DisplayHelp kinds ⊎ IsAmong DisplayVersion kinds
+among_help kinds kind among (inl is) = inl (subst (λ k. IsAmong k kinds) is among)
+among_help kinds kind among (inr is) = inr (subst (λ k. IsAmong k kinds) is among)
+
+-- Words that are not taken.
+pub not_taken : (words : List Text) (untouched : Type 0) (e : Error) (status : ℕ) (s : Streams) → IsAmong (kind_of e) (fault_of oer words) → (takes oer words ≡ true → kind_of e ≡ OutOfMemory) → (kind_of e ≡ OutOfMemory → status ≡ 3)
+    → (status ≡ 0 → (kind_of e ≡ DisplayHelp) ⊎ (kind_of e ≡ DisplayVersion)) → (status ≡ 0 → Keeps s.errors s.errors') → (1 ≤ status → status ≤ 2 → status ≡ 2) → (1 ≤ status → status ≤ 2 → Keeps s.output s.output')
+    → (status ≡ 3 → Reports Memory 3 s.errors s.errors' ⊎ Reports Output 3 s.errors s.errors') → untouched → IsNotTaken words untouched status s
+not_taken words untouched e status s among passes memory shows alone two quiet failed same = record {
+  refused = λ small taken. (let three = memory (passes taken) in omega (arith, small, three));
+  help = λ none. (among_help (fault_of oer words) (kind_of e) among (shows none), alone none);
+  words = λ low high. (two low high, quiet low high);
+  machine = λ three. by (failed three);
+  keeps = same;
+} where
+  by : Reports Memory 3 s.errors s.errors' ⊎ Reports Output 3 s.errors s.errors' → (line : Text) × IsMachineLine line × AppendsFront s.errors s.errors' line
+  by (inl h) = told_machine Memory s.errors s.errors' (inr (inr refl)) h
+  by (inr h) = told_machine Output s.errors s.errors' (inr (inl refl)) h
 
 pub does : (words : List Text) (told : Option (List ℕ)) (untouched : Type 0) (status : ℕ) (s : Streams) (o : Options) → Asks words o
     → ((path : Expected (List Step)) → IsPathOf (path_text o.task) path → Answers (expected_answer o path told) status s ⊎ Breaks (expected_answer o path told) status s)

@@ -34,7 +34,7 @@ use Rattle.oer_decoder.specs.declared.fault.RewriteFault.TheVariants as rewrite
 use Rattle.oer_cmd.specs.Canon.{HasMore, IsNoEncoding}
 use Rattle.oer_cmd.specs.Faults.{IsOfRead, IsOfRewrite, Refuses, status_of}
 use Rattle.oer_cmd.specs.Octets.{AreAll, AreMore, AreSpelt, IsTooLong}
-use Rattle.oer_cmd.specs.Run.{HasNoLine, HasNoPart, IsCanonLine, IsCheckLine, IsEncoding, IsMissing, IsNoFront, IsNotWhole, IsUnchecked, IsMakeLine, IsPart, IsPartLine, IsPath, IsShowLine, Makes, NoLine, NoneFor, OfOctets, OfText, Says}
+use Rattle.oer_cmd.specs.Run.{HasNoPart, IsCanonLine, IsCheckLine, IsEncoding, IsNoFront, IsMakeLine, IsPart, IsPartLine, IsPath, IsShowLine, Makes, NoLine, NoneFor, OfOctets, OfText}
 use Rattle.oer_cmd.specs.Words.{behind}
 use Rattle.oer_cmd.specs.declared.fault.Fault.{Fault}
 use Rattle.oer_cmd.specs.declared.fault.Fault.TheVariants.{Absent, Input, Longer, Memory, NoSuchStep, Output}

@@ -1,12 +1,13 @@
 -- How the program ends: its status, and what stands on its output and its errors.
-use Rattle.std.specs.Prelude.{◌≡◌, ◌≢◌, ◌≤◌, ◌⊎◌, ℕ, List, [], ◌∷◌, ◌++◌, Option, None, codes, ⊤}
+use Rattle.std.specs.Prelude.{◌≡◌, ◌≢◌, ◌≤◌, ◌⊎◌, ℕ, List, [], ◌∷◌, ◌++◌, Option, None, true, codes, ⊤}
 use Rattle.std.specs.Io.KnownBytes.{Appends, Keeps}
-use Rattle.clap.specs.Words.{Text}
+use Rattle.clap.specs.Words.{IsAmong, Text, fault_of, takes}
+use Rattle.clap.specs.declared.error.kind.ErrorKind.TheVariants.{DisplayHelp, DisplayVersion}
 use Rattle.oer_types.specs.Parts.{Step}
 use Rattle.oer_cmd.specs.Answer.{IsPathOf, expected_answer, path_text, source_text}
 use Rattle.oer_cmd.specs.Expected.{Expected, refusal, unknown, value}
 use Rattle.oer_cmd.specs.Faults.{AppendsFront, error_line}
-use Rattle.oer_cmd.specs.Words.{Asks}
+use Rattle.oer_cmd.specs.Words.{Asks, oer}
 use Rattle.oer_cmd.specs.declared.fault.Fault.TheVariants.{Input, Memory, Output}
 use Rattle.oer_cmd.specs.declared.options.Options.{Options}
 
@@ -58,8 +59,21 @@ pub record Does (words : List Text) (told : Option (List ℕ)) (untouched : Type
     → Answers (expected_answer options path told) status s ⊎ Breaks (expected_answer options path told) status s
   pub keeps : source_text options.task ≢ None → untouched
 
--- What the program does with words that it takes. told: what the input had left, if it is known; untouched: the input is as it was.
+-- The words ask for help, or for the version.
+abbrev pub AsksForHelp : List Text → Type 0
+AsksForHelp words = IsAmong DisplayHelp (fault_of oer words) ⊎ IsAmong DisplayVersion (fault_of oer words)
+
+-- The words are not taken. They ask for help, which is on the output, with status 0, and nothing is on the errors; or the errors say what is
+-- wrong with them, with status 2, and nothing is on the output; or the machine failed. What is said is not fixed.
+pub record IsNotTaken (words : List Text) (untouched : Type 0) (status : ℕ) (s : Streams) : Type 0 where
+  pub refused : status ≤ 2 → takes oer words ≡ true → ⊥
+  pub help : status ≡ 0 → AsksForHelp words × Keeps s.errors s.errors'
+  pub words : 1 ≤ status → status ≤ 2 → (status ≡ 2) × Keeps s.output s.output'
+  pub machine : status ≡ 3 → (line : Text) × IsMachineLine line × AppendsFront s.errors s.errors' line
+  pub keeps : untouched
+
+-- What the program does. told: what the input had left, if it is known; untouched: the input is as it was.
 abbrev pub Ends : List Text → Option (List ℕ) → Type 0 → ℕ → Option (List ℕ) → Option (List ℕ) → Option (List ℕ) → Option (List ℕ) → Type 0
 Ends words told untouched status output output' errors errors' =
     let s : Streams = record { output = output; output' = output'; errors = errors; errors' = errors' } in
-    IsUnstarted untouched status s ⊎ Does words told untouched status s
+    IsUnstarted untouched status s ⊎ Does words told untouched status s ⊎ IsNotTaken words untouched status s

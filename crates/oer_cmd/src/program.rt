@@ -186,8 +186,9 @@ fn refused<W: Write, E: Write>(
     ensures kept { kind_of error.now ≡ OutOfMemory → Keeps (W.contents output.old) (W.contents output.new) }
     ensures line { kind_of error.now ≡ OutOfMemory
         → Reports Fault.Memory 3 (E.contents errors.old) (E.contents errors.new) }
-    ensures failed { kind_of error.now ≢ OutOfMemory → result ≡ 3
-        → Reports Fault.Output 3 (E.contents errors.old) (E.contents errors.new) }
+    ensures failed { result ≡ 3 → (Reports Fault.Memory 3 (E.contents errors.old) (E.contents errors.new))
+        ⊎ (Reports Fault.Output 3 (E.contents errors.old) (E.contents errors.new)) }
+    ensures words { 1 ≤ result → result ≤ 2 → result ≡ 2 }
 {
     if error.kind() == ErrorKind::OutOfMemory {
         return report(alloc, Fault::Memory, errors);
@@ -223,8 +224,7 @@ pub fn run<R: Read, W: Write, E: Write>(
     ensures statuses { result ≤ 3 }
     // The status, and what stands on the output and the errors, is what plain functions of the words and
     // the octets say, unless memory ran out or a device failed. Input that isn't needed is untouched.
-    ensures exact { takes oer (map string_bytes words.now) ≡ true
-        → Ends (map string_bytes words.now) (R.remaining input.old) (input.new ≡ input.old) result
+    ensures exact { Ends (map string_bytes words.now) (R.remaining input.old) (input.new ≡ input.old) result
         (W.contents output.old) (W.contents output.new) (E.contents errors.old) (E.contents errors.new) }
 {
     let options = match parsed(alloc, words) {

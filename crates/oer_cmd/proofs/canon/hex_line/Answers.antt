@@ -2,8 +2,8 @@ use Rattle.std.proofs.Common.{Some, refl}
 use Rattle.std.proofs.lemmas.Result.{err_from_is_err_and}
 use Rattle.oer_types.specs.Schema.{the_type}
 use Rattle.oer_units.specs.Stream.{inner_of}
-use Rattle.oer_cmd.specs.Run.{IsCanonLine, IsUnread}
-use Rattle.oer_cmd.proofs.Refusals.{by_reader, not_one_of}
+use Rattle.oer_cmd.specs.Run.{IsCanonLine}
+use Rattle.oer_cmd.proofs.Refusals.{by_reader}
 use Rattle.oer_cmd.proofs.Exact.{canon_digits, canon_undecoded}
 use Rattle.oer_cmd.proofs.canon.hex_line.Goals as goal
 

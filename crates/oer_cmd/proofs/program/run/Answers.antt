@@ -1,6 +1,8 @@
 use Rattle.std.proofs.Common.{inl, inr, arith, map, refl, string_bytes}
+use Rattle.clap.specs.Words.{HasKind, fault_of}
 use Rattle.oer_cmd.specs.Answer.{expected_answer}
-use Rattle.oer_cmd.proofs.Endings.{broken_end, does, keeps_same, printed_end, refused_end, unread_end}
+use Rattle.oer_cmd.specs.Words.{oer}
+use Rattle.oer_cmd.proofs.Endings.{broken_end, does, keeps_same, not_taken, printed_end, refused_end, unread_end}
 use Rattle.oer_cmd.proofs.Lines.{none_answers}
 use Rattle.oer_cmd.proofs.program.run.Goals as goal
 
@@ -9,24 +11,25 @@ returns-in-Err-answer-clause-refuses g c = λ taken low high.
     none_answers (map string_bytes c.args.words.now) c.in-Ok.options _ (g.R.Read.remaining c.args.input.now) c.in-Ok.ensures.ok (c.in-Err-answer.ensures.refused (omega (arith, c.report.ensures.status high, high))) refl
 
 pub returns-in-Err-clause-exact : goal.returns-in-Err-clause-exact
-returns-in-Err-clause-exact g c = λ taken.
-    let kind = c.in-Err.ensures.err taken in
-    inl (c.refused.ensures.memory kind, refl, c.refused.ensures.kept kind, unread_end 3 _ _ (c.refused.ensures.line kind))
+returns-in-Err-clause-exact g c = by c.in-Err.ensures.kinds where
+  by : HasKind (fault_of oer (map string_bytes c.args.words.now)) c.in-Err.error → _
+  by (inl kind) = inl (c.refused.ensures.memory kind, refl, c.refused.ensures.kept kind, unread_end 3 _ _ (c.refused.ensures.line kind))
+  by (inr among) = inr (inr (not_taken (map string_bytes c.args.words.now) _ c.in-Err.error c.refused.result _ among c.in-Err.ensures.err c.refused.ensures.memory c.refused.ensures.shows c.refused.ensures.alone c.refused.ensures.words c.refused.ensures.quiet c.refused.ensures.failed refl))
 
 pub returns-in-Err-answer-clause-exact : goal.returns-in-Err-answer-clause-exact
-returns-in-Err-answer-clause-exact g c = λ taken. inr (does (map string_bytes c.args.words.now) _ _ c.report.result _ c.in-Ok.options c.in-Ok.ensures.ok
+returns-in-Err-answer-clause-exact g c = inr (inl (does (map string_bytes c.args.words.now) _ _ c.report.result _ c.in-Ok.options c.in-Ok.ensures.ok
     (λ path of. refused_end (expected_answer c.in-Ok.options path (g.R.Read.remaining c.args.input.now)) c.in-Err-answer.fault c.report.result _
     (c.in-Err-answer.ensures.exact path of) c.report.ensures.line (keeps_same (g.W.Write.contents c.args.output.now)))
-    c.in-Err-answer.ensures.untouched)
+    c.in-Err-answer.ensures.untouched))
 
 pub returns-in-Ok-print_line-clause-exact : goal.returns-in-Ok-print_line-clause-exact
-returns-in-Ok-print_line-clause-exact g c = λ taken. inr (does (map string_bytes c.args.words.now) _ _ 0 _ c.in-Ok.options c.in-Ok.ensures.ok
+returns-in-Ok-print_line-clause-exact g c = inr (inl (does (map string_bytes c.args.words.now) _ _ 0 _ c.in-Ok.options c.in-Ok.ensures.ok
     (λ path of. printed_end (expected_answer c.in-Ok.options path (g.R.Read.remaining c.args.input.now)) c.in-Ok-answer.line _
     (c.in-Ok-answer.ensures.exact path of) c.in-Ok-print_line.ensures.printed (keeps_same (g.E.Write.contents c.args.errors.now)))
-    c.in-Ok-answer.ensures.untouched)
+    c.in-Ok-answer.ensures.untouched))
 
 pub returns-in-Err-print_line-clause-exact : goal.returns-in-Err-print_line-clause-exact
-returns-in-Err-print_line-clause-exact g c = λ taken. inr (does (map string_bytes c.args.words.now) _ _ c.report-in-Err-print_line.result _ c.in-Ok.options c.in-Ok.ensures.ok
+returns-in-Err-print_line-clause-exact g c = inr (inl (does (map string_bytes c.args.words.now) _ _ c.report-in-Err-print_line.result _ c.in-Ok.options c.in-Ok.ensures.ok
     (λ path of. broken_end (expected_answer c.in-Ok.options path (g.R.Read.remaining c.args.input.now)) c.in-Ok-answer.line c.in-Err-print_line.fault c.report-in-Err-print_line.result _
     (c.in-Ok-answer.ensures.exact path of) c.in-Err-print_line.ensures.printed c.report-in-Err-print_line.ensures.line)
-    c.in-Ok-answer.ensures.untouched)
+    c.in-Ok-answer.ensures.untouched))
