@@ -1,9 +1,9 @@
 -- How the program ends, from what its steps answer.
-use Rattle.std.proofs.Common.{Result, ◌≡◌, ◌≢◌, ◌∙◌, ℕ, ◌≤◌, List, [], ◌∷◌, ◌++◌, Bool, true, false, Option, Some, None, Ok, Err, String, Global, refl, sym, ap, subst, arith, string_bytes, ◌⊎◌, inl, inr}
+use Rattle.std.proofs.Common.{Result, ◌≡◌, ◌≢◌, ◌∙◌, ℕ, ◌≤◌, List, [], ◌∷◌, ◌++◌, true, false, Option, Some, None, Ok, Err, String, Global, refl, sym, ap, subst, arith, string_bytes, ◌⊎◌, inl, inr}
 use Rattle.std.specs.Prelude.{is_some}
 use Rattle.std.specs.Borrow.{Bor}
 use Rattle.std.specs.Io.KnownBytes.{Appends, Keeps}
-use Rattle.clap.specs.Words.{IsAmong, Kinds, Text, fault_of, kind_of, takes}
+use Rattle.clap.specs.Words.{HasKind, IsAmong, Kinds, Text, fault_of, kind_of, takes}
 use Rattle.clap.specs.declared.error.Error.{Error}
 use Rattle.clap.specs.declared.error.kind.ErrorKind.{ErrorKind}
 use Rattle.clap.specs.declared.error.kind.ErrorKind.TheVariants.{DisplayHelp, DisplayVersion, OutOfMemory}
@@ -16,10 +16,10 @@ use Rattle.oer_notation.specs.Reading.{Known, find}
 use Rattle.oer_notation.specs.Views.{knowns}
 use Rattle.oer_notation.specs.declared.types.Types.{Types}
 use Rattle.oer_cmd.specs.Answer.{IsPathOf, answer_of, expected_answer, expected_type, named_as, parsed, path_text, source_text, task_answer, type_among}
-use Rattle.oer_cmd.specs.Ending.{Answers, Breaks, Does, Ends, HoldsFront, IsMachineLine, IsNotTaken, IsUnstarted, MayPrint, Streams, refusal_line}
-use Rattle.oer_cmd.specs.Expected.{Expected, Meets, refusal, refusal_of, stop, unknown, value, ◌>>=◌}
-use Rattle.oer_cmd.specs.Faults.{AppendsFront, IsLineFor, Printed, Reports, error_line, status_of}
-use Rattle.oer_cmd.specs.Types.{Texts, lack_of, texts_at, texts_of}
+use Rattle.oer_cmd.specs.Ending.{Answers, Breaks, Does, HoldsFront, IsMachineLine, IsNotTaken, IsUnstarted, MayPrint, Streams, refusal_line}
+use Rattle.oer_cmd.specs.Expected.{Expected, Meets, refusal, stop, unknown, value, ◌>>=◌}
+use Rattle.oer_cmd.specs.Faults.{AppendsFront, Printed, Reports, error_line, status_of}
+use Rattle.oer_cmd.specs.Types.{Texts, texts_of}
 use Rattle.oer_cmd.specs.Words.{Asks, behind, oer}
 use Rattle.oer_cmd.specs.declared.fault.Fault.{Fault}
 use Rattle.oer_cmd.specs.declared.fault.Fault.TheVariants.{Absent, Follows, Hex, Input, Json, Longer, Memory, NoName, NoSuchStep, NotJson, NoTypes, OneType, Output, Path, Read, «Type», Unnamed}
@@ -53,8 +53,8 @@ pub named_unread : (types name : Bor Text) (task : Task) (limit : ℕ) (path : E
 named_unread types name task limit path told fault h =
     stops {X = Schema} the_type bytes (parsed (parse_all types.now) >>= λ ks. named_as name.now (find ks name.now)) (λ T. task_answer task T limit path told) fault
     (stops {X = Types} the_type_knowns the_type (parsed (parse_all types.now)) (λ ks. named_as name.now (find ks name.now)) fault h) where
-  the_type_knowns : Types → List Known
-  the_type_knowns ts = knowns ts
+      the_type_knowns : Types → List Known
+      the_type_knowns ts = knowns ts
 
 pub named_unknown : (types name : Bor Text) (task : Task) (limit : ℕ) (path : Expected (List Step)) (told : Option (List ℕ)) (ts : Types) (fault : Fault) → Meets knowns (parsed (parse_all types.now)) (Ok ts)
     → Meets {X = Bor Schema} (λ s. the_type s.now) (named_as name.now (find (knowns ts) name.now)) (Err fault) → Meets bytes (parsed (parse_all types.now) >>= (λ ks. named_as name.now (find ks name.now)) >>= λ T. task_answer task T limit path told) (Err fault)
@@ -170,7 +170,7 @@ pub not_taken : (words : List Text) (untouched : Type 0) (e : Error) (status : �
 not_taken words untouched e status s among passes memory shows alone two quiet failed same = record {
   refused = λ small taken. (let three = memory (passes taken) in omega (arith, small, three));
   help = λ none. (among_help (fault_of oer words) (kind_of e) among (shows none), alone none);
-  words = λ low high. (two low high, quiet low high);
+  said = λ low high. (two low high, quiet low high);
   machine = λ three. by (failed three);
   keeps = same;
 } where
@@ -186,3 +186,11 @@ does words told untouched status s o asks answers keeps = record { options = o; 
 pub keeps_same : (known : Option (List ℕ)) → Keeps known known
 keeps_same None = tt
 keeps_same (Some xs) = refl
+
+-- What `clap` says of the words.
+pub words_end : (words : List Text) (told : Option (List ℕ)) (untouched : Type 0) (e : Error) (status : ℕ) (s : Streams) → HasKind (fault_of oer words) e → (takes oer words ≡ true → kind_of e ≡ OutOfMemory)
+    → (kind_of e ≡ OutOfMemory → status ≡ 3) → (status ≡ 0 → (kind_of e ≡ DisplayHelp) ⊎ (kind_of e ≡ DisplayVersion)) → (status ≡ 0 → Keeps s.errors s.errors') → (1 ≤ status → status ≤ 2 → status ≡ 2)
+    → (1 ≤ status → status ≤ 2 → Keeps s.output s.output') → (status ≡ 3 → Reports Memory 3 s.errors s.errors' ⊎ Reports Output 3 s.errors s.errors') → (kind_of e ≡ OutOfMemory → Keeps s.output s.output')
+    → (kind_of e ≡ OutOfMemory → Reports Memory 3 s.errors s.errors') → untouched → IsUnstarted untouched status s ⊎ Does words told untouched status s ⊎ IsNotTaken words untouched status s
+words_end words told untouched e status s (inl kind) passes memory shows alone two quiet failed kept line same = inl (memory kind, same, kept kind, unread_end 3 s.errors s.errors' (line kind))
+words_end words told untouched e status s (inr among) passes memory shows alone two quiet failed kept line same = inr (inr (not_taken words untouched e status s among passes memory shows alone two quiet failed same))

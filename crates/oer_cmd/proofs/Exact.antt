@@ -1,12 +1,11 @@
 -- What the tasks answer is what is expected.
-use Rattle.std.proofs.Common.{Result, ◌≡◌, ◌≢◌, ◌∙◌, ℕ, ◌+◌, ◌-◌, ◌<◌, ◌≤◌, Bool, true, false, List, [], ◌∷◌, ◌++◌, length, take, drop, Option, Some, None, Ok, Err, option_map, Vec, Global, String, refl, sym, ap, subst, arith, string_bytes, length-append}
+use Rattle.std.proofs.Common.{Result, ◌≡◌, ◌≢◌, ◌∙◌, ℕ, ◌+◌, ◌-◌, ◌<◌, ◌≤◌, Bool, true, false, List, [], ◌∷◌, ◌++◌, length, take, drop, Option, Some, None, Ok, Err, option_map, Vec, Global, String, refl, sym, ap, subst, arith, length-append}
 use Rattle.std.proofs.Math.Seq.{drop-length, take-length}
 use Rattle.std.proofs.lemmas.Str.{IsUtf8-from_is_utf8, is_utf8-from_IsUtf8}
 use Rattle.std.proofs.lemmas.Bool.{le-leb, lt-leb}
 use Rattle.std.specs.Prelude.{IfErr, IfOk, IfSome, if◌then◌else◌}
 use Rattle.std.specs.Str.{IsUtf8, is_utf8}
 use Rattle.std.specs.Borrow.{Bor}
-use Rattle.std.specs.Io.KnownBytes.{Appends}
 use Rattle.clap.specs.Words.{Text}
 use Rattle.hex.specs.Hex.{encode_lower}
 use Rattle.serde_json.specs.Data.{Data}
@@ -48,7 +47,7 @@ use Rattle.oer_cmd.specs.Faults.{IsOfRead, IsOfRewrite, status_of}
 use Rattle.oer_cmd.specs.Octets.{AreAll, octets_of}
 use Rattle.oer_cmd.specs.Run.{IsPath, verdict_text}
 use Rattle.oer_cmd.specs.declared.fault.Fault.{Fault}
-use Rattle.oer_cmd.specs.declared.fault.Fault.TheVariants.{Absent, Follows, Json as Json_fault, Longer, Memory, NoSuchStep, NotJson, Output, Path, Read}
+use Rattle.oer_cmd.specs.declared.fault.Fault.TheVariants.{Absent, Follows, Json as Json_fault, Longer, Memory, NoSuchStep, NotJson, Path, Read}
 use Rattle.oer_cmd.proofs.Floats.{made_none}
 use Rattle.oer_cmd.specs.Words.{behind}
 use Rattle.oer_cmd.proofs.Refusals.{not_memory}

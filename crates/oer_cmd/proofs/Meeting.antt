@@ -1,14 +1,13 @@
 -- How answers that are expected are put together.
-use Rattle.std.proofs.Common.{Result, ◌≡◌, ◌≢◌, ◌∙◌, ℕ, ◌+◌, ◌-◌, ◌<◌, ◌≤◌, leb, Bool, true, false, List, [], ◌∷◌, ◌++◌, length, drop, Option, Some, None, Ok, Err, refl, sym, ap, subst, arith, length-append, String, Global, string_bytes}
+use Rattle.std.proofs.Common.{Result, ◌≡◌, ◌≢◌, ◌∙◌, ℕ, ◌+◌, ◌-◌, ◌≤◌, false, List, [], ◌∷◌, length, Option, Some, None, Ok, Err, refl, sym, ap, subst, arith, length-append, String, Global, string_bytes}
 use Rattle.std.specs.Io.KnownBytes.{Consumes}
 use Rattle.oer_units.specs.declared.fault.ReadFault.{ReadFault}
-use Rattle.oer_units.specs.declared.fault.Why.{Why}
 use Rattle.oer_units.specs.declared.fault.Why.TheVariants as why
 use Rattle.oer_units.specs.Reader.{Outcome, Reader, at, got, refused}
-use Rattle.oer_units.specs.Reads.{Exactly, ReadsFront, Span, Took, renamed}
+use Rattle.oer_units.specs.Reads.{ReadsFront, renamed}
 use Rattle.oer_cmd.specs.Answer.{ended, input_octets, whole}
 use Rattle.oer_cmd.specs.Canon.{HasMore, IsEmpty}
-use Rattle.oer_cmd.specs.Expected.{Expected, Meets, Refusal, refusal, refusal_of, stop, unknown, value, ◌>>=◌}
+use Rattle.oer_cmd.specs.Expected.{Expected, Meets, refusal, stop, unknown, value, ◌>>=◌}
 use Rattle.oer_cmd.specs.Faults.{IsOfRead, status_of}
 use Rattle.oer_cmd.specs.declared.fault.Fault.{Fault}
 use Rattle.oer_cmd.specs.declared.fault.Fault.TheVariants.{Follows, Input, Memory, Read}
@@ -89,8 +88,8 @@ is_read e fault is small =
     let device : e.why ≢ why.Device = λ d. high Input (is.input d) refl in
     let memory : e.why ≢ why.Memory = λ m. high Memory (is.memory m) refl in
     (device, memory, is.other device memory) where
-  high : (x : Fault) → fault ≡ x → status_of x ≡ 3 → ⊥
-  high x same three = let e = ap status_of same in omega (arith, e, three, small)
+      high : (x : Fault) → fault ≡ x → status_of x ≡ 3 → ⊥
+      high x same three = let e = ap status_of same in omega (arith, e, three, small)
 
 -- Reading is refused.
 pub unread : {X Y A : Type 0} (view : X → Y) (r : Reader A) (next : A → Expected Y) (limit failed failed' : ℕ) (known known' : Option (List ℕ)) (e : ReadFault) (fault : Fault)

@@ -1,5 +1,5 @@
 -- From what a refusal says to: there is no line.
-use Rattle.std.proofs.Common.{Result, ◌≡◌, ◌≢◌, ◌∙◌, ℕ, zero, suc, ◌≤◌, ◌<◌, ◌^◌, Bool, true, false, List, [], ◌∷◌, ◌++◌, length, Option, Some, None, Ok, Err, refl, sym, ap, subst, arith, append-nil, ◌⊎◌, inl, inr}
+use Rattle.std.proofs.Common.{Result, ◌≡◌, ◌≢◌, ◌∙◌, ℕ, zero, suc, ◌≤◌, ◌<◌, false, List, [], ◌∷◌, ◌++◌, length, Option, Some, None, Ok, Err, refl, sym, ap, subst, arith, append-nil, ◌⊎◌, inl, inr}
 use Rattle.std.specs.Prelude.{IfErr, IfSome, ⊤}
 use Rattle.std.specs.Borrow.{Bor}
 use Rattle.std.proofs.lemmas.Result.{IfErr-weaker}
@@ -12,7 +12,6 @@ use Rattle.oer_units.specs.Reading.{octet}
 use Rattle.oer_units.specs.Reader.{at, bind, give, got, group, refused}
 use Rattle.oer_units.specs.Reads.{Exactly, ReadsFront, Span, place, renamed}
 use Rattle.oer_units.specs.declared.fault.ReadFault.{ReadFault}
-use Rattle.oer_units.specs.declared.fault.Why.{Why}
 use Rattle.oer_units.specs.declared.fault.Why.TheVariants as why
 use Rattle.oer_writer.specs.declared.fault.WriteFault.TheVariants as write
 use Rattle.oer_types.specs.AsnType.{AsnType}
@@ -20,12 +19,7 @@ use Rattle.oer_types.specs.AsnValue.{AsnValue}
 use Rattle.oer_types.specs.Parts.{Step}
 use Rattle.oer_input.specs.Path.{OnePath}
 use Rattle.oer_json.specs.Denotes.{Takes}
-use Rattle.oer_types.specs.Encoding.{Encodes}
-use Rattle.oer_types.specs.Laws.{Means}
-use Rattle.oer_types.specs.Parts.{StopsAt}
-use Rattle.oer_checker.specs.Check.{Tells, most}
-use Rattle.oer_checker.specs.Handing.{Begins, Follows, Hands}
-use Rattle.oer_checker.specs.declared.fault.PartFault.TheVariants as part
+use Rattle.oer_checker.specs.Handing.{Follows}
 use Rattle.oer_checker.specs.declared.fault.PartFault.{PartFault}
 use Rattle.oer_decoder.specs.Front.{ReadsWhatComes}
 use Rattle.oer_decoder.specs.Rewriting.{RewritesWhatComes}
@@ -34,11 +28,10 @@ use Rattle.oer_decoder.specs.declared.fault.RewriteFault.TheVariants as rewrite
 use Rattle.oer_cmd.specs.Canon.{HasMore, IsNoEncoding}
 use Rattle.oer_cmd.specs.Faults.{IsOfRead, IsOfRewrite, Refuses, status_of}
 use Rattle.oer_cmd.specs.Octets.{AreAll, AreMore, AreSpelt, IsTooLong}
-use Rattle.oer_cmd.specs.Run.{HasNoPart, IsCanonLine, IsCheckLine, IsEncoding, IsNoFront, IsMakeLine, IsPart, IsPartLine, IsPath, IsShowLine, Makes, NoLine, NoneFor, OfOctets, OfText}
+use Rattle.oer_cmd.specs.Run.{HasNoPart, IsCanonLine, IsCheckLine, IsEncoding, IsMakeLine, IsPart, IsPartLine, IsPath, IsShowLine, Makes, NoLine, NoneFor, OfOctets, OfText}
 use Rattle.oer_cmd.specs.Words.{behind}
 use Rattle.oer_cmd.specs.declared.fault.Fault.{Fault}
-use Rattle.oer_cmd.specs.declared.fault.Fault.TheVariants.{Absent, Input, Longer, Memory, NoSuchStep, Output}
-use Rattle.oer_cmd.proofs.Lines.{of_all, same_front}
+use Rattle.oer_cmd.specs.declared.fault.Fault.TheVariants.{Input, Longer, Memory, Output}
 use Rattle.oer_cmd.proofs.Naming.{may_be}
 
 -- a fault of status 3 has none below it

@@ -1,5 +1,5 @@
 -- The answer of the program as plain functions say it: a line, or a status and a text.
-use Rattle.std.specs.Prelude.{◌≡◌, ℕ, ◌-◌, List, [], ◌∷◌, ◌++◌, length, leb, Bool, Option, Some, None, Result, Ok, Err, codes, if◌then◌else◌, ⊤}
+use Rattle.std.specs.Prelude.{◌≡◌, ℕ, ◌-◌, List, [], ◌∷◌, ◌++◌, length, leb, Bool, Option, Some, None, Result, Ok, Err, codes, if◌then◌else◌}
 use Rattle.std.specs.Str.{is_utf8}
 use Rattle.hex.specs.Hex.{decode_of, encode_lower}
 use Rattle.hex.specs.declared.error.FromHexError.{FromHexError}
@@ -20,9 +20,9 @@ use Rattle.oer_json.specs.Made.{made}
 use Rattle.oer_json.specs.Take.{taken}
 use Rattle.oer_json.specs.declared.fault.JsonFault.{JsonFault}
 use Rattle.oer_notation.specs.Parsing.{parse, parse_all}
-use Rattle.oer_notation.specs.Reading.{Known, find}
+use Rattle.oer_notation.specs.Reading.{find}
 use Rattle.oer_notation.specs.declared.fault.TextFault.{TextFault}
-use Rattle.oer_cmd.specs.Expected.{Expected, Refusal, refusal, stop, unknown, value, ◌>>=◌}
+use Rattle.oer_cmd.specs.Expected.{Expected, refusal, stop, unknown, value, ◌>>=◌}
 use Rattle.oer_cmd.specs.Run.{IsPath, verdict_text}
 use Rattle.oer_cmd.specs.Types.{Texts, lack_in, texts_of}
 use Rattle.oer_cmd.specs.Words.{behind}

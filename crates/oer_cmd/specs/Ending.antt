@@ -56,7 +56,7 @@ pub record Does (words : List Text) (told : Option (List ℕ)) (untouched : Type
   pub options : Options
   pub asks : Asks words options
   pub answers : (path : Expected (List Step)) → IsPathOf (path_text options.task) path
-    → Answers (expected_answer options path told) status s ⊎ Breaks (expected_answer options path told) status s
+      → Answers (expected_answer options path told) status s ⊎ Breaks (expected_answer options path told) status s
   pub keeps : source_text options.task ≢ None → untouched
 
 -- The words ask for help, or for the version.
@@ -68,7 +68,7 @@ AsksForHelp words = IsAmong DisplayHelp (fault_of oer words) ⊎ IsAmong Display
 pub record IsNotTaken (words : List Text) (untouched : Type 0) (status : ℕ) (s : Streams) : Type 0 where
   pub refused : status ≤ 2 → takes oer words ≡ true → ⊥
   pub help : status ≡ 0 → AsksForHelp words × Keeps s.errors s.errors'
-  pub words : 1 ≤ status → status ≤ 2 → (status ≡ 2) × Keeps s.output s.output'
+  pub said : 1 ≤ status → status ≤ 2 → (status ≡ 2) × Keeps s.output s.output'
   pub machine : status ≡ 3 → (line : Text) × IsMachineLine line × AppendsFront s.errors s.errors' line
   pub keeps : untouched
 

@@ -1,5 +1,5 @@
 -- What is expected of a function that makes a step of an answer.
-use Rattle.std.specs.Prelude.{◌≡◌, ◌≤◌, ℕ, List, Result, Ok, Err, ⊤}
+use Rattle.std.specs.Prelude.{◌≡◌, ◌≤◌, ℕ, Result, Ok, Err, ⊤}
 use Rattle.clap.specs.Words.{Text}
 use Rattle.oer_cmd.specs.Faults.{status_of, text_of}
 use Rattle.oer_cmd.specs.declared.fault.Fault.{Fault}

@@ -13,8 +13,6 @@ use Rattle.oer_decoder.specs.declared.fault.RewriteFault.{RewriteFault}
 use Rattle.oer_decoder.specs.declared.fault.RewriteFault.TheVariants as rewrite
 use Rattle.oer_notation.specs.Faults.{text_why_name}
 use Rattle.oer_json.specs.Faults.{json_fault_name}
-use Rattle.oer_types.specs.AsnValue.{AsnValue}
-use Rattle.oer_json.specs.declared.fault.JsonFault.{JsonFault}
 use Rattle.oer_cmd.specs.declared.fault.Fault.{Fault}
 use Rattle.oer_cmd.specs.declared.fault.Fault.TheVariants.{Read, Follows, Longer, NoSuchStep, Absent, OneType, NoName, NoTypes, «Type», Unnamed, Hex, Path, NotJson, Json, Input, Output, Memory}
 

@@ -1,5 +1,5 @@
 -- What the program prints.
-use Rattle.std.specs.Prelude.{◌≡◌, ◌↔◌, ◌≤◌, ◌<◌, Bool, true, false, ℕ, List, [], ◌∷◌, ◌++◌, length, Option, Some, None, Ok, Err, IfSome, codes, ◌⊎◌}
+use Rattle.std.specs.Prelude.{◌≡◌, ◌↔◌, ◌≤◌, Bool, true, false, ℕ, List, [], ◌∷◌, ◌++◌, length, Option, Some, None, Ok, IfSome, codes}
 use Rattle.std.specs.Fmt.{decimal}
 use Rattle.std.specs.Str.{IsUtf8}
 use Rattle.std.specs.Io.KnownBytes.{Appends, Keeps}
@@ -11,18 +11,14 @@ use Rattle.serde_json.specs.Written.{compact_text}
 use Rattle.oer_types.specs.AsnType.{AsnType}
 use Rattle.oer_types.specs.AsnValue.{AsnValue}
 use Rattle.oer_types.specs.Encoding.{Encodes}
-use Rattle.oer_types.specs.Parts.{Step, StopsAt, Within}
+use Rattle.oer_types.specs.Parts.{Step, Within}
 use Rattle.oer_types.specs.Strict.{IsCanonical}
 use Rattle.oer_input.specs.Path.{SpellsPath}
 use Rattle.oer_json.specs.Denotes.{Takes}
 use Rattle.oer_json.specs.Made.{made}
-use Rattle.oer_json.specs.Take.{taken}
 use Rattle.oer_cmd.specs.Canon.{MakesCanonical}
-use Rattle.oer_cmd.specs.Faults.{status_of}
 use Rattle.oer_cmd.specs.Types.{SpelledBy, Texts}
 use Rattle.oer_cmd.specs.Words.{NumberOf, asked, behind, given, given_number}
-use Rattle.oer_cmd.specs.declared.fault.Fault.{Fault}
-use Rattle.oer_cmd.specs.declared.fault.Fault.TheVariants.{Absent, Follows, Hex, Json, Longer, NoSuchStep, NotJson, Path, Read}
 use Rattle.oer_cmd.specs.declared.options.Task.{Task}
 use Rattle.oer_cmd.specs.declared.options.Task.TheVariants.{Canon, Check, Make, Part, Show}
 

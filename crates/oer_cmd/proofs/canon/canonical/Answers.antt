@@ -1,4 +1,4 @@
-use Rattle.std.proofs.Common.{◌∙◌, arith, ap, Some, Vec, ℕ, Global}
+use Rattle.std.proofs.Common.{◌∙◌, ap, Some, Vec, ℕ, Global}
 use Rattle.std.proofs.lemmas.Result.{err_from_is_err_and}
 use Rattle.oer_types.specs.Schema.{the_type}
 use Rattle.oer_units.specs.Stream.{inner_of}

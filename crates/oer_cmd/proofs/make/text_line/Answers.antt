@@ -4,7 +4,6 @@ use Rattle.oer_cmd.proofs.Refusals.{no_json, no_value, not_memory, too_high}
 use Rattle.std.proofs.Common.{Ok, arith, rules, string_bytes}
 use Rattle.oer_types.specs.Schema.{the_type}
 use Rattle.oer_cmd.specs.Answer.{make_text}
-use Rattle.oer_cmd.specs.declared.fault.Fault.TheVariants.{Memory}
 use Rattle.oer_cmd.proofs.Exact.{digits_of, text_taken, text_unread, text_untaken}
 use Rattle.oer_cmd.proofs.Meeting.{fails}
 use Rattle.oer_cmd.proofs.make.text_line.Goals as goal

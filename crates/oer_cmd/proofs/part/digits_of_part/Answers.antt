@@ -1,10 +1,10 @@
-use Rattle.std.proofs.Common.{ℕ, List, None, ◌^◌, ◌<◌, length, rules}
+use Rattle.std.proofs.Common.{ℕ, List}
 use Rattle.std.proofs.lemmas.Result.{err_from_is_err_and}
 use Rattle.oer_types.specs.Schema.{the_type}
 use Rattle.oer_checker.specs.Walk.{path_of as steps_of}
 use Rattle.std.proofs.Common.{Ok}
 use Rattle.oer_cmd.proofs.Refusals.{unhanded}
-use Rattle.oer_cmd.proofs.Exact.{part_absent, part_made, part_unjudged, part_unknown, part_unread}
+use Rattle.oer_cmd.proofs.Exact.{part_made, part_unjudged}
 use Rattle.oer_cmd.proofs.part.digits_of_part.Goals as goal
 
 pub returns-in_err-judged-clause-refused : goal.returns-in_err-judged-clause-refused

@@ -14,4 +14,3 @@ returns-in_default-clause-exact c = λ steps of. no_path c.args.text steps c.new
 
 pub returns-in-Err-Form-clause-exact : goal.returns-in-Err-Form-clause-exact
 returns-in-Err-Form-clause-exact c = λ steps of. path_refused (behind c.args.text) steps Path of (λ other. (refl, λ p h. c.in-Err-Form.ensures.form c.in-Err-Form.field-0-is p (subst (λ t. IsPath (behind t) p) c.in-Some.is h)))
-

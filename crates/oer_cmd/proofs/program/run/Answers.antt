@@ -1,8 +1,6 @@
 use Rattle.std.proofs.Common.{inl, inr, arith, map, refl, string_bytes}
-use Rattle.clap.specs.Words.{HasKind, fault_of}
 use Rattle.oer_cmd.specs.Answer.{expected_answer}
-use Rattle.oer_cmd.specs.Words.{oer}
-use Rattle.oer_cmd.proofs.Endings.{broken_end, does, keeps_same, not_taken, printed_end, refused_end, unread_end}
+use Rattle.oer_cmd.proofs.Endings.{broken_end, does, keeps_same, printed_end, refused_end, words_end}
 use Rattle.oer_cmd.proofs.Lines.{none_answers}
 use Rattle.oer_cmd.proofs.program.run.Goals as goal
 
@@ -11,10 +9,8 @@ returns-in-Err-answer-clause-refuses g c = λ taken low high.
     none_answers (map string_bytes c.args.words.now) c.in-Ok.options _ (g.R.Read.remaining c.args.input.now) c.in-Ok.ensures.ok (c.in-Err-answer.ensures.refused (omega (arith, c.report.ensures.status high, high))) refl
 
 pub returns-in-Err-clause-exact : goal.returns-in-Err-clause-exact
-returns-in-Err-clause-exact g c = by c.in-Err.ensures.kinds where
-  by : HasKind (fault_of oer (map string_bytes c.args.words.now)) c.in-Err.error → _
-  by (inl kind) = inl (c.refused.ensures.memory kind, refl, c.refused.ensures.kept kind, unread_end 3 _ _ (c.refused.ensures.line kind))
-  by (inr among) = inr (inr (not_taken (map string_bytes c.args.words.now) _ c.in-Err.error c.refused.result _ among c.in-Err.ensures.err c.refused.ensures.memory c.refused.ensures.shows c.refused.ensures.alone c.refused.ensures.words c.refused.ensures.quiet c.refused.ensures.failed refl))
+returns-in-Err-clause-exact g c = words_end (map string_bytes c.args.words.now) _ _ c.in-Err.error c.refused.result _ c.in-Err.ensures.kinds c.in-Err.ensures.err c.refused.ensures.memory
+    c.refused.ensures.shows c.refused.ensures.alone c.refused.ensures.words c.refused.ensures.quiet c.refused.ensures.failed c.refused.ensures.kept c.refused.ensures.line refl
 
 pub returns-in-Err-answer-clause-exact : goal.returns-in-Err-answer-clause-exact
 returns-in-Err-answer-clause-exact g c = inr (inl (does (map string_bytes c.args.words.now) _ _ c.report.result _ c.in-Ok.options c.in-Ok.ensures.ok

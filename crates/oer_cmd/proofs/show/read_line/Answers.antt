@@ -1,14 +1,12 @@
 use Rattle.std.proofs.lemmas.Result.{err_from_is_err_and}
 use Rattle.oer_cmd.proofs.Front.{line_of}
 use Rattle.oer_cmd.proofs.Refusals.{no_show_line}
-use Rattle.std.proofs.Common.{arith, string_bytes}
+use Rattle.std.proofs.Common.{string_bytes}
 use Rattle.serde_json.specs.View.{view}
 use Rattle.oer_types.specs.Schema.{the_type}
 use Rattle.oer_cmd.specs.Answer.{in_text, json_input}
-use Rattle.oer_cmd.specs.Expected.{◌>>=◌}
-use Rattle.oer_cmd.specs.declared.fault.Fault.TheVariants.{Memory}
 use Rattle.oer_cmd.proofs.Exact.{json_text}
-use Rattle.oer_cmd.proofs.Meeting.{fails, stops}
+use Rattle.oer_cmd.proofs.Meeting.{stops}
 use Rattle.oer_cmd.proofs.show.read_line.Goals as goal
 
 pub returns-in-Ok-clause-line : goal.returns-in-Ok-clause-line

@@ -1,14 +1,9 @@
-use Rattle.std.proofs.Common.{arith}
 use Rattle.std.proofs.lemmas.Result.{err_from_is_err_and}
 use Rattle.oer_types.specs.Schema.{the_type}
 use Rattle.oer_types.specs.ValueView.{value_of}
 use Rattle.oer_cmd.proofs.Front.{shown_all}
 use Rattle.oer_cmd.proofs.Refusals.{read_more, unread}
-use Rattle.serde_json.specs.View.{view}
-use Rattle.oer_cmd.specs.Answer.{json_input}
-use Rattle.oer_cmd.specs.declared.fault.Fault.TheVariants.{Memory}
 use Rattle.oer_cmd.proofs.Exact.{json_made, json_more, json_none}
-use Rattle.oer_cmd.proofs.Meeting.{fails}
 use Rattle.oer_cmd.proofs.show.shown.Goals as goal
 
 pub returns-in-Ok-to_json-clause-shown : goal.returns-in-Ok-to_json-clause-shown
