@@ -3,7 +3,7 @@ use Rattle.std.proofs.Common.{◌≡◌, ◌∙◌, List, ℕ, Bool, Option, Som
 use Rattle.std.specs.Prelude.{option_map, option_and_then, unwrap_or, is_some, Box, ◌||◌}
 use Rattle.std.specs.Box.{box_value}
 use Rattle.std.specs.Str.Parse.{IsNumeral, digits_value, without_leading_plus}
-use Rattle.clap.specs.Words.{AddsArg, AddsSubcommand, App, with_subcommand, Row, Rule, rule_of, with_rule, Text, ReadsOne, found_of, first_value, one_text, is_simple, rows_of, subcommand_name_of, subcommand_of, subcommand_rows, subcommand_rows_of}
+use Rattle.clap.specs.Words.{AddsArg, AddsSubcommand, App, with_subcommand, Row, Rule, rule_of, with_rule, Text, ReadsOne, found_of, first_value, one_text, is_simple, rows_of, subcommand_name_of, subcommand_of, subcommand_rows, subcommand_rows_of, is_simple_and_free}
 use Rattle.clap.specs.declared.builder.arg.Arg.{Arg}
 use Rattle.clap.specs.declared.builder.command.Command.{Command}
 use Rattle.clap.specs.declared.parser.matches.ArgMatches.{ArgMatches}
@@ -16,6 +16,9 @@ use Rattle.oer_cmd.specs.declared.options.Task.TheVariants.{Canon, Check, Make, 
 
 pub simple : is_simple oer ≡ true
 simple = refl
+
+pub simple_and_free : is_simple_and_free oer ≡ true
+simple_and_free = refl
 
 both : {Z : Type 0} (o : Option (Box SubCommand Z)) (t : Text) (r : List Row) → option_map (λ b. (out-SubCommand (box_value b)).name.now) o ≡ Some t
     → option_map (λ p. p.1) (subcommand_rows o) ≡ Some r → subcommand_rows o ≡ Some (t, r)

@@ -1,5 +1,5 @@
 -- From what a refusal says to: there is no line.
-use Rattle.std.proofs.Common.{Result, ◌≡◌, ◌≢◌, ◌∙◌, ℕ, zero, suc, ◌≤◌, ◌<◌, ◌^◌, Bool, true, false, List, [], ◌∷◌, ◌++◌, length, Option, Some, None, Ok, Err, refl, sym, ap, subst, arith, append-nil, ◌⊎◌, inl, inr}
+use Rattle.std.proofs.Common.{Result, ◌≡◌, ◌≢◌, ◌∙◌, ℕ, zero, suc, ◌≤◌, ◌<◌, false, List, [], ◌∷◌, ◌++◌, length, Option, Some, None, Ok, Err, refl, sym, ap, subst, arith, append-nil, ◌⊎◌, inl, inr}
 use Rattle.std.specs.Prelude.{IfErr, IfSome, ⊤}
 use Rattle.std.specs.Borrow.{Bor}
 use Rattle.std.proofs.lemmas.Result.{IfErr-weaker}
@@ -12,7 +12,6 @@ use Rattle.oer_units.specs.Reading.{octet}
 use Rattle.oer_units.specs.Reader.{at, bind, give, got, group, refused}
 use Rattle.oer_units.specs.Reads.{Exactly, ReadsFront, Span, place, renamed}
 use Rattle.oer_units.specs.declared.fault.ReadFault.{ReadFault}
-use Rattle.oer_units.specs.declared.fault.Why.{Why}
 use Rattle.oer_units.specs.declared.fault.Why.TheVariants as why
 use Rattle.oer_writer.specs.declared.fault.WriteFault.TheVariants as write
 use Rattle.oer_types.specs.AsnType.{AsnType}
@@ -20,12 +19,7 @@ use Rattle.oer_types.specs.AsnValue.{AsnValue}
 use Rattle.oer_types.specs.Parts.{Step}
 use Rattle.oer_input.specs.Path.{OnePath}
 use Rattle.oer_json.specs.Denotes.{Takes}
-use Rattle.oer_types.specs.Encoding.{Encodes}
-use Rattle.oer_types.specs.Laws.{Means}
-use Rattle.oer_types.specs.Parts.{StopsAt}
-use Rattle.oer_checker.specs.Check.{Tells, most}
-use Rattle.oer_checker.specs.Handing.{Begins, Follows, Hands}
-use Rattle.oer_checker.specs.declared.fault.PartFault.TheVariants as part
+use Rattle.oer_checker.specs.Handing.{Follows}
 use Rattle.oer_checker.specs.declared.fault.PartFault.{PartFault}
 use Rattle.oer_decoder.specs.Front.{ReadsWhatComes}
 use Rattle.oer_decoder.specs.Rewriting.{RewritesWhatComes}
@@ -34,11 +28,10 @@ use Rattle.oer_decoder.specs.declared.fault.RewriteFault.TheVariants as rewrite
 use Rattle.oer_cmd.specs.Canon.{HasMore, IsNoEncoding}
 use Rattle.oer_cmd.specs.Faults.{IsOfRead, IsOfRewrite, Refuses, status_of}
 use Rattle.oer_cmd.specs.Octets.{AreAll, AreMore, AreSpelt, IsTooLong}
-use Rattle.oer_cmd.specs.Run.{HasNoLine, HasNoPart, IsCanonLine, IsCheckLine, IsEncoding, IsMissing, IsNoFront, IsNotWhole, IsUnchecked, IsMakeLine, IsPart, IsPartLine, IsPath, IsShowLine, Makes, NoLine, NoneFor, OfOctets, OfText, Says}
+use Rattle.oer_cmd.specs.Run.{HasNoPart, IsCanonLine, IsCheckLine, IsEncoding, IsMakeLine, IsPart, IsPartLine, IsPath, IsShowLine, Makes, NoLine, NoneFor, OfOctets, OfText}
 use Rattle.oer_cmd.specs.Words.{behind}
 use Rattle.oer_cmd.specs.declared.fault.Fault.{Fault}
-use Rattle.oer_cmd.specs.declared.fault.Fault.TheVariants.{Absent, Input, Longer, Memory, NoSuchStep, Output}
-use Rattle.oer_cmd.proofs.Lines.{of_all, same_front}
+use Rattle.oer_cmd.specs.declared.fault.Fault.TheVariants.{Input, Longer, Memory, Output}
 use Rattle.oer_cmd.proofs.Naming.{may_be}
 
 -- a fault of status 3 has none below it
@@ -257,71 +250,5 @@ unhanded f T octets path e comes = λ line all h. (comes all.0 octets [] (sym (a
 
 -- ---- why
 
-of_more : (limit : ℕ) (hex : Option Text) (spelt told : Option (List ℕ)) (P : List ℕ → Type 0) → AreSpelt hex spelt → ((b : List ℕ) → limit < length b → P b) → AreMore limit spelt told → OfOctets hex told P
-of_more limit (Some digits) (Some c) told P spells h many = (c, spells, h c many)
-of_more limit (Some digits) None told P spells h many = absurd spells
-of_more limit None (Some c) told P spells h many = absurd spells
-of_more limit None None None P spells h many = tt
-of_more limit None None (Some xs) P spells h many = h xs many
-
--- There are more octets than the limit, where they were refused as such.
-pub says_longer : (limit : ℕ) (hex : Option Text) (spelt told : Option (List ℕ)) (P : List ℕ → Fault → Type 0) (fault : Fault) → AreSpelt hex spelt → ((b : List ℕ) (n : ℕ) → n ≡ limit → limit < length b → P b (Longer n)) → IsTooLong limit spelt told fault → Says hex told P fault
-says_longer limit hex spelt told P (Longer n) spells h long = λ one. of_more limit hex spelt told (λ b. P b (Longer n)) spells (λ b many. h b n long.0 many) long.1
-says_longer limit hex spelt told P Input spells h long = λ one. absurd (omega (arith, one))
-says_longer limit hex spelt told P Memory spells h long = λ one. absurd (omega (arith, one))
-says_longer limit hex spelt told P fault spells h long = absurd long
-
--- a fault of another status says nothing of the octets
-pub not_one : (fault : Fault) → status_of fault ≡ 3 → status_of fault ≡ 1 → ⊥
-not_one fault three one = omega (arith, three, one)
-
-pub not_one_of : (fault x : Fault) → status_of x ≡ 2 → (fault ≢ Memory → fault ≡ x) → status_of fault ≡ 1 → ⊥
-not_one_of fault x two is one = let e = ap status_of (is (λ m. three fault Memory m refl (omega (arith, one)))) in omega (arith, e, two, one)
-
--- A refusal excludes that all the octets are an encoding.
-excludes : (w : Why) (T : AsnType) (n : ℕ) (t rest b : List ℕ) (v : AsnValue) → Means w T n t rest → Encodes T v b → length b ≤ n → b ≡ t ++ rest → ⊥
-excludes why.End T n t rest b v h enc few e = h.1 v b [] enc (sym (append-nil t) ∙ ap (λ (l : List ℕ). t ++ l) (sym h.0) ∙ sym e ∙ sym (append-nil b))
-excludes why.Limit T n t rest b v h enc few e = (h v b rest enc few).0 e
-excludes _ T n t rest b v h enc few e = (h v b rest enc).0 e
-
-no_read : (T : AsnType) (octets : List ℕ) (e : ReadFault) → Tells T octets (Err e) → IsEncoding T octets → length octets < 2 ^ 64 → ⊥
-no_read T octets e h all few = excludes e.why T most h.0 h.1 octets all.0 h.4 all.1 (omega (arith, few)) h.2
-
--- Where all the octets are an encoding a path leads nowhere in it, and not only in one at the front.
-stops_in_all : (T : AsnType) (path : List Step) (b : List ℕ) (known : Bool) → IsNoFront T b → Begins T b (λ c. StopsAt (Some T) c path known) → StopsAt (Some T) b path known
-stops_in_all T path b known all h = subst (λ (l : List ℕ). StopsAt (Some T) l path known) (same_front T b h.0 h.1 all h.2 h.3) h.4
-
-pub missing_read : {A : Type 0} (f : A → List ℕ) (T : AsnType) (path : List Step) (octets : List ℕ) (e : ReadFault) (fault : Fault) → IsEncoding T octets → length octets < 2 ^ 64 → Hands f T octets path (Err (part.Read e)) → IsMissing T path octets fault
-missing_read f T path octets e fault all few h = absurd (no_read T octets e h all few)
-
-pub missing_step : {A : Type 0} (f : A → List ℕ) (T : AsnType) (path : List Step) (octets : List ℕ) → IsEncoding T octets → IsNoFront T octets → Hands f T octets path (Err part.NoSuchStep) → IsMissing T path octets NoSuchStep
-missing_step f T path octets all only h = (all, stops_in_all T path octets false only h)
-
-pub missing_part : {A : Type 0} (f : A → List ℕ) (T : AsnType) (path : List Step) (octets : List ℕ) → IsEncoding T octets → IsNoFront T octets → Hands f T octets path (Err part.Absent) → IsMissing T path octets Absent
-missing_part f T path octets all only h = (all, stops_in_all T path octets true only h)
-
-pub not_whole : (T : AsnType) (path : List Step) (b : List ℕ) (fault : Fault) → IsNotWhole T b fault → IsMissing T path b fault
-not_whole T path b NoSuchStep h = absurd h
-not_whole T path b Absent h = absurd h
-not_whole T path b _ h = h
-
--- why there is no part is why there is no line
-pub no_line : (T : AsnType) (limit : ℕ) (text : Option Text) (path : List Step) (b : List ℕ) (fault : Fault) → IsPath text path → IsMissing T path b fault → HasNoLine T limit text b fault
-no_line T limit text path b (Longer n) is h = absurd h
-no_line T limit text path b _ is h = (path, is, h)
-
-pub unchecked : (T : AsnType) (limit : ℕ) (b : List ℕ) (fault : Fault) → IsNotWhole T b fault → IsUnchecked T limit b fault
-unchecked T limit b (Longer n) h = absurd h
-unchecked T limit b _ h = h
-
-pub says_unchecked : (T : AsnType) (limit : ℕ) (hex : Option Text) (spelt told : Option (List ℕ)) (b s : List ℕ) (fault : Fault) → AreSpelt hex spelt → AreAll spelt told b → s ≡ b → IsNotWhole T s fault → Says hex told (IsUnchecked T limit) fault
-says_unchecked T limit hex spelt told b s fault spells all same h = λ one. of_all hex spelt told b (λ l. IsUnchecked T limit l fault) spells all (subst (λ (l : List ℕ). IsUnchecked T limit l fault) same (unchecked T limit s fault h))
-
 pub no_check_line : (T : AsnType) (limit : ℕ) (hex : Option Text) (spelt told : Option (List ℕ)) (b s : List ℕ) → AreSpelt hex spelt → AreAll spelt told b → s ≡ b → (IsEncoding T s → ⊥) → NoLine told (λ known line. OfOctets hex known (IsCheckLine T limit line))
 no_check_line T limit hex spelt told b s spells all same none = none_of_all limit hex spelt told b (IsCheckLine T limit) (λ _ _ h. h.1) spells all (λ line h. none (subst (IsEncoding T) (sym same) h.0))
-
-pub says_part : {X : Type 0} (r : Result X Fault) (T : AsnType) (limit : ℕ) (hex text : Option Text) (spelt told : Option (List ℕ)) (path steps : List Step) (b s : List ℕ) → AreSpelt hex spelt → AreAll spelt told b → IsPath text path → steps ≡ path → s ≡ b
-    → IfErr r (λ fault. status_of fault ≡ 1 → IsMissing T steps s fault) → IfErr r (Says hex told (HasNoLine T limit text))
-says_part r T limit hex text spelt told path steps b s spells all is same_steps same h =
-    IfErr-weaker r _ _ (λ fault why one. of_all hex spelt told b (λ l. HasNoLine T limit text l fault) spells all
-    (no_line T limit text path b fault is (subst (λ q. IsMissing T q b fault) same_steps (subst (λ (l : List ℕ). IsMissing T steps l fault) same (why one))))) h

@@ -13,8 +13,6 @@ use Rattle.oer_decoder.specs.declared.fault.RewriteFault.{RewriteFault}
 use Rattle.oer_decoder.specs.declared.fault.RewriteFault.TheVariants as rewrite
 use Rattle.oer_notation.specs.Faults.{text_why_name}
 use Rattle.oer_json.specs.Faults.{json_fault_name}
-use Rattle.oer_types.specs.AsnValue.{AsnValue}
-use Rattle.oer_json.specs.declared.fault.JsonFault.{JsonFault}
 use Rattle.oer_cmd.specs.declared.fault.Fault.{Fault}
 use Rattle.oer_cmd.specs.declared.fault.Fault.TheVariants.{Read, Follows, Longer, NoSuchStep, Absent, OneType, NoName, NoTypes, «Type», Unnamed, Hex, Path, NotJson, Json, Input, Output, Memory}
 
@@ -35,12 +33,6 @@ abbrev pub IsOfRewrite : RewriteFault → Fault → Type 0
 IsOfRewrite (rewrite.Read e) fault = IsOfRead e fault
 IsOfRewrite (rewrite.Write (write.Device n)) fault = fault ≡ Memory
 IsOfRewrite (rewrite.Write write.TooLong) fault = fault ≡ Output
-
--- Unless memory ran out, the fault is that of the answer.
-abbrev pub IsOfJson : Result AsnValue JsonFault → Fault → Type 0
-IsOfJson answer (Json e) = answer ≡ Err e
-IsOfJson answer Memory = ⊤
-IsOfJson answer fault = ⊥
 
 -- the status of the program: 1 where the octets are refused, 2 where the words are, 3 where the machine fails
 abbrev pub status_of : Fault → ℕ

@@ -1,5 +1,5 @@
 -- What the program prints.
-use Rattle.std.specs.Prelude.{◌≡◌, ◌↔◌, ◌≤◌, ◌<◌, Bool, true, false, ℕ, List, [], ◌∷◌, ◌++◌, length, Option, Some, None, Ok, Err, IfSome, codes, ◌⊎◌}
+use Rattle.std.specs.Prelude.{◌≡◌, ◌↔◌, ◌≤◌, Bool, true, false, ℕ, List, [], ◌∷◌, ◌++◌, length, Option, Some, None, Ok, IfSome, codes}
 use Rattle.std.specs.Fmt.{decimal}
 use Rattle.std.specs.Str.{IsUtf8}
 use Rattle.std.specs.Io.KnownBytes.{Appends, Keeps}
@@ -11,18 +11,14 @@ use Rattle.serde_json.specs.Written.{compact_text}
 use Rattle.oer_types.specs.AsnType.{AsnType}
 use Rattle.oer_types.specs.AsnValue.{AsnValue}
 use Rattle.oer_types.specs.Encoding.{Encodes}
-use Rattle.oer_types.specs.Parts.{Step, StopsAt, Within}
+use Rattle.oer_types.specs.Parts.{Step, Within}
 use Rattle.oer_types.specs.Strict.{IsCanonical}
 use Rattle.oer_input.specs.Path.{SpellsPath}
 use Rattle.oer_json.specs.Denotes.{Takes}
 use Rattle.oer_json.specs.Made.{made}
-use Rattle.oer_json.specs.Take.{taken}
 use Rattle.oer_cmd.specs.Canon.{MakesCanonical}
-use Rattle.oer_cmd.specs.Faults.{status_of}
 use Rattle.oer_cmd.specs.Types.{SpelledBy, Texts}
 use Rattle.oer_cmd.specs.Words.{NumberOf, asked, behind, given, given_number}
-use Rattle.oer_cmd.specs.declared.fault.Fault.{Fault}
-use Rattle.oer_cmd.specs.declared.fault.Fault.TheVariants.{Absent, Follows, Hex, Json, Longer, NoSuchStep, NotJson, Path, Read}
 use Rattle.oer_cmd.specs.declared.options.Task.{Task}
 use Rattle.oer_cmd.specs.declared.options.Task.TheVariants.{Canon, Check, Make, Part, Show}
 
@@ -55,17 +51,6 @@ AreCanonical T b = (w : AsnValue) × IsCanonical T w b
 abbrev pub IsNoFront : AsnType → List ℕ → Type 0
 IsNoFront T b = (v : AsnValue) (c rest : List ℕ) → b ≡ c ++ rest → Encodes T v c → length c ≡ length b
 
--- the fault tells why b is not all of one encoding: none is at its front; or one of n octets, fewer than b has
-abbrev pub IsNotWhole : AsnType → List ℕ → Fault → Type 0
-IsNotWhole T b (Read e) = (v : AsnValue) (c rest : List ℕ) → b ≡ c ++ rest → Encodes T v c → ⊥
-IsNotWhole T b (Follows n) = (v : AsnValue) × (c : List ℕ) × (rest : List ℕ) × (b ≡ c ++ rest) × Encodes T v c × (n ≡ length c) × (n < length b)
-IsNotWhole T b fault = ⊥
-
--- the same under a limit: no encoding of at most so many octets is at its front; or one of n octets, fewer than b has
-abbrev pub IsUnread : AsnType → ℕ → List ℕ → Fault → Type 0
-IsUnread T limit b (Read e) = (v : AsnValue) (c rest : List ℕ) → b ≡ c ++ rest → Encodes T v c → length c ≤ limit → ⊥
-IsUnread T limit b fault = IsNotWhole T b fault × ((n : ℕ) → fault ≡ Follows n → n ≤ limit)
-
 abbrev pub verdict_text : Bool → ℕ → Text
 verdict_text true n = codes "canonical " ++ decimal n
 verdict_text false n = codes "basic " ++ decimal n
@@ -74,24 +59,6 @@ verdict_text false n = codes "basic " ++ decimal n
 abbrev pub IsCheckLine : AsnType → ℕ → Text → List ℕ → Type 0
 IsCheckLine T limit line b = IsEncoding T b × (length b ≤ limit) × ((canonical : Bool) × (line ≡ verdict_text canonical (length b)) × ((canonical ≡ true) ↔ AreCanonical T b))
 
--- what a fault of status 1 says of the octets: P
-abbrev pub Says : Option Text → Option (List ℕ) → (List ℕ → Fault → Type 0) → Fault → Type 0
-Says hex told P fault = status_of fault ≡ 1 → OfOctets hex told (λ b. P b fault)
-
--- The digits of `--hex` spell no octets.
-abbrev pub IsUnspelt : Option Text → Fault → Type 0
-IsUnspelt (Some digits) fault = (fault ≡ Hex) × ((b : List ℕ) → decode_of digits ≡ Ok b → ⊥)
-IsUnspelt None fault = ⊥
-
--- what a fault of status 2 says of the words, where there is no path
-abbrev pub BlamesDigits : Option Text → Fault → Type 0
-BlamesDigits hex fault = status_of fault ≡ 2 → IsUnspelt hex fault
-
--- why octets b have no line of `check`: they are more than the limit, or not all of one encoding
-abbrev pub IsUnchecked : AsnType → ℕ → List ℕ → Fault → Type 0
-IsUnchecked T limit b (Longer n) = (n ≡ limit) × (limit < length b)
-IsUnchecked T limit b fault = IsNotWhole T b fault
-
 -- the canonical octets, in lower hexadecimal digits, of a value that fits, for which the text of JSON stands, in UTF-8
 abbrev pub Makes : AsnType → Text → List ℕ → Type 0
 Makes T line text = IsUtf8 text × ((j : Data) × (read text ≡ Some j) × ((v : AsnValue) × Takes T v j × ((c : List ℕ) × IsCanonical T v c × (line ≡ encode_lower c))))
@@ -99,17 +66,6 @@ Makes T line text = IsUtf8 text × ((j : Data) × (read text ≡ Some j) × ((v 
 -- the line of `make` for a text of JSON, of no more octets than the limit
 abbrev pub IsMakeLine : AsnType → ℕ → Text → List ℕ → Type 0
 IsMakeLine T limit line text = (length text ≤ limit) × Makes T line text
-
--- why a text has no line of `make` whatever the limit: it is no JSON, or its JSON is refused so
-abbrev pub IsUntaken : AsnType → List ℕ → Fault → Type 0
-IsUntaken T text NotJson = (j : Data) → IsUtf8 text → read text ≡ Some j → ⊥
-IsUntaken T text (Json e) = (j : Data) × (read text ≡ Some j) × (taken T j ≡ Err e)
-IsUntaken T text fault = ⊥
-
--- why it has none under the limit: it is longer, or one of these
-abbrev pub IsUnmade : AsnType → ℕ → List ℕ → Fault → Type 0
-IsUnmade T limit text (Longer n) = (n ≡ limit) × (limit < length text)
-IsUnmade T limit text fault = IsUntaken T text fault
 
 -- P holds of the text: that of `--json`, and without it all that the input had left, where that is known
 abbrev pub OfText : Option Text → Option (List ℕ) → (List ℕ → Type 0) → Type 0
@@ -121,14 +77,6 @@ abbrev pub IsPath : Option Text → List Step → Type 0
 IsPath (Some text) path = SpellsPath text path
 IsPath None path = path ≡ []
 
--- The text of `--path` spells no path.
-abbrev pub IsNoPath : Option Text → Fault → Type 0
-IsNoPath text fault = (fault ≡ Path) × ((path : List Step) → IsPath text path → ⊥)
-
--- what a fault of status 2 says of the words, where there may be a path
-abbrev pub BlamesWords : Option Text → Option Text → Fault → Type 0
-BlamesWords hex path fault = status_of fault ≡ 2 → IsUnspelt hex fault ⊎ IsNoPath path fault
-
 -- the octets to which the path leads in b, in lower hexadecimal digits
 abbrev pub IsPart : AsnType → List Step → Text → List ℕ → Type 0
 IsPart T path line b = (U : Option AsnType) × (s : List ℕ) × Within (Some T) b path U s × (line ≡ encode_lower s)
@@ -136,17 +84,6 @@ IsPart T path line b = (U : Option AsnType) × (s : List ℕ) × Within (Some T)
 -- The octets are not all of one encoding, or the path leads to no part of it.
 abbrev pub HasNoPart : AsnType → List Step → List ℕ → Type 0
 HasNoPart T path b = (line : Text) → IsEncoding T b → IsPart T path line b → ⊥
-
--- why octets b have no part at the path: they are not all of one encoding, or the path leads nowhere in it, by a step that names a root component or a known addition, or by another
-abbrev pub IsMissing : AsnType → List Step → List ℕ → Fault → Type 0
-IsMissing T path b Absent = IsEncoding T b × StopsAt (Some T) b path true
-IsMissing T path b NoSuchStep = IsEncoding T b × StopsAt (Some T) b path false
-IsMissing T path b fault = IsNotWhole T b fault
-
--- why octets b have no line of `part`
-abbrev pub HasNoLine : AsnType → ℕ → Option Text → List ℕ → Fault → Type 0
-HasNoLine T limit text b (Longer n) = (n ≡ limit) × (limit < length b)
-HasNoLine T limit text b fault = (path : List Step) × IsPath text path × IsMissing T path b fault
 
 -- the line of `part` for octets b, which are all of one encoding
 abbrev pub IsPartLine : AsnType → ℕ → Option Text → Text → List ℕ → Type 0

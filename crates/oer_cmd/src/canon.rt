@@ -1,12 +1,15 @@
 //! The canonical octets of a value.
-ghost use Rattle.std.specs.Prelude.{◌≡◌, ◌≤◌, ℕ, List, None, Some, IfErr, IfOk, IfSome, OnOk, string_bytes};
+ghost use Rattle.std.specs.Prelude.{◌≡◌, ◌≢◌, ◌≤◌, ℕ, List, None, Some, IfErr, IfOk, IfSome, OnOk, string_bytes};
 ghost use Rattle.hex.specs.Hex.{decode_of};
 ghost use Rattle.oer_types.specs.Schema.{the_type};
 ghost use Rattle.oer_units.specs.Reading.{octet as octet_read};
 ghost use Rattle.oer_units.specs.Reads.{ReadsFront};
 ghost use Rattle.oer_cmd.specs.Canon.{HasMore, IsEmpty, IsNoEncoding, MakesCanonical};
 ghost use Rattle.oer_cmd.specs.Faults.{Refuses, status_of};
-ghost use Rattle.oer_cmd.specs.Run.{BlamesDigits, IsCanonLine, IsUnread, NoLine, NoneFor, OfOctets, Says};
+ghost use Rattle.oer_cmd.specs.Answer.{canon_answer, canonical_input};
+ghost use Rattle.oer_cmd.specs.Expected.{Meets};
+ghost use Rattle.oer_cmd.specs.Octets.{octets_of};
+ghost use Rattle.oer_cmd.specs.Run.{IsCanonLine, NoLine, NoneFor, OfOctets};
 ghost use Rattle.oer_cmd.specs.Words.{behind};
 
 use crate::fault::Fault;
@@ -15,6 +18,7 @@ use oer_reader::rewrite;
 use oer_types::Schema;
 use oer_units::{Metered, ReadFault, Source, Why, Window, octet};
 use std::alloc::Global;
+use std::io::Read;
 
 // The next octet.
 fn octet_at_front<R: Source>(reader: &mut R) -> Result<u8, ReadFault>
@@ -56,8 +60,7 @@ fn canonical<'a, R: Source>(
         (λ b. MakesCanonical (the_type schema.now) limit b c.items)) }
     ensures refused { IfErr result (λ fault. Refuses fault
         (IfSome (R.remaining reader.old) (IsNoEncoding (the_type schema.now) limit))) }
-    ensures tells { IfErr result (Says None (R.remaining reader.old) (IsUnread (the_type schema.now) limit)) }
-    ensures digits { IfErr result (BlamesDigits None) }
+    ensures exact { Meets octets_of (canonical_input (the_type schema.now) limit (R.remaining reader.old)) result }
 {
     let mut sink = Metered::new(Vec::new(alloc));
     let taken = match rewrite(alloc, schema, reader, limit, &mut sink) {
@@ -79,8 +82,7 @@ fn read_line<'a, R: Source>(
         (IsCanonLine (the_type schema.now) limit (string_bytes line))) }
     ensures refused { IfErr result (λ fault. Refuses fault
         (IfSome (R.remaining reader.old) (NoneFor (IsCanonLine (the_type schema.now) limit)))) }
-    ensures tells { IfErr result (Says None (R.remaining reader.old) (IsUnread (the_type schema.now) limit)) }
-    ensures digits { IfErr result (BlamesDigits None) }
+    ensures exact { Meets string_bytes (canon_answer (the_type schema.now) limit None (R.remaining reader.old)) result }
 {
     let octets = canonical(alloc, schema, reader, limit)?;
     match hex::encode(alloc, octets) {
@@ -100,8 +102,7 @@ fn hex_line<'a>(
         × IsCanonLine (the_type schema.now) limit (string_bytes line) b) }
     ensures refused { IfErr result (λ fault. Refuses fault
         ((b : List ℕ) → decode_of digits.now ≡ Ok b → NoneFor (IsCanonLine (the_type schema.now) limit) b)) }
-    ensures tells { IfErr result (Says (Some digits.now) None (IsUnread (the_type schema.now) limit)) }
-    ensures digits { IfErr result (BlamesDigits (Some digits.now)) }
+    ensures exact { Meets string_bytes (canon_answer (the_type schema.now) limit (Some digits.now) None) result }
 {
     let octets = decoded(alloc, digits)?;
     let mut reader = Metered::new(octets.as_slice());
@@ -109,7 +110,7 @@ fn hex_line<'a>(
 }
 
 /// The line of `canon` for the octets that the options or the input give.
-pub fn canon_line<'a, R: Source>(
+pub fn canon_line<'a, R: Read>(
     alloc: Global,
     schema: &Schema,
     hex: Option<&str>,
@@ -120,12 +121,11 @@ pub fn canon_line<'a, R: Source>(
         (IsCanonLine (the_type schema.now) limit (string_bytes line))) }
     ensures refused { IfErr result (λ fault. Refuses fault (NoLine (R.remaining input.old)
         (λ told line. OfOctets (behind hex.entry) told (IsCanonLine (the_type schema.now) limit line)))) }
-    ensures tells { IfErr result (Says (behind hex.entry) (R.remaining input.old)
-        (IsUnread (the_type schema.now) limit)) }
-    ensures digits { IfErr result (BlamesDigits (behind hex.entry)) }
+    ensures exact { Meets string_bytes (canon_answer (the_type schema.now) limit (behind hex.entry) (R.remaining input.old)) result }
+    ensures untouched { behind hex.entry ≢ None → input.new ≡ input.old }
 {
     match hex {
         Some(digits) => hex_line(alloc, schema, digits, limit),
-        None => read_line(alloc, schema, input, limit),
+        None => read_line(alloc, schema, &mut Metered::new(input), limit),
     }
 }

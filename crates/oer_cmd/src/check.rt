@@ -1,16 +1,18 @@
 //! Whether octets are canonical.
-ghost use Rattle.std.specs.Prelude.{◌≡◌, ◌↔◌, length, true, IfErr, IfOk, string_bytes};
+ghost use Rattle.std.specs.Prelude.{◌≡◌, ◌≢◌, ◌↔◌, length, true, None, IfErr, IfOk, string_bytes};
 ghost use Rattle.oer_types.specs.Schema.{the_type};
 ghost use Rattle.oer_cmd.specs.Faults.{Refuses, status_of};
-ghost use Rattle.oer_cmd.specs.Run.{AreCanonical, BlamesDigits, IsCheckLine, IsEncoding, IsNoFront, IsNotWhole, IsUnchecked, NoLine, OfOctets, Says, verdict_text};
+ghost use Rattle.oer_cmd.specs.Answer.{check_answer, checked};
+ghost use Rattle.oer_cmd.specs.Expected.{Meets};
+ghost use Rattle.oer_cmd.specs.Run.{AreCanonical, IsCheckLine, IsEncoding, IsNoFront, NoLine, OfOctets, verdict_text};
 ghost use Rattle.oer_cmd.specs.Words.{behind};
 
 use crate::fault::Fault;
 use crate::octets::{all_octets, spelt};
 use oer_reader::check;
 use oer_types::Schema;
-use oer_units::Source;
 use std::alloc::Global;
+use std::io::Read;
 
 /// Whether the octets, which have to be all of one encoding, are canonical. Refused as `Read` where no
 /// encoding stands at their front, and as `Follows` where octets follow it.
@@ -18,7 +20,7 @@ pub fn judged<'a>(schema: &Schema, octets: &[u8]) -> Result<bool, Fault<'a>>
     ensures whole { IfOk result (λ canonical. IsEncoding (the_type schema.now) octets.now) }
     ensures tells { IfOk result (λ canonical. (canonical ≡ true) ↔ AreCanonical (the_type schema.now) octets.now) }
     ensures only { IfOk result (λ canonical. IsNoFront (the_type schema.now) octets.now) }
-    ensures refused { IfErr result (IsNotWhole (the_type schema.now) octets.now) }
+    ensures exact { Meets (λ canonical. canonical) (checked (the_type schema.now) octets.now) result }
     ensures none { IfErr result (λ fault. IsEncoding (the_type schema.now) octets.now → ⊥) }
 {
     let verdict = match check(schema, octets) {
@@ -49,7 +51,7 @@ fn verdict_line<'a>(alloc: Global, is_canonical: bool, octets: &[u8]) -> Result<
 }
 
 /// The line of `check` for the octets that the options or the input give.
-pub fn check_line<'a, R: Source>(
+pub fn check_line<'a, R: Read>(
     alloc: Global,
     schema: &Schema,
     hex: Option<&str>,
@@ -60,9 +62,8 @@ pub fn check_line<'a, R: Source>(
         (IsCheckLine (the_type schema.now) limit (string_bytes line))) }
     ensures refused { IfErr result (λ fault. Refuses fault (NoLine (R.remaining input.old)
         (λ told line. OfOctets (behind hex.entry) told (IsCheckLine (the_type schema.now) limit line)))) }
-    ensures tells { IfErr result (Says (behind hex.entry) (R.remaining input.old)
-        (IsUnchecked (the_type schema.now) limit)) }
-    ensures digits { IfErr result (BlamesDigits (behind hex.entry)) }
+    ensures exact { Meets string_bytes (check_answer (the_type schema.now) limit (behind hex.entry) (R.remaining input.old)) result }
+    ensures untouched { behind hex.entry ≢ None → input.new ≡ input.old }
 {
     let spelt = spelt(alloc, hex)?;
     let octets = all_octets(alloc, spelt, input, limit)?;

@@ -3,27 +3,33 @@ ghost use Rattle.std.specs.Prelude.{◌≡◌, ◌≢◌, None, Some, IfErr, IfO
 ghost use Rattle.serde_json.specs.Read.{read};
 ghost use Rattle.serde_json.specs.View.{view};
 ghost use Rattle.oer_types.specs.AsnValue.{AsnValue};
+ghost use Rattle.oer_types.specs.Canonical.{canonical_octets};
 ghost use Rattle.oer_types.specs.Fits.{Fits};
 ghost use Rattle.oer_types.specs.Schema.{the_type};
 ghost use Rattle.oer_types.specs.Strict.{IsCanonical};
 ghost use Rattle.oer_types.specs.ValueView.{value_of};
 ghost use Rattle.oer_json.specs.Denotes.{Takes};
 ghost use Rattle.oer_json.specs.Take.{taken};
-ghost use Rattle.oer_cmd.specs.Faults.{IsOfJson, Refuses, status_of};
-ghost use Rattle.oer_cmd.specs.Run.{IsMakeLine, IsUnmade, IsUntaken, Makes, NoLine, NoneFor, OfText};
+ghost use Rattle.oer_cmd.specs.Answer.{json_read, json_taken, make_answer, make_text};
+ghost use Rattle.oer_cmd.specs.Expected.{Meets, value as expected};
+ghost use Rattle.oer_cmd.specs.Faults.{Refuses, status_of};
+ghost use Rattle.oer_cmd.specs.Octets.{octets_of};
+ghost use Rattle.oer_cmd.specs.Run.{IsMakeLine, Makes, NoLine, NoneFor, OfText};
 ghost use Rattle.oer_cmd.specs.Words.{behind};
 
 use crate::fault::Fault;
 use crate::octets::all_octets;
 use oer_text::{JsonFault, from_json};
 use oer_types::{Schema, Value};
-use oer_units::{Metered, Source};
+use oer_units::Metered;
 use oer_writer::{WriteFault, write};
 use serde_json::Value as Json;
 use std::alloc::Global;
+use std::io::Read;
 
 // The JSON of a text; refused as `NotJson`, or as `Memory`.
 fn json_of<'a>(alloc: Global, text: &str) -> Result<Json, Fault<'a>>
+    ensures exact { Meets view (json_read (read text.now)) result }
     ensures json { IfOk result (λ json. read text.now ≡ Some (view json)) }
     ensures refused { IfErr result (λ fault. fault ≢ Fault.Memory → (fault ≡ Fault.NotJson) × (read text.now ≡ None)) }
 {
@@ -43,7 +49,7 @@ fn json_of<'a>(alloc: Global, text: &str) -> Result<Json, Fault<'a>>
 fn value_in<'a>(alloc: Global, schema: &Schema, json: &Json) -> Result<Value, Fault<'a>>
     ensures takes { IfOk result (λ value. Takes (the_type schema.now) (value_of value) (view json.now)) }
     ensures fits { IfOk result (λ value. Fits (the_type schema.now) (value_of value)) }
-    ensures refused { IfErr result (IsOfJson (taken (the_type schema.now) (view json.now))) }
+    ensures exact { Meets value_of (json_taken (taken (the_type schema.now) (view json.now))) result }
     ensures none { IfErr result (λ fault. fault ≢ Fault.Memory → (v : AsnValue) → Takes (the_type schema.now) v (view json.now) → ⊥) }
 {
     match from_json(alloc, schema, json) {
@@ -56,6 +62,7 @@ fn value_in<'a>(alloc: Global, schema: &Schema, json: &Json) -> Result<Value, Fa
 // The canonical octets of a value; refused as `Memory`, or as `Output` where they are too many.
 fn written<'a>(alloc: Global, schema: &Schema, value: &Value) -> Result<Vec<u8>, Fault<'a>>
     requires { Fits (the_type schema.now) (value_of value.now) }
+    ensures exact { Meets octets_of (expected (canonical_octets (the_type schema.now) (value_of value.now))) result }
     ensures octets { IfOk result (λ octets. IsCanonical (the_type schema.now) (value_of value.now) octets.items) }
     ensures fails { IfErr result (λ fault. status_of fault ≡ 3) }
 {
@@ -71,7 +78,7 @@ fn written<'a>(alloc: Global, schema: &Schema, value: &Value) -> Result<Vec<u8>,
 fn text_line<'a>(alloc: Global, schema: &Schema, text: &str) -> Result<String, Fault<'a>>
     ensures line { IfOk result (λ line. Makes (the_type schema.now) (string_bytes line) text.now) }
     ensures refused { IfErr result (λ fault. Refuses fault (NoneFor (Makes (the_type schema.now)) text.now)) }
-    ensures tells { IfErr result (λ fault. Refuses fault (IsUntaken (the_type schema.now) text.now fault)) }
+    ensures exact { Meets string_bytes (make_text (the_type schema.now) text.now) result }
 {
     let json = json_of(alloc, text)?;
     let value = value_in(alloc, schema, &json)?;
@@ -83,7 +90,7 @@ fn text_line<'a>(alloc: Global, schema: &Schema, text: &str) -> Result<String, F
 }
 
 // The line for the text that the input has left.
-fn input_line<'a, R: Source>(
+fn input_line<'a, R: Read>(
     alloc: Global,
     schema: &Schema,
     limit: u64,
@@ -93,8 +100,7 @@ fn input_line<'a, R: Source>(
         (IsMakeLine (the_type schema.now) limit (string_bytes line))) }
     ensures refused { IfErr result (λ fault. Refuses fault (NoLine (R.remaining input.old)
         (λ told line. OfText None told (IsMakeLine (the_type schema.now) limit line)))) }
-    ensures tells { IfErr result (λ fault. Refuses fault (OfText None (R.remaining input.old)
-        (λ text. IsUnmade (the_type schema.now) limit text fault))) }
+    ensures exact { Meets string_bytes (make_answer (the_type schema.now) limit None (R.remaining input.old)) result }
 {
     let octets = all_octets(alloc, None, input, limit)?;
     match str::from_utf8(octets.as_slice()) {
@@ -105,7 +111,7 @@ fn input_line<'a, R: Source>(
 
 /// The line of `make` for the JSON that the options or the input give. Refused as `Longer` where its
 /// text has more octets than the limit.
-pub fn make_line<'a, R: Source>(
+pub fn make_line<'a, R: Read>(
     alloc: Global,
     schema: &Schema,
     json: Option<&str>,
@@ -116,8 +122,8 @@ pub fn make_line<'a, R: Source>(
         (IsMakeLine (the_type schema.now) limit (string_bytes line))) }
     ensures refused { IfErr result (λ fault. Refuses fault (NoLine (R.remaining input.old)
         (λ told line. OfText (behind json.entry) told (IsMakeLine (the_type schema.now) limit line)))) }
-    ensures tells { IfErr result (λ fault. Refuses fault (OfText (behind json.entry) (R.remaining input.old)
-        (λ text. IsUnmade (the_type schema.now) limit text fault))) }
+    ensures exact { Meets string_bytes (make_answer (the_type schema.now) limit (behind json.entry) (R.remaining input.old)) result }
+    ensures untouched { behind json.entry ≢ None → input.new ≡ input.old }
 {
     let Some(text) = json else {
         return input_line(alloc, schema, limit, input);

@@ -1,17 +1,21 @@
 //! The octets that a task is given.
 ghost use Rattle.std.specs.Prelude.{◌≡◌, ◌≢◌, ◌≤◌, ℕ, List, Option, None, length, option_map, IfErr, IfOk};
 ghost use Rattle.hex.specs.Hex.{decode_of};
+ghost use Rattle.oer_cmd.specs.Answer.{digits_octets, hex_octets, limited_octets};
+ghost use Rattle.oer_cmd.specs.Expected.{Meets};
 ghost use Rattle.oer_cmd.specs.Octets.{AreAll, AreSpelt, IsTooLong, octets_of};
 ghost use Rattle.oer_cmd.specs.Words.{behind};
 
 use crate::fault::Fault;
 use hex::FromHexError;
 use oer_input::{GatherFault, gather};
-use oer_units::Source;
+use oer_units::Metered;
 use std::alloc::Global;
+use std::io::Read;
 
 /// The octets that the digits spell; refused as `Hex`, or as `Memory`.
 pub fn decoded<'a>(alloc: Global, digits: &str) -> Result<Vec<u8>, Fault<'a>>
+    ensures exact { Meets octets_of (digits_octets digits.now) result }
     ensures octets { IfOk result (λ b. decode_of digits.now ≡ Ok b.items) }
     ensures refused { IfErr result (λ fault. fault ≢ Fault.Memory → (fault ≡ Fault.Hex) × ((b : List ℕ) → decode_of digits.now ≡ Ok b → ⊥)) }
 {
@@ -24,6 +28,7 @@ pub fn decoded<'a>(alloc: Global, digits: &str) -> Result<Vec<u8>, Fault<'a>>
 
 /// The octets of `--hex`, if it is there; refused as `Hex`, or as `Memory`.
 pub fn spelt<'a>(alloc: Global, hex: Option<&str>) -> Result<Option<Vec<u8>>, Fault<'a>>
+    ensures exact { Meets (option_map octets_of) (hex_octets (behind hex.entry)) result }
     ensures octets { IfOk result (λ octets. AreSpelt (behind hex.entry) (option_map octets_of octets)) }
     ensures refused { IfErr result (λ fault. fault ≢ Fault.Memory → (fault ≡ Fault.Hex)
         × ((octets : Option (List ℕ)) → AreSpelt (behind hex.entry) octets → ⊥)) }
@@ -38,12 +43,13 @@ pub fn spelt<'a>(alloc: Global, hex: Option<&str>) -> Result<Option<Vec<u8>>, Fa
 }
 
 // All that the input has left, within the limit.
-fn gathered<'a, R: Source>(alloc: Global, input: &mut R, limit: u64) -> Result<Vec<u8>, Fault<'a>>
+fn gathered<'a, R: Read>(alloc: Global, input: &mut R, limit: u64) -> Result<Vec<u8>, Fault<'a>>
+    ensures exact { Meets octets_of (limited_octets limit None (R.remaining input.old)) result }
     ensures within { IfOk result (λ b. length b.items ≤ limit) }
     ensures all { IfOk result (λ b. AreAll None (R.remaining input.old) b.items) }
     ensures refused { IfErr result (IsTooLong limit None (R.remaining input.old)) }
 {
-    match gather(alloc, input, limit) {
+    match gather(alloc, &mut Metered::new(input), limit) {
         Ok(octets) => Ok(octets),
         Err(GatherFault::Memory) => Err(Fault::Memory),
         Err(GatherFault::Device) => Err(Fault::Input),
@@ -53,12 +59,14 @@ fn gathered<'a, R: Source>(alloc: Global, input: &mut R, limit: u64) -> Result<V
 
 /// All the octets: those of `--hex`, else all that the input has left. Refused as `Longer` where there
 /// are more than the limit, as `Input` or as `Memory`.
-pub fn all_octets<'a, R: Source>(
+pub fn all_octets<'a, R: Read>(
     alloc: Global,
     spelt: Option<Vec<u8>>,
     input: &mut R,
     limit: u64,
 ) -> Result<Vec<u8>, Fault<'a>>
+    ensures exact { Meets octets_of (limited_octets limit (option_map octets_of spelt) (R.remaining input.old)) result }
+    ensures untouched { option_map octets_of spelt ≢ None → input.new ≡ input.old }
     ensures within { IfOk result (λ b. length b.items ≤ limit) }
     ensures all { IfOk result (λ b. AreAll (option_map octets_of spelt) (R.remaining input.old) b.items) }
     ensures refused { IfErr result (IsTooLong limit (option_map octets_of spelt) (R.remaining input.old)) }

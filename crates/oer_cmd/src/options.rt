@@ -1,6 +1,6 @@
 //! What the words of the command line ask for.
 ghost use Rattle.std.specs.Prelude.{◌≡◌, List, Option, Some, None, false, true, IfOk, IfErr, IfSome, map, option_map, string_bytes};
-ghost use Rattle.clap.specs.Words.{first_value, found_of, kind_of, rule_of, takes};
+ghost use Rattle.clap.specs.Words.{HasKind, fault_of, first_value, found_of, kind_of, rule_of, takes};
 ghost use Rattle.clap.specs.declared.error.kind.ErrorKind.TheVariants.{OutOfMemory};
 ghost use Rattle.oer_cmd.specs.Words.{Asks, HasShape, IsTask, hex_app, make_app, oer, option_rule, part_app, task_app};
 
@@ -148,6 +148,8 @@ pub fn parsed<'a>(alloc: Global, words: &'a [String]) -> Result<Options<'a>, Err
     ensures ok { IfOk result (λ o. Asks (map string_bytes words.entry.now) o) }
     ensures err { IfErr result (λ e. takes oer (map string_bytes words.entry.now) ≡ true
         → kind_of e ≡ OutOfMemory) }
+    // Memory ran out, or it is a fault that these words have.
+    ensures kinds { IfErr result (HasKind (fault_of oer (map string_bytes words.entry.now))) }
 {
     let command = command(alloc)?;
     let matches = match command.try_get_matches_from(words) {

@@ -1,10 +1,12 @@
 //! A part of octets.
-ghost use Rattle.std.specs.Prelude.{◌≡◌, ◌≢◌, List, IfErr, IfOk, string_bytes};
+ghost use Rattle.std.specs.Prelude.{◌≡◌, ◌≢◌, List, None, IfErr, IfOk, string_bytes};
 ghost use Rattle.oer_types.specs.Parts.{Step as PlainStep};
 ghost use Rattle.oer_types.specs.Schema.{the_type};
 ghost use Rattle.oer_checker.specs.Walk.{path_of as steps_of};
-ghost use Rattle.oer_cmd.specs.Faults.{Refuses, status_of};
-ghost use Rattle.oer_cmd.specs.Run.{BlamesDigits, BlamesWords, HasNoLine, HasNoPart, IsEncoding, IsMissing, IsPart, IsPartLine, IsPath, NoLine, OfOctets, Says};
+ghost use Rattle.oer_cmd.specs.Answer.{IsPathOf, part_answer, part_octets};
+ghost use Rattle.oer_cmd.specs.Expected.{Expected, Meets};
+ghost use Rattle.oer_cmd.specs.Faults.{Refuses};
+ghost use Rattle.oer_cmd.specs.Run.{HasNoPart, IsEncoding, IsPart, IsPartLine, IsPath, NoLine, OfOctets};
 ghost use Rattle.oer_cmd.specs.Words.{behind};
 
 use crate::check::judged;
@@ -14,11 +16,12 @@ use oer_input::laws::one_path;
 use oer_input::{PathFault, read_path};
 use oer_reader::{PartFault, Step, part};
 use oer_types::Schema;
-use oer_units::Source;
 use std::alloc::Global;
+use std::io::Read;
 
 // The path of `--path`; refused as `Path`, or as `Memory`.
 fn path_of<'a>(alloc: Global, text: Option<&str>) -> Result<Vec<Step>, Fault<'a>>
+    ensures exact { (path : Expected (List PlainStep)) → IsPathOf (behind text.entry) path → Meets (λ v. steps_of v.items) path result }
     ensures path { IfOk result (λ path. IsPath (behind text.entry) (steps_of path.items)) }
     ensures refused { IfErr result (λ fault. fault ≢ Fault.Memory → (fault ≡ Fault.Path)
         × ((path : List PlainStep) → IsPath (behind text.entry) path → ⊥)) }
@@ -26,6 +29,7 @@ fn path_of<'a>(alloc: Global, text: Option<&str>) -> Result<Vec<Step>, Fault<'a>
     let Some(text) = text else {
         return Ok(Vec::new(alloc));
     };
+    one_path();
     match read_path(alloc, text) {
         Ok(path) => Ok(path),
         Err(PathFault::Memory) => Err(Fault::Memory),
@@ -43,8 +47,7 @@ fn digits_of_part<'a>(
     ensures whole { IfOk result (λ line. IsEncoding (the_type schema.now) octets.now) }
     ensures part { IfOk result (λ line. IsPart (the_type schema.now) (steps_of path.now) (string_bytes line) octets.now) }
     ensures refused { IfErr result (λ fault. Refuses fault (HasNoPart (the_type schema.now) (steps_of path.now) octets.now)) }
-    ensures tells { IfErr result (λ fault. status_of fault ≡ 1 → IsMissing (the_type schema.now) (steps_of path.now) octets.now fault) }
-    ensures digits { IfErr result (BlamesDigits None) }
+    ensures exact { Meets string_bytes (part_octets (the_type schema.now) (steps_of path.now) octets.now) result }
 {
     judged(schema, octets)?;
     let octets = match part(schema, octets, path) {
@@ -60,7 +63,7 @@ fn digits_of_part<'a>(
 }
 
 /// The line of `part` for the octets that the options or the input give.
-pub fn part_line<'a, R: Source>(
+pub fn part_line<'a, R: Read>(
     alloc: Global,
     schema: &Schema,
     hex: Option<&str>,
@@ -72,9 +75,9 @@ pub fn part_line<'a, R: Source>(
         (IsPartLine (the_type schema.now) limit (behind path.entry) (string_bytes line))) }
     ensures refused { IfErr result (λ fault. Refuses fault (NoLine (R.remaining input.old)
         (λ told line. OfOctets (behind hex.entry) told (IsPartLine (the_type schema.now) limit (behind path.entry) line)))) }
-    ensures tells { IfErr result (Says (behind hex.entry) (R.remaining input.old)
-        (HasNoLine (the_type schema.now) limit (behind path.entry))) }
-    ensures words { IfErr result (BlamesWords (behind hex.entry) (behind path.entry)) }
+    ensures exact { (steps : Expected (List PlainStep)) → IsPathOf (behind path.entry) steps
+        → Meets string_bytes (part_answer (the_type schema.now) limit (behind hex.entry) steps (R.remaining input.old)) result }
+    ensures untouched { behind hex.entry ≢ None → input.new ≡ input.old }
 {
     let spelt = spelt(alloc, hex)?;
     let path = path_of(alloc, path)?;

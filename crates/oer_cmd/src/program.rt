@@ -1,9 +1,13 @@
 //! The command.
-ghost use Rattle.std.specs.Prelude.{◌≡◌, ◌≢◌, ◌≤◌, ◌⊎◌, true, map, IfErr, IfOk, string_bytes};
+ghost use Rattle.std.specs.Prelude.{◌≡◌, ◌≢◌, ◌≤◌, ◌⊎◌, List, None, true, map, IfErr, IfOk, string_bytes};
 ghost use Rattle.std.specs.Io.KnownBytes.{Appends, Keeps};
 ghost use Rattle.clap.specs.Words.{kind_of, takes};
 ghost use Rattle.clap.specs.declared.error.kind.ErrorKind.TheVariants.{DisplayHelp, DisplayVersion, OutOfMemory};
+ghost use Rattle.oer_types.specs.Parts.{Step};
 ghost use Rattle.oer_types.specs.Schema.{the_type};
+ghost use Rattle.oer_cmd.specs.Answer.{IsPathOf, answer_of, expected_answer, path_text, source_text, task_answer};
+ghost use Rattle.oer_cmd.specs.Ending.{Ends};
+ghost use Rattle.oer_cmd.specs.Expected.{Expected, Meets};
 ghost use Rattle.oer_cmd.specs.Faults.{AppendsFront, Printed, Refuses, Reports, status_of};
 ghost use Rattle.oer_cmd.specs.Run.{Answers, IsLineOf, NoLine, NoLineOf, NoneAnswers, Prints};
 ghost use Rattle.oer_cmd.specs.Types.{texts_at, texts_of};
@@ -20,12 +24,11 @@ use crate::show::show_line;
 use crate::type_text::{TypeText, definitions, named_type, one_type, type_text};
 use clap::error::ErrorKind;
 use oer_types::Schema;
-use oer_units::{Metered, Source};
 use std::alloc::Global;
 use std::io::{Read, Write};
 
 // The line of the task.
-fn line_of<'a, R: Source>(
+fn line_of<'a, R: Read>(
     alloc: Global,
     schema: &Schema,
     options: Options<'a>,
@@ -35,6 +38,9 @@ fn line_of<'a, R: Source>(
         (the_type schema.now) options.entry.limit (string_bytes line)) }
     ensures refused { IfErr result (λ fault. Refuses fault
         (NoLineOf options.entry.task (R.remaining input.old) (the_type schema.now) options.entry.limit)) }
+    ensures exact { (path : Expected (List Step)) → IsPathOf (path_text options.entry.task) path
+        → Meets string_bytes (task_answer options.entry.task (the_type schema.now) options.entry.limit path (R.remaining input.old)) result }
+    ensures untouched { source_text options.entry.task ≢ None → input.new ≡ input.old }
 {
     let limit = options.limit;
     match options.task {
@@ -47,7 +53,7 @@ fn line_of<'a, R: Source>(
 }
 
 // The line for the type that the text spells.
-fn line_of_one<'a, R: Source>(
+fn line_of_one<'a, R: Read>(
     alloc: Global,
     text: &'a str,
     options: Options<'a>,
@@ -57,13 +63,16 @@ fn line_of_one<'a, R: Source>(
         options.entry.limit (R.remaining input.old) (string_bytes line)) }
     ensures refused { IfErr result (λ fault. Refuses fault (NoLine (R.remaining input.old)
         (Answers (texts_at (One text.entry)) options.entry.task options.entry.limit))) }
+    ensures exact { (path : Expected (List Step)) → IsPathOf (path_text options.entry.task) path
+        → Meets string_bytes (answer_of (texts_at (One text.entry)) options.entry.task options.entry.limit path (R.remaining input.old)) result }
+    ensures untouched { source_text options.entry.task ≢ None → input.new ≡ input.old }
 {
     let schema = one_type(alloc, text)?;
     line_of(alloc, &schema, options, input)
 }
 
 // The line for the type that the Name has among the definitions that the text spells.
-fn line_of_named<'a, R: Source>(
+fn line_of_named<'a, R: Read>(
     alloc: Global,
     types: &'a str,
     name: &'a str,
@@ -74,6 +83,9 @@ fn line_of_named<'a, R: Source>(
         options.entry.limit (R.remaining input.old) (string_bytes line)) }
     ensures refused { IfErr result (λ fault. Refuses fault (NoLine (R.remaining input.old)
         (Answers (texts_at (Named types.entry name.entry)) options.entry.task options.entry.limit))) }
+    ensures exact { (path : Expected (List Step)) → IsPathOf (path_text options.entry.task) path
+        → Meets string_bytes (answer_of (texts_at (Named types.entry name.entry)) options.entry.task options.entry.limit path (R.remaining input.old)) result }
+    ensures untouched { source_text options.entry.task ≢ None → input.new ≡ input.old }
 {
     let types = definitions(alloc, types)?;
     let schema = named_type(&types, name)?;
@@ -81,7 +93,7 @@ fn line_of_named<'a, R: Source>(
 }
 
 // The line that the options ask for.
-fn answer<'a, R: Source>(
+fn answer<'a, R: Read>(
     alloc: Global,
     options: Options<'a>,
     input: &mut R,
@@ -90,6 +102,9 @@ fn answer<'a, R: Source>(
         options.entry.limit (R.remaining input.old) (string_bytes line)) }
     ensures refused { IfErr result (λ fault. Refuses fault (NoLine (R.remaining input.old)
         (Answers (texts_of options.entry) options.entry.task options.entry.limit))) }
+    ensures exact { (path : Expected (List Step)) → IsPathOf (path_text options.entry.task) path
+        → Meets string_bytes (expected_answer options.entry path (R.remaining input.old)) result }
+    ensures untouched { source_text options.entry.task ≢ None → input.new ≡ input.old }
 {
     match type_text(options)? {
         TypeText::One(text) => line_of_one(alloc, text, options, input),
@@ -171,8 +186,9 @@ fn refused<W: Write, E: Write>(
     ensures kept { kind_of error.now ≡ OutOfMemory → Keeps (W.contents output.old) (W.contents output.new) }
     ensures line { kind_of error.now ≡ OutOfMemory
         → Reports Fault.Memory 3 (E.contents errors.old) (E.contents errors.new) }
-    ensures failed { kind_of error.now ≢ OutOfMemory → result ≡ 3
-        → Reports Fault.Output 3 (E.contents errors.old) (E.contents errors.new) }
+    ensures failed { result ≡ 3 → (Reports Fault.Memory 3 (E.contents errors.old) (E.contents errors.new))
+        ⊎ (Reports Fault.Output 3 (E.contents errors.old) (E.contents errors.new)) }
+    ensures words { 1 ≤ result → result ≤ 2 → result ≡ 2 }
 {
     if error.kind() == ErrorKind::OutOfMemory {
         return report(alloc, Fault::Memory, errors);
@@ -205,13 +221,17 @@ pub fn run<R: Read, W: Write, E: Write>(
     // It refuses only where there is no answer.
     ensures refuses { takes oer (map string_bytes words.now) ≡ true → 1 ≤ result → result ≤ 2
         → NoneAnswers (map string_bytes words.now) (R.remaining input.old) }
+    ensures statuses { result ≤ 3 }
+    // The status, and what stands on the output and the errors, is what plain functions of the words and
+    // the octets say, unless memory ran out or a device failed. Input that isn't needed is untouched.
+    ensures exact { Ends (map string_bytes words.now) (R.remaining input.old) (input.new ≡ input.old) result
+        (W.contents output.old) (W.contents output.new) (E.contents errors.old) (E.contents errors.new) }
 {
     let options = match parsed(alloc, words) {
         Ok(options) => options,
         Err(error) => return refused(alloc, &error, output, errors),
     };
-    let mut source = Metered::new(input);
-    let line = match answer(alloc, options, &mut source) {
+    let line = match answer(alloc, options, input) {
         Ok(line) => line,
         Err(fault) => return report(alloc, fault, errors),
     };

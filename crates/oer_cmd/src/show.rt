@@ -1,11 +1,13 @@
 //! The JSON of a value.
-ghost use Rattle.std.specs.Prelude.{◌≡◌, ℕ, List, None, Some, IfErr, IfOk, IfSome, string_bytes};
+ghost use Rattle.std.specs.Prelude.{◌≡◌, ◌≢◌, ℕ, List, None, Some, IfErr, IfOk, IfSome, string_bytes};
 ghost use Rattle.hex.specs.Hex.{decode_of};
 ghost use Rattle.serde_json.specs.View.{view};
 ghost use Rattle.oer_types.specs.Schema.{the_type};
 ghost use Rattle.oer_cmd.specs.Canon.{IsNoEncoding};
 ghost use Rattle.oer_cmd.specs.Faults.{Refuses};
-ghost use Rattle.oer_cmd.specs.Run.{BlamesDigits, IsShowLine, IsShown, IsUnread, NoLine, NoneFor, OfOctets, Says};
+ghost use Rattle.oer_cmd.specs.Answer.{json_input, show_answer};
+ghost use Rattle.oer_cmd.specs.Expected.{Meets};
+ghost use Rattle.oer_cmd.specs.Run.{IsShowLine, IsShown, NoLine, NoneFor, OfOctets};
 ghost use Rattle.oer_cmd.specs.Words.{behind};
 
 use crate::canon::check_end;
@@ -17,6 +19,7 @@ use oer_types::Schema;
 use oer_units::{Metered, Source};
 use serde_json::Value as Json;
 use std::alloc::Global;
+use std::io::Read;
 
 // The JSON of the one value of the type that the reader has left, which takes no more octets than the
 // limit. Refused as `Read`, `Input` or `Memory` by the reader, as `Follows` where an octet follows the
@@ -31,8 +34,7 @@ fn shown<'a, R: Source>(
         (IsShown (the_type schema.now) limit (view json))) }
     ensures refused { IfErr result (λ fault. Refuses fault
         (IfSome (R.remaining reader.old) (IsNoEncoding (the_type schema.now) limit))) }
-    ensures tells { IfErr result (Says None (R.remaining reader.old) (IsUnread (the_type schema.now) limit)) }
-    ensures digits { IfErr result (BlamesDigits None) }
+    ensures exact { Meets view (json_input (the_type schema.now) limit (R.remaining reader.old)) result }
 {
     let (value, taken) = match read_with_length(alloc, schema, reader, limit) {
         Ok(read) => read,
@@ -56,8 +58,7 @@ fn read_line<'a, R: Source>(
         (IsShowLine (the_type schema.now) limit (string_bytes line))) }
     ensures refused { IfErr result (λ fault. Refuses fault
         (IfSome (R.remaining reader.old) (NoneFor (IsShowLine (the_type schema.now) limit)))) }
-    ensures tells { IfErr result (Says None (R.remaining reader.old) (IsUnread (the_type schema.now) limit)) }
-    ensures digits { IfErr result (BlamesDigits None) }
+    ensures exact { Meets string_bytes (show_answer (the_type schema.now) limit None (R.remaining reader.old)) result }
 {
     let json = shown(alloc, schema, reader, limit)?;
     match json.to_string(alloc) {
@@ -77,8 +78,7 @@ fn hex_line<'a>(
         × IsShowLine (the_type schema.now) limit (string_bytes line) b) }
     ensures refused { IfErr result (λ fault. Refuses fault
         ((b : List ℕ) → decode_of digits.now ≡ Ok b → NoneFor (IsShowLine (the_type schema.now) limit) b)) }
-    ensures tells { IfErr result (Says (Some digits.now) None (IsUnread (the_type schema.now) limit)) }
-    ensures digits { IfErr result (BlamesDigits (Some digits.now)) }
+    ensures exact { Meets string_bytes (show_answer (the_type schema.now) limit (Some digits.now) None) result }
 {
     let octets = decoded(alloc, digits)?;
     let mut reader = Metered::new(octets.as_slice());
@@ -86,7 +86,7 @@ fn hex_line<'a>(
 }
 
 /// The line of `show` for the octets that the options or the input give.
-pub fn show_line<'a, R: Source>(
+pub fn show_line<'a, R: Read>(
     alloc: Global,
     schema: &Schema,
     hex: Option<&str>,
@@ -97,12 +97,11 @@ pub fn show_line<'a, R: Source>(
         (IsShowLine (the_type schema.now) limit (string_bytes line))) }
     ensures refused { IfErr result (λ fault. Refuses fault (NoLine (R.remaining input.old)
         (λ told line. OfOctets (behind hex.entry) told (IsShowLine (the_type schema.now) limit line)))) }
-    ensures tells { IfErr result (Says (behind hex.entry) (R.remaining input.old)
-        (IsUnread (the_type schema.now) limit)) }
-    ensures digits { IfErr result (BlamesDigits (behind hex.entry)) }
+    ensures exact { Meets string_bytes (show_answer (the_type schema.now) limit (behind hex.entry) (R.remaining input.old)) result }
+    ensures untouched { behind hex.entry ≢ None → input.new ≡ input.old }
 {
     match hex {
         Some(digits) => hex_line(alloc, schema, digits, limit),
-        None => read_line(alloc, schema, input, limit),
+        None => read_line(alloc, schema, &mut Metered::new(input), limit),
     }
 }

@@ -2,7 +2,11 @@
 ghost use Rattle.std.specs.Prelude.{◌≡◌, IfErr, IfOk, MatchResult};
 ghost use Rattle.oer_types.specs.Schema.{the_type};
 ghost use Rattle.oer_notation.specs.Grammar.{IsDefined, IsNew};
+ghost use Rattle.oer_notation.specs.Parsing.{parse, parse_all};
+ghost use Rattle.oer_notation.specs.Reading.{find};
 ghost use Rattle.oer_notation.specs.Views.{knowns};
+ghost use Rattle.oer_cmd.specs.Answer.{expected_type, named_as, parsed};
+ghost use Rattle.oer_cmd.specs.Expected.{Meets, stop};
 ghost use Rattle.oer_cmd.specs.Types.{AreDefinedIn, DefinesNone, IsOnly, IsTypeIn, NamesNone, SpellsNone, lack_of, texts_at, texts_of};
 
 use crate::fault::Fault;
@@ -26,8 +30,9 @@ pub enum TypeText<'a> {
 /// `--types` is given or both are, as `NoTypes` where `--name` is given beside `--type`, and as
 /// `NoName` where it isn't beside `--types`.
 pub fn type_text(options: Options<'_>) -> Result<TypeText<'_>, Fault<'_>>
-    ensures { MatchResult result (λ text. texts_at text ≡ texts_of options.entry)
+    ensures named { MatchResult result (λ text. texts_at text ≡ texts_of options.entry)
         (λ fault. (fault ≡ lack_of (texts_of options.entry)) × NamesNone (texts_of options.entry)) }
+    ensures lacking { IfErr result (λ fault. expected_type (texts_of options.entry) ≡ stop fault) }
 {
     if let Some(text) = options.type_text {
         if options.types.is_some() {
@@ -49,6 +54,7 @@ pub fn type_text(options: Options<'_>) -> Result<TypeText<'_>, Fault<'_>>
 
 /// The one well-formed type that the text spells; refused as `Type`, or as `Memory`.
 pub fn one_type(alloc: Global, text: &str) -> Result<Schema, Fault<'_>>
+    ensures exact { Meets the_type (parsed (parse text.now)) result }
     ensures spells { IfOk result (λ schema. IsOnly (IsTypeIn text.now) (the_type schema)) }
     ensures refused { IfErr result (λ fault. SpellsNone fault text.now) }
 {
@@ -62,6 +68,7 @@ pub fn one_type(alloc: Global, text: &str) -> Result<Schema, Fault<'_>>
 
 /// The definitions of well-formed types that the text spells; refused as `Type`, or as `Memory`.
 pub fn definitions(alloc: Global, text: &str) -> Result<Types, Fault<'_>>
+    ensures exact { Meets knowns (parsed (parse_all text.now)) result }
     ensures spells { IfOk result (λ types. IsOnly (AreDefinedIn text.now) (knowns types)) }
     ensures refused { IfErr result (λ fault. DefinesNone fault text.now) }
 {
@@ -75,7 +82,8 @@ pub fn definitions(alloc: Global, text: &str) -> Result<Types, Fault<'_>>
 
 /// The type that the Name has among the definitions; refused as `Unnamed` where none has it.
 pub fn named_type<'t, 'a>(types: &'t Types, name: &'a str) -> Result<&'t Schema, Fault<'a>>
-    ensures { MatchResult result (λ schema. IsDefined name.now (the_type schema.now) (knowns types.now))
+    ensures exact { Meets (λ schema. the_type schema.now) (named_as name.now (find (knowns types.now) name.now)) result }
+    ensures defined { MatchResult result (λ schema. IsDefined name.now (the_type schema.now) (knowns types.now))
         (λ fault. (fault ≡ Fault.Unnamed name.entry) × IsNew name.now (knowns types.now)) }
 {
     match types.get(name) {

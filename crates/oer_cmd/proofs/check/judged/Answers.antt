@@ -1,4 +1,6 @@
 use Rattle.std.proofs.Common.{[], sym, append-nil, arith}
+use Rattle.oer_types.specs.Schema.{the_type}
+use Rattle.oer_cmd.proofs.Exact.{judged_more, judged_none, judged_whole}
 use Rattle.oer_cmd.proofs.check.judged.Goals as goal
 
 pub returns-in-Err-clause-none : goal.returns-in-Err-clause-none
@@ -6,3 +8,12 @@ returns-in-Err-clause-none c = λ all. c.in-Err.ensures.comes all.0 c.args.octet
 
 pub returns-then-verdict-octets-clause-none : goal.returns-then-verdict-octets-clause-none
 returns-then-verdict-octets-clause-none c = λ all. let same = c.in-Ok.ensures.comes all.0 c.args.octets.now [] (sym (append-nil c.args.octets.now)) all.1 in absurd (omega (arith, same))
+
+pub returns-clause-exact : goal.returns-clause-exact
+returns-clause-exact c = judged_whole (the_type c.args.schema.now) c.args.octets.now c.in-Ok.verdict c.in-Ok.ensures.exact (omega arith)
+
+pub returns-then-verdict-octets-clause-exact : goal.returns-then-verdict-octets-clause-exact
+returns-then-verdict-octets-clause-exact c = judged_more (the_type c.args.schema.now) c.args.octets.now c.in-Ok.verdict c.in-Ok.ensures.exact c.in-Ok.ensures.told (λ same. absurd (omega (arith, same)))
+
+pub returns-in-Err-clause-exact : goal.returns-in-Err-clause-exact
+returns-in-Err-clause-exact c = judged_none (the_type c.args.schema.now) c.args.octets.now c.in-Err.fault c.of_read.result c.of_read.ensures c.in-Err.ensures.exact c.in-Err.ensures.told

@@ -1,12 +1,15 @@
-use Rattle.std.proofs.Common.{ap, refl}
+use Rattle.std.proofs.Common.{ap}
 use Rattle.std.proofs.lemmas.Result.{err_from_is_err_and}
 use Rattle.oer_types.specs.Schema.{the_type}
 use Rattle.oer_checker.specs.Walk.{path_of as steps_of}
-use Rattle.oer_cmd.specs.Run.{HasNoLine, IsPartLine}
-use Rattle.oer_cmd.specs.declared.fault.Fault.TheVariants.{Hex, Path}
 use Rattle.oer_cmd.specs.Words.{behind}
-use Rattle.oer_cmd.proofs.Refusals.{by_part, no_path_line, none_at_all, not_memory, not_one_of, says_longer, says_part, too_long, unspelt}
-use Rattle.oer_cmd.proofs.Blames.{all_blame, blames_words, hex_blames, long_blames, path_blames}
+use Rattle.std.proofs.Common.{Global, Vec, ℕ, string_bytes}
+use Rattle.oer_cmd.specs.Answer.{part_octets}
+use Rattle.oer_cmd.specs.Octets.{octets_of}
+use Rattle.oer_cmd.specs.Run.{IsPartLine}
+use Rattle.oer_cmd.proofs.Refusals.{by_part, no_path_line, none_at_all, not_memory, too_long, unspelt}
+use Rattle.oer_cmd.proofs.Exact.{part_all, part_pathless, part_slices, part_unspelt}
+use Rattle.oer_cmd.proofs.Meeting.{goes, stops}
 use Rattle.oer_cmd.proofs.part.part_line.Goals as goal
 
 pub returns-clause-refused : goal.returns-clause-refused
@@ -28,39 +31,23 @@ returns-in_err-octets-clause-refused g c =
     let p = err_from_is_err_and c.from_residual-in_err-octets.result c.from_residual-in_err-octets.ensures.1 in
     rw (p.1, p.2) (too_long _ _ _ _ (IsPartLine (the_type c.args.schema.now) c.args.limit (behind c.args.path)) _ (λ line b h. h.1) c.in_ok-spelt.ensures.octets c.in_err-octets.ensures.refused)
 
-pub returns-clause-tells : goal.returns-clause-tells
-returns-clause-tells g c =
-    says_part c.digits_of_part.result (the_type c.args.schema.now) c.args.limit _ (behind c.args.path) _ _ (steps_of c.in_ok-path.path.items) _ c.in_ok-octets.octets.items _ c.in_ok-spelt.ensures.octets c.in_ok-octets.ensures.all c.in_ok-path.ensures.path (ap steps_of c.as_slice-2.ensures.value) c.as_slice.ensures.value c.digits_of_part.ensures.tells
+pub returns-clause-exact : goal.returns-clause-exact
+returns-clause-exact g c = λ steps of.
+    part_all (the_type c.args.schema.now) c.args.limit (behind c.args.hex) steps _ c.in_ok-spelt.spelt c.in_ok-path.path c.digits_of_part.result c.in_ok-spelt.ensures.exact (c.in_ok-path.ensures.exact steps of)
+    (goes octets_of string_bytes _ (part_octets (the_type c.args.schema.now) (steps_of c.in_ok-path.path.items)) c.in_ok-octets.octets c.digits_of_part.result c.in_ok-octets.ensures.exact
+    (part_slices (the_type c.args.schema.now) _ _ _ _ c.digits_of_part.result (ap steps_of c.as_slice-2.ensures.value) c.as_slice.ensures.value c.digits_of_part.ensures.exact))
 
-pub returns-in_err-spelt-clause-tells : goal.returns-in_err-spelt-clause-tells
-returns-in_err-spelt-clause-tells g c =
+pub returns-in_err-spelt-clause-exact : goal.returns-in_err-spelt-clause-exact
+returns-in_err-spelt-clause-exact g c =
     let p = err_from_is_err_and c.from_residual.result c.from_residual.ensures.1 in
-    rw (p.1, p.2) (λ one. absurd (not_one_of _ Hex refl (λ other. (c.in_err-spelt.ensures.refused other).0) one))
+    rw (p.1, p.2) (λ steps of. part_unspelt (the_type c.args.schema.now) c.args.limit (behind c.args.hex) steps _ _ c.in_err-spelt.ensures.exact)
 
-pub returns-in_err-path-clause-tells : goal.returns-in_err-path-clause-tells
-returns-in_err-path-clause-tells g c =
+pub returns-in_err-path-clause-exact : goal.returns-in_err-path-clause-exact
+returns-in_err-path-clause-exact g c =
     let p = err_from_is_err_and c.from_residual-in_err-path.result c.from_residual-in_err-path.ensures.1 in
-    rw (p.1, p.2) (λ one. absurd (not_one_of _ Path refl (λ other. (c.in_err-path.ensures.refused other).0) one))
+    rw (p.1, p.2) (λ steps of. part_pathless (the_type c.args.schema.now) c.args.limit (behind c.args.hex) steps _ c.in_ok-spelt.spelt _ c.in_ok-spelt.ensures.exact (c.in_err-path.ensures.exact steps of))
 
-pub returns-in_err-octets-clause-tells : goal.returns-in_err-octets-clause-tells
-returns-in_err-octets-clause-tells g c =
+pub returns-in_err-octets-clause-exact : goal.returns-in_err-octets-clause-exact
+returns-in_err-octets-clause-exact g c =
     let p = err_from_is_err_and c.from_residual-in_err-octets.result c.from_residual-in_err-octets.ensures.1 in
-    rw (p.1, p.2) (says_longer _ _ _ _ (HasNoLine (the_type c.args.schema.now) c.args.limit (behind c.args.path)) _ c.in_ok-spelt.ensures.octets (λ b n e many. (e, many)) c.in_err-octets.ensures.refused)
-
-pub returns-clause-words : goal.returns-clause-words
-returns-clause-words g c = all_blame c.digits_of_part.result _ _ c.digits_of_part.ensures.digits
-
-pub returns-in_err-spelt-clause-words : goal.returns-in_err-spelt-clause-words
-returns-in_err-spelt-clause-words g c =
-    let p = err_from_is_err_and c.from_residual.result c.from_residual.ensures.1 in
-    rw (p.1, p.2) (blames_words _ _ _ (hex_blames _ _ c.in_err-spelt.ensures.refused))
-
-pub returns-in_err-path-clause-words : goal.returns-in_err-path-clause-words
-returns-in_err-path-clause-words g c =
-    let p = err_from_is_err_and c.from_residual-in_err-path.result c.from_residual-in_err-path.ensures.1 in
-    rw (p.1, p.2) (path_blames _ _ _ c.in_err-path.ensures.refused)
-
-pub returns-in_err-octets-clause-words : goal.returns-in_err-octets-clause-words
-returns-in_err-octets-clause-words g c =
-    let p = err_from_is_err_and c.from_residual-in_err-octets.result c.from_residual-in_err-octets.ensures.1 in
-    rw (p.1, p.2) (blames_words _ _ _ (long_blames c.args.limit _ _ _ _ c.in_err-octets.ensures.refused))
+    rw (p.1, p.2) (λ steps of. part_all (the_type c.args.schema.now) c.args.limit (behind c.args.hex) steps _ c.in_ok-spelt.spelt c.in_ok-path.path _ c.in_ok-spelt.ensures.exact (c.in_ok-path.ensures.exact steps of) (stops {X = Vec ℕ Global} octets_of string_bytes _ (part_octets (the_type c.args.schema.now) (steps_of c.in_ok-path.path.items)) _ c.in_err-octets.ensures.exact))

@@ -1,5 +1,6 @@
 use Rattle.oer_types.specs.Schema.{the_type}
 use Rattle.oer_cmd.proofs.Naming.{of_task}
+use Rattle.oer_cmd.proofs.Endings.{for_task, keeps_task}
 use Rattle.oer_cmd.proofs.program.line_of.Goals as goal
 
 pub returns-in-Show-clause-refused : goal.returns-in-Show-clause-refused
@@ -16,3 +17,33 @@ returns-in-Make-clause-refused g c = of_task c.make_line.result _ (the_type c.ar
 
 pub returns-in-Part-clause-refused : goal.returns-in-Part-clause-refused
 returns-in-Part-clause-refused g c = of_task c.part_line.result _ (the_type c.args.schema.now) c.args.options.limit c.args.options.task _ c.in-Part.is c.part_line.ensures.refused
+
+pub returns-in-Show-clause-exact : goal.returns-in-Show-clause-exact
+returns-in-Show-clause-exact g c = for_task c.args.options.task _ (the_type c.args.schema.now) c.args.options.limit _ c.show_line.result c.in-Show.is (λ path of. c.show_line.ensures.exact)
+
+pub returns-in-Show-clause-untouched : goal.returns-in-Show-clause-untouched
+returns-in-Show-clause-untouched g c = keeps_task c.args.options.task _ c.in-Show.is c.show_line.ensures.untouched
+
+pub returns-in-Canon-clause-exact : goal.returns-in-Canon-clause-exact
+returns-in-Canon-clause-exact g c = for_task c.args.options.task _ (the_type c.args.schema.now) c.args.options.limit _ c.canon_line.result c.in-Canon.is (λ path of. c.canon_line.ensures.exact)
+
+pub returns-in-Canon-clause-untouched : goal.returns-in-Canon-clause-untouched
+returns-in-Canon-clause-untouched g c = keeps_task c.args.options.task _ c.in-Canon.is c.canon_line.ensures.untouched
+
+pub returns-in-Check-clause-exact : goal.returns-in-Check-clause-exact
+returns-in-Check-clause-exact g c = for_task c.args.options.task _ (the_type c.args.schema.now) c.args.options.limit _ c.check_line.result c.in-Check.is (λ path of. c.check_line.ensures.exact)
+
+pub returns-in-Check-clause-untouched : goal.returns-in-Check-clause-untouched
+returns-in-Check-clause-untouched g c = keeps_task c.args.options.task _ c.in-Check.is c.check_line.ensures.untouched
+
+pub returns-in-Make-clause-exact : goal.returns-in-Make-clause-exact
+returns-in-Make-clause-exact g c = for_task c.args.options.task _ (the_type c.args.schema.now) c.args.options.limit _ c.make_line.result c.in-Make.is (λ path of. c.make_line.ensures.exact)
+
+pub returns-in-Make-clause-untouched : goal.returns-in-Make-clause-untouched
+returns-in-Make-clause-untouched g c = keeps_task c.args.options.task _ c.in-Make.is c.make_line.ensures.untouched
+
+pub returns-in-Part-clause-exact : goal.returns-in-Part-clause-exact
+returns-in-Part-clause-exact g c = for_task c.args.options.task _ (the_type c.args.schema.now) c.args.options.limit _ c.part_line.result c.in-Part.is (λ path of. c.part_line.ensures.exact path of)
+
+pub returns-in-Part-clause-untouched : goal.returns-in-Part-clause-untouched
+returns-in-Part-clause-untouched g c = keeps_task c.args.options.task _ c.in-Part.is c.part_line.ensures.untouched

@@ -1,6 +1,7 @@
 use Rattle.std.proofs.lemmas.Result.{IfErr-weaker, err_from_is_err_and}
 use Rattle.oer_cmd.proofs.Naming.{new_name, only_named, unanswered, unnamed}
 use Rattle.oer_cmd.proofs.Refusals.{not_memory}
+use Rattle.oer_cmd.proofs.Endings.{named_read, named_unknown, named_unread}
 use Rattle.oer_cmd.proofs.program.line_of_named.Goals as goal
 
 pub returns-in_err-types-clause-refused : goal.returns-in_err-types-clause-refused
@@ -11,8 +12,21 @@ returns-in_err-types-clause-refused g c =
 pub returns-in_err-schema-clause-refused : goal.returns-in_err-schema-clause-refused
 returns-in_err-schema-clause-refused g c =
     let p = err_from_is_err_and c.from_residual-in_err-schema.result c.from_residual-in_err-schema.ensures.1 in
-    rw (p.1, p.2) (λ small. unnamed _ _ _ _ (new_name _ _ _ c.in_ok-types.ensures.spells c.in_err-schema.ensures.1))
+    rw (p.1, p.2) (λ small. unnamed _ _ _ _ (new_name _ _ _ c.in_ok-types.ensures.spells c.in_err-schema.ensures.defined.1))
 
 pub returns-clause-refused : goal.returns-clause-refused
 returns-clause-refused g c =
-    IfErr-weaker c.line_of.result _ _ (λ fault none small. unanswered _ _ _ _ _ (only_named _ _ _ _ c.in_ok-types.ensures.spells c.in_ok-schema.ensures) (none small)) c.line_of.ensures.refused
+    IfErr-weaker c.line_of.result _ _ (λ fault none small. unanswered _ _ _ _ _ (only_named _ _ _ _ c.in_ok-types.ensures.spells c.in_ok-schema.ensures.defined) (none small)) c.line_of.ensures.refused
+
+pub returns-clause-exact : goal.returns-clause-exact
+returns-clause-exact g c = λ path of. named_read c.args.types c.args.name c.args.options.task c.args.options.limit path _ c.in_ok-types.types c.in_ok-schema.schema c.line_of.result c.in_ok-types.ensures.exact c.in_ok-schema.ensures.exact (c.line_of.ensures.exact path of)
+
+pub returns-in_err-types-clause-exact : goal.returns-in_err-types-clause-exact
+returns-in_err-types-clause-exact g c =
+    let p = err_from_is_err_and c.from_residual.result c.from_residual.ensures.1 in
+    rw (p.1, p.2) (λ path of. named_unread c.args.types c.args.name c.args.options.task c.args.options.limit path _ _ c.in_err-types.ensures.exact)
+
+pub returns-in_err-schema-clause-exact : goal.returns-in_err-schema-clause-exact
+returns-in_err-schema-clause-exact g c =
+    let p = err_from_is_err_and c.from_residual-in_err-schema.result c.from_residual-in_err-schema.ensures.1 in
+    rw (p.1, p.2) (λ path of. named_unknown c.args.types c.args.name c.args.options.task c.args.options.limit path _ c.in_ok-types.types _ c.in_ok-types.ensures.exact c.in_err-schema.ensures.exact)

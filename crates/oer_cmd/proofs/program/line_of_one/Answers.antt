@@ -1,6 +1,7 @@
 use Rattle.std.proofs.lemmas.Result.{IfErr-weaker, err_from_is_err_and}
 use Rattle.oer_cmd.proofs.Naming.{unanswered, unnamed}
 use Rattle.oer_cmd.proofs.Refusals.{not_memory}
+use Rattle.oer_cmd.proofs.Endings.{one_read, one_unread}
 use Rattle.oer_cmd.proofs.program.line_of_one.Goals as goal
 
 pub returns-in_err-schema-clause-refused : goal.returns-in_err-schema-clause-refused
@@ -11,3 +12,11 @@ returns-in_err-schema-clause-refused g c =
 pub returns-clause-refused : goal.returns-clause-refused
 returns-clause-refused g c =
     IfErr-weaker c.line_of.result _ _ (λ fault none small. unanswered _ _ _ _ _ c.in_ok-schema.ensures.spells.1 (none small)) c.line_of.ensures.refused
+
+pub returns-clause-exact : goal.returns-clause-exact
+returns-clause-exact g c = λ path of. one_read c.args.text c.args.options.task c.args.options.limit path _ c.in_ok-schema.schema c.line_of.result c.in_ok-schema.ensures.exact (c.line_of.ensures.exact path of)
+
+pub returns-in_err-schema-clause-exact : goal.returns-in_err-schema-clause-exact
+returns-in_err-schema-clause-exact g c =
+    let p = err_from_is_err_and c.from_residual.result c.from_residual.ensures.1 in
+    rw (p.1, p.2) (λ path of. one_unread c.args.text c.args.options.task c.args.options.limit path _ _ c.in_err-schema.ensures.exact)

@@ -1,7 +1,31 @@
-use Rattle.std.proofs.Common.{arith, map, refl, string_bytes}
+use Rattle.std.proofs.Common.{inl, inr, arith, map, refl, string_bytes}
+use Rattle.oer_cmd.specs.Answer.{expected_answer}
+use Rattle.oer_cmd.proofs.Endings.{broken_end, does, keeps_same, printed_end, refused_end, words_end}
 use Rattle.oer_cmd.proofs.Lines.{none_answers}
 use Rattle.oer_cmd.proofs.program.run.Goals as goal
 
 pub returns-in-Err-answer-clause-refuses : goal.returns-in-Err-answer-clause-refuses
 returns-in-Err-answer-clause-refuses g c = λ taken low high.
-    none_answers (map string_bytes c.args.words.now) c.in-Ok.options _ (g.R.Read.remaining c.args.input.now) c.in-Ok.ensures.ok (c.in-Err-answer.ensures.refused (omega (arith, c.report.ensures.status high, high))) (rw c.new-source.ensures.inner refl)
+    none_answers (map string_bytes c.args.words.now) c.in-Ok.options _ (g.R.Read.remaining c.args.input.now) c.in-Ok.ensures.ok (c.in-Err-answer.ensures.refused (omega (arith, c.report.ensures.status high, high))) refl
+
+pub returns-in-Err-clause-exact : goal.returns-in-Err-clause-exact
+returns-in-Err-clause-exact g c = words_end (map string_bytes c.args.words.now) _ _ c.in-Err.error c.refused.result _ c.in-Err.ensures.kinds c.in-Err.ensures.err c.refused.ensures.memory
+    c.refused.ensures.shows c.refused.ensures.alone c.refused.ensures.words c.refused.ensures.quiet c.refused.ensures.failed c.refused.ensures.kept c.refused.ensures.line refl
+
+pub returns-in-Err-answer-clause-exact : goal.returns-in-Err-answer-clause-exact
+returns-in-Err-answer-clause-exact g c = inr (inl (does (map string_bytes c.args.words.now) _ _ c.report.result _ c.in-Ok.options c.in-Ok.ensures.ok
+    (λ path of. refused_end (expected_answer c.in-Ok.options path (g.R.Read.remaining c.args.input.now)) c.in-Err-answer.fault c.report.result _
+    (c.in-Err-answer.ensures.exact path of) c.report.ensures.line (keeps_same (g.W.Write.contents c.args.output.now)))
+    c.in-Err-answer.ensures.untouched))
+
+pub returns-in-Ok-print_line-clause-exact : goal.returns-in-Ok-print_line-clause-exact
+returns-in-Ok-print_line-clause-exact g c = inr (inl (does (map string_bytes c.args.words.now) _ _ 0 _ c.in-Ok.options c.in-Ok.ensures.ok
+    (λ path of. printed_end (expected_answer c.in-Ok.options path (g.R.Read.remaining c.args.input.now)) c.in-Ok-answer.line _
+    (c.in-Ok-answer.ensures.exact path of) c.in-Ok-print_line.ensures.printed (keeps_same (g.E.Write.contents c.args.errors.now)))
+    c.in-Ok-answer.ensures.untouched))
+
+pub returns-in-Err-print_line-clause-exact : goal.returns-in-Err-print_line-clause-exact
+returns-in-Err-print_line-clause-exact g c = inr (inl (does (map string_bytes c.args.words.now) _ _ c.report-in-Err-print_line.result _ c.in-Ok.options c.in-Ok.ensures.ok
+    (λ path of. broken_end (expected_answer c.in-Ok.options path (g.R.Read.remaining c.args.input.now)) c.in-Ok-answer.line c.in-Err-print_line.fault c.report-in-Err-print_line.result _
+    (c.in-Ok-answer.ensures.exact path of) c.in-Err-print_line.ensures.printed c.report-in-Err-print_line.ensures.line)
+    c.in-Ok-answer.ensures.untouched))
