@@ -1,5 +1,5 @@
 # make: proves and builds the program, as bin/oer
-# make test: the whole gate, then the commands that the documents show; make install PREFIX=..: puts the program into PREFIX/bin
+# make test: the whole gate, then the commands that the documents show, then memory refused in turn; make install PREFIX=..: puts the program into PREFIX/bin
 PREFIX ?= /usr/local
 
 .PHONY: all test install clean
@@ -16,6 +16,7 @@ test:
 	@mkdir -p bin
 	@cp crates/oer/out/oer bin/oer
 	@examples/check
+	@examples/refusals
 
 install: bin/oer
 	install -d $(DESTDIR)$(PREFIX)/bin
