@@ -20,7 +20,7 @@ pub(crate) fn answer(
     let alloc = rt.alloc();
     match task {
         "print" => Ok(print_type(alloc, schema)?),
-        "clone-shape" => of_copy(alloc, schema),
+        "clone-shape" => of_copy(alloc, schema, text),
         "from-json" => of_json(alloc, schema, text),
         "octets" => gathered(alloc, &hex::decode(alloc, text)?),
         "rewrite" => rewritten(alloc, schema, &hex::decode(alloc, text)?),
@@ -29,10 +29,14 @@ pub(crate) fn answer(
     }
 }
 
-// The text of a copy of the type.
-fn of_copy(alloc: Global, schema: &Schema) -> Result<String, Refusal> {
+// The text of a copy of the type; or, where there are octets, the JSON of their value of that copy,
+// its defaults filled in.
+fn of_copy(alloc: Global, schema: &Schema, digits: &str) -> Result<String, Refusal> {
     let copy = schema_of(schema.shape().clone_in(alloc)?)?;
-    Ok(print_type(alloc, &copy)?)
+    if digits.is_empty() {
+        return Ok(print_type(alloc, &copy)?);
+    }
+    on_value(alloc, "filled", &copy, &hex::decode(alloc, digits)?)
 }
 
 // The refusal of a reader of so many octets, of which so many are left: for memory only where just the
