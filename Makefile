@@ -1,6 +1,6 @@
 # make: proves and builds the program, as bin/oer
 # make quick: proves and tests all but the must-fail edits, over what earlier runs kept, for use before a commit
-# make test: the whole gate, then the commands that the documents show; make install PREFIX=..: puts the program into PREFIX/bin
+# make test: the whole gate, then the commands that the documents show, then memory refused in turn; make install PREFIX=..: puts the program into PREFIX/bin
 PREFIX ?= /usr/local
 
 .PHONY: all quick test install clean
@@ -19,6 +19,7 @@ test:
 	@mkdir -p bin
 	@cp crates/oer/out/oer bin/oer
 	@examples/check
+	@examples/refusals
 
 install: bin/oer
 	install -d $(DESTDIR)$(PREFIX)/bin

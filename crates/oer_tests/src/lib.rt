@@ -4,6 +4,8 @@
 #[cfg(test)]
 mod checker;
 #[cfg(test)]
+mod drawing;
+#[cfg(test)]
 mod encodings;
 #[cfg(test)]
 mod refusals;

@@ -1,10 +1,10 @@
 //! Octets that are refused: why, and at which octet.
 use crate::encodings::are_needed;
-use crate::shared::{comes, each, expanded, is_wanted, octets, schema_of};
+use crate::shared::{Want, comes, each, expanded, is_wanted, octets, schema_of};
 use crate::values::is_well;
 use oer_reader::{RewriteFault, read};
 use oer_types::Schema;
-use oer_units::Metered;
+use oer_units::{Metered, Why};
 use std::alloc::Global;
 use std::test::Fail;
 
@@ -88,9 +88,15 @@ fn stops(
         Err(fault) => {
             is_wanted(row, format!(in at; "{fault}")?.as_str(), why)?;
             let taken = fault.taken as usize;
-            let want = (Err(RewriteFault::Read(fault)), &[][..]);
-            is_well(row, comes(at, schema, octets, limit, taken, want))?;
-            is_well(row, are_needed(at, schema, octets, taken))
+            let is_end = fault.why == Why::End;
+            let want = Want {
+                done: Err(RewriteFault::Read(fault)),
+                written: &[],
+                taken,
+                asked: if is_end { limit as usize } else { taken },
+            };
+            is_well(row, comes(at, schema, octets, limit, want))?;
+            is_well(row, are_needed(at, schema, octets, taken, want.asked))
         }
     }
 }

@@ -12,12 +12,15 @@ use std::test::Fail;
 
 // ---- readers and writers
 
-/// Gives one octet a call, until its calls are used up. Then it fails, or ends.
+/// Gives one octet a call, until its calls are used up. Then it fails, or ends. It keeps count of the
+/// octets that it gave, and of those that it was asked for.
 #[derive(Drop)]
 pub struct SlowReader<'a> {
     octets: &'a [u8],
     calls: usize,
     fails: bool,
+    given: usize,
+    asked: usize,
 }
 
 impl<'a> SlowReader<'a> {
@@ -26,7 +29,19 @@ impl<'a> SlowReader<'a> {
             octets,
             calls,
             fails,
+            given: 0,
+            asked: 0,
         }
+    }
+
+    /// How many octets it gave.
+    pub fn given(&self) -> usize {
+        self.given
+    }
+
+    /// How many octets it would have given at most, had it given all that a call asked for.
+    pub fn asked(&self) -> usize {
+        self.asked
     }
 }
 
@@ -35,6 +50,7 @@ impl<'a> Read for SlowReader<'a> {
         if into.is_empty() {
             return Ok(0);
         }
+        self.asked = self.asked.max(self.given.saturating_add(into.len()));
         if self.calls == 0 {
             return if self.fails {
                 Err(Error::from(ErrorKind::Interrupted))
@@ -46,6 +62,7 @@ impl<'a> Read for SlowReader<'a> {
             return Ok(0);
         };
         self.calls -= 1;
+        self.given = self.given.saturating_add(1);
         into[0] = *first;
         self.octets = rest;
         Ok(1)
@@ -205,8 +222,15 @@ pub fn value_of(at: Global, schema: &Schema, json: &str) -> Result<Value, Fail> 
 
 // ---- octets that are rewritten
 
-/// What rewriting answers, and what is on the sink then.
-pub type Answer<'a> = (Result<(u64, u64), RewriteFault>, &'a [u8]);
+/// What rewriting answers, what is on the sink then, how many octets are taken, and how many are asked
+/// for at most: none past the group in hand.
+#[derive(Clone, Copy)]
+pub struct Want<'a> {
+    pub done: Result<(u64, u64), RewriteFault>,
+    pub written: &'a [u8],
+    pub taken: usize,
+    pub asked: usize,
+}
 
 /// Whether what comes is rewritten so.
 pub fn rewrites<S: Source>(
@@ -214,25 +238,26 @@ pub fn rewrites<S: Source>(
     schema: &Schema,
     reader: &mut S,
     limit: u64,
-    want: Answer,
+    want: Want,
 ) -> bool {
     let mut sink = Metered::new(Vec::new(at));
     let done = rewrite(at, schema, reader, limit, &mut sink);
-    done == want.0 && sink.into_inner().as_slice() == want.1
+    done == want.done && sink.into_inner().as_slice() == want.written
 }
 
-/// The same of these octets, from memory and one at a time; and whether so many are taken.
-pub fn comes(
-    at: Global,
-    schema: &Schema,
-    octets: &[u8],
-    limit: u64,
-    taken: usize,
-    want: Answer,
-) -> bool {
+/// The same of a reader that gives one octet a call; and whether so many are taken and asked for.
+pub fn takes_slowly(at: Global, schema: &Schema, slow: SlowReader, limit: u64, want: Want) -> bool {
+    let mut reader = Metered::new(slow);
+    let is_done = rewrites(at, schema, &mut reader, limit, want);
+    let slow = reader.into_inner();
+    is_done && slow.given() == want.taken && slow.asked() <= want.asked
+}
+
+/// The same of these octets, from memory and one at a time.
+pub fn comes(at: Global, schema: &Schema, octets: &[u8], limit: u64, want: Want) -> bool {
     let mut all = Metered::new(octets);
-    let mut each = Metered::new(SlowReader::new(octets, usize::MAX, false));
+    let each = SlowReader::new(octets, usize::MAX, false);
     rewrites(at, schema, &mut all, limit, want)
-        && all.into_inner().len() == octets.len().saturating_sub(taken)
-        && rewrites(at, schema, &mut each, limit, want)
+        && all.into_inner().len() == octets.len().saturating_sub(want.taken)
+        && takes_slowly(at, schema, each, limit, want)
 }

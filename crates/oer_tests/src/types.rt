@@ -1,11 +1,12 @@
 //! Faults of types; which values fit, which are the same, what they are when filled in, and copies.
-use crate::shared::{NESTED, each, is_wanted, octets, schema_of, value_of};
+use crate::drawing::{drawn, drawn_value};
+use crate::shared::{NESTED, each, expanded, is_wanted, octets, schema_of, value_of};
 use crate::values::{VALUES, case_of, is_well};
 use oer_reader::read;
 use oer_text::parse_type;
 use oer_types::{
-    Alphabet, Bits, Field, Need, Schema, Shape, Size, Unknown, Value, are_characters, contains_tag,
-    filled, fits, is_same_tag, optional, same_filled, same_filled_at,
+    Alphabet, Alt, Bits, Field, Item, Need, Schema, Shape, Size, Unknown, Value, are_characters,
+    contains_tag, filled, fits, is_same_tag, optional, same_filled, same_filled_at,
 };
 use oer_units::{Class, Metered, Tag};
 use std::alloc::{AllocError, Global};
@@ -52,10 +53,15 @@ fn faults_of_texts(rt: HostRuntime) -> Result<(), Fail> {
     each(rt.alloc(), TEXTS, has_text_fault)
 }
 
+// That the shape has that fault, and is handed back as it was.
 fn has_fault(at: Global, row: &str, shape: Shape, want: &str) -> Result<(), Fail> {
+    let before = drawn(at, &shape)?;
     match Schema::new(shape) {
         Ok(_) => is_wanted(row, "none", want),
-        Err((fault, _)) => is_wanted(row, format!(in at; "{fault}")?.as_str(), want),
+        Err((fault, back)) => {
+            is_wanted(row, format!(in at; "{fault}")?.as_str(), want)?;
+            is_wanted(row, drawn(at, &back)?.as_str(), before.as_str())
+        }
     }
 }
 
@@ -133,6 +139,110 @@ fn wide(at: Global, count: u16) -> Result<Shape, AllocError> {
     Ok(sequence(root))
 }
 
+// An ENUMERATED of two items with that number.
+fn twice_numbered(at: Global, number: i64) -> Result<Shape, AllocError> {
+    let a = Item {
+        name: String::from_str(at, "a")?,
+        number,
+    };
+    let b = Item {
+        name: String::from_str(at, "b")?,
+        number,
+    };
+    Ok(Shape::Enumerated {
+        items: Vec::from_array(at, [a, b])?,
+        extensible: false,
+    })
+}
+
+// The alternative NULL with that name and a tag in context.
+fn alternative(at: Global, name: &str, number: u32) -> Result<Alt, AllocError> {
+    let class = Class::Context;
+    Ok(Alt {
+        name: String::from_str(at, name)?,
+        tag: Tag { class, number },
+        shape: Shape::Null,
+    })
+}
+
+// A CHOICE with that tag on both sides of the extension marker.
+fn twice_tagged(at: Global, number: u32) -> Result<Shape, AllocError> {
+    Ok(Shape::Choice {
+        root: Vec::from_array(at, [alternative(at, "a", number)?])?,
+        additions: Some(Vec::from_array(at, [alternative(at, "b", number)?])?),
+    })
+}
+
+// SEQUENCE {a INTEGER (0..5) DEFAULT 6}.
+fn misfitting(at: Global) -> Result<Shape, AllocError> {
+    let a = Field {
+        name: String::from_str(at, "a")?,
+        shape: Shape::Integer {
+            low: Some(0),
+            high: Some(5),
+        },
+        need: Need::Default(Value::Int(6)),
+    };
+    Ok(sequence(Vec::from_array(at, [a])?))
+}
+
+// A SEQUENCE of NULL components with these names.
+fn named(at: Global, one: &str, other: &str) -> Result<Shape, AllocError> {
+    let one = field(String::from_str(at, one)?, Shape::Null);
+    let other = field(String::from_str(at, other)?, Shape::Null);
+    Ok(sequence(Vec::from_array(at, [one, other])?))
+}
+
+/// The faults. Of each there is a shape that has it and no other.
+const FAULTS: &str = "TooDeep
+TooManyParts
+BoundOrder
+SizeOrder
+BadName
+RepeatedName
+NoItems
+RepeatedNumber
+RepeatedTag
+DefaultMisfit
+EmptyElement";
+
+// The shape that has the fault.
+fn faulty(at: Global, fault: &str) -> Result<Shape, AllocError> {
+    let (low, high) = (Some(5), Some(4));
+    let short = Size {
+        low: 2,
+        high: Some(1),
+    };
+    match fault {
+        "TooDeep" => deep(at, 32),
+        "TooManyParts" => wide(at, 4096),
+        "BoundOrder" => Ok(Shape::Integer { low, high }),
+        "SizeOrder" => Ok(Shape::OctetString(short)),
+        "BadName" => named(at, "a", "B"),
+        "RepeatedName" => named(at, "a", "a"),
+        "NoItems" => Ok(Shape::Choice {
+            root: Vec::new(at),
+            additions: None,
+        }),
+        "RepeatedNumber" => twice_numbered(at, 1),
+        "RepeatedTag" => twice_tagged(at, 1),
+        "DefaultMisfit" => misfitting(at),
+        _ => Ok(Shape::SequenceOf {
+            size: Size::any(),
+            item: Box::new(at, Shape::Null)?,
+        }),
+    }
+}
+
+fn is_faulty(at: Global, fault: &str) -> Result<(), Fail> {
+    has_fault(at, fault, faulty(at, fault)?, fault)
+}
+
+#[test]
+fn each_fault_of_a_shape(rt: HostRuntime) -> Result<(), Fail> {
+    each(rt.alloc(), FAULTS, is_faulty)
+}
+
 #[test]
 fn limits_of_types(rt: HostRuntime) -> Result<(), Fail> {
     let at = rt.alloc();
@@ -140,6 +250,49 @@ fn limits_of_types(rt: HostRuntime) -> Result<(), Fail> {
     has_fault(at, "32 levels", deep(at, 32)?, "TooDeep")?;
     has_fault(at, "4095 components", wide(at, 4095)?, "none")?;
     has_fault(at, "4096 components", wide(at, 4096)?, "TooManyParts")
+}
+
+// ---- what texts stand for
+
+/// Types by their texts, and the shapes for which these stand.
+const SHAPES: &str = "INTEGER | Integer None None
+INTEGER(-5 .. MAX) | Integer Some(-5) None
+INTEGER (MIN..4) | Integer None Some(4)
+INTEGER (7) | Integer Some(7) Some(7)
+ENUMERATED {a, ..., b} | Enumerated a=0 b=1 ...
+ENUMERATED {a(5), b(128), c(-1)} | Enumerated a=5 b=128 c=-1
+BIT STRING (SIZE(1..8)) | BitString 1 Some(8)
+OCTET STRING (SIZE(2..MAX)) | OctetString 2 None
+OBJECT IDENTIFIER | ObjectId
+IA5String (SIZE(3)) | Ia5 3 Some(3)
+VisibleString | Visible 0 None
+NumericString (SIZE(0..4)) | Numeric 0 Some(4)
+PrintableString | Printable 0 None
+UTF8String (SIZE(1)) | Utf8 1 Some(1)
+SEQUENCE {} | Sequence {}
+SEQUENCE {...} | Sequence {} ... {}
+SEQUENCE {a BOOLEAN, b INTEGER (0..255) DEFAULT 7, c NULL OPTIONAL} | Sequence {a Boolean, b(Int 7) Integer Some(0) Some(255), c? Null, }
+SEQUENCE {..., a NULL OPTIONAL, b NULL} | Sequence {} ... {a Null, b Null, }
+SEQUENCE {a ENUMERATED {b, ..., c} DEFAULT c, d BOOLEAN DEFAULT FALSE} | Sequence {a(Enum 1) Enumerated b=0 c=1 ..., d(Bool false) Boolean, }
+SEQUENCE {a OCTET STRING DEFAULT '0aFF'H, b BIT STRING DEFAULT 'ABC'H} | Sequence {a(Octets 0aff) OctetString 0 None, b(Bits 12 abc0) BitString 0 None, }
+SEQUENCE {a BIT STRING (SIZE(9)) DEFAULT '110000001'B} | Sequence {a(Bits 9 c080) BitString 9 Some(9), }
+SEQUENCE {a IA5String DEFAULT \"a\"\"b\", b OBJECT IDENTIFIER DEFAULT {1 2 840}} | Sequence {a(Text a\"b) Ia5 0 None, b(Oid 1 2 840) ObjectId, }
+SEQUENCE SIZE(1..4) OF SEQUENCE (SIZE(0..MAX)) OF UTF8String | SequenceOf 1 Some(4) of SequenceOf 0 None of Utf8 0 None
+CHOICE {a NULL, b BOOLEAN} | Choice {a Context 0 Null, b Context 1 Boolean, }
+CHOICE {a [62] NULL, b [APPLICATION 63] NULL, ..., c [PRIVATE 200] BOOLEAN} | Choice {a Context 62 Null, b Application 63 Null, } ... {c Private 200 Boolean, }
+CHOICE {a [UNIVERSAL 2] NULL, ...} | Choice {a Universal 2 Null, } ... {}
+~SEQUENCE OF *31~BOOLEAN | ~SequenceOf 0 None of *31~Boolean";
+
+fn stands_for(at: Global, row: &str) -> Result<(), Fail> {
+    let whole = expanded(at, row)?;
+    let (text, want) = whole.as_str().split_once(" | ").ok_or("a shape")?;
+    let schema = parse_type(at, text)?;
+    is_wanted(row, drawn(at, schema.shape())?.as_str(), want)
+}
+
+#[test]
+fn texts_stand_for_shapes(rt: HostRuntime) -> Result<(), Fail> {
+    each(rt.alloc(), SHAPES, stands_for)
 }
 
 // ---- bits
@@ -344,9 +497,14 @@ fn values_compared(rt: HostRuntime) -> Result<(), Fail> {
 // That copies of the type and of the value are as they are.
 fn is_copied(at: Global, row: &str) -> Result<(), Fail> {
     let case = case_of(at, row)?;
-    let same = case.value.clone_in(at)?.same(&case.value);
-    let copy = Schema::new(case.schema.into_shape().clone_in(at)?);
-    is_well(row, same && copy.is_ok())
+    let value = case.value.clone_in(at)?;
+    is_well(row, value.same(&case.value))?;
+    let other = drawn_value(at, &case.value)?;
+    is_wanted(row, drawn_value(at, &value)?.as_str(), other.as_str())?;
+    let copy = case.schema.shape().clone_in(at)?;
+    let other = drawn(at, case.schema.shape())?;
+    is_wanted(row, drawn(at, &copy)?.as_str(), other.as_str())?;
+    is_well(row, Schema::new(copy).is_ok())
 }
 
 #[test]

@@ -47,8 +47,9 @@ bf9080808000 | 9 | tag: TagForm at 6; taken: 6
 616263 | 3 | octets 2: 6162; taken: 2; octets into 1: 63; octets into 1: Limit at 3
 020100 | 9 | unsigned counted: 256; octet: End at 3";
 
-/// The same of three octets from a reader that fails after them.
-const FAILURES: &str = "050100 | 9 | signed counted: Device at 3; octets 4: Device at 3";
+/// The same of octets from a reader that fails after them.
+const FAILURES: &str = "050100 | 9 | signed counted: Device at 3; octets 4: Device at 3
+01 | 9 | signed counted: Device at 1; taken: 1";
 
 // The number that the reader of a unit answers.
 fn number<S: Source>(unit: &str, w: &mut Window<S>) -> Result<i128, ReadFault> {
@@ -114,36 +115,53 @@ fn answer<S: Source>(at: Global, unit: &str, w: &mut Window<S>) -> Result<String
     }
 }
 
-// That the answers of the row are given in turn, and how many calls of the reader failed then.
+// That the answers of the row are given in turn; how many calls of the reader failed then, and how many
+// octets were taken.
 fn answers<S: Source>(
     at: Global,
     row: &str,
     reader: &mut S,
     limit: u64,
     turns: &str,
-) -> Result<u64, Fail> {
+) -> Result<(u64, u64), Fail> {
     let mut w = Window::new(reader, limit);
     for turn in turns.split("; ") {
         let (unit, want) = turn.split_once(": ").ok_or("an answer")?;
         is_wanted(row, answer(at, unit, &mut w)?.as_str(), want)?;
     }
-    Ok(reader.failures())
+    let taken = w.taken();
+    Ok((reader.failures(), taken))
 }
 
-// The same from memory and one octet at a time; or from a reader that fails after three octets.
+// How many answers of the row are this reason.
+fn count_of(row: &str, why: &str) -> u64 {
+    let mut count = 0u64;
+    for _ in row.split(why) {
+        count = count.saturating_add(1);
+    }
+    count.saturating_sub(1)
+}
+
+// The same from memory and one octet at a time, where no octet is asked for past the group in hand; or
+// from a reader that fails after the octets. Answered is how many calls of the reader failed.
 fn failures(at: Global, row: &str, fails: bool) -> Result<u64, Fail> {
     let whole = expanded(at, row)?;
     let (digits, rest) = whole.as_str().split_once(" | ").ok_or("octets")?;
     let (limit, turns) = rest.split_once(" | ").ok_or("a limit")?;
     let (octets, limit) = (octets_of(at, digits)?, limit.parse::<u64>()?);
     if fails {
-        let mut reader = Metered::new(SlowReader::new(&octets, 3, true));
-        return answers(at, row, &mut reader, limit, turns);
+        let mut reader = Metered::new(SlowReader::new(&octets, octets.len(), true));
+        return Ok(answers(at, row, &mut reader, limit, turns)?.0);
     }
     let mut each = Metered::new(SlowReader::new(&octets, usize::MAX, false));
-    let slow = answers(at, row, &mut each, limit, turns)?;
+    let (slow, taken) = answers(at, row, &mut each, limit, turns)?;
+    let past = count_of(row, "End at");
+    if each.into_inner().asked() as u64 > taken.saturating_add(past) {
+        return Err(Fail::new(row));
+    }
     let mut all = Metered::new(octets.as_slice());
-    Ok(slow.saturating_add(answers(at, row, &mut all, limit, turns)?))
+    let (fast, _) = answers(at, row, &mut all, limit, turns)?;
+    Ok(slow.saturating_add(fast))
 }
 
 #[test]
@@ -159,7 +177,7 @@ fn units(rt: HostRuntime) -> Result<(), Fail> {
 #[test]
 fn the_device_fails(rt: HostRuntime) -> Result<(), Fail> {
     for row in FAILURES.lines() {
-        if failures(rt.alloc(), row, true)? != 2 {
+        if failures(rt.alloc(), row, true)? != count_of(row, "Device at") {
             return Err(Fail::new(row));
         }
     }

@@ -1,5 +1,6 @@
 //! Values of each kind: their canonical octets, and what their encodings are read as.
-use crate::shared::{each, expanded, octets, schema_of, value_of};
+use crate::drawing::drawn_value;
+use crate::shared::{each, expanded, is_wanted, octets, schema_of, value_of};
 use oer_reader::read;
 use oer_types::{Schema, Value, fits, same_filled};
 use oer_units::Metered;
@@ -170,13 +171,18 @@ fn are_told_from_other_octets(rt: HostRuntime) -> Result<(), Fail> {
     each(rt.alloc(), VALUES, is_told)
 }
 
-// That each encoding is read as the value, after defaults.
+// That each encoding is read as the value: as it stands where the type has no default, and else as the
+// same after defaults.
 fn is_read(at: Global, row: &str) -> Result<(), Fail> {
     let case = case_of(at, row)?;
+    let value = drawn_value(at, &case.value)?;
     for one in &case.encodings {
         let mut reader = Metered::new(one.as_slice());
         let came = read(at, &case.schema, &mut reader, u64::MAX)?;
         is_well(row, same_filled(&case.schema, &case.value, &came))?;
+        if !row.contains("DEFAULT") {
+            is_wanted(row, drawn_value(at, &came)?.as_str(), value.as_str())?;
+        }
     }
     Ok(())
 }
@@ -184,4 +190,40 @@ fn is_read(at: Global, row: &str) -> Result<(), Fail> {
 #[test]
 fn are_read_from_each_encoding(rt: HostRuntime) -> Result<(), Fail> {
     each(rt.alloc(), VALUES, is_read)
+}
+
+/// A type, octets, and the value that is read from them, no default filled in and none dropped.
+const READ: &str =
+    "SEQUENCE {a BOOLEAN, b INTEGER (0..255) DEFAULT 7, c NULL OPTIONAL} | 00ff | Seq {Bool true, -, -, } {} {}
+SEQUENCE {a BOOLEAN, b INTEGER (0..255) DEFAULT 7, c NULL OPTIONAL} | 80ff07 | Seq {Bool true, Int 7, -, } {} {}
+SEQUENCE {a BOOLEAN, b INTEGER (0..255) DEFAULT 7, c NULL OPTIONAL} | c0ff08 | Seq {Bool true, Int 8, Null, } {} {}
+SEQUENCE {a BOOLEAN, b INTEGER (0..255) DEFAULT 7, c NULL OPTIONAL, ...} | 00ff | Seq {Bool true, -, -, } {} {}
+SEQUENCE {a BOOLEAN, b INTEGER (0..255) DEFAULT 7, c NULL OPTIONAL, ...} | 40ff07 | Seq {Bool true, Int 7, -, } {} {}
+SEQUENCE {s SEQUENCE {b BOOLEAN DEFAULT TRUE} DEFAULT {}} | 00 | Seq {-, } {} {}
+SEQUENCE {s SEQUENCE {b BOOLEAN DEFAULT TRUE} DEFAULT {}} | 8000 | Seq {Seq {-, } {} {}, } {} {}
+SEQUENCE {s SEQUENCE {b BOOLEAN DEFAULT TRUE} DEFAULT {}} | 8080ff | Seq {Seq {Bool true, } {} {}, } {} {}
+SEQUENCE {s SEQUENCE {b BOOLEAN DEFAULT TRUE} DEFAULT {}} | 808000 | Seq {Seq {Bool false, } {} {}, } {} {}
+SEQUENCE {a BOOLEAN, ..., x INTEGER (0..255), y BOOLEAN} | 00ff | Seq {Bool true, } {-, -, } {}
+SEQUENCE {a BOOLEAN, ..., x INTEGER (0..255), y BOOLEAN} | 80ff0206800109 | Seq {Bool true, } {Int 9, -, } {}
+SEQUENCE {a BOOLEAN, ..., x INTEGER (0..255), y BOOLEAN} | 80ff020430010900 | Seq {Bool true, } {-, -, } {2 09, 3 , }
+SEQUENCE {a BOOLEAN, ..., x INTEGER (0..255), y BOOLEAN} | 80ff020020810109 | Seq {Bool true, } {-, -, } {2 09, }
+CHOICE {a NULL, ..., b OCTET STRING} | 8103026162 | Chosen Context 1 Octets 6162
+CHOICE {a NULL, ..., b OCTET STRING} | 85810101 | Foreign Context 5 01
+BIT STRING | 0204af | Bits 4 a0
+OBJECT IDENTIFIER | 062a864886f70d | Oid 1 2 840 113549
+~SEQUENCE OF *31~BOOLEAN | ~0101*31~ff | ~List {*31~Bool true~, }*31";
+
+fn is_value(at: Global, row: &str) -> Result<(), Fail> {
+    let whole = expanded(at, row)?;
+    let (kind, rest) = whole.as_str().split_once(" | ").ok_or("a type")?;
+    let (digits, want) = rest.split_once(" | ").ok_or("octets")?;
+    let octets = octets(at, digits)?;
+    let mut reader = Metered::new(octets.as_slice());
+    let came = read(at, &schema_of(at, kind)?, &mut reader, u64::MAX)?;
+    is_wanted(row, drawn_value(at, &came)?.as_str(), want)
+}
+
+#[test]
+fn are_these_values(rt: HostRuntime) -> Result<(), Fail> {
+    each(rt.alloc(), READ, is_value)
 }

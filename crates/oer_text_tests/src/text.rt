@@ -1,5 +1,5 @@
 //! Texts that spell types, and those that spell none.
-use oer_text::{TextFault, TextWhy, parse_type, parse_types};
+use oer_text::{TextFault, TextWhy, parse_type, parse_types, print_type};
 use oer_types::SchemaFault;
 use std::alloc::Global;
 use std::process::Abort;
@@ -134,29 +134,59 @@ fn refused_definitions(rt: HostRuntime) -> Result<(), Fail> {
     Ok(())
 }
 
-/// Texts that spell a well-formed type.
-#[test]
-fn takes(rt: HostRuntime) {
-    for text in [
-        " INTEGER(-5 .. MAX) -- five -- ",
-        "INTEGER (7)",
-        "SEQUENCE {a BOOLEAN, b INTEGER (0..255) DEFAULT 7, c NULL OPTIONAL, ...}",
-        "SEQUENCE {}",
-        "SEQUENCE {...}",
-        "SEQUENCE {..., a NULL OPTIONAL, b NULL}",
-        "SEQUENCE {a ENUMERATED {b, ..., c} DEFAULT c, d BOOLEAN DEFAULT FALSE, e NULL DEFAULT NULL}",
-        "SEQUENCE {a OCTET STRING DEFAULT '0aFF'H, b BIT STRING (SIZE(12)) DEFAULT 'ABC'H, c BIT STRING (SIZE(9)) DEFAULT '110000001'B}",
-        "SEQUENCE {a IA5String (SIZE(3)) DEFAULT \"a\"\"b\", b OBJECT IDENTIFIER DEFAULT {1 2 840}}",
-        "SEQUENCE SIZE(1..4) OF SEQUENCE (SIZE(0..MAX)) OF UTF8String",
-        "CHOICE {a [62] NULL, b [APPLICATION 63] NULL, ..., c [PRIVATE 200] VisibleString}",
-        "CHOICE {a NULL, ...}",
-        "/* /* */ */ ENUMERATED {a(5), b(128), c(-1)}--x\n",
-    ] {
-        match parse_type(rt.alloc(), text) {
-            Ok(_) => (),
-            Err(fault) => panic!(rt; "{text}: {fault}"),
-        }
+/// The whole text of the type that a text spells, or the fault.
+fn whole(at: Global, text: &str) -> Result<String, Fail> {
+    match parse_type(at, text) {
+        Ok(schema) => Ok(print_type(at, &schema)?),
+        Err(fault) => Ok(format!(in at; "{fault}")?),
     }
+}
+
+/// Texts that spell a well-formed type, and its whole text.
+#[test]
+fn takes(rt: HostRuntime) -> Result<(), Fail> {
+    for (text, want) in [
+        (" INTEGER(-5 .. MAX) -- five -- ", "INTEGER (-5..MAX)"),
+        ("INTEGER (7)", "INTEGER (7)"),
+        (
+            "SEQUENCE {a BOOLEAN, b INTEGER (0..255) DEFAULT 7, c NULL OPTIONAL, ...}",
+            "SEQUENCE {a BOOLEAN, b INTEGER (0..255) DEFAULT 7, c NULL OPTIONAL, ...}",
+        ),
+        ("SEQUENCE {}", "SEQUENCE {}"),
+        ("SEQUENCE {...}", "SEQUENCE {...}"),
+        (
+            "SEQUENCE {..., a NULL OPTIONAL, b NULL}",
+            "SEQUENCE {..., a NULL, b NULL}",
+        ),
+        (
+            "SEQUENCE {a ENUMERATED {b, ..., c} DEFAULT c, d BOOLEAN DEFAULT FALSE, e NULL DEFAULT NULL}",
+            "SEQUENCE {a ENUMERATED {b(0), c(1), ...} DEFAULT c, d BOOLEAN DEFAULT FALSE, e NULL DEFAULT NULL}",
+        ),
+        (
+            "SEQUENCE {a OCTET STRING DEFAULT '0aFF'H, b BIT STRING (SIZE(12)) DEFAULT 'ABC'H, c BIT STRING (SIZE(9)) DEFAULT '110000001'B}",
+            "SEQUENCE {a OCTET STRING DEFAULT '0AFF'H, b BIT STRING (SIZE(12)) DEFAULT '101010111100'B, c BIT STRING (SIZE(9)) DEFAULT '110000001'B}",
+        ),
+        (
+            "SEQUENCE {a IA5String (SIZE(3)) DEFAULT \"a\"\"b\", b OBJECT IDENTIFIER DEFAULT {1 2 840}}",
+            "SEQUENCE {a IA5String (SIZE(3)) DEFAULT \"a\"\"b\", b OBJECT IDENTIFIER DEFAULT {1 2 840}}",
+        ),
+        (
+            "SEQUENCE SIZE(1..4) OF SEQUENCE (SIZE(0..MAX)) OF UTF8String",
+            "SEQUENCE (SIZE(1..4)) OF SEQUENCE OF UTF8String",
+        ),
+        (
+            "CHOICE {a [62] NULL, b [APPLICATION 63] NULL, ..., c [PRIVATE 200] VisibleString}",
+            "CHOICE {a [62] NULL, b [APPLICATION 63] NULL, ..., c [PRIVATE 200] VisibleString}",
+        ),
+        ("CHOICE {a NULL, ...}", "CHOICE {a [0] NULL, ...}"),
+        (
+            "/* /* */ */ ENUMERATED {a(5), b(128), c(-1)}--x\n",
+            "ENUMERATED {a(5), b(128), c(-1)}",
+        ),
+    ] {
+        assert_eq!(rt; whole(rt.alloc(), text)?.as_str(), want, "{text}");
+    }
+    Ok(())
 }
 
 /// The type that a text of nested definitions gives a Name, if any.
@@ -184,23 +214,28 @@ fn defines(rt: HostRuntime) -> Result<(), Fail> {
     Ok(())
 }
 
-/// A text of so many `SEQUENCE OF` before `BOOLEAN`, and the place where it is refused, if it is.
-fn refused_at(rt: &HostRuntime, count: u16) -> Option<usize> {
-    let mut text = String::new(rt.alloc());
+/// What is answered of a text of so many `SEQUENCE OF` before `BOOLEAN`: `none`, or the fault.
+fn deep(at: Global, count: u16) -> Result<String, Fail> {
+    let mut text = String::new(at);
     for _ in 0..count {
-        text.push_str("SEQUENCE OF ").ok()?;
+        text.push_str("SEQUENCE OF ")?;
     }
-    text.push_str("BOOLEAN").ok()?;
-    match parse_type(rt.alloc(), &text) {
-        Ok(_) => None,
-        Err(fault) => Some(fault.at),
+    text.push_str("BOOLEAN")?;
+    match parse_type(at, &text) {
+        Ok(_) => Ok(String::from_str(at, "none")?),
+        Err(TextFault { at: place, why }) => Ok(format!(in at; "{why:?} at {place}")?),
     }
 }
 
 /// A type that is too deep is refused while it is read.
 #[test]
-fn refuses_deep_types(rt: HostRuntime) {
-    assert_eq!(rt; refused_at(&rt, 31), None);
-    assert_eq!(rt; refused_at(&rt, 32), Some(384));
-    assert_eq!(rt; refused_at(&rt, 10000), Some(384));
+fn refuses_deep_types(rt: HostRuntime) -> Result<(), Fail> {
+    for (count, want) in [
+        (31, "none"),
+        (32, "Schema(TooDeep) at 384"),
+        (10000, "Schema(TooDeep) at 384"),
+    ] {
+        assert_eq!(rt; deep(rt.alloc(), count)?.as_str(), want, "{count}");
+    }
+    Ok(())
 }
