@@ -164,13 +164,14 @@ among_help kinds kind among (inl is) = inl (subst (λ k. IsAmong k kinds) is amo
 among_help kinds kind among (inr is) = inr (subst (λ k. IsAmong k kinds) is among)
 
 -- Words that are not taken.
-pub not_taken : (words : List Text) (untouched : Type 0) (e : Error) (status : ℕ) (s : Streams) → IsAmong (kind_of e) (fault_of oer words) → (takes oer words ≡ true → kind_of e ≡ OutOfMemory) → (kind_of e ≡ OutOfMemory → status ≡ 3)
+pub not_taken : (words : List Text) (untouched : Type 0) (e : Error) (status : ℕ) (s : Streams) → IsAmong (kind_of e) (fault_of oer words) → (takes oer words ≡ true → kind_of e ≡ OutOfMemory) → (kind_of e ≡ OutOfMemory → status ≡ 3) → (kind_of e ≡ OutOfMemory → Keeps s.output s.output')
     → (status ≡ 0 → (kind_of e ≡ DisplayHelp) ⊎ (kind_of e ≡ DisplayVersion)) → (status ≡ 0 → Keeps s.errors s.errors') → (1 ≤ status → status ≤ 2 → status ≡ 2) → (1 ≤ status → status ≤ 2 → Keeps s.output s.output')
     → (status ≡ 3 → Reports Memory 3 s.errors s.errors' ⊎ Reports Output 3 s.errors s.errors') → untouched → IsNotTaken words untouched status s
-not_taken words untouched e status s among passes memory shows alone two quiet failed same = record {
+not_taken words untouched e status s among passes memory kept shows alone two quiet failed same = record {
   refused = λ small taken. (let three = memory (passes taken) in omega (arith, small, three));
   help = λ none. (among_help (fault_of oer words) (kind_of e) among (shows none), alone none);
   said = λ low high. (two low high, quiet low high);
+  unwritten = λ taken. kept (passes taken);
   machine = λ three. by (failed three);
   keeps = same;
 } where
@@ -193,4 +194,4 @@ pub words_end : (words : List Text) (told : Option (List ℕ)) (untouched : Type
     → (1 ≤ status → status ≤ 2 → Keeps s.output s.output') → (status ≡ 3 → Reports Memory 3 s.errors s.errors' ⊎ Reports Output 3 s.errors s.errors') → (kind_of e ≡ OutOfMemory → Keeps s.output s.output')
     → (kind_of e ≡ OutOfMemory → Reports Memory 3 s.errors s.errors') → untouched → IsUnstarted untouched status s ⊎ Does words told untouched status s ⊎ IsNotTaken words untouched status s
 words_end words told untouched e status s (inl kind) passes memory shows alone two quiet failed kept line same = inl (memory kind, same, kept kind, unread_end 3 s.errors s.errors' (line kind))
-words_end words told untouched e status s (inr among) passes memory shows alone two quiet failed kept line same = inr (inr (not_taken words untouched e status s among passes memory shows alone two quiet failed same))
+words_end words told untouched e status s (inr among) passes memory shows alone two quiet failed kept line same = inr (inr (not_taken words untouched e status s among passes memory kept shows alone two quiet failed same))

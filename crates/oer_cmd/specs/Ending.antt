@@ -22,8 +22,8 @@ pub record Streams : Type 0 where
 abbrev pub refusal_line : Text → Text
 refusal_line text = codes "oer: " ++ text ++ 10 ∷ []
 
--- The answer that is expected is given: a line on the output and nothing on the errors; or nothing on the output, and on the errors the line
--- of the refusal, of which errors that fail hold a front.
+-- The answer that is expected is given: a line on the output and nothing on the errors; or nothing on the output, and on the errors the
+-- line of the refusal, or a front of it, where they fail.
 abbrev pub Answers : Expected Text → ℕ → Streams → Type 0
 Answers unknown status s = ⊤
 Answers (value line) status s = (status ≡ 0) × Appends s.output s.output' (line ++ 10 ∷ []) × Keeps s.errors s.errors'
@@ -41,17 +41,21 @@ IsMachineLine line = (line ≡ error_line Input) ⊎ (line ≡ error_line Output
 
 -- The output is as it was; or it failed, and grew by a front of the line that is expected.
 abbrev pub HoldsFront : Expected Text → Streams → Type 0
-HoldsFront expected s = Keeps s.output s.output' ⊎ ((line : Text) × MayPrint expected line × AppendsFront s.output s.output' (line ++ 10 ∷ []))
+HoldsFront expected s =
+    Keeps s.output s.output' ⊎ ((line : Text) × MayPrint expected line × AppendsFront s.output s.output' (line ++ 10 ∷ []))
 
 -- The machine failed, and the errors say so.
 abbrev pub Breaks : Expected Text → ℕ → Streams → Type 0
-Breaks expected status s = (status ≡ 3) × HoldsFront expected s × ((line : Text) × IsMachineLine line × AppendsFront s.errors s.errors' line)
+Breaks expected status s =
+    (status ≡ 3) × HoldsFront expected s × ((line : Text) × IsMachineLine line × AppendsFront s.errors s.errors' line)
 
 -- Memory for the words was refused, and the errors say so; all else is as it was.
 abbrev pub IsUnstarted : Type 0 → ℕ → Streams → Type 0
-IsUnstarted untouched status s = (status ≡ 3) × untouched × Keeps s.output s.output' × AppendsFront s.errors s.errors' (error_line Memory)
+IsUnstarted untouched status s =
+    (status ≡ 3) × untouched × Keeps s.output s.output' × AppendsFront s.errors s.errors' (error_line Memory)
 
--- The words ask for these options, and their answer is given, or the machine failed. Where they have the octets or the JSON, the input is untouched.
+-- The words ask for these options, and their answer is given, or the machine failed. Where they have the octets or the JSON, the input is
+-- untouched.
 pub record Does (words : List Text) (told : Option (List ℕ)) (untouched : Type 0) (status : ℕ) (s : Streams) : Type 0 where
   pub options : Options
   pub asks : Asks words options
@@ -64,16 +68,19 @@ abbrev pub AsksForHelp : List Text → Type 0
 AsksForHelp words = IsAmong DisplayHelp (fault_of oer words) ⊎ IsAmong DisplayVersion (fault_of oer words)
 
 -- The words are not taken. They ask for help, which is on the output, with status 0, and nothing is on the errors; or the errors say what is
--- wrong with them, with status 2, and nothing is on the output; or the machine failed. What is said is not fixed.
+-- wrong with them, with status 2, and nothing is on the output; or the machine failed. What is said is not fixed. Of words that are taken
+-- nothing but this last holds, and the output is as it was.
 pub record IsNotTaken (words : List Text) (untouched : Type 0) (status : ℕ) (s : Streams) : Type 0 where
   pub refused : status ≤ 2 → takes oer words ≡ true → ⊥
   pub help : status ≡ 0 → AsksForHelp words × Keeps s.errors s.errors'
   pub said : 1 ≤ status → status ≤ 2 → (status ≡ 2) × Keeps s.output s.output'
+  pub unwritten : takes oer words ≡ true → Keeps s.output s.output'
   pub machine : status ≡ 3 → (line : Text) × IsMachineLine line × AppendsFront s.errors s.errors' line
   pub keeps : untouched
 
 -- What the program does. told: what the input had left, if it is known; untouched: the input is as it was.
-abbrev pub Ends : List Text → Option (List ℕ) → Type 0 → ℕ → Option (List ℕ) → Option (List ℕ) → Option (List ℕ) → Option (List ℕ) → Type 0
+abbrev pub Ends : List Text → Option (List ℕ) → Type 0 → ℕ
+    → Option (List ℕ) → Option (List ℕ) → Option (List ℕ) → Option (List ℕ) → Type 0
 Ends words told untouched status output output' errors errors' =
     let s : Streams = record { output = output; output' = output'; errors = errors; errors' = errors' } in
     IsUnstarted untouched status s ⊎ Does words told untouched status s ⊎ IsNotTaken words untouched status s
