@@ -1,6 +1,6 @@
 //! Octets of each vector that are cut short, and limits that are too small for them.
-use crate::shared::{Devices, expect, ran};
-use crate::vectors::{ACCEPTED, columns, digits};
+use crate::shared::{Devices, columns, expect, ran};
+use crate::vectors::{ACCEPTED, digits};
 use std::alloc::Global;
 use std::process::Abort;
 use std::test::Fail;

@@ -1,6 +1,6 @@
 //! Runs whose input, output or errors fail, give or take little, or end.
 use crate::devices::{Reader, Stop, StopAt, Writer};
-use crate::shared::{Devices, ran, says};
+use crate::shared::{Devices, columns, ran, says};
 use std::alloc::Global;
 use std::process::Abort;
 use std::test::Fail;
@@ -39,8 +39,7 @@ struct Case<'t> {
 }
 
 fn case_of<'t, R: Abort>(rt: &R, alloc: Global, row: &'t str) -> Result<Case<'t>, Fail> {
-    let (input, rest) = row.split_once(" | ").expect(rt, "an input");
-    let (line, words) = rest.split_once(" | ").expect(rt, "a line");
+    let (input, line, words) = columns(rt, row);
     let input = if words.starts_with("make") {
         input.as_bytes().to_vec(alloc)?
     } else {
@@ -219,8 +218,7 @@ fn help_fails(rt: HostRuntime) -> Result<(), Fail> {
 // A run that fails. Its errors take one octet a call, and stop at one of their calls if at any: the
 // status stands, and what they took is a front of the line.
 fn reports<R: Abort>(rt: &R, alloc: Global, row: &str, stop: StopAt) -> Result<(), Fail> {
-    let (status, rest) = row.split_once(" | ").expect(rt, "a status");
-    let (line, words) = rest.split_once(" | ").expect(rt, "a line");
+    let (status, line, words) = columns(rt, row);
     let line = format!(in alloc; "{line}\n")?;
     let mut on = Devices::new(alloc, &[]);
     on.input = Reader::slow(&[], Some((0, Stop::Fails)));
@@ -240,8 +238,7 @@ fn reports<R: Abort>(rt: &R, alloc: Global, row: &str, stop: StopAt) -> Result<(
 
 // Runs whose errors stop at each octet of the line, and at none.
 fn reports_slowly<R: Abort>(rt: &R, alloc: Global, row: &str) -> Result<(), Fail> {
-    let (_, rest) = row.split_once(" | ").expect(rt, "a status");
-    let (line, _) = rest.split_once(" | ").expect(rt, "a line");
+    let (_, line, _) = columns(rt, row);
     for call in 0..=line.len() {
         for stop in STOPS {
             reports(rt, alloc, row, Some((call, stop)))?;
@@ -276,8 +273,7 @@ fn errors_of_refused_words(rt: HostRuntime) -> Result<(), Fail> {
 
 // A run that fails, with its line in one write.
 fn reports_once<R: Abort>(rt: &R, alloc: Global, row: &str) -> Result<(), Fail> {
-    let (status, rest) = row.split_once(" | ").expect(rt, "a status");
-    let (line, words) = rest.split_once(" | ").expect(rt, "a line");
+    let (status, line, words) = columns(rt, row);
     let mut on = Devices::new(alloc, &[]);
     on.input = Reader::slow(&[], Some((0, Stop::Fails)));
     let ended = ran(alloc, words, &mut on)?;

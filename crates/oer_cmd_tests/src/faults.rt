@@ -1,6 +1,6 @@
 //! Every line that says why there is no answer. The three of status 3 stand in `failing`, but for the
 //! one on memory, which no test here can want.
-use crate::shared::expect;
+use crate::shared::{columns, expect};
 use std::alloc::Global;
 use std::process::Abort;
 use std::test::Fail;
@@ -88,8 +88,7 @@ fn expanded(alloc: Global, words: &str) -> Result<String, Fail> {
 
 // A run fails so, by a row of the table.
 fn fails<R: Abort>(rt: &R, alloc: Global, row: &str) -> Result<(), Fail> {
-    let (status, rest) = row.split_once(" | ").expect(rt, "a status");
-    let (line, words) = rest.split_once(" | ").expect(rt, "a line");
+    let (status, line, words) = columns(rt, row);
     let words = expanded(alloc, words)?;
     let status = status.parse::<u8>()?;
     expect(rt, alloc, words.as_str(), &[], status, line)

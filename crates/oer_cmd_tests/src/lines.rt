@@ -1,5 +1,5 @@
 //! What runs of the program write, and their statuses.
-use crate::shared::{Devices, expect, ran};
+use crate::shared::{Devices, columns, expect, ran};
 use std::alloc::Global;
 use std::process::Abort;
 use std::test::Fail;
@@ -194,8 +194,7 @@ canon | BOOLEAN";
 
 // What a run of the task writes, by a row of a table.
 fn answers<R: Abort>(rt: &R, alloc: Global, task: &str, row: &str) -> Result<(), Fail> {
-    let (status, rest) = row.split_once(" | ").expect(rt, "a status");
-    let (line, options) = rest.split_once(" | ").expect(rt, "a text");
+    let (status, line, options) = columns(rt, row);
     let words = format!(in alloc; "{task} | {options}")?;
     let status = status.parse::<u8>()?;
     expect(rt, alloc, words.as_str(), &[7u8; 7], status, line)

@@ -24,6 +24,13 @@ impl<'a> Devices<'a> {
     }
 }
 
+/// The three columns of a row that ` | ` separates; the third has all that is left.
+pub fn columns<'t, R: Abort>(rt: &R, row: &'t str) -> (&'t str, &'t str, &'t str) {
+    let (first, rest) = row.split_once(" | ").expect(rt, "a second column");
+    let (second, third) = rest.split_once(" | ").expect(rt, "a third column");
+    (first, second, third)
+}
+
 /// The words that ` | ` separates, behind the program's name.
 pub fn words_of(alloc: Global, text: &str) -> Result<Vec<String>, Fail> {
     let mut words = Vec::new(alloc);

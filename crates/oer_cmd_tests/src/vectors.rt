@@ -1,6 +1,6 @@
 //! Octets, and what `canon` makes of them.
 use crate::cut::cuts;
-use crate::shared::{Devices, expect, ran};
+use crate::shared::{Devices, columns, expect, ran};
 use std::alloc::Global;
 use std::process::Abort;
 use std::test::Fail;
@@ -156,13 +156,6 @@ pub fn digits(alloc: Global, column: &str) -> Result<String, Fail> {
         }
     }
     Ok(digits)
-}
-
-/// The columns of a row.
-pub fn columns<'t, R: Abort>(rt: &R, row: &'t str) -> (&'t str, &'t str, &'t str) {
-    let (kind, rest) = row.split_once(" | ").expect(rt, "a type");
-    let (octets, line) = rest.split_once(" | ").expect(rt, "octets");
-    (kind, octets, line)
 }
 
 // A run of `show` prints a line for a value of the type.
