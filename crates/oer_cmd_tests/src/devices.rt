@@ -15,12 +15,12 @@ pub enum Stop {
 }
 
 impl Stop {
-    // What the call answers.
-    fn answer(self) -> io::Result<usize> {
+    // The error of the call, if it answers one.
+    fn answer(self) -> io::Result<()> {
         match self {
             Stop::Fails => Err(Error::from(ErrorKind::Other)),
             Stop::IsInterrupted => Err(Error::from(ErrorKind::Interrupted)),
-            Stop::Ends => Ok(0),
+            Stop::Ends => Ok(()),
         }
     }
 }
@@ -83,7 +83,8 @@ impl<'a> Reader<'a> {
 impl Read for Reader<'_> {
     fn read(&mut self, into: &mut [u8]) -> io::Result<usize> {
         if let Some(stop) = self.calls.next() {
-            return stop.answer();
+            stop.answer()?;
+            return Ok(0);
         }
         let count = into.len().min(self.most).min(self.octets.len());
         let (now, later) = self.octets.split_at(count);
@@ -137,7 +138,8 @@ impl Writer {
 impl Write for Writer {
     fn write(&mut self, from: &[u8]) -> io::Result<usize> {
         if let Some(stop) = self.calls.next() {
-            return stop.answer();
+            stop.answer()?;
+            return Ok(0);
         }
         let count = from.len().min(self.most);
         if self.held.extend_from_slice(&from[..count]).is_err() {
@@ -147,9 +149,9 @@ impl Write for Writer {
     }
 
     fn flush(&mut self) -> io::Result<()> {
-        if let Some(stop) = self.flushes.next() {
-            stop.answer()?;
+        match self.flushes.next() {
+            Some(stop) => stop.answer(),
+            None => Ok(()),
         }
-        Ok(())
     }
 }
