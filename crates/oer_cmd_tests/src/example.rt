@@ -1,5 +1,6 @@
 //! The commands of examples/ieee1609dot2/README.md, as calls of `run`. `examples/check` compares the
 //! texts here with the files there.
+use crate::cut::is_cut;
 use crate::shared::expect;
 use std::alloc::Global;
 use std::process::Abort;
@@ -424,6 +425,17 @@ fn newer_types(rt: HostRuntime) -> Result<(), Fail> {
     let relayed = "8001240204200101";
     for digits in [relayed, "8001240205200101"] {
         rewrites(&rt, alloc, &types, ("NewerHeaderInfo", digits, relayed))?;
+    }
+    Ok(())
+}
+
+#[test]
+fn cut_certificate(rt: HostRuntime) -> Result<(), Fail> {
+    let alloc = rt.alloc();
+    let octets = hex::decode(alloc, BASIC)?;
+    let words = format!(in alloc; "canon | --name=Certificate | --types={TYPES}")?;
+    for count in (0..octets.len()).step_by(9) {
+        is_cut(&rt, alloc, words.as_str(), octets.as_slice(), count)?;
     }
     Ok(())
 }

@@ -2,9 +2,15 @@
 #![tactic(auto)]
 
 #[cfg(test)]
+mod cut;
+#[cfg(test)]
+mod devices;
+#[cfg(test)]
 mod example;
 #[cfg(test)]
 mod failing;
+#[cfg(test)]
+mod faults;
 #[cfg(test)]
 mod input;
 #[cfg(test)]

@@ -1,5 +1,5 @@
 //! What runs of the program write, and their statuses.
-use crate::shared::{expect, ran};
+use crate::shared::{Devices, columns, expect, ran};
 use std::alloc::Global;
 use std::process::Abort;
 use std::test::Fail;
@@ -64,6 +64,11 @@ const SHOWN: &str =
     "0 | {\"a\":true,\"b\":8,\"c\":null} | --type=SEQUENCE {a BOOLEAN, b INTEGER (0..255) DEFAULT 7, c NULL OPTIONAL, ...} | --hex=60ff08
 0 | {\"#2\":\"09\",\"a\":true} | --type=SEQUENCE {a BOOLEAN, ..., x INTEGER (0..255), y BOOLEAN} | --hex=80ff0205200109
 0 | {\"#c5\":\"0102\"} | --type=CHOICE {a NULL, ..., b OCTET STRING} | --hex=85020102
+0 | {\"#2\":\"09\",\"#3\":\"\",\"a\":true} | --type=SEQUENCE {a BOOLEAN, ..., x INTEGER (0..255), y BOOLEAN} | --hex=80ff020430010900
+0 | {\"#2\":\"09\",\"a\":true} | --type=SEQUENCE {a BOOLEAN, ..., x INTEGER (0..255), y BOOLEAN} | --hex=80ff020020810109
+0 | {\"a\":true,\"x\":9} | --type=SEQUENCE {a BOOLEAN, ..., x INTEGER (0..255), y BOOLEAN} | --hex=80ff0206800109
+0 | {\"a\":true,\"x\":9} | --type=SEQUENCE {a BOOLEAN, ..., x INTEGER (0..255), y BOOLEAN} | --hex=80ff0207800109
+0 | {\"#c5\":\"01\"} | --type=CHOICE {a NULL, ..., b OCTET STRING} | --hex=85810101
 0 | \"A-?\" | --type=PrintableString | --hex=03412d3f
 0 | \"07070707070707\" | --type=OCTET STRING (SIZE(7))
 0 | [7,7] | --types=A ::= INTEGER (0..255) B ::= SEQUENCE OF A | --name=B | --hex=01020707
@@ -78,6 +83,13 @@ const SHOWN: &str =
 const CHECKED: &str =
     "0 | canonical 7 | --type=SEQUENCE {a BOOLEAN, ..., x INTEGER (0..255), y BOOLEAN} | --hex=80ff0206800109
 0 | basic 7 | --type=SEQUENCE {a BOOLEAN, ..., x INTEGER (0..255), y BOOLEAN} | --hex=80ff0207800109
+0 | canonical 7 | --type=SEQUENCE {a BOOLEAN, ..., x INTEGER (0..255), y BOOLEAN} | --hex=80ff0205200109
+0 | canonical 8 | --type=SEQUENCE {a BOOLEAN, ..., x INTEGER (0..255), y BOOLEAN} | --hex=80ff020430010900
+0 | basic 8 | --type=SEQUENCE {a BOOLEAN, ..., x INTEGER (0..255), y BOOLEAN} | --hex=80ff020020810109
+0 | canonical 4 | --type=CHOICE {a NULL, ..., b OCTET STRING} | --hex=85020102
+0 | basic 4 | --type=CHOICE {a NULL, ..., b OCTET STRING} | --hex=85810101
+0 | basic 7 | --type=SEQUENCE {a BOOLEAN, ...} | --hex=80ff0206800109
+0 | canonical 7 | --type=SEQUENCE {a BOOLEAN, ...} | --hex=80ff0207800109
 1 | oer: octets follow the value at 2 | --type=SEQUENCE {a BOOLEAN, ..., x INTEGER (0..255), y BOOLEAN} | --hex=00ffaa
 1 | oer: End at 2 | --type=SEQUENCE {a BOOLEAN, ..., x INTEGER (0..255), y BOOLEAN} | --hex=80ff
 1 | oer: input longer than 1 | --type=SEQUENCE {a BOOLEAN, ..., x INTEGER (0..255), y BOOLEAN} | --limit=1 | --hex=00ff
@@ -115,6 +127,19 @@ const MADE: &str =
 2 | oer: json: Misfit | --type=INTEGER (0..5) | --json=6
 2 | oer: json: Kind | --type=OCTET STRING | --json=\"ABc\"
 2 | oer: json: Kind | --type=CHOICE {a NULL, ..., b OCTET STRING} | --json={}
+0 | 80ff0205200109 | --type=SEQUENCE {a BOOLEAN, ..., x INTEGER (0..255), y BOOLEAN} | --json={\"#2\":\"09\",\"a\":true}
+0 | 80ff0305202001090101 | --type=SEQUENCE {a BOOLEAN, ..., x INTEGER (0..255), y BOOLEAN} | --json={\"a\":true,\"#10\":\"01\",\"#2\":\"09\"}
+2 | oer: json: Misfit | --type=SEQUENCE {a BOOLEAN, ..., x INTEGER (0..255), y BOOLEAN} | --json={\"a\":true,\"#1\":\"00\"}
+2 | oer: json: Name | --type=SEQUENCE {a BOOLEAN, ..., x INTEGER (0..255), y BOOLEAN} | --json={\"a\":true,\"#02\":\"00\"}
+2 | oer: json: Range | --type=SEQUENCE {a BOOLEAN, ..., x INTEGER (0..255), y BOOLEAN} | --json={\"a\":true,\"#65536\":\"00\"}
+2 | oer: json: Kind | --type=SEQUENCE {a BOOLEAN, ..., x INTEGER (0..255), y BOOLEAN} | --json={\"a\":true,\"#2\":0}
+2 | oer: json: Name | --type=SEQUENCE {a BOOLEAN} | --json={\"#2\":\"00\",\"a\":true}
+2 | oer: json: Name | --type=CHOICE {a [62] NULL, b [63] NULL, c [200] NULL} | --json={\"#c5\":\"\"}
+2 | oer: json: Misfit | --type=CHOICE {a NULL, ..., b OCTET STRING} | --json={\"#c1\":\"\"}
+0 | 85020102 | --type=CHOICE {a NULL, ..., b OCTET STRING} | --json={\"#c5\":\"0102\"}
+2 | oer: json: Range | --type=CHOICE {a NULL, ..., b OCTET STRING} | --json={\"#c4294967296\":\"\"}
+2 | oer: json: Range | --type=ENUMERATED {a(5), ...} | --json=9223372036854775808
+2 | oer: json: Range | --type=OBJECT IDENTIFIER | --json=\"1.2.340282366920938463463374607431768211456\"
 0 | 01fb | --type=INTEGER | --json=-5
 0 | 01fb | --types=A ::= INTEGER | --name=A | --limit=2 | --json=-5
 2 | oer: json: not JSON | --type=INTEGER | --json=
@@ -137,6 +162,12 @@ const PARTS: &str =
 0 | 09 | --type=SEQUENCE {a BOOLEAN, ..., x INTEGER (0..255), y BOOLEAN} | --hex=80ff0207800109 | --path=a0
 0 | 026162 | --type=CHOICE {a NULL, ..., b OCTET STRING} | --hex=8103026162 | --path=v
 1 | oer: NoSuchStep | --type=CHOICE {a NULL, ..., b OCTET STRING} | --hex=8103026162 | --path=c0
+0 | 09 | --type=SEQUENCE {a BOOLEAN, ..., x INTEGER (0..255), y BOOLEAN} | --hex=80ff0205200109 | --path=a2
+1 | oer: NoSuchStep | --type=SEQUENCE {a BOOLEAN, ..., x INTEGER (0..255), y BOOLEAN} | --hex=80ff0205200109 | --path=a2.v
+1 | oer: NoSuchStep | --type=SEQUENCE {a BOOLEAN, ..., x INTEGER (0..255), y BOOLEAN} | --hex=80ff0205200109 | --path=a3
+1 | oer: Absent | --type=SEQUENCE {a BOOLEAN, ..., x INTEGER (0..255), y BOOLEAN} | --hex=80ff0205200109 | --path=a0
+0 | 0102 | --type=CHOICE {a NULL, ..., b OCTET STRING} | --hex=85020102 | --path=v
+1 | oer: NoSuchStep | --type=CHOICE {a NULL, ..., b OCTET STRING} | --hex=85020102 | --path=v.c0
 0 | 00 | --type=SEQUENCE OF BOOLEAN | --hex=0102ff00 | --path=i1
 1 | oer: NoSuchStep | --type=SEQUENCE OF BOOLEAN | --hex=0102ff00 | --path=i2
 1 | oer: NoSuchStep | --type=SEQUENCE OF BOOLEAN | --hex=0102ff00 | --path=i18446744073709551615
@@ -163,8 +194,7 @@ canon | BOOLEAN";
 
 // What a run of the task writes, by a row of a table.
 fn answers<R: Abort>(rt: &R, alloc: Global, task: &str, row: &str) -> Result<(), Fail> {
-    let (status, rest) = row.split_once(" | ").expect(rt, "a status");
-    let (line, options) = rest.split_once(" | ").expect(rt, "a text");
+    let (status, line, options) = columns(rt, row);
     let words = format!(in alloc; "{task} | {options}")?;
     let status = status.parse::<u8>()?;
     expect(rt, alloc, words.as_str(), &[7u8; 7], status, line)
@@ -219,19 +249,23 @@ fn part(rt: HostRuntime) -> Result<(), Fail> {
 fn refused_words(rt: HostRuntime) -> Result<(), Fail> {
     let alloc = rt.alloc();
     for words in REFUSED_WORDS.lines() {
-        let ended = ran(alloc, words, &[])?;
-        assert_eq!(rt; ended.status, 2, "{words}");
-        assert!(rt; ended.output.is_empty(), "{words}");
-        assert!(rt; !ended.errors.is_empty(), "{words}");
+        let mut on = Devices::new(alloc, &[7u8; 7]);
+        let ended = ran(alloc, words, &mut on)?;
+        assert_eq!(rt; ended, 2, "{words}");
+        assert!(rt; on.output.held.is_empty(), "{words}");
+        assert!(rt; !on.errors.held.is_empty(), "{words}");
+        assert_eq!(rt; on.input.calls.count, 0, "{words}");
     }
     Ok(())
 }
 
 #[test]
 fn help(rt: HostRuntime) -> Result<(), Fail> {
-    let ended = ran(rt.alloc(), "--help", &[])?;
-    assert_eq!(rt; ended.status, 0);
-    assert!(rt; !ended.output.is_empty());
-    assert!(rt; ended.errors.is_empty());
+    let mut on = Devices::new(rt.alloc(), &[7u8; 7]);
+    let ended = ran(rt.alloc(), "--help", &mut on)?;
+    assert_eq!(rt; ended, 0);
+    assert!(rt; !on.output.held.is_empty());
+    assert!(rt; on.errors.held.is_empty());
+    assert_eq!(rt; on.input.calls.count, 0);
     Ok(())
 }

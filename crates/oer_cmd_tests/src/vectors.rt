@@ -1,12 +1,13 @@
 //! Octets, and what `canon` makes of them.
-use crate::shared::{expect, ran};
+use crate::cut::cuts;
+use crate::shared::{Devices, columns, expect, ran};
 use std::alloc::Global;
 use std::process::Abort;
 use std::test::Fail;
 
 /// A type, octets, and what they are rewritten to; `00*15` stands for fifteen octets `00`, and `-` for
 /// none.
-const ACCEPTED: &str = "BOOLEAN | 01 | ff
+pub const ACCEPTED: &str = "BOOLEAN | 01 | ff
 BOOLEAN | 00 | 00
 INTEGER (0..MAX) | 020005 | 0105
 INTEGER (0..MAX) | 81020005 | 0105
@@ -138,8 +139,8 @@ CHOICE {c ?} | 80
 SEQUENCE {..., c ?} | 80020780!
 CHOICE {n NULL, ..., c ?} | 81!";
 
-// The digits that a column stands for.
-fn digits(alloc: Global, column: &str) -> Result<String, Fail> {
+/// The digits that a column stands for.
+pub fn digits(alloc: Global, column: &str) -> Result<String, Fail> {
     let mut digits = String::new(alloc);
     if column == "-" {
         return Ok(digits);
@@ -157,20 +158,14 @@ fn digits(alloc: Global, column: &str) -> Result<String, Fail> {
     Ok(digits)
 }
 
-// The columns of a row.
-fn columns<'t, R: Abort>(rt: &R, row: &'t str) -> (&'t str, &'t str, &'t str) {
-    let (kind, rest) = row.split_once(" | ").expect(rt, "a type");
-    let (octets, line) = rest.split_once(" | ").expect(rt, "octets");
-    (kind, octets, line)
-}
-
 // A run of `show` prints a line for a value of the type.
 fn shows<R: Abort>(rt: &R, alloc: Global, kind: &str, octets: &str) -> Result<(), Fail> {
     let words = format!(in alloc; "show | --type={kind} | --hex={octets}")?;
-    let ended = ran(alloc, words.as_str(), &[])?;
-    assert!(rt; ended.output.len() > 1, "{words}");
-    assert!(rt; ended.errors.is_empty(), "{words}");
-    assert_eq!(rt; ended.status, 0, "{words}");
+    let mut on = Devices::new(alloc, &[]);
+    let ended = ran(alloc, words.as_str(), &mut on)?;
+    assert!(rt; on.output.held.len() > 1, "{words}");
+    assert!(rt; on.errors.held.is_empty(), "{words}");
+    assert_eq!(rt; ended, 0, "{words}");
     Ok(())
 }
 
@@ -249,7 +244,7 @@ fn put_at(alloc: Global, place: &str, octets: &str) -> Result<String, Fail> {
     }
 }
 
-// A value of the type is rewritten where it stands in a value of the form.
+// A value of the type is rewritten where it stands in a value of the form, and refused where it is cut.
 fn rewrites_at<R: Abort>(
     rt: &R,
     alloc: Global,
@@ -266,7 +261,14 @@ fn rewrites_at<R: Abort>(
     let canonical = put_at(alloc, place, canonical)?;
     let (kind, octets) = (around.as_str(), octets.as_str());
     shows(rt, alloc, kind, octets)?;
-    rewrites(rt, alloc, kind, octets, canonical.as_str())
+    rewrites(rt, alloc, kind, octets, canonical.as_str())?;
+    let words = format!(in alloc; "canon | --type={kind}")?;
+    cuts(
+        rt,
+        alloc,
+        words.as_str(),
+        hex::decode(alloc, octets)?.as_slice(),
+    )
 }
 
 // Values of all kinds are rewritten at a place.
