@@ -15,7 +15,7 @@ quick:
 
 test:
 	@rm -rf out/side_by_side
-	rt ci
+	RT_JOBS=$${RT_JOBS-$$(tools/jobs)} rt ci
 	@mkdir -p bin
 	@cp crates/oer/out/oer bin/oer
 	@examples/check
