@@ -167,8 +167,9 @@ fn report<E: Write>(alloc: Global, fault: Fault<'_>, errors: &mut E) -> u8
     }
 }
 
-// Writes what `clap` says where it takes no words: help to the output with status 0, and all else to the
-// errors with status 2. Where memory was refused, or the output fails, it writes the line of that fault.
+// Writes in one call what `clap` says where it takes no words: help to the output with status 0, and all
+// else to the errors with status 2. Where memory was refused, or the output fails, it writes the line of
+// that fault.
 fn refused<W: Write, E: Write>(
     alloc: Global,
     error: &clap::Error,
@@ -193,11 +194,14 @@ fn refused<W: Write, E: Write>(
     if error.kind() == ErrorKind::OutOfMemory {
         return report(alloc, Fault::Memory, errors);
     }
+    let Ok(text) = format!(in alloc; "{error}") else {
+        return report(alloc, Fault::Memory, errors);
+    };
     if error.use_stderr() {
-        let _ = write!(errors, "{error}");
+        put_all(text.as_bytes(), errors);
         return 2;
     }
-    if write!(output, "{error}").is_err() || output.flush().is_err() {
+    if !put_all(text.as_bytes(), output) || output.flush().is_err() {
         return report(alloc, Fault::Output, errors);
     }
     0

@@ -28,7 +28,7 @@ impl Stop {
 /// Which call stops, counted from 0, and how.
 pub type StopAt = Option<(usize, Stop)>;
 
-/// The calls that came, and the one that stops. The calls behind it go on, so that a second try shows.
+/// The calls that came, and the one that stops. The calls after it go on, so that a second try shows.
 #[derive(Drop)]
 pub struct Calls {
     pub count: usize,

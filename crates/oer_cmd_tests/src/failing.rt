@@ -195,22 +195,38 @@ fn flush_stops(rt: HostRuntime) -> Result<(), Fail> {
     Ok(())
 }
 
+// Runs that print help, whose output takes one octet a call and stops in each way at one of them.
+fn help_stops_at<R: Abort>(rt: &R, alloc: Global, call: usize, front: &[u8]) -> Result<(), Fail> {
+    for stop in STOPS {
+        let mut on = Devices::new(alloc, &[]);
+        on.output = Writer::slow(alloc, Some((call, stop)));
+        let ended = ran(alloc, "--help", &mut on)?;
+        is_output_failed(rt, "--help", &on, ended, front);
+    }
+    Ok(())
+}
+
+// A run that prints help, and whose flush stops.
+fn help_not_flushed<R: Abort>(rt: &R, alloc: Global, stop: Stop, help: &[u8]) -> Result<(), Fail> {
+    let mut on = Devices::new(alloc, &[]);
+    on.output = Writer::whole(alloc, Some((0, stop)));
+    let ended = ran(alloc, "--help", &mut on)?;
+    is_output_failed(rt, "--help", &on, ended, help);
+    Ok(())
+}
+
 #[test]
-fn help_fails(rt: HostRuntime) -> Result<(), Fail> {
+fn help_stops(rt: HostRuntime) -> Result<(), Fail> {
     let alloc = rt.alloc();
     let mut on = Devices::new(alloc, &[]);
-    on.output = Writer::slow(alloc, Some((0, Stop::Fails)));
-    let ended = ran(alloc, "--help", &mut on)?;
-    is_output_failed(&rt, "--help", &on, ended, &[]);
-    let mut on = Devices::new(alloc, &[]);
-    on.output = Writer::whole(alloc, Some((0, Stop::Fails)));
-    let ended = ran(alloc, "--help", &mut on)?;
-    assert_eq!(rt;
-        on.errors.held.as_slice(),
-        b"oer: output failed\n".as_slice()
-    );
-    assert_eq!(rt; ended, 3);
-    Ok(())
+    ran(alloc, "--help", &mut on)?;
+    assert_eq!(rt; on.output.calls.count, 1);
+    let help = on.output.held.as_slice();
+    for call in 0..help.len() {
+        help_stops_at(&rt, alloc, call, &help[..call])?;
+    }
+    help_not_flushed(&rt, alloc, Stop::Fails, help)?;
+    help_not_flushed(&rt, alloc, Stop::IsInterrupted, help)
 }
 
 // ---- the errors

@@ -254,6 +254,7 @@ fn refused_words(rt: HostRuntime) -> Result<(), Fail> {
         assert_eq!(rt; ended, 2, "{words}");
         assert!(rt; on.output.held.is_empty(), "{words}");
         assert!(rt; !on.errors.held.is_empty(), "{words}");
+        assert_eq!(rt; on.errors.calls.count, 1, "{words}");
         assert_eq!(rt; on.input.calls.count, 0, "{words}");
     }
     Ok(())

@@ -158,15 +158,23 @@ pub fn digits(alloc: Global, column: &str) -> Result<String, Fail> {
     Ok(digits)
 }
 
-// A run of `show` prints a line for a value of the type.
-fn shows<R: Abort>(rt: &R, alloc: Global, kind: &str, octets: &str) -> Result<(), Fail> {
+// What a run of `show` prints for a value of the type is JSON, of which `make` makes the canonical octets.
+fn shows<R: Abort>(
+    rt: &R,
+    alloc: Global,
+    kind: &str,
+    octets: &str,
+    canonical: &str,
+) -> Result<(), Fail> {
     let words = format!(in alloc; "show | --type={kind} | --hex={octets}")?;
     let mut on = Devices::new(alloc, &[]);
     let ended = ran(alloc, words.as_str(), &mut on)?;
-    assert!(rt; on.output.held.len() > 1, "{words}");
     assert!(rt; on.errors.held.is_empty(), "{words}");
     assert_eq!(rt; ended, 0, "{words}");
-    Ok(())
+    let line = std::str::from_utf8(on.output.held.as_slice())?;
+    let json = line.trim_end();
+    let words = format!(in alloc; "make | --type={kind} | --json={json}")?;
+    expect(rt, alloc, words.as_str(), &[], 0, canonical)
 }
 
 // What a run of `canon` prints for a value of the type.
@@ -260,7 +268,7 @@ fn rewrites_at<R: Abort>(
     let octets = put_at(alloc, place, octets)?;
     let canonical = put_at(alloc, place, canonical)?;
     let (kind, octets) = (around.as_str(), octets.as_str());
-    shows(rt, alloc, kind, octets)?;
+    shows(rt, alloc, kind, octets, canonical.as_str())?;
     rewrites(rt, alloc, kind, octets, canonical.as_str())?;
     let words = format!(in alloc; "canon | --type={kind}")?;
     cuts(

@@ -144,7 +144,7 @@ fn line_end_len(bytes: &[u8]) -> usize
     }
 }
 
-/// How long a comment is behind its two hyphens.
+/// How long a comment is after its two hyphens.
 #[tactic(auto, using(crate::proofs::ByteSteps::line_more, crate::proofs::ByteSteps::line_over, crate::proofs::ByteSteps::line_end_within))]
 pub fn line_len(bytes: &[u8]) -> usize
     ensures value { result ≡ line_len bytes.now }
@@ -159,7 +159,7 @@ pub fn line_len(bytes: &[u8]) -> usize
     n + line_end_len(rest)
 }
 
-/// How long a comment is behind its `/*`, or `None` where it has no end.
+/// How long a comment is after its `/*`, or `None` where it has no end.
 
 pub fn block_len(bytes: &[u8]) -> Option<usize>
     ensures value { result ≡ block_len bytes.now 0 }
@@ -188,7 +188,7 @@ pub fn block_len(bytes: &[u8]) -> Option<usize>
     None
 }
 
-/// How long a text is behind its opening quote, with its closing one, or `None` where it has none.
+/// How long a text is after its opening quote, with its closing one, or `None` where it has none.
 
 pub fn text_len(bytes: &[u8]) -> Option<usize>
     ensures value { result ≡ text_len bytes.now }

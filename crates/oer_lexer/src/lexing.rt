@@ -127,7 +127,7 @@ fn step_at(bytes: &[u8]) -> Step
     number_step(number_len(bytes), bytes)
 }
 
-/// A comment, from behind its `/*`.
+/// A comment, from after its `/*`.
 fn block_step(bytes: &[u8]) -> Step
     ensures { result ≡ block_step (block_len bytes.now 0) }
 {
@@ -137,7 +137,7 @@ fn block_step(bytes: &[u8]) -> Step
     }
 }
 
-/// A text, from behind its opening quote.
+/// A text, from after its opening quote.
 fn text_step(bytes: &[u8]) -> Step
     ensures { result ≡ text_step (text_len bytes.now) }
 {
@@ -147,7 +147,7 @@ fn text_step(bytes: &[u8]) -> Step
     }
 }
 
-/// Bits or digits, from behind their opening quote.
+/// Bits or digits, from after their opening quote.
 fn quote_step(bytes: &[u8]) -> Step
     ensures { result ≡ quote_step bytes.now }
 {
@@ -198,7 +198,7 @@ fn sign_at(bytes: &[u8]) -> Option<Sign>
     }
 }
 
-/// The sign behind a point.
+/// The sign after a point.
 fn dots(bytes: &[u8]) -> Option<Sign>
     ensures { result ≡ dots bytes.now }
 {
@@ -211,7 +211,7 @@ fn dots(bytes: &[u8]) -> Option<Sign>
     Some(Sign::Range)
 }
 
-/// The sign behind a colon.
+/// The sign after a colon.
 fn colons(bytes: &[u8]) -> Option<Sign>
     ensures { result ≡ colons bytes.now }
 {

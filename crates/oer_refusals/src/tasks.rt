@@ -79,13 +79,27 @@ fn shown(alloc: Global, schema: &Schema, value: &Value) -> Result<String, Refusa
     Ok(json.to_string(alloc)?)
 }
 
-// The JSON of what the task makes of the value at the front of the octets.
+// The canonical octets of the value.
+fn digits_of(alloc: Global, schema: &Schema, value: &Value) -> Result<String, Refusal> {
+    if !fits(schema, value) {
+        return Err(Refusal::Other);
+    }
+    let mut sink = Metered::new(Room::new());
+    match write(schema, value, &mut sink) {
+        Ok(_) => Ok(hex::encode(alloc, sink.into_inner().taken())?),
+        Err(_) => Err(Refusal::Other),
+    }
+}
+
+// The JSON, or the canonical octets, of what the task makes of the value at the front of the octets.
 fn on_value(alloc: Global, task: &str, schema: &Schema, octets: &[u8]) -> Result<String, Refusal> {
     let value = value_in(alloc, schema, octets)?;
     match task {
         "read" => shown(alloc, schema, &value),
         "clone-value" => shown(alloc, schema, &value.clone_in(alloc)?),
+        "clone-octets" => digits_of(alloc, schema, &value.clone_in(alloc)?),
         "filled" => shown(alloc, schema, &filled(alloc, schema, &value)?),
+        "filled-octets" => digits_of(alloc, schema, &filled(alloc, schema, &value)?),
         _ => Err(Refusal::Other),
     }
 }
@@ -94,11 +108,7 @@ fn on_value(alloc: Global, task: &str, schema: &Schema, octets: &[u8]) -> Result
 fn of_json(alloc: Global, schema: &Schema, text: &str) -> Result<String, Refusal> {
     let json = Json::from_str(alloc, text)?;
     let value = from_json(alloc, schema, &json)?;
-    let mut sink = Metered::new(Room::new());
-    match write(schema, &value, &mut sink) {
-        Ok(_) => Ok(hex::encode(alloc, sink.into_inner().taken())?),
-        Err(_) => Err(Refusal::Other),
-    }
+    digits_of(alloc, schema, &value)
 }
 
 // What the octets are rewritten as. Where memory is wanting, nothing is written.

@@ -15,7 +15,7 @@ fn tagged(at: Global, tag: Tag) -> Result<String, Fail> {
     Ok(format!(in at; "{:?} {}", tag.class, tag.number)?)
 }
 
-// `Enumerated a=5 b=-1`, and ` ...` behind it where it is extensible.
+// `Enumerated a=5 b=-1`, and ` ...` after it where it is extensible.
 fn items_of(at: Global, items: &[Item], extensible: bool) -> Result<String, Fail> {
     let mut text = String::from_str(at, "Enumerated")?;
     for item in items {
@@ -73,7 +73,7 @@ pub fn drawn(at: Global, shape: &Shape) -> Result<String, Fail> {
     }
 }
 
-// What stands behind a component's name: nothing, `?`, or the default in brackets.
+// What stands after a component's name: nothing, `?`, or the default in brackets.
 fn need_of(at: Global, need: &Need) -> Result<String, Fail> {
     match need {
         Need::Must => Ok(String::new(at)),
