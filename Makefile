@@ -1,9 +1,11 @@
 # make: proves and builds the program, as bin/oer
 # make quick: proves and tests all but the must-fail edits, over what earlier runs kept, for use before a commit
-# make test: the whole gate, then the commands that the documents show, then memory refused in turn; make install PREFIX=..: puts the program into PREFIX/bin
+# make test: the whole gate, then the commands that the documents show, what a release has, and memory refused in turn
+# make install PREFIX=.. DESTDIR=..: program, manual, completions, documents and examples, under PREFIX; make uninstall: takes them away
+# make dist: the archive of a release, in out/
 PREFIX ?= /usr/local
 
-.PHONY: all quick test install clean
+.PHONY: all quick test install uninstall dist clean
 
 all: bin/oer
 
@@ -19,11 +21,19 @@ test:
 	@mkdir -p bin
 	@cp crates/oer/out/oer bin/oer
 	@examples/check
+	@tools/test_release
 	@examples/refusals
 
 install: bin/oer
-	install -d $(DESTDIR)$(PREFIX)/bin
-	install -m 755 bin/oer $(DESTDIR)$(PREFIX)/bin/oer
+	@rm -rf out/layout
+	@tools/layout out/layout
+	@PREFIX="$(PREFIX)" DESTDIR="$(DESTDIR)" tools/install out/layout
+
+uninstall:
+	@PREFIX="$(PREFIX)" DESTDIR="$(DESTDIR)" tools/uninstall
+
+dist: bin/oer
+	@tools/dist
 
 clean:
 	rm -rf bin out crates/*/out

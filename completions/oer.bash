@@ -1,0 +1,40 @@
+# Completion of oer for bash: subcommands, and the options that the line can still take.
+# What an option takes is text, so no files are offered.
+
+_oer() {
+  local word=${COMP_WORDS[COMP_CWORD]} before=${COMP_WORDS[COMP_CWORD - 1]} at given=' ' options option
+  COMPREPLY=()
+  if [ "$COMP_CWORD" -eq 1 ]; then
+    options='canon show check part make'
+    [[ $word != -* ]] || options='--help --version'
+    COMPREPLY=($(compgen -W "$options" -- "$word"))
+    return
+  fi
+  case ${COMP_WORDS[1]} in
+    canon | show | check) options='--type --types --name --hex --limit --help' ;;
+    part) options='--type --types --name --hex --path --limit --help' ;;
+    make) options='--type --types --name --json --limit --help' ;;
+    *) return ;;
+  esac
+  # An equals sign is a word of its own here.
+  case $before in
+    = | --type | --types | --name | --hex | --path | --json | --limit) return ;;
+  esac
+  [ "$word" != = ] || return
+  # Of --type and of --types with --name a line takes only one.
+  for ((at = 2; at < COMP_CWORD; at++)); do
+    case ${COMP_WORDS[at]} in
+      --type) given+='--type --types --name ' ;;
+      --types | --name) given+="${COMP_WORDS[at]} --type " ;;
+      --*) given+="${COMP_WORDS[at]%%=*} " ;;
+    esac
+  done
+  for option in $options; do
+    case $given in
+      *" $option "*) ;;
+      *) COMPREPLY+=($(compgen -W "$option" -- "$word")) ;;
+    esac
+  done
+}
+
+complete -F _oer oer

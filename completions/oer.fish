@@ -1,0 +1,39 @@
+# Completion of oer for fish: subcommands, and the options that the line can still take.
+# What an option takes is text, so no files are offered.
+
+# Whether the line has no subcommand yet.
+function __fish_oer_begins
+    test (count (commandline -opc)) -eq 1
+end
+
+# Whether the line has one of these subcommands, and none of the options after `without`.
+function __fish_oer_takes
+    set -l words (commandline -opc)
+    set -l at (contains -i -- without $argv)
+    contains -- "$words[2]" $argv[1..(math $at - 1)]
+    or return
+    for option in $argv[(math $at + 1)..-1]
+        string match -q -r -- "^--$option(=|\$)" $words
+        and return 1
+    end
+    return 0
+end
+
+complete -c oer -f
+complete -c oer -n __fish_oer_begins -a canon -d 'Print the canonical octets'
+complete -c oer -n __fish_oer_begins -a show -d 'Print the value as JSON'
+complete -c oer -n __fish_oer_begins -a check -d 'Say whether the octets are canonical'
+complete -c oer -n __fish_oer_begins -a part -d 'Print the octets of a part'
+complete -c oer -n __fish_oer_begins -a make -d 'Make canonical octets of JSON'
+complete -c oer -n __fish_oer_begins -l version -d 'Print the version'
+complete -c oer -l help -d 'Print a help text'
+
+# Of --type and of --types with --name a line takes only one.
+set -l all canon show check part make
+complete -c oer -n "__fish_oer_takes $all without type types name" -x -l type -d 'The type of the value'
+complete -c oer -n "__fish_oer_takes $all without type types" -x -l types -d 'Definitions, with --name'
+complete -c oer -n "__fish_oer_takes $all without type name" -x -l name -d 'The definition that is the type'
+complete -c oer -n "__fish_oer_takes $all without limit" -x -l limit -d 'How many octets the value may take'
+complete -c oer -n '__fish_oer_takes canon show check part without hex' -x -l hex -d 'The octets'
+complete -c oer -n '__fish_oer_takes part without path' -x -l path -d 'The way to the part'
+complete -c oer -n '__fish_oer_takes make without json' -x -l json -d 'The JSON'
