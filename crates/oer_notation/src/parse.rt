@@ -1,5 +1,5 @@
 //! From tokens to a type.
-ghost use Rattle.std.specs.Prelude.{◌≡◌, [], map, option_map, IfOk, Some, false};
+ghost use Rattle.std.specs.Prelude.{◌≡◌, [], map, option_map, OnOk, Some, false};
 ghost use Rattle.oer_types.specs.Schema.{the_type};
 ghost use Rattle.oer_types.specs.ShapeView.{named_number, seen_addition, seen_alternative, seen_field, type_of};
 ghost use Rattle.oer_notation.specs.State.{Gives, state_of};
@@ -462,13 +462,15 @@ fn read_body(
         return Ok(body);
     }
     if !cursor.take(Sign::Ellipsis) {
-        return read_components(alloc, types, cursor, levels, body);
+        read_components(alloc, types, cursor, levels, &mut body)?;
+        return Ok(body);
     }
     body.extensible = true;
     if !cursor.take(Sign::Comma) {
         return Ok(body);
     }
-    read_components(alloc, types, cursor, levels, body)
+    read_components(alloc, types, cursor, levels, &mut body)?;
+    Ok(body)
 }
 
 #[cycle(types)]
@@ -477,16 +479,15 @@ fn read_components(
     types: &[Definition],
     cursor: &mut Cursor<'_, '_>,
     levels: u8,
-    before: Body,
-) -> Result<Body, TextFault>
-    ensures { Gives (λ b. (components b, state_of cursor.new)) result (components_more (type_at (map known types.now) levels) most (components before) (state_of cursor.old)) }
+    body: &mut Body,
+) -> Result<(), TextFault>
+    ensures { Gives (λ x. (components body.new, state_of cursor.new)) result (components_more (type_at (map known types.now) levels) most (components body.old) (state_of cursor.old)) }
 {
-    let mut body = before;
     'components: for turn in 0..u16::MAX {
-        body = read_component(alloc, types, cursor, levels, body)?;
+        read_component(alloc, types, cursor, levels, body)?;
         body.extensible = past_marker(cursor, body.extensible);
         if !cursor.take(Sign::Comma) {
-            return Ok(body);
+            return Ok(());
         }
     }
     Err(cursor.stop)
@@ -500,19 +501,18 @@ fn read_component(
     types: &[Definition],
     cursor: &mut Cursor<'_, '_>,
     levels: u8,
-    before: Body,
-) -> Result<Body, TextFault>
-    ensures { Gives (λ b. (components b, state_of cursor.new)) result (component_at (type_at (map known types.now) levels) (components before) (state_of cursor.old)) }
+    body: &mut Body,
+) -> Result<(), TextFault>
+    ensures { Gives (λ x. (components body.new, state_of cursor.new)) result (component_at (type_at (map known types.now) levels) (components body.old) (state_of cursor.old)) }
 {
-    let mut body = before;
     if body.extensible {
         let addition = read_addition(alloc, types, cursor, levels)?;
         body.added.push(addition)?;
-        return Ok(body);
+        return Ok(());
     }
     let field = read_field(alloc, types, cursor, levels)?;
     body.root.push(field)?;
-    Ok(body)
+    Ok(())
 }
 
 #[cycle(types)]
@@ -598,7 +598,7 @@ fn read_alternatives(
     };
     'alternatives: for place in 0..u16::MAX {
         let alternative = read_alternative(alloc, types, cursor, levels, tagged, place)?;
-        found = with_alternative(found, alternative)?;
+        add_alternative(&mut found, alternative)?;
         found.extensible = past_marker(cursor, found.extensible);
         if !cursor.take(Sign::Comma) {
             return Ok(found);
@@ -607,19 +607,13 @@ fn read_alternatives(
     Err(cursor.stop)
 }
 
-fn with_alternative(
-    before: Alternatives,
-    alternative: Alt,
-) -> Result<Alternatives, AllocFailed<Alt>>
-    ensures { IfOk result (λ a. choices a ≡ with_alternative (seen_alternative alternative) (choices before)) }
+fn add_alternative(found: &mut Alternatives, alternative: Alt) -> Result<(), AllocFailed<Alt>>
+    ensures { OnOk result (choices found.new ≡ with_alternative (seen_alternative alternative) (choices found.old)) }
 {
-    let mut found = before;
     if found.extensible {
-        found.added.push(alternative)?;
-        return Ok(found);
+        return found.added.push(alternative);
     }
-    found.root.push(alternative)?;
-    Ok(found)
+    found.root.push(alternative)
 }
 
 #[cycle(types)]
