@@ -3,7 +3,7 @@ ghost use Rattle.std.specs.Prelude.{◌≡◌, [], map, option_map, OnOk, Some, 
 ghost use Rattle.oer_types.specs.Schema.{the_type};
 ghost use Rattle.oer_types.specs.ShapeView.{named_number, seen_addition, seen_alternative, seen_field, type_of};
 ghost use Rattle.oer_notation.specs.State.{Gives, state_of};
-ghost use Rattle.oer_notation.specs.Reading.{addition_at, alternative_at, alternatives_more, body_at, choice_at, choice_of_choices, class_at, component_at, components_more, field_at, find, is_start, item_at, item_number_at, items_at, items_more, list_at, missing_number, missing_tag, most, named_at, no_choices, numbered_at, past_marker, past_optional, sequence_at, sequence_of_components, simple_type, start_at, structure_at, tag_at, tagged_at, type_at, with_alternative, word_type};
+ghost use Rattle.oer_notation.specs.Reading.{addition_at, alternative_at, alternatives_more, body_at, choice_at, choice_of_choices, class_at, component_at, components_more, field_at, find, is_start, item_at, item_number_at, items_at, items_more, list_at, missing_number, missing_tag, most, named_at, no_choices, no_components, numbered_at, past_marker, past_optional, sequence_at, sequence_of_components, simple_type, start_at, structure_at, tag_at, tagged_at, type_at, with_alternative, word_type};
 ghost use Rattle.oer_notation.specs.Views.{choices, components, known, named, start_of};
 
 use crate::cursor::Cursor;
@@ -423,7 +423,12 @@ fn read_structure(
 ) -> Result<Shape, TextFault>
     ensures { Gives (λ s. (type_of s, state_of cursor.new)) result (structure_at (type_at (map known types.now) levels) (state_of cursor.old)) }
 {
-    let body = read_body(alloc, types, cursor, levels)?;
+    let mut body = Body {
+        root: Vec::new(alloc),
+        added: Vec::new(alloc),
+        extensible: false,
+    };
+    read_body(alloc, types, cursor, levels, &mut body)?;
     cursor.expect(Sign::CloseBrace)?;
     Ok(sequence(body))
 }
@@ -450,27 +455,22 @@ fn read_body(
     types: &[Definition],
     cursor: &mut Cursor<'_, '_>,
     levels: u8,
-) -> Result<Body, TextFault>
-    ensures { Gives (λ b. (components b, state_of cursor.new)) result (body_at (type_at (map known types.now) levels) (state_of cursor.old)) }
+    body: &mut Body,
+) -> Result<(), TextFault>
+    requires { components body.old ≡ no_components false }
+    ensures { Gives (λ x. (components body.new, state_of cursor.new)) result (body_at (type_at (map known types.now) levels) (state_of cursor.old)) }
 {
-    let mut body = Body {
-        root: Vec::new(alloc),
-        added: Vec::new(alloc),
-        extensible: false,
-    };
     if cursor.is_at(Sign::CloseBrace) {
-        return Ok(body);
+        return Ok(());
     }
     if !cursor.take(Sign::Ellipsis) {
-        read_components(alloc, types, cursor, levels, &mut body)?;
-        return Ok(body);
+        return read_components(alloc, types, cursor, levels, body);
     }
     body.extensible = true;
     if !cursor.take(Sign::Comma) {
-        return Ok(body);
+        return Ok(());
     }
-    read_components(alloc, types, cursor, levels, &mut body)?;
-    Ok(body)
+    read_components(alloc, types, cursor, levels, body)
 }
 
 #[cycle(types)]
@@ -526,9 +526,9 @@ fn read_field(
     ensures { Gives (λ f. (seen_field f, state_of cursor.new)) result (field_at (type_at (map known types.now) levels) (state_of cursor.old)) }
 {
     let name = cursor.id()?;
+    let name = String::from_str(alloc, name)?;
     let shape = read_type(alloc, types, cursor, levels)?;
     let need = read_need(alloc, cursor, &shape)?;
-    let name = String::from_str(alloc, name)?;
     Ok(Field { name, shape, need })
 }
 
@@ -543,9 +543,9 @@ fn read_addition(
     ensures { Gives (λ a. (seen_addition a, state_of cursor.new)) result (addition_at (type_at (map known types.now) levels) (state_of cursor.old)) }
 {
     let name = cursor.id()?;
+    let name = String::from_str(alloc, name)?;
     let shape = read_type(alloc, types, cursor, levels)?;
     let _ = cursor.take_word("OPTIONAL");
-    let name = String::from_str(alloc, name)?;
     Ok(Addition { name, shape })
 }
 
@@ -630,7 +630,7 @@ fn read_alternative(
 {
     let name = cursor.id()?;
     let tag = read_tagged(cursor, tagged, place)?;
-    let shape = read_type(alloc, types, cursor, levels)?;
     let name = String::from_str(alloc, name)?;
+    let shape = read_type(alloc, types, cursor, levels)?;
     Ok(Alt { name, tag, shape })
 }
