@@ -4,6 +4,7 @@ ghost use Rattle.oer_types.specs.Schema.{the_type};
 ghost use Rattle.oer_types.specs.ShapeView.{named_number, seen_addition, seen_alternative, seen_field, type_of};
 ghost use Rattle.oer_notation.specs.State.{Gives, state_of};
 ghost use Rattle.oer_notation.specs.Reading.{addition_at, alternative_at, alternatives_more, body_at, choice_at, choice_of_choices, class_at, component_at, components_more, field_at, find, is_start, item_at, item_number_at, items_at, items_more, list_at, missing_number, missing_tag, most, named_at, no_choices, no_components, numbered_at, past_marker, past_optional, sequence_at, sequence_of_components, simple_type, start_at, structure_at, tag_at, tagged_at, type_at, with_alternative, word_type};
+ghost use Rattle.oer_notation.specs.declared.word.TypeWord.TheVariants as tw;
 ghost use Rattle.oer_notation.specs.Views.{choices, components, known, named, start_of};
 
 use crate::cursor::Cursor;
@@ -344,6 +345,8 @@ fn read_simple(
     cursor: &mut Cursor<'_, '_>,
     word: TypeWord,
 ) -> Result<Shape, TextFault>
+    requires sequence { word ≡ tw.Sequence → ⊥ }
+    requires choice { word ≡ tw.Choice → ⊥ }
     ensures { Gives (λ s. (type_of s, state_of cursor.new)) result (simple_type word (state_of cursor.old)) }
 {
     match word {
@@ -374,7 +377,8 @@ fn read_simple(
         TypeWord::Numeric => Ok(Shape::Numeric(read_bracketed_size(cursor)?)),
         TypeWord::Printable => Ok(Shape::Printable(read_bracketed_size(cursor)?)),
         TypeWord::Utf8 => Ok(Shape::Utf8(read_bracketed_size(cursor)?)),
-        TypeWord::Sequence | TypeWord::Choice => Err(cursor.stop),
+        TypeWord::Sequence => unreachable!(),
+        TypeWord::Choice => unreachable!(),
     }
 }
 
