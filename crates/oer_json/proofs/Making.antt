@@ -1,13 +1,13 @@
 -- What is made, step by step.
-use Rattle.std.proofs.Common.{◌≡◌, List, [], ◌∷◌, ◌++◌, map, true, false, refl, sym, ap, ◌∙◌}
+use Rattle.std.proofs.Common.{◌≡◌, List, [], ◌∷◌, ◌++◌, map, true, false, Option, Some, None, Vec, Global, refl, sym, ap, ◌∙◌}
 use Rattle.serde_json.specs.Data.{Data, Items, no_items, item}
 use Rattle.serde_json.specs.View.{items_of, view}
 use Rattle.serde_json.specs.declared.value.Value as json
 use Rattle.std.proofs.lemmas.List.{map-append}
 use Rattle.oer_units.specs.declared.tagging.Tag.{Tag}
 use Rattle.oer_types.specs.AsnType.{Alternatives}
-use Rattle.oer_types.specs.AsnValue.{AsnValue}
-use Rattle.oer_types.specs.ShapeView.{root_of, later_of, type_of, seen_alternative}
+use Rattle.oer_types.specs.AsnValue.{AsnValue, chosen}
+use Rattle.oer_types.specs.ShapeView.{choice_with, root_of, later_of, type_of, seen_alternative}
 use Rattle.oer_types.specs.Constraints.{same_tag}
 use Rattle.oer_types.specs.declared.shape.Alt.{Alt}
 use Rattle.oer_json.specs.Made.{made, made_alternative, one_member}
@@ -40,3 +40,8 @@ later_past x xs t v h = rw h refl
 pub items_step : (js ks : List json.Value) (j : json.Value) (d : Data) (rest : Items) → ks ≡ js ++ j ∷ [] → view j ≡ d → before_items (map view js) (item d rest) ≡ before_items (map view ks) rest
 items_step js ks j d rest e h =
     sym (before_one (map view js) d rest) ∙ ap (λ x. before_items (map view js ++ x ∷ []) rest) (sym h) ∙ ap (λ ds. before_items ds rest) (sym (map-append view js (j ∷ []))) ∙ ap (λ xs. before_items (map view xs) rest) (sym e)
+
+-- where an alternative of the root has the tag
+pub chosen_first : (root : List Alt) (additions : Option (Vec Alt Global)) (t : Tag) (v : AsnValue) (d : Data) → ((after : Alternatives) → made_alternative (root_of root after) t v ≡ d) → made (choice_with root additions) (chosen t v) ≡ d
+chosen_first root None t v d h = h _
+chosen_first root (Some more) t v d h = h _

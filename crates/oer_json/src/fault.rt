@@ -4,12 +4,12 @@ ghost use Rattle.oer_json.specs.Faults.{json_fault_name};
 ghost use Rattle.oer_json.specs.declared.fault.JsonFault.TheVariants.{Memory};
 
 use std::alloc::{AllocError, AllocFailed};
-use thiserror::Error;
+use std::error::Error;
+use std::fmt;
 
 /// Why JSON is not taken as a value of a type. The faults are numbered from 1 in this
 /// order. It displays as its name.
-#[derive(Clone, Copy, Debug, PartialEq, Eq, Error)]
-#[error("{}", self.name())]
+#[derive(Clone, Copy, Debug, PartialEq, Eq)]
 pub enum JsonFault {
     /// A growth of memory was refused.
     Memory,
@@ -26,6 +26,14 @@ pub enum JsonFault {
     /// The value is of the right form and doesn't fit the type.
     Misfit,
 }
+
+impl fmt::Display for JsonFault {
+    fn fmt<W: fmt::Write>(&self, f: &mut fmt::Formatter<W>) -> fmt::Result {
+        f.write_str(self.name())
+    }
+}
+
+impl Error for JsonFault {}
 
 impl JsonFault {
     /// The name of the fault, as it is written here.

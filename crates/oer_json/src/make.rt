@@ -3,12 +3,14 @@ ghost use Rattle.std.specs.Prelude.{◌≡◌, IfOk, OnOk, map, option_map, unwr
 ghost use Rattle.serde_json.specs.Data.{array};
 ghost use Rattle.serde_json.specs.View.{members_view, view};
 ghost use Rattle.oer_types.specs.AsnType.{Alternatives};
+ghost use Rattle.oer_types.specs.AsnValue.{chosen, seq};
 ghost use Rattle.oer_types.specs.Fits.{Fits};
 ghost use Rattle.oer_types.specs.Schema.{the_type};
 ghost use Rattle.oer_types.specs.ShapeView.{additions_of, fields_of, later_of, root_of, type_of};
 ghost use Rattle.oer_types.specs.ValueView.{places_of, unknown_of, value_of, values_of};
 ghost use Rattle.oer_json.specs.Keys.{tag_key};
 ghost use Rattle.oer_json.specs.Made.{made, made_alternative, made_items, made_octets, one_member, put_additions as with_additions, put_fields as with_fields, put_unknown as with_unknown, with_place};
+ghost use Rattle.oer_json.specs.Shapes.{IsChoice, IsSequence};
 
 use crate::leaf::{
     arcs_json, bits_json, integer_json, item_json, octets_json, place_text, tag_text, text_json,
@@ -46,39 +48,52 @@ fn value_json(shape: &Shape, alloc: Global, value: &Value) -> Result<Json, Alloc
         (Shape::Printable(_), Value::Text(text)) => text_json(alloc, text.as_str()),
         (Shape::Utf8(_), Value::Text(text)) => text_json(alloc, text.as_str()),
         (
-            Shape::Sequence { root, additions },
+            Shape::Sequence { .. },
             Value::Seq {
-                root: places,
+                root,
                 added,
                 unknown,
             },
-        ) => {
-            let mut members = Map::new(alloc);
-            put_fields(root, alloc, places, &mut members)?;
-            match additions {
-                None => Ok(Json::Object(members)),
-                Some(additions) => {
-                    put_additions(additions, alloc, added, &mut members)?;
-                    put_unknown(alloc, unknown, &mut members)?;
-                    Ok(Json::Object(members))
-                }
-            }
-        }
+        ) => sequence_json(shape, alloc, root, added, unknown),
         (Shape::SequenceOf { item, .. }, Value::List(values)) => items_json(item, alloc, values),
-        (Shape::Choice { root, additions }, Value::Chosen { tag, value }) => {
-            let found = alternative_json(root, alloc, *tag, value)?;
-            match found {
-                Some(json) => Ok(json),
-                None => match additions {
-                    None => Ok(Json::Null),
-                    Some(additions) => later_json(additions, alloc, *tag, value),
-                },
-            }
+        (Shape::Choice { .. }, Value::Chosen { tag, value }) => {
+            chosen_json(shape, alloc, *tag, value)
         }
         (Shape::Choice { .. }, Value::Foreign { tag, octets }) => {
             foreign_json(alloc, *tag, octets)
         }
         _ => Ok(Json::Null),
+    }
+}
+
+/// The object of a SEQUENCE.
+#[cycle(make)]
+fn sequence_json(
+    shape: &Shape,
+    alloc: Global,
+    root: &[Option<Value>],
+    added: &[Option<Value>],
+    unknown: &[Unknown],
+) -> Result<Json, AllocError>
+    requires { IsSequence shape.now }
+    ensures { IfOk result (λ j. view j ≡ made (type_of shape.now) (seq (places_of root.now) (places_of added.now) (map unknown_of unknown.now))) }
+{
+    let Shape::Sequence {
+        root: fields,
+        additions,
+    } = shape
+    else {
+        unreachable!()
+    };
+    let mut members = Map::new(alloc);
+    put_fields(fields, alloc, root, &mut members)?;
+    match additions {
+        None => Ok(Json::Object(members)),
+        Some(additions) => {
+            put_additions(additions, alloc, added, &mut members)?;
+            put_unknown(alloc, unknown, &mut members)?;
+            Ok(Json::Object(members))
+        }
     }
 }
 
@@ -180,6 +195,25 @@ fn items_json(item: &Shape, alloc: Global, values: &[Value]) -> Result<Json, All
         items.push(value_json(item, alloc, value)?)?;
     }
     Ok(Json::Array(items))
+}
+
+/// The object of the alternative that has the tag; null where none has it.
+#[cycle(make)]
+fn chosen_json(shape: &Shape, alloc: Global, tag: Tag, value: &Value) -> Result<Json, AllocError>
+    requires { IsChoice shape.now }
+    ensures { IfOk result (λ j. view j ≡ made (type_of shape.now) (chosen tag (value_of value.now))) }
+{
+    let Shape::Choice { root, additions } = shape else {
+        unreachable!()
+    };
+    let found = alternative_json(root, alloc, tag, value)?;
+    match found {
+        Some(json) => Ok(json),
+        None => match additions {
+            None => Ok(Json::Null),
+            Some(additions) => later_json(additions, alloc, tag, value),
+        },
+    }
 }
 
 /// The object of the first alternative that has the tag, if one has it.

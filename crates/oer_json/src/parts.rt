@@ -42,7 +42,7 @@ pub(crate) fn one_member(json: &Json) -> Result<(&str, &Json), JsonFault>
     }
     match members.first_key_value() {
         Some((key, json)) => Ok((key.as_str(), json)),
-        None => Err(JsonFault::Kind),
+        None => unreachable!(),
     }
 }
 

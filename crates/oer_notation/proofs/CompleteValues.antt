@@ -1,4 +1,4 @@
--- Values behind DEFAULT, items and tags that are spelt are read.
+-- Values after DEFAULT, items and tags that are spelt are read.
 use Rattle.std.proofs.Common.{◌≡◌, ℕ, zero, suc, ◌≤◌, ◌<◌, ℤ, List, [], ◌∷◌, ◌++◌, length, map, Bool, true, false, inl, inr, Some, Ok, refl, ap, subst, ◌∙◌, append_assoc, append-nil, arith, lt-ltb, length-append}
 use Rattle.std.specs.Prelude.{codes}
 use Rattle.std.specs.Str.{bytes_eq}

@@ -17,7 +17,6 @@ use Rattle.oer_notation.specs.Grammar.{Spells, IsNeed, needed, optional, with_de
 use Rattle.oer_notation.specs.Laws.{ParseComplete}
 use Rattle.oer_notation.specs.Parsing.{parse}
 use Rattle.oer_notation.specs.Printing.{printed, spaced, after_commas, marker, marker_if, need_tokens, type_tokens, field_parts, addition_parts, root_parts, later_parts, has_notation, need_has_notation, have_notation, additions_have_notation, alternatives_have_notation}
-use Rattle.oer_notation.specs.Reading.{Known}
 use Rattle.oer_notation.specs.Values.{items_of}
 use Rattle.oer_notation.proofs.PrintedNumbers.{AllIds, ids, split_ids, id_given, worded}
 use Rattle.oer_notation.proofs.PrintedParts.{bounds_given, size_given, items_given, tag_given}

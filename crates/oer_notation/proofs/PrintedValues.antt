@@ -1,4 +1,4 @@
--- Values behind DEFAULT as they are printed.
+-- Values after DEFAULT as they are printed.
 use Rattle.std.proofs.Common.{◌≡◌, ℕ, zero, suc, ◌+◌, ◌-◌, ◌/◌, ◌%◌, ◌^◌, ◌≤◌, ◌<◌, ℤ, List, [], ◌∷◌, ◌++◌, length, take, drop, map, Bool, true, false, cond, ◌==◌, ◌&&◌, ◌||◌, inl, inr, ⊎_elim, Option, Some, None, refl, sym, ap, subst, ◌∙◌, append_assoc, length-append, arith}
 use Rattle.std.specs.Prelude.{codes, is_some, nat_le, nat_lt}
 use Rattle.std.specs.Char.{encode_utf8, is_ascii_hexdigit}

@@ -104,7 +104,7 @@ pub data IsTag : Bool → ℕ → Tag → List Token → Type 0 where
   own_tag : {place n : ℕ} {class : Class} {ts : List Token} {t : Token} → IsClass class ts → IsNatural (2 ^ 32) n t → IsTag true place (record { class = class; number = n }) (sign OpenBracket ∷ (ts ++ t ∷ sign CloseBracket ∷ []))
   tag_by_place : {place : ℕ} → IsTag false place (record { class = Context; number = place }) []
 
--- ---- values behind DEFAULT
+-- ---- values after DEFAULT
 
 -- the number of the first item with the name
 pub data IsItemNamed (w : List ℕ) : ℤ → List NamedNumber → Type 0 where

@@ -1,5 +1,5 @@
 -- Laws of reading against the grammar.
-use Rattle.std.specs.Prelude.{◌≡◌, ℕ, List, [], ◌∷◌, Some, Ok, Err}
+use Rattle.std.specs.Prelude.{◌≡◌, ℕ, List, Some, Ok, Err}
 use Rattle.oer_types.specs.AsnType.{AsnType}
 use Rattle.oer_types.specs.WellFormed.{IsWellFormed}
 use Rattle.oer_notation.specs.Grammar.{Spells, SpellsAll, AreWellFormed}

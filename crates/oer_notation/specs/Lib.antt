@@ -11,3 +11,4 @@ pub mod Views
 pub mod Words
 pub mod Refusing
 pub mod Faults
+pub mod Shapes

@@ -89,7 +89,7 @@ alphabet_name visible = codes "VisibleString"
 alphabet_name numeric = codes "NumericString"
 alphabet_name printable = codes "PrintableString"
 
--- ---- values behind DEFAULT
+-- ---- values after DEFAULT
 
 abbrev pub truth_word : Bool → List ℕ
 truth_word true = codes "TRUE"

@@ -1,4 +1,4 @@
--- Values behind DEFAULT: what is read and what is left, or the first fault.
+-- Values after DEFAULT: what is read and what is left, or the first fault.
 use Rattle.std.specs.Prelude.{ℕ, zero, suc, ◌+◌, ◌*◌, ◌-◌, ◌%◌, ℤ, nat_lt, List, [], ◌∷◌, ◌++◌, length, take, drop, slice_index, ◌==◌, Bool, true, false, not, Option, Some, None, Result, Ok, Err, codes, if◌then◌else◌}
 use Rattle.std.specs.Str.{bytes_eq}
 use Rattle.std.specs.Char.{encode_utf8}

@@ -6,12 +6,12 @@ ghost use Rattle.oer_notation.specs.declared.fault.PrintFault.TheVariants as pri
 
 use oer_types::SchemaFault;
 use std::alloc::{AllocError, AllocFailed};
+use std::fmt;
 use thiserror::Error;
 
 /// Why a text is refused. The reasons are numbered from 1 in this order. It displays as its
 /// name.
-#[derive(Clone, Copy, Debug, PartialEq, Eq, Error)]
-#[error("{}", self.name())]
+#[derive(Clone, Copy, Debug, PartialEq, Eq)]
 pub enum TextWhy {
     /// A growth of memory was refused.
     Memory,
@@ -33,6 +33,14 @@ pub enum TextWhy {
     /// The type isn't well-formed.
     Schema(SchemaFault),
 }
+
+impl fmt::Display for TextWhy {
+    fn fmt<W: fmt::Write>(&self, f: &mut fmt::Formatter<W>) -> fmt::Result {
+        f.write_str(self.name())
+    }
+}
+
+impl std::error::Error for TextWhy {}
 
 impl TextWhy {
     /// The name of the reason, as it is written here; for `Schema` that of the fault.

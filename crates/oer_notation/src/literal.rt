@@ -1,4 +1,4 @@
-//! The text of values behind DEFAULT.
+//! The text of values after DEFAULT.
 ghost use Rattle.std.specs.Prelude.{◌≡◌, ◌<◌, [], ◌∷◌, ◌++◌, IfOk, OnOk, Some, codes, length, map, option_map, string_bytes};
 ghost use Rattle.std.specs.List.{slice_get};
 ghost use Rattle.std.specs.Str.{chars};

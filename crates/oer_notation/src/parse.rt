@@ -1,9 +1,10 @@
 //! From tokens to a type.
-ghost use Rattle.std.specs.Prelude.{◌≡◌, [], map, option_map, IfOk, Some, false};
+ghost use Rattle.std.specs.Prelude.{◌≡◌, [], map, option_map, OnOk, Some, false};
 ghost use Rattle.oer_types.specs.Schema.{the_type};
 ghost use Rattle.oer_types.specs.ShapeView.{named_number, seen_addition, seen_alternative, seen_field, type_of};
 ghost use Rattle.oer_notation.specs.State.{Gives, state_of};
-ghost use Rattle.oer_notation.specs.Reading.{addition_at, alternative_at, alternatives_more, body_at, choice_at, choice_of_choices, class_at, component_at, components_more, field_at, find, is_start, item_at, item_number_at, items_at, items_more, list_at, missing_number, missing_tag, most, named_at, no_choices, numbered_at, past_marker, past_optional, sequence_at, sequence_of_components, simple_type, start_at, structure_at, tag_at, tagged_at, type_at, with_alternative, word_type};
+ghost use Rattle.oer_notation.specs.Reading.{addition_at, alternative_at, alternatives_more, body_at, choice_at, choice_of_choices, class_at, component_at, components_more, field_at, find, is_start, item_at, item_number_at, items_at, items_more, list_at, missing_number, missing_tag, most, named_at, no_choices, no_components, numbered_at, past_marker, past_optional, sequence_at, sequence_of_components, simple_type, start_at, structure_at, tag_at, tagged_at, type_at, with_alternative, word_type};
+ghost use Rattle.oer_notation.specs.declared.word.TypeWord.TheVariants as tw;
 ghost use Rattle.oer_notation.specs.Views.{choices, components, known, named, start_of};
 
 use crate::cursor::Cursor;
@@ -344,6 +345,8 @@ fn read_simple(
     cursor: &mut Cursor<'_, '_>,
     word: TypeWord,
 ) -> Result<Shape, TextFault>
+    requires sequence { word ≡ tw.Sequence → ⊥ }
+    requires choice { word ≡ tw.Choice → ⊥ }
     ensures { Gives (λ s. (type_of s, state_of cursor.new)) result (simple_type word (state_of cursor.old)) }
 {
     match word {
@@ -374,7 +377,8 @@ fn read_simple(
         TypeWord::Numeric => Ok(Shape::Numeric(read_bracketed_size(cursor)?)),
         TypeWord::Printable => Ok(Shape::Printable(read_bracketed_size(cursor)?)),
         TypeWord::Utf8 => Ok(Shape::Utf8(read_bracketed_size(cursor)?)),
-        TypeWord::Sequence | TypeWord::Choice => Err(cursor.stop),
+        TypeWord::Sequence => unreachable!(),
+        TypeWord::Choice => unreachable!(),
     }
 }
 
@@ -423,7 +427,12 @@ fn read_structure(
 ) -> Result<Shape, TextFault>
     ensures { Gives (λ s. (type_of s, state_of cursor.new)) result (structure_at (type_at (map known types.now) levels) (state_of cursor.old)) }
 {
-    let body = read_body(alloc, types, cursor, levels)?;
+    let mut body = Body {
+        root: Vec::new(alloc),
+        added: Vec::new(alloc),
+        extensible: false,
+    };
+    read_body(alloc, types, cursor, levels, &mut body)?;
     cursor.expect(Sign::CloseBrace)?;
     Ok(sequence(body))
 }
@@ -450,23 +459,20 @@ fn read_body(
     types: &[Definition],
     cursor: &mut Cursor<'_, '_>,
     levels: u8,
-) -> Result<Body, TextFault>
-    ensures { Gives (λ b. (components b, state_of cursor.new)) result (body_at (type_at (map known types.now) levels) (state_of cursor.old)) }
+    body: &mut Body,
+) -> Result<(), TextFault>
+    requires { components body.old ≡ no_components false }
+    ensures { Gives (λ x. (components body.new, state_of cursor.new)) result (body_at (type_at (map known types.now) levels) (state_of cursor.old)) }
 {
-    let mut body = Body {
-        root: Vec::new(alloc),
-        added: Vec::new(alloc),
-        extensible: false,
-    };
     if cursor.is_at(Sign::CloseBrace) {
-        return Ok(body);
+        return Ok(());
     }
     if !cursor.take(Sign::Ellipsis) {
         return read_components(alloc, types, cursor, levels, body);
     }
     body.extensible = true;
     if !cursor.take(Sign::Comma) {
-        return Ok(body);
+        return Ok(());
     }
     read_components(alloc, types, cursor, levels, body)
 }
@@ -477,16 +483,15 @@ fn read_components(
     types: &[Definition],
     cursor: &mut Cursor<'_, '_>,
     levels: u8,
-    before: Body,
-) -> Result<Body, TextFault>
-    ensures { Gives (λ b. (components b, state_of cursor.new)) result (components_more (type_at (map known types.now) levels) most (components before) (state_of cursor.old)) }
+    body: &mut Body,
+) -> Result<(), TextFault>
+    ensures { Gives (λ x. (components body.new, state_of cursor.new)) result (components_more (type_at (map known types.now) levels) most (components body.old) (state_of cursor.old)) }
 {
-    let mut body = before;
     'components: for turn in 0..u16::MAX {
-        body = read_component(alloc, types, cursor, levels, body)?;
+        read_component(alloc, types, cursor, levels, body)?;
         body.extensible = past_marker(cursor, body.extensible);
         if !cursor.take(Sign::Comma) {
-            return Ok(body);
+            return Ok(());
         }
     }
     Err(cursor.stop)
@@ -500,19 +505,18 @@ fn read_component(
     types: &[Definition],
     cursor: &mut Cursor<'_, '_>,
     levels: u8,
-    before: Body,
-) -> Result<Body, TextFault>
-    ensures { Gives (λ b. (components b, state_of cursor.new)) result (component_at (type_at (map known types.now) levels) (components before) (state_of cursor.old)) }
+    body: &mut Body,
+) -> Result<(), TextFault>
+    ensures { Gives (λ x. (components body.new, state_of cursor.new)) result (component_at (type_at (map known types.now) levels) (components body.old) (state_of cursor.old)) }
 {
-    let mut body = before;
     if body.extensible {
         let addition = read_addition(alloc, types, cursor, levels)?;
         body.added.push(addition)?;
-        return Ok(body);
+        return Ok(());
     }
     let field = read_field(alloc, types, cursor, levels)?;
     body.root.push(field)?;
-    Ok(body)
+    Ok(())
 }
 
 #[cycle(types)]
@@ -526,9 +530,9 @@ fn read_field(
     ensures { Gives (λ f. (seen_field f, state_of cursor.new)) result (field_at (type_at (map known types.now) levels) (state_of cursor.old)) }
 {
     let name = cursor.id()?;
+    let name = String::from_str(alloc, name)?;
     let shape = read_type(alloc, types, cursor, levels)?;
     let need = read_need(alloc, cursor, &shape)?;
-    let name = String::from_str(alloc, name)?;
     Ok(Field { name, shape, need })
 }
 
@@ -543,9 +547,9 @@ fn read_addition(
     ensures { Gives (λ a. (seen_addition a, state_of cursor.new)) result (addition_at (type_at (map known types.now) levels) (state_of cursor.old)) }
 {
     let name = cursor.id()?;
+    let name = String::from_str(alloc, name)?;
     let shape = read_type(alloc, types, cursor, levels)?;
     let _ = cursor.take_word("OPTIONAL");
-    let name = String::from_str(alloc, name)?;
     Ok(Addition { name, shape })
 }
 
@@ -598,7 +602,7 @@ fn read_alternatives(
     };
     'alternatives: for place in 0..u16::MAX {
         let alternative = read_alternative(alloc, types, cursor, levels, tagged, place)?;
-        found = with_alternative(found, alternative)?;
+        add_alternative(&mut found, alternative)?;
         found.extensible = past_marker(cursor, found.extensible);
         if !cursor.take(Sign::Comma) {
             return Ok(found);
@@ -607,19 +611,13 @@ fn read_alternatives(
     Err(cursor.stop)
 }
 
-fn with_alternative(
-    before: Alternatives,
-    alternative: Alt,
-) -> Result<Alternatives, AllocFailed<Alt>>
-    ensures { IfOk result (λ a. choices a ≡ with_alternative (seen_alternative alternative) (choices before)) }
+fn add_alternative(found: &mut Alternatives, alternative: Alt) -> Result<(), AllocFailed<Alt>>
+    ensures { OnOk result (choices found.new ≡ with_alternative (seen_alternative alternative) (choices found.old)) }
 {
-    let mut found = before;
     if found.extensible {
-        found.added.push(alternative)?;
-        return Ok(found);
+        return found.added.push(alternative);
     }
-    found.root.push(alternative)?;
-    Ok(found)
+    found.root.push(alternative)
 }
 
 #[cycle(types)]
@@ -636,7 +634,7 @@ fn read_alternative(
 {
     let name = cursor.id()?;
     let tag = read_tagged(cursor, tagged, place)?;
-    let shape = read_type(alloc, types, cursor, levels)?;
     let name = String::from_str(alloc, name)?;
+    let shape = read_type(alloc, types, cursor, levels)?;
     Ok(Alt { name, tag, shape })
 }

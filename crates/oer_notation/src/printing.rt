@@ -1,6 +1,6 @@
 //! The text of a type.
-ghost use Rattle.std.specs.Prelude.{◌≡◌, ◌↔◌, [], ◌∷◌, IfOk, map, Ok, Err, Some, None, string_bytes};
-ghost use Rattle.oer_types.specs.AsnType.{enumerated, no_alternatives};
+ghost use Rattle.std.specs.Prelude.{◌≡◌, ◌↔◌, [], ◌∷◌, IfOk, map, Ok, Err, Some, None, codes, string_bytes};
+ghost use Rattle.oer_types.specs.AsnType.{enumerated, integer, no_alternatives, sequence_of};
 ghost use Rattle.oer_lexer.specs.Token.{sign, word};
 ghost use Rattle.oer_lexer.specs.declared.token.Sign.TheVariants.{OpenBrace};
 ghost use Rattle.oer_types.specs.Schema.{the_type};
@@ -8,6 +8,7 @@ ghost use Rattle.oer_types.specs.ShapeView.{additions_of, fields_of, named_numbe
 ghost use Rattle.oer_notation.specs.Parsing.{parse};
 ghost use Rattle.oer_notation.specs.Printer.{Puts, alternative_part, comma_unless, field_part, joined_from, marker_behind};
 ghost use Rattle.oer_notation.specs.Printing.{addition_parts, after_commas, field_parts, item_tokens, joined, need_tokens, printed, root_parts, size_tokens, type_tokens};
+ghost use Rattle.oer_notation.specs.Shapes.{IsChoice, IsSequence};
 ghost use Rattle.oer_notation.specs.Values.{items_of};
 ghost use Rattle.oer_notation.specs.declared.fault.PrintFault.TheVariants.{NoNotation};
 
@@ -43,67 +44,61 @@ pub fn print_type(alloc: Global, schema: &Schema) -> Result<String, PrintFault>
 }
 
 #[cycle(put)]
-#[tactic(auto, using(crate::proofs::Levels::levels, crate::proofs::Printed::run_append))]
+#[tactic(auto, using(crate::proofs::Levels::levels))]
 fn put_type(alloc: Global, shape: &Shape, printer: &mut Printer) -> Result<(), AllocError>
     ensures { Puts (type_tokens (type_of shape.now)) printer.old result printer.new }
 {
     match shape {
         Shape::Boolean => printer.word("BOOLEAN"),
         Shape::Null => printer.word("NULL"),
-        Shape::Integer { low, high } => {
-            printer.word("INTEGER")?;
-            put_bounds(alloc, printer, *low, *high)
-        }
+        Shape::Integer { low, high } => put_integer(alloc, printer, *low, *high),
         Shape::Enumerated { items, extensible } => {
             put_enumerated(alloc, printer, items, *extensible)
         }
-        Shape::BitString(size) => {
-            printer.word("BIT")?;
-            put_string(alloc, printer, "STRING", *size)
-        }
-        Shape::OctetString(size) => {
-            printer.word("OCTET")?;
-            put_string(alloc, printer, "STRING", *size)
-        }
-        Shape::ObjectId => {
-            printer.word("OBJECT")?;
-            printer.word("IDENTIFIER")
-        }
+        Shape::BitString(size) => put_binary(alloc, printer, "BIT", *size),
+        Shape::OctetString(size) => put_binary(alloc, printer, "OCTET", *size),
+        Shape::ObjectId => put_words(printer, "OBJECT", "IDENTIFIER"),
         Shape::Ia5(size) => put_string(alloc, printer, "IA5String", *size),
         Shape::Visible(size) => put_string(alloc, printer, "VisibleString", *size),
         Shape::Numeric(size) => put_string(alloc, printer, "NumericString", *size),
         Shape::Printable(size) => put_string(alloc, printer, "PrintableString", *size),
         Shape::Utf8(size) => put_string(alloc, printer, "UTF8String", *size),
-        Shape::Sequence { root, additions } => {
-            open(printer, "SEQUENCE")?;
-            put_fields(alloc, root, printer)?;
-            match additions {
-                None => printer.sign(Sign::CloseBrace),
-                Some(additions) => {
-                    put_marker(printer, root.is_empty())?;
-                    put_additions(alloc, additions, printer)?;
-                    printer.sign(Sign::CloseBrace)
-                }
-            }
-        }
-        Shape::SequenceOf { size, item } => {
-            put_string(alloc, printer, "SEQUENCE", *size)?;
-            printer.word("OF")?;
-            put_type(alloc, item, printer)
-        }
-        Shape::Choice { root, additions } => {
-            open(printer, "CHOICE")?;
-            put_alternatives(alloc, root, printer, true)?;
-            match additions {
-                None => printer.sign(Sign::CloseBrace),
-                Some(additions) => {
-                    put_marker(printer, root.is_empty())?;
-                    put_alternatives(alloc, additions, printer, false)?;
-                    printer.sign(Sign::CloseBrace)
-                }
-            }
-        }
+        Shape::Sequence { .. } => put_sequence(alloc, shape, printer),
+        Shape::SequenceOf { size, item } => put_list(alloc, item, *size, printer),
+        Shape::Choice { .. } => put_choice(alloc, shape, printer),
     }
+}
+
+fn put_integer(
+    alloc: Global,
+    printer: &mut Printer,
+    low: Option<i128>,
+    high: Option<i128>,
+) -> Result<(), AllocError>
+    ensures { Puts (type_tokens (integer low high)) printer.old result printer.new }
+{
+    printer.word("INTEGER")?;
+    put_bounds(alloc, printer, low, high)
+}
+
+fn put_words(printer: &mut Printer, one: &str, other: &str) -> Result<(), AllocError>
+    ensures { Puts (word one.now ∷ word other.now ∷ []) printer.old result printer.new }
+{
+    printer.word(one)?;
+    printer.word(other)
+}
+
+/// A word, STRING, and a size where there is one.
+fn put_binary(
+    alloc: Global,
+    printer: &mut Printer,
+    name: &str,
+    size: Size,
+) -> Result<(), AllocError>
+    ensures { Puts (word name.now ∷ word (codes "STRING") ∷ size_tokens size) printer.old result printer.new }
+{
+    printer.word(name)?;
+    put_string(alloc, printer, "STRING", size)
 }
 
 /// A word, and a size where there is one.
@@ -174,6 +169,61 @@ fn put_items(alloc: Global, printer: &mut Printer, items: &[Item]) -> Result<(),
         put_item(alloc, printer, item)?;
     }
     Ok(())
+}
+
+#[cycle(put)]
+fn put_sequence(alloc: Global, shape: &Shape, printer: &mut Printer) -> Result<(), AllocError>
+    requires { IsSequence shape.now }
+    ensures { Puts (type_tokens (type_of shape.now)) printer.old result printer.new }
+{
+    let Shape::Sequence { root, additions } = shape else {
+        unreachable!()
+    };
+    open(printer, "SEQUENCE")?;
+    put_fields(alloc, root, printer)?;
+    match additions {
+        None => printer.sign(Sign::CloseBrace),
+        Some(additions) => {
+            put_marker(printer, root.is_empty())?;
+            put_additions(alloc, additions, printer)?;
+            printer.sign(Sign::CloseBrace)
+        }
+    }
+}
+
+#[cycle(put)]
+#[tactic(auto, using(crate::proofs::Printed::run_append))]
+fn put_list(
+    alloc: Global,
+    item: &Shape,
+    size: Size,
+    printer: &mut Printer,
+) -> Result<(), AllocError>
+    ensures { Puts (type_tokens (sequence_of size (type_of item.now))) printer.old result printer.new }
+{
+    put_string(alloc, printer, "SEQUENCE", size)?;
+    printer.word("OF")?;
+    put_type(alloc, item, printer)
+}
+
+#[cycle(put)]
+fn put_choice(alloc: Global, shape: &Shape, printer: &mut Printer) -> Result<(), AllocError>
+    requires { IsChoice shape.now }
+    ensures { Puts (type_tokens (type_of shape.now)) printer.old result printer.new }
+{
+    let Shape::Choice { root, additions } = shape else {
+        unreachable!()
+    };
+    open(printer, "CHOICE")?;
+    put_alternatives(alloc, root, printer, true)?;
+    match additions {
+        None => printer.sign(Sign::CloseBrace),
+        Some(additions) => {
+            put_marker(printer, root.is_empty())?;
+            put_alternatives(alloc, additions, printer, false)?;
+            printer.sign(Sign::CloseBrace)
+        }
+    }
 }
 
 #[cycle(put)]

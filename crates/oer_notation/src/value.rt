@@ -1,4 +1,4 @@
-//! Values behind DEFAULT.
+//! Values after DEFAULT.
 ghost use Rattle.std.specs.Prelude.{◌≡◌, ◌≤◌, ◌==◌, [], suc, length, drop, map, option_map, IfOk, Ok, string_bytes};
 ghost use Rattle.oer_lexer.specs.declared.token.Sign.TheVariants.{OpenBrace};
 ghost use Rattle.oer_types.specs.AsnValue.{text};

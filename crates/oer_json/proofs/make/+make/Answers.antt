@@ -6,9 +6,8 @@ use Rattle.oer_types.specs.AsnType.{no_alternatives}
 use Rattle.oer_types.specs.ShapeView.{later_of, type_of}
 use Rattle.oer_types.specs.ValueView.{value_of, values_of}
 use Rattle.oer_types.proofs.Shapes.{type_of-Sequence, type_of-Choice}
-use Rattle.oer_types.proofs.Values.{value_of-Seq, value_of-Chosen}
 use Rattle.oer_json.specs.Made.{made, made_items}
-use Rattle.oer_json.proofs.Making.{before_items, before_none, items_step}
+use Rattle.oer_json.proofs.Making.{before_items, before_none, chosen_first, items_step}
 use Rattle.oer_json.proofs.Views.{view-Null}
 use Rattle.oer_json.proofs.Steps.{nothing_left, split_at}
 use Rattle.oer_json.proofs.make.+make.Goals as goal
@@ -30,30 +29,30 @@ items_json-returns t c =
     let over = nothing_left c.args.values.now l.value-index c.loop-value-test.false in
     view-Array l.items ∙ ap array (sym (l.invariant ∙ ap (λ xs. before_items (map view l.items.items) (made_items f (values_of xs))) over ∙ before_none (map view l.items.items)))
 
-pub value_json-returns-in-None : goal.value_json-returns-in-None
-value_json-returns-in-None t c =
-    let at = c.in-Sequence-Seq in
-    let h = rw (c.deref-in-Sequence-Seq.ensures.value, c.deref-in-Sequence-Seq-2.ensures.value, c.new-members.ensures.empty) at c.in_ok-put_fields-in-Sequence-Seq.ensures in
-    rw (at.is-0, at.is-1, type_of-Sequence, value_of-Seq, c.in-None.is, view-Object c.put_fields.new.members) (ap object h)
+pub sequence_json-returns-in-None : goal.sequence_json-returns-in-None
+sequence_json-returns-in-None t c =
+    let h = rw (c.deref.ensures.value, c.new-members.ensures.empty) at c.in_ok-put_fields.ensures in
+    rw (c.in-Sequence.is, type_of-Sequence, c.in-None.is, view-Object c.put_fields.new.members) (ap object h)
 
-pub value_json-returns-in_ok-put_unknown-in-Some : goal.value_json-returns-in_ok-put_unknown-in-Some
-value_json-returns-in_ok-put_unknown-in-Some t c =
-    let at = c.in-Sequence-Seq in
-    let h = rw (c.deref-in-Sequence-Seq.ensures.value, c.deref-in-Sequence-Seq-2.ensures.value, c.new-members.ensures.empty) at c.in_ok-put_fields-in-Sequence-Seq.ensures in
-    let g = rw (c.deref-in-Some.ensures.value, c.deref-in-Some-2.ensures.value, h) at c.in_ok-put_additions-in-Some.ensures in
-    let k = rw (c.deref-in-Some-3.ensures.value, g) at c.in_ok-put_unknown-in-Some.ensures in
-    rw (at.is-0, at.is-1, type_of-Sequence, value_of-Seq, c.in-Some.is, view-Object c.put_unknown.new.members) (ap object k)
+pub sequence_json-returns-in_ok-put_unknown-in-Some : goal.sequence_json-returns-in_ok-put_unknown-in-Some
+sequence_json-returns-in_ok-put_unknown-in-Some t c =
+    let h = rw (c.deref.ensures.value, c.new-members.ensures.empty) at c.in_ok-put_fields.ensures in
+    let g = rw (c.deref-in-Some.ensures.value, h) at c.in_ok-put_additions-in-Some.ensures in
+    let k = rw g at c.in_ok-put_unknown-in-Some.ensures in
+    rw (c.in-Sequence.is, type_of-Sequence, c.in-Some.is, view-Object c.put_unknown.new.members) (ap object k)
 
-pub value_json-returns-in-None-additions : goal.value_json-returns-in-None-additions
-value_json-returns-in-None-additions t c =
-    let at = c.in-Choice-Chosen in
-    let h = rw (c.deref-in-Choice-Chosen.ensures.value, c.deref-in-Choice-Chosen-2.ensures, c.in-None-found.is) at c.in_ok-found-in-Choice-Chosen.ensures in
-    rw (at.is-0, at.is-1, type_of-Choice, value_of-Chosen, c.in-None-additions.is, view-Null) (sym (h no_alternatives))
+pub chosen_json-returns-in-Some : goal.chosen_json-returns-in-Some
+chosen_json-returns-in-Some t c =
+    let h = rw (c.deref.ensures.value, c.in-Some.is) at c.in_ok-found.ensures in
+    rw (c.in-Choice.is, type_of-Choice) (sym (chosen_first c.in-Choice.root.items c.in-Choice.additions c.args.tag (value_of c.args.value.now) _ h))
 
-pub value_json-returns-in-Some-additions : goal.value_json-returns-in-Some-additions
-value_json-returns-in-Some-additions t c =
-    let at = c.in-Choice-Chosen in
-    let more = c.in-Some-additions.additions in
-    let h = rw (c.deref-in-Choice-Chosen.ensures.value, c.deref-in-Choice-Chosen-2.ensures, c.in-None-found.is) at c.in_ok-found-in-Choice-Chosen.ensures in
-    let k = rw (c.deref-in-Some-additions.ensures.value, c.deref-in-Some-additions-2.ensures) at c.later_json.ensures in
-    rw (at.is-0, at.is-1, type_of-Choice, value_of-Chosen, c.in-Some-additions.is, h (later_of more.items)) k
+pub chosen_json-returns-in-None-additions : goal.chosen_json-returns-in-None-additions
+chosen_json-returns-in-None-additions t c =
+    let h = rw (c.deref.ensures.value, c.in-None.is) at c.in_ok-found.ensures in
+    rw (c.in-Choice.is, type_of-Choice, c.in-None-additions.is, view-Null) (sym (h no_alternatives))
+
+pub chosen_json-returns-in-Some-additions : goal.chosen_json-returns-in-Some-additions
+chosen_json-returns-in-Some-additions t c =
+    let h = rw (c.deref.ensures.value, c.in-None.is) at c.in_ok-found.ensures in
+    let k = rw c.deref-in-Some-additions.ensures.value at c.later_json.ensures in
+    rw (c.in-Choice.is, type_of-Choice, c.in-Some-additions.is, h (later_of c.in-Some-additions.additions.items)) k

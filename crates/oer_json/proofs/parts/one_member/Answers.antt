@@ -8,8 +8,8 @@ pub returns-then-len-ne1 : goal.returns-then-len-ne1
 unfolding one_member
 returns-then-len-ne1 c = λ not_memory. rw c.in_ok-members.ensures (not_only c.in_ok-members.members.now.entries c.len.result c.len.ensures.len c.if-len-ne1.true)
 
-pub returns-in-Some : goal.returns-in-Some
+pub returns : goal.returns
 unfolding one_member
-returns-in-Some c =
+returns c =
     let e = only_one c.in_ok-members.members.now.entries c.len.result _ c.len.ensures.len c.if-len-ne1.false c.in-Some.ensures.first in
     rw c.in_ok-members.ensures (e ∙ ap (λ s. Ok (s, view c.in-Some.json.now)) (sym c.as_str.ensures.value))

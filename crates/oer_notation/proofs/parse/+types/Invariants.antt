@@ -46,7 +46,7 @@ decreases-read_word_type l = 10 * l.levels + 9
 -- the components found and those of what is left are all of them
 abbrev pub invariant-read_components-components : goal.invariant-read_components-components
 invariant-read_components-components l =
-    components_more (type_at (map known l.types) l.levels) most (components l.fn.before) (state_of l.fn.cursor) ≡ components_more (type_at (map known l.types) l.levels) (most - l.turn) (components l.body) (state_of l.cursor)
+    components_more (type_at (map known l.types) l.levels) most (components l.fn.body) (state_of l.fn.cursor) ≡ components_more (type_at (map known l.types) l.levels) (most - l.turn) (components l.body) (state_of l.cursor)
 
 abbrev pub invariant-read_alternatives-alternatives : goal.invariant-read_alternatives-alternatives
 invariant-read_alternatives-alternatives l =

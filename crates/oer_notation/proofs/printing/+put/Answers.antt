@@ -41,7 +41,7 @@ put_fields-loop-field-preserved t c =
     c.in_ok-put_comma.ensures c.in_ok-put_field.ensures)
 
 pub put_type-returns-in-Ia5 : goal.put_type-returns-in-Ia5
-put_type-returns-in-Ia5 t c = rw (c.in-Ia5.is, type_of-Ia5) c.put_string-in-Ia5.ensures
+put_type-returns-in-Ia5 t c = rw (c.in-Ia5.is, type_of-Ia5) c.put_string.ensures
 
 pub put_type-returns-in-Visible : goal.put_type-returns-in-Visible
 put_type-returns-in-Visible t c = rw (c.in-Visible.is, type_of-Visible) c.put_string-in-Visible.ensures
@@ -55,8 +55,16 @@ put_type-returns-in-Printable t c = rw (c.in-Printable.is, type_of-Printable) c.
 pub put_type-returns-in-Utf8 : goal.put_type-returns-in-Utf8
 put_type-returns-in-Utf8 t c = rw (c.in-Utf8.is, type_of-Utf8) c.put_string-in-Utf8.ensures
 
-pub put_type-returns-in_ok-put_additions-in-Some : goal.put_type-returns-in_ok-put_additions-in-Some
-put_type-returns-in_ok-put_additions-in-Some t c =
+pub put_sequence-returns-in-None : goal.put_sequence-returns-in-None
+put_sequence-returns-in-None t c =
+    let ps = field_parts (fields_of c.in-Sequence.root.items) in
+    let w₁ = written c.open.new.printer in
+    rw (c.in-Sequence.is, c.in-None.is, type_of-Sequence) (puts_last (word (codes "SEQUENCE") ∷ in_braces ps) (sign CloseBrace) c.args.printer.now c.put_fields.new.printer c.sign.new.self c.sign.result c.sign.ensures
+    (wrapped (written c.args.printer.now) w₁ (written c.put_fields.new.printer) (word (codes "SEQUENCE")) ps c.in_ok-open.ensures
+    (c.in_ok-put_fields.ensures ∙ ap (λ fs. run w₁ (joined (field_parts (fields_of fs)))) c.deref.ensures.value)))
+
+pub put_sequence-returns-in_ok-put_additions-in-Some : goal.put_sequence-returns-in_ok-put_additions-in-Some
+put_sequence-returns-in_ok-put_additions-in-Some t c =
     let root = c.in-Sequence.root.items in
     let more = c.in-Some.additions.items in
     let size : vec_len c.in-Sequence.root ≡ length root = omega (arith, c.in-Sequence.root.ok.0) in
@@ -67,42 +75,42 @@ put_type-returns-in_ok-put_additions-in-Some t c =
     let w₃ = written c.put_marker.new.printer in
     let w₄ = written c.put_additions.new.printer in
     rw (c.in-Sequence.is, c.in-Some.is, type_of-Sequence) (puts_last (word (codes "SEQUENCE") ∷ in_braces (ps ++ marker ∷ qs)) (sign CloseBrace) c.args.printer.now c.put_additions.new.printer c.sign-in-Some.new.self c.sign-in-Some.result c.sign-in-Some.ensures
-    (wrapped (written c.args.printer.now) w₁ w₄ (word (codes "SEQUENCE")) (ps ++ marker ∷ qs) c.in_ok-open-in-Sequence.ensures
+    (wrapped (written c.args.printer.now) w₁ w₄ (word (codes "SEQUENCE")) (ps ++ marker ∷ qs) c.in_ok-open.ensures
     (marked w₁ w₂ w₃ w₄ c.is_empty.result ps qs
-    (c.in_ok-put_fields-in-Sequence.ensures ∙ ap (λ fs. run w₁ (joined (field_parts (fields_of fs)))) c.deref-in-Sequence.ensures.value)
+    (c.in_ok-put_fields.ensures ∙ ap (λ fs. run w₁ (joined (field_parts (fields_of fs)))) c.deref.ensures.value)
     c.in_ok-put_marker-in-Some.ensures
     (c.in_ok-put_additions-in-Some.ensures ∙ ap (λ xs. run w₃ (after_commas (addition_parts (additions_of xs)))) c.deref-in-Some.ensures.value)
     (c.is_empty.ensures ∙ ap (λ n. n == 0) size ∙ no_field_parts root))))
 
-pub put_type-returns-in-None-additions : goal.put_type-returns-in-None-additions
-put_type-returns-in-None-additions t c =
+pub put_choice-returns-in-None : goal.put_choice-returns-in-None
+put_choice-returns-in-None t c =
     let root = c.in-Choice.root.items in
     let ps = root_parts (root_of root no_alternatives) in
     let all = ps ++ later_parts (root_of root no_alternatives) in
-    let w₁ = written c.open-in-Choice.new.printer in
-    rw (c.in-Choice.is, c.in-None-additions.is, type_of-Choice) (puts_last (word (codes "CHOICE") ∷ in_braces all) (sign CloseBrace) c.args.printer.now c.put_alternatives.new.printer c.sign-in-None-additions.new.self c.sign-in-None-additions.result c.sign-in-None-additions.ensures
-    (wrapped (written c.args.printer.now) w₁ (written c.put_alternatives.new.printer) (word (codes "CHOICE")) all c.in_ok-open-in-Choice.ensures
-    (c.in_ok-put_alternatives-in-Choice.ensures
-    ∙ ap (λ xs. run w₁ (joined (root_parts (root_of xs no_alternatives)))) c.deref-in-Choice.ensures.value
+    let w₁ = written c.open.new.printer in
+    rw (c.in-Choice.is, c.in-None.is, type_of-Choice) (puts_last (word (codes "CHOICE") ∷ in_braces all) (sign CloseBrace) c.args.printer.now c.put_alternatives.new.printer c.sign.new.self c.sign.result c.sign.ensures
+    (wrapped (written c.args.printer.now) w₁ (written c.put_alternatives.new.printer) (word (codes "CHOICE")) all c.in_ok-open.ensures
+    (c.in_ok-put_alternatives.ensures
+    ∙ ap (λ xs. run w₁ (joined (root_parts (root_of xs no_alternatives)))) c.deref.ensures.value
     ∙ ap (λ qs. run w₁ (joined qs)) (sym (plain_choice_parts root)))))
 
-pub put_type-returns-in_ok-put_alternatives-in-Some-additions : goal.put_type-returns-in_ok-put_alternatives-in-Some-additions
-put_type-returns-in_ok-put_alternatives-in-Some-additions t c =
+pub put_choice-returns-in_ok-put_alternatives-in-Some : goal.put_choice-returns-in_ok-put_alternatives-in-Some
+put_choice-returns-in_ok-put_alternatives-in-Some t c =
     let root = c.in-Choice.root.items in
-    let more = c.in-Some-additions.additions.items in
+    let more = c.in-Some.additions.items in
     let size : vec_len c.in-Choice.root ≡ length root = omega (arith, c.in-Choice.root.ok.0) in
     let ps = root_parts (root_of root no_alternatives) in
     let qs = root_parts (root_of more no_alternatives) in
     let all = root_parts (root_of root (later_of more)) ++ marker ∷ later_parts (root_of root (later_of more)) in
-    let w₁ = written c.open-in-Choice.new.printer in
+    let w₁ = written c.open.new.printer in
     let w₂ = written c.put_alternatives.new.printer in
-    let w₃ = written c.put_marker-in-Some-additions.new.printer in
-    let w₄ = written c.put_alternatives-in-Some-additions.new.printer in
-    rw (c.in-Choice.is, c.in-Some-additions.is, type_of-Choice) (puts_last (word (codes "CHOICE") ∷ in_braces all) (sign CloseBrace) c.args.printer.now c.put_alternatives-in-Some-additions.new.printer c.sign-in-Some-additions.new.self c.sign-in-Some-additions.result c.sign-in-Some-additions.ensures
-    (wrapped (written c.args.printer.now) w₁ w₄ (word (codes "CHOICE")) all c.in_ok-open-in-Choice.ensures
-    (marked w₁ w₂ w₃ w₄ c.is_empty-in-Some-additions.result ps qs
-    (c.in_ok-put_alternatives-in-Choice.ensures ∙ ap (λ xs. run w₁ (joined (root_parts (root_of xs no_alternatives)))) c.deref-in-Choice.ensures.value)
-    c.in_ok-put_marker-in-Some-additions.ensures
-    (c.in_ok-put_alternatives-in-Some-additions.ensures ∙ ap (λ xs. run w₃ (after_commas (root_parts (root_of xs no_alternatives)))) c.deref-in-Some-additions.ensures.value)
-    (c.is_empty-in-Some-additions.ensures ∙ ap (λ n. n == 0) size ∙ no_root_parts root)
+    let w₃ = written c.put_marker.new.printer in
+    let w₄ = written c.put_alternatives-in-Some.new.printer in
+    rw (c.in-Choice.is, c.in-Some.is, type_of-Choice) (puts_last (word (codes "CHOICE") ∷ in_braces all) (sign CloseBrace) c.args.printer.now c.put_alternatives-in-Some.new.printer c.sign-in-Some.new.self c.sign-in-Some.result c.sign-in-Some.ensures
+    (wrapped (written c.args.printer.now) w₁ w₄ (word (codes "CHOICE")) all c.in_ok-open.ensures
+    (marked w₁ w₂ w₃ w₄ c.is_empty.result ps qs
+    (c.in_ok-put_alternatives.ensures ∙ ap (λ xs. run w₁ (joined (root_parts (root_of xs no_alternatives)))) c.deref.ensures.value)
+    c.in_ok-put_marker-in-Some.ensures
+    (c.in_ok-put_alternatives-in-Some.ensures ∙ ap (λ xs. run w₃ (after_commas (root_parts (root_of xs no_alternatives)))) c.deref-in-Some.ensures.value)
+    (c.is_empty.ensures ∙ ap (λ n. n == 0) size ∙ no_root_parts root)
     ∙ ap (λ rs. run w₁ (joined rs)) (sym (choice_parts root more)))))
