@@ -45,10 +45,7 @@ pub fn same_filled_at(shape: &Shape, one: &Value, other: &Value) -> bool
                 unknown: unknown_b,
             },
         ) => {
-            if !same_unknown(unknown_a, unknown_b) {
-                return false;
-            }
-            if !same_filled_fields(root, root_a, root_b) {
+            if !same_unknown(unknown_a, unknown_b) || !same_filled_fields(root, root_a, root_b) {
                 return false;
             }
             same_filled_additions(known_additions(additions), added_a, added_b)

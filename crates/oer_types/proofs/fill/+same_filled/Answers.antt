@@ -40,11 +40,6 @@ same_filled_at-returns-then-not-same_unknown t c =
     let at = c.in-Sequence-Seq-Seq in
     rw (at.is-0, at.is-1, at.is-2, type_of-Sequence, value_of-Seq, value_of-Seq, sequence_filled, sequence_filled) (grind (arith, common_steps))
 
-pub same_filled_at-returns-then-not-same_filled_fields : goal.same_filled_at-returns-then-not-same_filled_fields
-same_filled_at-returns-then-not-same_filled_fields t c =
-    let at = c.in-Sequence-Seq-Seq in
-    rw (at.is-0, at.is-1, at.is-2, type_of-Sequence, value_of-Seq, value_of-Seq, sequence_filled, sequence_filled) (grind (arith, common_steps))
-
 pub same_filled_at-returns-else-not-same_filled_fields : goal.same_filled_at-returns-else-not-same_filled_fields
 same_filled_at-returns-else-not-same_filled_fields t c =
     let at = c.in-Sequence-Seq-Seq in
