@@ -5,14 +5,14 @@ use Rattle.std.proofs.lemmas.Grind.{common_steps}
 use Rattle.std.proofs.Math.Dec.{eqb-suc-zero}
 use Rattle.oer_units.specs.contracts.tagging.Class.{the_type}
 use Rattle.oer_units.specs.declared.tagging.Tag.{Tag}
-use Rattle.oer_types.specs.AsnType.{AsnType, Alternatives, Need, must, may, default, Fields, Additions, field, addition, no_alternatives}
-use Rattle.oer_types.specs.AsnValue.{AsnValue, Places, Values, absent, chosen, items, no_places, no_values, present, value}
-use Rattle.oer_types.specs.Constraints.{has_tag, same_tag}
+use Rattle.oer_types.specs.AsnType.{AsnType, Need, must, may, default, Fields, Additions, field, addition}
+use Rattle.oer_types.specs.AsnValue.{AsnValue, Places, Values, absent, chosen, Unknown, items, no_places, no_values, present, seq, value}
 use Rattle.oer_types.specs.DefaultView.{with_default, place}
-use Rattle.oer_types.specs.Filling.{filled, filled_additions, filled_alternative, filled_by_tag, filled_fields, map_values}
-use Rattle.oer_types.specs.ShapeView.{type_of, additions_from, fields_from, later_of, root_of, choice_with, SeenAddition, SeenField}
+use Rattle.oer_types.specs.Filling.{filled, filled_additions, filled_fields, map_values}
+use Rattle.oer_types.specs.ShapeView.{type_of, additions_from, additions_of, fields_from, fields_of, known_additions, sequence_with, SeenAddition, SeenField}
 use Rattle.oer_types.specs.ValueView.{attached, value_of, values_from, values_of, places_of}
-use Rattle.oer_types.specs.declared.shape.Alt.{Alt}
+use Rattle.oer_types.specs.declared.shape.Addition.{Addition}
+use Rattle.oer_types.specs.declared.shape.Field.{Field}
 use Rattle.oer_types.specs.declared.value.Value.{Value}
 use Rattle.oer_types.proofs.Shapes.{shapes}
 use Rattle.oer_types.proofs.Values.{values}
@@ -89,42 +89,10 @@ tag_off false h = cc
 pub tags_differ_not : (s t : Tag) (b : Bool) → b ≡ not (sameb the_type s.class t.class && eqb s.number t.number) → b ≡ false → s ≡ t
 tags_differ_not s t b is off = tags_equal s t (sameb the_type s.class t.class && eqb s.number t.number) refl (tag_off (sameb the_type s.class t.class && eqb s.number t.number) (sym is ∙ off))
 
-by_tag-same : (b : Bool) (f g h : AsnValue → AsnValue) (v : AsnValue) → g v ≡ h v → filled_by_tag b f g v ≡ filled_by_tag b f h v
-by_tag-same true f g h v e = refl
-by_tag-same false f g h v e = e
-
-root_first : (b r : Bool) (f g h : AsnValue → AsnValue) (v : AsnValue) → (r ≡ true → g v ≡ h v) → (b || r) ≡ true → filled_by_tag b f g v ≡ filled_by_tag b f h v
-root_first true r f g h v e o = refl
-root_first false r f g h v e o = e o
-
-root_passed : (b r : Bool) (f g h : AsnValue → AsnValue) (v : AsnValue) → (r ≡ false → g v ≡ h v) → (b || r) ≡ false → filled_by_tag b f g v ≡ h v
-root_passed true r f g h v e o = absurd (cc)
-root_passed false r f g h v e o = e o
-
-module _ (t : Tag) (v : AsnValue) where
-  filled_later : (xs : List Alt) → filled_alternative (later_of xs) t v ≡ filled_alternative (root_of xs no_alternatives) t v
-  filled_later [] = refl
-  filled_later (x ∷ xs) = by_tag-same (same_tag x.tag t) (filled (type_of x.shape)) (filled_alternative (later_of xs) t) (filled_alternative (root_of xs no_alternatives) t) v (filled_later xs)
-
-  filled_root : (xs : List Alt) (after : Alternatives) → has_tag t (root_of xs no_alternatives) ≡ true → filled_alternative (root_of xs after) t v ≡ filled_alternative (root_of xs no_alternatives) t v
-  filled_root [] after h = absurd (cc)
-  filled_root (x ∷ xs) after h =
-      root_first (same_tag x.tag t) (has_tag t (root_of xs no_alternatives)) (filled (type_of x.shape)) (filled_alternative (root_of xs after) t) (filled_alternative (root_of xs no_alternatives) t) v (filled_root xs after) h
-
-  filled_after : (xs : List Alt) (after : Alternatives) → has_tag t (root_of xs no_alternatives) ≡ false → filled_alternative (root_of xs after) t v ≡ filled_alternative after t v
-  filled_after [] after h = refl
-  filled_after (x ∷ xs) after h =
-      root_passed (same_tag x.tag t) (has_tag t (root_of xs no_alternatives)) (filled (type_of x.shape)) (filled_alternative (root_of xs after) t) (filled_alternative after t) v (filled_after xs after) h
-
-  pub chosen_in_root : (xs : List Alt) (a : Option (Vec Alt Global)) → has_tag t (root_of xs no_alternatives) ≡ true → filled (choice_with xs a) (chosen t v) ≡ chosen t (filled_alternative (root_of xs no_alternatives) t v)
-  chosen_in_root xs None h = ap (chosen t) (filled_root xs no_alternatives h)
-  chosen_in_root xs (Some more) h = ap (chosen t) (filled_root xs (later_of more.items) h)
-
-  pub chosen_nowhere : (xs : List Alt) → has_tag t (root_of xs no_alternatives) ≡ false → filled (choice_with xs None) (chosen t v) ≡ chosen t v
-  chosen_nowhere xs h = ap (chosen t) (filled_after xs no_alternatives h)
-
-  pub chosen_later : (xs : List Alt) (more : Vec Alt Global) → has_tag t (root_of xs no_alternatives) ≡ false → filled (choice_with xs (Some more)) (chosen t v) ≡ chosen t (filled_alternative (root_of more.items no_alternatives) t v)
-  chosen_later xs more h = ap (chosen t) (filled_after xs (later_of more.items) h ∙ filled_later more.items)
+-- a sequence, whose additions are none without an extension marker
+pub sequence_filled : (fs : List Field) (a : Option (Vec Addition Global)) (p q : Places) (us : List Unknown) → filled (sequence_with fs a) (seq p q us) ≡ seq (filled_fields (fields_of fs) p) (filled_additions (additions_of (known_additions a)) q) us
+sequence_filled fs None p q us = refl
+sequence_filled fs (Some more) p q us = refl
 
 -- two choices are the same exactly where their values are
 pub same_chosen : (s t : Tag) (v w a b : AsnValue) (T : AsnType) → s ≡ t → filled T (chosen t v) ≡ chosen t a → filled T (chosen t w) ≡ chosen t b → (a ≡ b) ↔ (filled T (chosen s v) ≡ filled T (chosen t w))

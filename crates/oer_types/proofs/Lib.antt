@@ -31,6 +31,7 @@ pub mod Theorems
 pub mod FitTests
 pub mod Ranges
 pub mod FitSteps
+pub mod Lookups
 pub mod Alternatives
 pub mod NameSteps
 pub mod FillSteps

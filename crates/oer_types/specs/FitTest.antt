@@ -76,3 +76,10 @@ abbrev mutual
   alternative_fits no_alternatives t v = false
   alternative_fits (alternative name u T more) t v = if same_tag u t then is_fit T v else alternative_fits more t v
   alternative_fits (later name u T more) t v = if same_tag u t then is_fit T v else alternative_fits more t v
+
+-- whether a value that holds no other fits; not for others
+abbrev pub leaf_fits : AsnType → AsnValue → Bool
+leaf_fits T (seq root added us) = false
+leaf_fits T (items vs) = false
+leaf_fits T (chosen t v) = false
+leaf_fits T v = is_fit T v

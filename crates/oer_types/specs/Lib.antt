@@ -20,6 +20,7 @@ pub mod WellFormed
 pub mod AlphabetView
 pub mod DefaultView
 pub mod FitTest
+pub mod Lookup
 pub mod FaultTest
 pub mod Examples
 pub mod Counting

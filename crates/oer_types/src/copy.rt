@@ -38,36 +38,24 @@ fn copy(alloc: Global, shape: &Shape) -> Result<Shape, AllocError>
         Shape::Numeric(size) => Ok(Shape::Numeric(*size)),
         Shape::Printable(size) => Ok(Shape::Printable(*size)),
         Shape::Utf8(size) => Ok(Shape::Utf8(*size)),
-        Shape::Sequence { root, additions } => {
-            let root = copy_fields(alloc, root)?;
-            match additions {
-                None => Ok(Shape::Sequence {
-                    root,
-                    additions: None,
-                }),
-                Some(additions) => Ok(Shape::Sequence {
-                    root,
-                    additions: Some(copy_additions(alloc, additions)?),
-                }),
-            }
-        }
+        Shape::Sequence { root, additions } => Ok(Shape::Sequence {
+            root: copy_fields(alloc, root)?,
+            additions: match additions {
+                None => None,
+                Some(additions) => Some(copy_additions(alloc, additions)?),
+            },
+        }),
         Shape::SequenceOf { size, item } => Ok(Shape::SequenceOf {
             size: *size,
             item: Box::new(alloc, copy(alloc, item)?)?,
         }),
-        Shape::Choice { root, additions } => {
-            let root = copy_alternatives(alloc, root)?;
-            match additions {
-                None => Ok(Shape::Choice {
-                    root,
-                    additions: None,
-                }),
-                Some(additions) => Ok(Shape::Choice {
-                    root,
-                    additions: Some(copy_alternatives(alloc, additions)?),
-                }),
-            }
-        }
+        Shape::Choice { root, additions } => Ok(Shape::Choice {
+            root: copy_alternatives(alloc, root)?,
+            additions: match additions {
+                None => None,
+                Some(additions) => Some(copy_alternatives(alloc, additions)?),
+            },
+        }),
     }
 }
 

@@ -1,15 +1,13 @@
 //! Values with their defaults filled in.
 ghost use Rattle.std.specs.Prelude.{◌≡◌, IfOk, option_map};
-ghost use Rattle.oer_types.specs.AsnType.{no_alternatives};
 ghost use Rattle.oer_types.specs.DefaultView.{with_default};
-ghost use Rattle.oer_types.specs.Filling.{filled as spec_filled, filled_additions, filled_alternative, filled_fields, map_values};
-ghost use Rattle.oer_types.specs.ShapeView.{additions_of, fields_of, need_of, root_of, type_of};
+ghost use Rattle.oer_types.specs.Filling.{filled as spec_filled, filled_additions, filled_fields, map_values};
+ghost use Rattle.oer_types.specs.ShapeView.{additions_of, fields_of, need_of, type_of};
 ghost use Rattle.oer_types.specs.ValueView.{attached, places_of, value_of, values_of};
 
-use crate::shape::{Addition, Alt, Field, Need, Shape};
-use crate::tag::{contains_tag, is_same_tag};
-use crate::value::{Value, copy, copy_place, copy_places, copy_unknown};
-use oer_units::Tag;
+use crate::shape::{Addition, Field, Need, Shape, known_additions};
+use crate::tag::find_alternative;
+use crate::value::{Value, copy, copy_place, copy_unknown};
 use std::alloc::{AllocError, Global};
 
 /// The value with the default in the place of every absent component that has one, at every depth,
@@ -29,41 +27,24 @@ pub(crate) fn fill_in(shape: &Shape, alloc: Global, value: &Value) -> Result<Val
             },
         ) => {
             let root = fill_fields(root, alloc, places)?;
+            let added = fill_additions(known_additions(additions), alloc, added)?;
             let unknown = copy_unknown(alloc, unknown)?;
-            match additions {
-                None => Ok(Value::Seq {
-                    root,
-                    added: copy_places(alloc, added)?,
-                    unknown,
-                }),
-                Some(additions) => Ok(Value::Seq {
-                    root,
-                    added: fill_additions(additions, alloc, added)?,
-                    unknown,
-                }),
-            }
+            Ok(Value::Seq {
+                root,
+                added,
+                unknown,
+            })
         }
         (Shape::SequenceOf { item, .. }, Value::List(values)) => {
             Ok(Value::List(fill_values(item, alloc, values)?))
         }
         (Shape::Choice { root, additions }, Value::Chosen { tag, value }) => {
-            if contains_tag(root, *tag) {
-                let filled = fill_alternative(root, alloc, *tag, value)?;
-                let value = Box::new(alloc, filled)?;
-                return Ok(Value::Chosen { tag: *tag, value });
-            }
-            match additions {
-                None => {
-                    let copied = copy(alloc, value)?;
-                    let value = Box::new(alloc, copied)?;
-                    Ok(Value::Chosen { tag: *tag, value })
-                }
-                Some(additions) => {
-                    let filled = fill_alternative(additions, alloc, *tag, value)?;
-                    let value = Box::new(alloc, filled)?;
-                    Ok(Value::Chosen { tag: *tag, value })
-                }
-            }
+            let filled = match find_alternative(root, additions, *tag) {
+                Some(alternative) => fill_in(&alternative.shape, alloc, value)?,
+                None => copy(alloc, value)?,
+            };
+            let value = Box::new(alloc, filled)?;
+            Ok(Value::Chosen { tag: *tag, value })
         }
         _ => copy(alloc, value),
     }
@@ -168,22 +149,4 @@ fn fill_values(item: &Shape, alloc: Global, values: &[Value]) -> Result<Vec<Valu
         copies.push(fill_in(item, alloc, value)?)?;
     }
     Ok(copies)
-}
-
-/// The same at the first alternative with the tag.
-#[cycle(fill_in)]
-fn fill_alternative(
-    alts: &[Alt],
-    alloc: Global,
-    tag: Tag,
-    value: &Value,
-) -> Result<Value, AllocError>
-    ensures { IfOk result (λ v. value_of v ≡ filled_alternative (root_of alts.now no_alternatives) tag (value_of value.now)) }
-{
-    for alt in alts {
-        if is_same_tag(alt.tag, tag) {
-            return fill_in(&alt.shape, alloc, value);
-        }
-    }
-    copy(alloc, value)
 }

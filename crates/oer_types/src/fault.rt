@@ -2,11 +2,11 @@
 ghost use Rattle.std.specs.Prelude.{◌≡◌};
 ghost use Rattle.oer_types.specs.Faults.{schema_fault_name};
 
-use thiserror::Error;
+use std::error::Error;
+use std::fmt;
 
 /// Why a shape is no type. The faults are numbered from 1 in this order. It displays as its name.
-#[derive(Clone, Copy, Debug, PartialEq, Eq, Error)]
-#[error("{}", self.name())]
+#[derive(Clone, Copy, Debug, PartialEq, Eq)]
 pub enum SchemaFault {
     /// More than 32 levels.
     TooDeep,
@@ -32,6 +32,14 @@ pub enum SchemaFault {
     /// A SEQUENCE OF whose elements may take no octets.
     EmptyElement,
 }
+
+impl fmt::Display for SchemaFault {
+    fn fmt<W: fmt::Write>(&self, f: &mut fmt::Formatter<W>) -> fmt::Result {
+        f.write_str(self.name())
+    }
+}
+
+impl Error for SchemaFault {}
 
 impl SchemaFault {
     /// The name of the fault, as it is written here.

@@ -1,15 +1,13 @@
 //! Values after their defaults are filled in.
 ghost use Rattle.std.specs.Prelude.{◌≡◌, ◌↔◌, IsTrue, IfOk, Option, option_map};
-ghost use Rattle.oer_types.specs.AsnType.{no_alternatives};
 ghost use Rattle.oer_types.specs.DefaultView.{with_default};
-ghost use Rattle.oer_types.specs.Filling.{filled as spec_filled, filled_additions, filled_alternative, filled_fields, map_values};
-ghost use Rattle.oer_types.specs.ShapeView.{additions_of, fields_of, need_of, root_of, type_of};
+ghost use Rattle.oer_types.specs.Filling.{filled as spec_filled, filled_additions, filled_fields, map_values};
+ghost use Rattle.oer_types.specs.ShapeView.{additions_of, fields_of, need_of, type_of};
 ghost use Rattle.oer_types.specs.ValueView.{places_of, value_of, values_of};
 
-use crate::shape::{Addition, Alt, Field, Need, Shape};
-use crate::tag::{contains_tag, is_same_tag};
+use crate::shape::{Addition, Field, Need, Shape, known_additions};
+use crate::tag::find_alternative;
 use crate::value::{Value, same, same_places, same_unknown};
-use oer_units::Tag;
 
 impl Need {
     /// The component's value, which is the default where it is absent and has one.
@@ -46,26 +44,12 @@ pub fn same_filled_at(shape: &Shape, one: &Value, other: &Value) -> bool
                 added: added_b,
                 unknown: unknown_b,
             },
-        ) => match additions {
-            None => {
-                if !same_unknown(unknown_a, unknown_b) {
-                    return false;
-                }
-                if !same_places(added_a, added_b) {
-                    return false;
-                }
-                same_filled_fields(root, root_a, root_b)
+        ) => {
+            if !same_unknown(unknown_a, unknown_b) || !same_filled_fields(root, root_a, root_b) {
+                return false;
             }
-            Some(additions) => {
-                if !same_unknown(unknown_a, unknown_b) {
-                    return false;
-                }
-                if !same_filled_fields(root, root_a, root_b) {
-                    return false;
-                }
-                same_filled_additions(additions, added_a, added_b)
-            }
-        },
+            same_filled_additions(known_additions(additions), added_a, added_b)
+        }
         (Shape::SequenceOf { item, .. }, Value::List(a), Value::List(b)) => {
             same_filled_values(item, a, b)
         }
@@ -77,12 +61,9 @@ pub fn same_filled_at(shape: &Shape, one: &Value, other: &Value) -> bool
             if *s != *t {
                 return false;
             }
-            if contains_tag(root, *t) {
-                return same_filled_alternative(root, *t, a, b);
-            }
-            match additions {
+            match find_alternative(root, additions, *t) {
+                Some(alternative) => same_filled_at(&alternative.shape, a, b),
                 None => same(a, b),
-                Some(additions) => same_filled_alternative(additions, *t, a, b),
             }
         }
         _ => same(one, other),
@@ -173,19 +154,4 @@ fn same_filled_values(item: &Shape, ones: &[Value], others: &[Value]) -> bool
         rest = more;
     }
     rest.is_empty()
-}
-
-/// The same at the first alternative with the tag.
-#[cycle(same_filled)]
-fn same_filled_alternative(alts: &[Alt], tag: Tag, one: &Value, other: &Value) -> bool
-    ensures { IsTrue result
-        ↔ filled_alternative (root_of alts.now no_alternatives) tag (value_of one.now)
-        ≡ filled_alternative (root_of alts.now no_alternatives) tag (value_of other.now) }
-{
-    for alt in alts {
-        if is_same_tag(alt.tag, tag) {
-            return same_filled_at(&alt.shape, one, other);
-        }
-    }
-    same(one, other)
 }

@@ -2,18 +2,17 @@
 ghost use Rattle.std.specs.Prelude.{◌≡◌, ◌↔◌, ◌&&◌, ◌||◌, ◌<◌, ◌^◌, IsTrue, length, ltb, map, string_bytes};
 ghost use Rattle.std.specs.Str.{is_utf8, chars};
 ghost use Rattle.oer_units.specs.Reading.{is_int64};
-ghost use Rattle.oer_types.specs.AsnType.{no_alternatives};
 ghost use Rattle.oer_types.specs.AsnValue.{foreign};
 ghost use Rattle.oer_types.specs.Constraints.{all_characters, has_number, above, below, in_range, size_fits};
-ghost use Rattle.oer_types.specs.FitTest.{all_below, all_fit as spec_all_fit, alternative_fits as spec_alternative_fits, additions_fit as spec_additions_fit, arcs_fit as spec_arcs_fit, fields_fit as spec_fields_fit, first_arcs, is_fit, is_without, may_be_absent, unknown_fit as spec_unknown_fit};
-ghost use Rattle.oer_types.specs.ShapeView.{type_of, fields_of, additions_of, root_of, choice_with, named_number, need_of};
+ghost use Rattle.oer_types.specs.FitTest.{all_below, all_fit as spec_all_fit, additions_fit as spec_additions_fit, arcs_fit as spec_arcs_fit, fields_fit as spec_fields_fit, first_arcs, is_fit, is_without, leaf_fits as spec_leaf_fits, may_be_absent, unknown_fit as spec_unknown_fit};
+ghost use Rattle.oer_types.specs.ShapeView.{type_of, fields_of, additions_of, choice_with, named_number, need_of};
 ghost use Rattle.oer_types.specs.ValueView.{value_of, values_of, places_of, unknown_of};
 ghost use Rattle.oer_types.specs.AlphabetView.{alphabet_of};
 
 use crate::alphabet::{Alphabet, are_characters};
 use crate::shape::{Addition, Alt, Field, Item, Need, Shape};
 use crate::size::Size;
-use crate::tag::{contains_tag, is_same_tag};
+use crate::tag::{contains_tag, find_alternative};
 use crate::value::{Unknown, Value};
 use oer_units::Tag;
 
@@ -175,11 +174,10 @@ fn is_tag_number(number: u32) -> bool
     number <= u32::MAX
 }
 
-/// Whether the value fits the type. The shape need not be well-formed.
-#[cycle(fits)]
+/// Whether the value fits the type, and holds no other.
 #[tactic(auto, using(crate::proofs::Shapes::shapes))]
-pub fn fits_shape(shape: &Shape, value: &Value) -> bool
-    ensures { result ≡ is_fit (type_of shape.now) (value_of value.now) }
+fn leaf_fits(shape: &Shape, value: &Value) -> bool
+    ensures { result ≡ spec_leaf_fits (type_of shape.now) (value_of value.now) }
 {
     match (shape, value) {
         (Shape::Boolean, Value::Bool(_)) => true,
@@ -198,6 +196,20 @@ pub fn fits_shape(shape: &Shape, value: &Value) -> bool
             string_fits(Alphabet::Printable, *size, text)
         }
         (Shape::Utf8(size), Value::Text(text)) => text_fits(*size, text.as_str()),
+        (Shape::Choice { root, additions }, Value::Foreign { tag, octets }) => {
+            foreign_fits(root, additions, *tag, octets)
+        }
+        _ => false,
+    }
+}
+
+/// Whether the value fits the type. The shape need not be well-formed.
+#[cycle(fits)]
+#[tactic(auto, using(crate::proofs::Shapes::shapes))]
+pub fn fits_shape(shape: &Shape, value: &Value) -> bool
+    ensures { result ≡ is_fit (type_of shape.now) (value_of value.now) }
+{
+    match (shape, value) {
         (
             Shape::Sequence { root, additions },
             Value::Seq {
@@ -206,12 +218,7 @@ pub fn fits_shape(shape: &Shape, value: &Value) -> bool
                 unknown,
             },
         ) => match additions {
-            None => {
-                if !is_without_additions(added, unknown) {
-                    return false;
-                }
-                fields_fit(root, places)
-            }
+            None => is_without_additions(added, unknown) && fields_fit(root, places),
             Some(additions) => {
                 if !fields_fit(root, places) || !additions_fit(additions, added) {
                     return false;
@@ -220,24 +227,15 @@ pub fn fits_shape(shape: &Shape, value: &Value) -> bool
             }
         },
         (Shape::SequenceOf { size, item }, Value::List(values)) => {
-            if !size.allows(values.len() as u128) {
-                return false;
-            }
-            all_fit(item, values)
+            size.allows(values.len() as u128) && all_fit(item, values)
         }
         (Shape::Choice { root, additions }, Value::Chosen { tag, value }) => {
-            if contains_tag(root, *tag) {
-                return alternative_fits(root, *tag, value);
-            }
-            match additions {
+            match find_alternative(root, additions, *tag) {
+                Some(alternative) => fits_shape(&alternative.shape, value),
                 None => false,
-                Some(additions) => alternative_fits(additions, *tag, value),
             }
         }
-        (Shape::Choice { root, additions }, Value::Foreign { tag, octets }) => {
-            foreign_fits(root, additions, *tag, octets)
-        }
-        _ => false,
+        _ => leaf_fits(shape, value),
     }
 }
 
@@ -291,17 +289,4 @@ fn all_fit(item: &Shape, values: &[Value]) -> bool
         }
     }
     true
-}
-
-/// Whether the value fits the first alternative with the tag.
-#[cycle(fits)]
-fn alternative_fits(alts: &[Alt], tag: Tag, value: &Value) -> bool
-    ensures { result ≡ spec_alternative_fits (root_of alts.now no_alternatives) tag (value_of value.now) }
-{
-    for alt in alts {
-        if is_same_tag(alt.tag, tag) {
-            return fits_shape(&alt.shape, value);
-        }
-    }
-    false
 }

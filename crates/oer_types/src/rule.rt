@@ -3,35 +3,15 @@ ghost use Rattle.std.specs.Prelude.{◌≡◌, ◌==◌, ◌||◌, map};
 ghost use Rattle.oer_types.specs.AsnType.{no_alternatives};
 ghost use Rattle.oer_types.specs.Constraints.{fixed, is_zero as spec_is_zero, may_all_be_empty as spec_may_all_be_empty, may_be_empty as spec_may_be_empty, optional};
 ghost use Rattle.oer_types.specs.FaultTest.{any_bad_name, any_misfit as spec_any_misfit, has_crossed_bounds as spec_has_crossed_bounds, has_crossed_size as spec_has_crossed_size, has_empty_element as spec_has_empty_element, has_fault_here as spec_has_fault_here, has_misfit as spec_has_misfit, has_no_items as spec_has_no_items, has_repeated_number as spec_has_repeated_number, has_repeated_tag as spec_has_repeated_tag, in_additions, in_alternatives, in_fields, is_crossed, names_repeat, numbers_repeat as spec_numbers_repeat, somewhere, tags_repeat as spec_tags_repeat};
-ghost use Rattle.oer_types.specs.ShapeView.{additions_of, choice_with, fields_of, known_additions as spec_known_additions, known_later as spec_known_later, later_of, named_number, root_of, sequence_with, type_of};
+ghost use Rattle.oer_types.specs.ShapeView.{additions_of, choice_with, fields_of, later_of, named_number, root_of, sequence_with, type_of};
 ghost use Rattle.oer_types.specs.WellFormed.{names};
 
 use crate::fault::SchemaFault;
 use crate::fit::{contains_number, fits_shape};
 use crate::name;
-use crate::shape::{Addition, Alt, Field, Item, Need, Shape};
+use crate::shape::{Addition, Alt, Field, Item, Need, Shape, known_additions, known_later};
 use crate::size::Size;
 use crate::tag::contains_tag;
-
-/// The additions, none where there is no extension marker.
-fn known_additions(additions: &Option<Vec<Addition>>) -> &[Addition]
-    ensures { result.now ≡ spec_known_additions additions.now }
-{
-    match additions {
-        None => &[],
-        Some(additions) => additions,
-    }
-}
-
-/// The alternatives after the extension marker, none where there is none.
-fn known_later(additions: &Option<Vec<Alt>>) -> &[Alt]
-    ensures { result.now ≡ spec_known_later additions.now }
-{
-    match additions {
-        None => &[],
-        Some(additions) => additions,
-    }
-}
 
 #[tactic(auto, using(crate::proofs::Shapes::shapes))]
 fn has_crossed_bounds(shape: &Shape) -> bool

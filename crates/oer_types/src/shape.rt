@@ -1,7 +1,7 @@
 //! Types of ASN.1, as a tree.
 ghost use Rattle.std.specs.Prelude.{◌≡◌, ◌≤◌, length};
 ghost use Rattle.oer_types.specs.Constraints.{optional as optional_in};
-ghost use Rattle.oer_types.specs.ShapeView.{fields_of};
+ghost use Rattle.oer_types.specs.ShapeView.{fields_of, known_additions as spec_known_additions, known_later as spec_known_later};
 
 use crate::size::Size;
 use crate::value::Value;
@@ -112,4 +112,24 @@ pub fn optional(fields: &[Field]) -> usize
         };
     }
     count
+}
+
+/// The additions, none where there is no extension marker.
+pub(crate) fn known_additions(additions: &Option<Vec<Addition>>) -> &[Addition]
+    ensures { result.now ≡ spec_known_additions additions.now }
+{
+    match additions {
+        None => &[],
+        Some(additions) => additions,
+    }
+}
+
+/// The alternatives after the extension marker, none where there is none.
+pub(crate) fn known_later(additions: &Option<Vec<Alt>>) -> &[Alt]
+    ensures { result.now ≡ spec_known_later additions.now }
+{
+    match additions {
+        None => &[],
+        Some(additions) => additions,
+    }
 }

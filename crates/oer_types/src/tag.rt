@@ -1,10 +1,11 @@
 //! Tags of alternatives.
-ghost use Rattle.std.specs.Prelude.{◌≡◌};
+ghost use Rattle.std.specs.Prelude.{◌≡◌, option_map};
 ghost use Rattle.oer_types.specs.AsnType.{no_alternatives};
 ghost use Rattle.oer_types.specs.Constraints.{has_tag, same_tag};
 ghost use Rattle.oer_types.specs.ShapeView.{root_of};
+ghost use Rattle.oer_types.specs.Lookup.{alternative_with, first_with};
 
-use crate::shape::Alt;
+use crate::shape::{Alt, known_later};
 use oer_units::Tag;
 
 /// Whether both have the same class and the same number.
@@ -24,4 +25,30 @@ pub fn contains_tag(alternatives: &[Alt], tag: Tag) -> bool
         }
     }
     false
+}
+
+/// The first alternative with the tag.
+fn first_alternative(alternatives: &[Alt], tag: Tag) -> Option<&Alt>
+    ensures { option_map (λ a. a.now) result ≡ first_with tag alternatives.now }
+{
+    for one in alternatives {
+        if is_same_tag(one.tag, tag) {
+            return Some(one);
+        }
+    }
+    None
+}
+
+/// The first alternative with the tag, in the root or else after the extension marker.
+pub(crate) fn find_alternative<'a>(
+    root: &'a [Alt],
+    additions: &'a Option<Vec<Alt>>,
+    tag: Tag,
+) -> Option<&'a Alt>
+    ensures { option_map (λ a. a.now) result ≡ alternative_with tag root.now additions.now }
+{
+    match first_alternative(root, tag) {
+        Some(one) => Some(one),
+        None => first_alternative(known_later(additions), tag),
+    }
 }

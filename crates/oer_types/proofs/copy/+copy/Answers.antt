@@ -3,14 +3,6 @@ use Rattle.std.proofs.lemmas.Grind.{common_steps}
 use Rattle.oer_types.proofs.Shapes.{type_of-Sequence, type_of-Choice, shapes}
 use Rattle.oer_types.proofs.copy.+copy.Goals as goal
 
-pub copy-returns-in_ok-copy_additions-in-Some : goal.copy-returns-in_ok-copy_additions-in-Some
-copy-returns-in_ok-copy_additions-in-Some t c =
-    rw (c.in-Sequence.is, c.in-Some.is, type_of-Sequence, type_of-Sequence) (grind (arith, common_steps))
-
-pub copy-returns-in_ok-copy_alternatives-in-Some-additions : goal.copy-returns-in_ok-copy_alternatives-in-Some-additions
-copy-returns-in_ok-copy_alternatives-in-Some-additions t c =
-    rw (c.in-Choice.is, c.in-Some-additions.is, type_of-Choice, type_of-Choice) (grind (arith, common_steps))
-
 -- the tactic that proves each, so that no other is tried before it
 pub copy-returns-in-Boolean : goal.copy-returns-in-Boolean
 copy-returns-in-Boolean t c = grind (arith, shapes)
@@ -48,14 +40,8 @@ copy-returns-in-Printable t c = grind (arith, shapes)
 pub copy-returns-in-Utf8 : goal.copy-returns-in-Utf8
 copy-returns-in-Utf8 t c = grind (arith, shapes)
 
-pub copy-returns-in-None : goal.copy-returns-in-None
-copy-returns-in-None t c = grind (arith, shapes)
-
 pub copy-returns-in_ok-new-in-SequenceOf : goal.copy-returns-in_ok-new-in-SequenceOf
 copy-returns-in_ok-new-in-SequenceOf t c = grind (arith, shapes)
-
-pub copy-returns-in-None-additions : goal.copy-returns-in-None-additions
-copy-returns-in-None-additions t c = grind (arith, shapes)
 
 pub copy_additions-loop-addition-preserved : goal.copy_additions-loop-addition-preserved
 copy_additions-loop-addition-preserved t c = grind (arith, common_steps)

@@ -2,12 +2,14 @@ use Rattle.std.proofs.Common.{◌≡◌, ◌∷◌, drop, suc, map, ap, sym, ◌
 use Rattle.std.proofs.lemmas.Grind.{common_steps}
 use Rattle.oer_types.specs.AsnValue.{chosen, items}
 use Rattle.oer_types.specs.Filling.{filled}
-use Rattle.oer_types.specs.ShapeView.{seen_field, seen_addition, type_of}
+use Rattle.oer_types.specs.ShapeView.{choice_with, seen_field, seen_addition, type_of}
 use Rattle.oer_types.proofs.Shapes.{type_of-SequenceOf, type_of-Choice}
 use Rattle.oer_types.proofs.Values.{value_of-List, value_of-Chosen}
-use Rattle.oer_types.proofs.FillSteps.{field_step, addition_step, fields_done, additions_done, mapped_values, chosen_in_root, chosen_nowhere, chosen_later, levels}
+use Rattle.oer_types.proofs.FillSteps.{field_step, addition_step, fields_done, additions_done, mapped_values, levels}
+use Rattle.oer_types.proofs.Lookups.{filled_found, filled_nowhere, found_falls}
 use Rattle.oer_types.specs.ValueView.{value_of}
 use Rattle.oer_types.proofs.defaults.+fill_in.Goals as goal
+use Rattle.oer_types.proofs.defaults.+fill_in.Goals.{fill_in-in-Some+in_ok-filled-in-Some, fill_in-in-None+in_ok-filled-in-None}
 
 pub fill_fields-loop-field-preserved : goal.fill_fields-loop-field-preserved
 fill_fields-loop-field-preserved t c =
@@ -51,33 +53,30 @@ fill_values-returns t c =
     let l = c.loop-value in
     mapped_values (filled (type_of c.args.item.now)) l.copies.items c.args.values.now (grind (arith, common_steps))
 
-pub fill_in-returns-then-contains_tag : goal.fill_in-returns-then-contains_tag
-fill_in-returns-then-contains_tag t c =
+pub fill_in-returns-in_ok-value-in-Choice-Chosen : goal.fill_in-returns-in_ok-value-in-Choice-Chosen
+fill_in-returns-in_ok-value-in-Choice-Chosen t c =
     let at = c.in-Choice-Chosen in
     let made = c.in_ok-value-in-Choice-Chosen in
-    let h = rw (c.if-contains_tag.true, c.deref-in-Choice-Chosen.ensures.value) at c.contains_tag.ensures in
-    let f = rw (c.deref-then-contains_tag.ensures.value, c.deref-then-contains_tag-2.ensures) at c.in_ok-filled-in-Choice-Chosen.ensures in
+    let v = value_of at.value.value in
+    let is : chosen at.tag (value_of c.match-find_alternative.filled) ≡ filled (choice_with at.root.items at.additions) (chosen at.tag v) = elim c.match-find_alternative.branch [
+      | fill_in-in-Some+in_ok-filled-in-Some w ↦
+          let e = rw c.deref-in-Choice-Chosen.ensures.value at w.in-Some.ensures in
+          let f = rw w.deref-in-Some.ensures at w.in_ok-filled-in-Some.ensures in
+          ap (chosen at.tag) (ap value_of w.filled-is ∙ f) ∙ sym (filled_found at.tag v at.root.items at.additions w.in-Some.alternative.now e)
+      | fill_in-in-None+in_ok-filled-in-None w ↦
+          let e = rw c.deref-in-Choice-Chosen.ensures.value at w.in-None.ensures in
+          let f = rw w.deref-in-None.ensures at w.in_ok-filled-in-None.ensures in
+          ap (chosen at.tag) (ap value_of w.filled-is ∙ f) ∙ sym (filled_nowhere at.tag v at.root.items at.additions e)
+    ] in
     rw (at.is-0, at.is-1, type_of-Choice, value_of-Chosen at.tag made.value, value_of-Chosen at.tag at.value)
-    (ap (chosen at.tag) (ap value_of made.ensures.ok ∙ f) ∙ sym (chosen_in_root at.tag (value_of at.value.value) at.root.items at.additions (sym h)))
+    (ap (chosen at.tag) (ap value_of made.ensures.ok) ∙ is)
 
-pub fill_in-returns-in_ok-value-in-None-additions : goal.fill_in-returns-in_ok-value-in-None-additions
-fill_in-returns-in_ok-value-in-None-additions t c =
+-- measures
+pub fill_in-fill_in-requires : goal.fill_in-fill_in-requires
+fill_in-fill_in-requires t c =
     let at = c.in-Choice-Chosen in
-    let made = c.in_ok-value-in-None-additions in
-    let h = rw (c.if-contains_tag.false, c.deref-in-Choice-Chosen.ensures.value) at c.contains_tag.ensures in
-    let f = rw c.deref-in-None-additions.ensures at c.in_ok-copied-in-None-additions.ensures in
-    rw (at.is-0, at.is-1, type_of-Choice, value_of-Chosen at.tag made.value, value_of-Chosen at.tag at.value, c.in-None-additions.is)
-    (ap (chosen at.tag) (ap value_of made.ensures.ok ∙ f) ∙ sym (chosen_nowhere at.tag (value_of at.value.value) at.root.items (sym h)))
-
-pub fill_in-returns-in_ok-value-in-Some-additions : goal.fill_in-returns-in_ok-value-in-Some-additions
-fill_in-returns-in_ok-value-in-Some-additions t c =
-    let at = c.in-Choice-Chosen in
-    let made = c.in_ok-value-in-Some-additions in
-    let more = c.in-Some-additions.additions in
-    let h = rw (c.if-contains_tag.false, c.deref-in-Choice-Chosen.ensures.value) at c.contains_tag.ensures in
-    let f = rw (c.deref-in-Some-additions.ensures.value, c.deref-in-Some-additions-2.ensures) at c.in_ok-filled-in-Some-additions.ensures in
-    rw (at.is-0, at.is-1, type_of-Choice, value_of-Chosen at.tag made.value, value_of-Chosen at.tag at.value, c.in-Some-additions.is)
-    (ap (chosen at.tag) (ap value_of made.ensures.ok ∙ f) ∙ sym (chosen_later at.tag (value_of at.value.value) at.root.items more (sym h)))
+    let e = rw c.deref-in-Choice-Chosen.ensures.value at c.in-Some.ensures in
+    (found_falls at.tag c.args.shape.now at.root at.additions c.in-Some.alternative.now t at.is-0 e c.decreases, tt)
 
 -- the tactic that proves each, so that no other is tried before it
 pub fill_addition-returns-in-None : goal.fill_addition-returns-in-None
@@ -89,23 +88,8 @@ fill_addition-returns-in_ok-fill_in-in-Some t c = grind (arith, common_steps)
 pub fill_additions-returns : goal.fill_additions-returns
 fill_additions-returns t c = grind (arith, common_steps)
 
-pub fill_alternative-returns-then-is_same_tag : goal.fill_alternative-returns-then-is_same_tag
-fill_alternative-returns-then-is_same_tag t c = grind (arith, common_steps)
-
-pub fill_alternative-loop-alt-preserved : goal.fill_alternative-loop-alt-preserved
-fill_alternative-loop-alt-preserved t c = grind (arith, common_steps)
-
-pub fill_alternative-returns : goal.fill_alternative-returns
-fill_alternative-returns t c = grind (arith, common_steps)
-
 pub fill_fields-returns : goal.fill_fields-returns
 fill_fields-returns t c = grind (arith, common_steps)
-
-pub fill_in-returns-in_ok-copy_places-in-None : goal.fill_in-returns-in_ok-copy_places-in-None
-fill_in-returns-in_ok-copy_places-in-None t c = grind (arith, levels)
-
-pub fill_in-returns-in_ok-fill_additions-in-Some : goal.fill_in-returns-in_ok-fill_additions-in-Some
-fill_in-returns-in_ok-fill_additions-in-Some t c = grind (arith, levels)
 
 pub fill_place-returns-in_ok-fill_in-in-Some : goal.fill_place-returns-in_ok-fill_in-in-Some
 fill_place-returns-in_ok-fill_in-in-Some t c = grind (arith, common_steps)

@@ -13,6 +13,3 @@ invariant-fill_additions-loop-addition l = attached l.copies.items (filled_addit
 
 abbrev pub invariant-fill_values-loop-value : goal.invariant-fill_values-loop-value
 invariant-fill_values-loop-value l = map value_of l.copies.items ≡ map (λ v. filled (type_of l.item) (value_of v)) (take l.value-index l.values)
-
-abbrev pub invariant-fill_alternative-loop-alt : goal.invariant-fill_alternative-loop-alt
-invariant-fill_alternative-loop-alt l = filled_alternative (root_of (drop l.alt-index l.alts) no_alternatives) l.tag (value_of l.value) ≡ filled_alternative (root_of l.alts no_alternatives) l.tag (value_of l.value)

@@ -1,9 +1,10 @@
-use Rattle.std.proofs.Common.{Some, None, suc, map, drop, get_or, drop-cons, sym, arith}
+use Rattle.std.proofs.Common.{suc, map, drop, get_or, drop-cons, sym, arith}
 use Rattle.std.proofs.lemmas.Grind.{common_steps}
 use Rattle.std.proofs.lemmas.List.{drop_all}
 use Rattle.oer_types.proofs.Shapes.{type_of-Sequence, type_of-SequenceOf, type_of-Choice}
 use Rattle.oer_types.proofs.Values.{value_of-Seq, value_of-List, value_of-Chosen}
-use Rattle.oer_types.proofs.FillSteps.{◌then◌, no_field_left, no_addition_left, no_values_left, items-same, tags_differ_not, chosen_in_root, chosen_nowhere, chosen_later, same_chosen, levels}
+use Rattle.oer_types.proofs.FillSteps.{◌then◌, no_field_left, no_addition_left, no_values_left, items-same, tags_differ_not, sequence_filled, same_chosen}
+use Rattle.oer_types.proofs.Lookups.{filled_found, filled_nowhere, found_falls}
 use Rattle.oer_types.specs.Filling.{filled}
 use Rattle.oer_types.specs.ShapeView.{type_of, choice_with, seen_field, seen_addition}
 use Rattle.oer_types.specs.ValueView.{value_of}
@@ -34,53 +35,41 @@ same_filled_at-returns-in-SequenceOf-List-List t c =
     rw (at.is-0, at.is-1, at.is-2, type_of-SequenceOf, value_of-List at.a, value_of-List at.b)
     (rw (c.deref-in-SequenceOf-List-List.ensures, c.deref-in-SequenceOf-List-List-2.ensures.value, c.deref-in-SequenceOf-List-List-3.ensures.value) at c.same_filled_values.ensures then items-same _ _)
 
-pub same_filled_at-returns-then-contains_tag : goal.same_filled_at-returns-then-contains_tag
-same_filled_at-returns-then-contains_tag t c =
-    let at = c.in-Choice-Chosen-Chosen in
-    let e = tags_differ_not at.s at.t _ c.ne.ensures c.if-ne.false in
-    let h = rw (c.if-contains_tag.true, c.deref-in-Choice-Chosen-Chosen.ensures.value) at c.contains_tag.ensures in
-    rw (at.is-0, at.is-1, at.is-2, type_of-Choice, value_of-Chosen at.s at.a, value_of-Chosen at.t at.b)
-    (rw (c.deref-then-contains_tag.ensures.value, c.deref-then-contains_tag-2.ensures, c.deref-then-contains_tag-3.ensures) at c.same_filled_alternative.ensures
-    then same_chosen at.s at.t _ _ _ _ (choice_with at.root.items at.additions) e (chosen_in_root at.t (value_of at.a.value) at.root.items at.additions (sym h)) (chosen_in_root at.t (value_of at.b.value) at.root.items at.additions (sym h)))
-
-pub same_filled_at-returns-in-None-additions : goal.same_filled_at-returns-in-None-additions
-same_filled_at-returns-in-None-additions t c =
-    let at = c.in-Choice-Chosen-Chosen in
-    let e = tags_differ_not at.s at.t _ c.ne.ensures c.if-ne.false in
-    let h = rw (c.if-contains_tag.false, c.deref-in-Choice-Chosen-Chosen.ensures.value) at c.contains_tag.ensures in
-    rw (at.is-0, at.is-1, at.is-2, type_of-Choice, value_of-Chosen at.s at.a, value_of-Chosen at.t at.b, c.in-None-additions.is)
-    (rw (c.deref-in-None-additions.ensures, c.deref-in-None-additions-2.ensures) at c.same.ensures
-    then same_chosen at.s at.t _ _ _ _ (choice_with at.root.items None) e (chosen_nowhere at.t (value_of at.a.value) at.root.items (sym h)) (chosen_nowhere at.t (value_of at.b.value) at.root.items (sym h)))
-
-pub same_filled_at-returns-in-Some-additions : goal.same_filled_at-returns-in-Some-additions
-same_filled_at-returns-in-Some-additions t c =
-    let at = c.in-Choice-Chosen-Chosen in
-    let more = c.in-Some-additions.additions in
-    let e = tags_differ_not at.s at.t _ c.ne.ensures c.if-ne.false in
-    let h = rw (c.if-contains_tag.false, c.deref-in-Choice-Chosen-Chosen.ensures.value) at c.contains_tag.ensures in
-    rw (at.is-0, at.is-1, at.is-2, type_of-Choice, value_of-Chosen at.s at.a, value_of-Chosen at.t at.b, c.in-Some-additions.is)
-    (rw (c.deref-in-Some-additions.ensures.value, c.deref-in-Some-additions-2.ensures, c.deref-in-Some-additions-3.ensures) at c.same_filled_alternative-in-Some-additions.ensures
-    then same_chosen at.s at.t _ _ _ _ (choice_with at.root.items (Some more)) e (chosen_later at.t (value_of at.a.value) at.root.items more (sym h)) (chosen_later at.t (value_of at.b.value) at.root.items more (sym h)))
-
-pub same_filled_at-returns-then-not-same_places : goal.same_filled_at-returns-then-not-same_places
-same_filled_at-returns-then-not-same_places t c =
+pub same_filled_at-returns-then-not-same_unknown : goal.same_filled_at-returns-then-not-same_unknown
+same_filled_at-returns-then-not-same_unknown t c =
     let at = c.in-Sequence-Seq-Seq in
-    rw (at.is-0, at.is-1, at.is-2, type_of-Sequence, value_of-Seq, value_of-Seq, c.in-None.is) (grind (arith, common_steps))
-
-pub same_filled_at-returns-then-not-same_filled_fields : goal.same_filled_at-returns-then-not-same_filled_fields
-same_filled_at-returns-then-not-same_filled_fields t c =
-    let at = c.in-Sequence-Seq-Seq in
-    rw (at.is-0, at.is-1, at.is-2, type_of-Sequence, value_of-Seq, value_of-Seq, c.in-Some.is) (grind (arith, common_steps))
-
-pub same_filled_at-returns-else-not-same_places : goal.same_filled_at-returns-else-not-same_places
-same_filled_at-returns-else-not-same_places t c =
-    let at = c.in-Sequence-Seq-Seq in
-    rw (at.is-0, at.is-1, at.is-2, type_of-Sequence, value_of-Seq, value_of-Seq, c.in-None.is) (grind (arith, common_steps))
+    rw (at.is-0, at.is-1, at.is-2, type_of-Sequence, value_of-Seq, value_of-Seq, sequence_filled, sequence_filled) (grind (arith, common_steps))
 
 pub same_filled_at-returns-else-not-same_filled_fields : goal.same_filled_at-returns-else-not-same_filled_fields
 same_filled_at-returns-else-not-same_filled_fields t c =
     let at = c.in-Sequence-Seq-Seq in
-    rw (at.is-0, at.is-1, at.is-2, type_of-Sequence, value_of-Seq, value_of-Seq, c.in-Some.is) (grind (arith, common_steps))
+    rw (at.is-0, at.is-1, at.is-2, type_of-Sequence, value_of-Seq, value_of-Seq, sequence_filled, sequence_filled) (grind (arith, common_steps))
+
+pub same_filled_at-returns-in-Some : goal.same_filled_at-returns-in-Some
+same_filled_at-returns-in-Some t c =
+    let at = c.in-Choice-Chosen-Chosen in
+    let x = c.in-Some.alternative.now in
+    let e = tags_differ_not at.s at.t _ c.ne.ensures c.if-ne.false in
+    let h = rw c.deref-in-Choice-Chosen-Chosen.ensures.value at c.in-Some.ensures in
+    rw (at.is-0, at.is-1, at.is-2, type_of-Choice, value_of-Chosen at.s at.a, value_of-Chosen at.t at.b)
+    (rw (c.deref-in-Some.ensures, c.deref-in-Some-2.ensures) at c.same_filled_at.ensures
+    then same_chosen at.s at.t _ _ _ _ (choice_with at.root.items at.additions) e (filled_found at.t (value_of at.a.value) at.root.items at.additions x h) (filled_found at.t (value_of at.b.value) at.root.items at.additions x h))
+
+pub same_filled_at-returns-in-None : goal.same_filled_at-returns-in-None
+same_filled_at-returns-in-None t c =
+    let at = c.in-Choice-Chosen-Chosen in
+    let e = tags_differ_not at.s at.t _ c.ne.ensures c.if-ne.false in
+    let h = rw c.deref-in-Choice-Chosen-Chosen.ensures.value at c.in-None.ensures in
+    rw (at.is-0, at.is-1, at.is-2, type_of-Choice, value_of-Chosen at.s at.a, value_of-Chosen at.t at.b)
+    (rw (c.deref-in-None.ensures, c.deref-in-None-2.ensures) at c.same.ensures
+    then same_chosen at.s at.t _ _ _ _ (choice_with at.root.items at.additions) e (filled_nowhere at.t (value_of at.a.value) at.root.items at.additions h) (filled_nowhere at.t (value_of at.b.value) at.root.items at.additions h))
+
+-- measures
+pub same_filled_at-same_filled_at-requires : goal.same_filled_at-same_filled_at-requires
+same_filled_at-same_filled_at-requires t c =
+    let at = c.in-Choice-Chosen-Chosen in
+    let h = rw c.deref-in-Choice-Chosen-Chosen.ensures.value at c.in-Some.ensures in
+    (found_falls at.t c.args.shape.now at.root at.additions c.in-Some.alternative.now t at.is-0 h c.decreases, tt)
 
 -- the tactic that proves each, so that no other is tried before it
 pub same_filled_additions-returns-in_default-split_first : goal.same_filled_additions-returns-in_default-split_first
@@ -100,24 +89,6 @@ same_filled_additions-loop-addition-preserved t c = grind (arith, common_steps)
 
 pub same_filled_additions-returns : goal.same_filled_additions-returns
 same_filled_additions-returns t c = grind (arith, common_steps)
-
-pub same_filled_alternative-returns-then-is_same_tag : goal.same_filled_alternative-returns-then-is_same_tag
-same_filled_alternative-returns-then-is_same_tag t c = grind (arith, common_steps)
-
-pub same_filled_alternative-loop-alt-preserved : goal.same_filled_alternative-loop-alt-preserved
-same_filled_alternative-loop-alt-preserved t c = grind (arith, common_steps)
-
-pub same_filled_alternative-returns : goal.same_filled_alternative-returns
-same_filled_alternative-returns t c = grind (arith, common_steps)
-
-pub same_filled_at-returns-then-not-same_unknown : goal.same_filled_at-returns-then-not-same_unknown
-same_filled_at-returns-then-not-same_unknown t c = grind (arith, levels)
-
-pub same_filled_at-returns-then-not-same_unknown-2 : goal.same_filled_at-returns-then-not-same_unknown-2
-same_filled_at-returns-then-not-same_unknown-2 t c = grind (arith, levels)
-
-pub same_filled_at-returns-then-ne : goal.same_filled_at-returns-then-ne
-same_filled_at-returns-then-ne t c = grind (arith, levels)
 
 pub same_filled_fields-returns-in_default-split_first : goal.same_filled_fields-returns-in_default-split_first
 same_filled_fields-returns-in_default-split_first t c = grind (arith, common_steps)

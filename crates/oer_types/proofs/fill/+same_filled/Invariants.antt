@@ -20,8 +20,3 @@ abbrev pub invariant-same_filled_values-loop-one : goal.invariant-same_filled_va
 invariant-same_filled_values-loop-one l =
     (map_values (filled (type_of l.item)) (values_of (drop l.one-index l.ones)) ≡ map_values (filled (type_of l.item)) (values_of l.rest))
     ↔ (map_values (filled (type_of l.item)) (values_of l.ones) ≡ map_values (filled (type_of l.item)) (values_of l.others))
-
-abbrev pub invariant-same_filled_alternative-loop-alt : goal.invariant-same_filled_alternative-loop-alt
-invariant-same_filled_alternative-loop-alt l =
-    (filled_alternative (root_of (drop l.alt-index l.alts) no_alternatives) l.tag (value_of l.one) ≡ filled_alternative (root_of (drop l.alt-index l.alts) no_alternatives) l.tag (value_of l.other))
-    ↔ (filled_alternative (root_of l.alts no_alternatives) l.tag (value_of l.one) ≡ filled_alternative (root_of l.alts no_alternatives) l.tag (value_of l.other))

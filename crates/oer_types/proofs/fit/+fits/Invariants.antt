@@ -14,6 +14,3 @@ invariant-additions_fit-loop-addition l = additions_fit (additions_of (drop l.ad
 
 abbrev pub invariant-all_fit-loop-value : goal.invariant-all_fit-loop-value
 invariant-all_fit-loop-value l = all_fit (is_fit (type_of l.item)) (values_of (drop l.value-index l.values)) ≡ all_fit (is_fit (type_of l.item)) (values_of l.values)
-
-abbrev pub invariant-alternative_fits-loop-alt : goal.invariant-alternative_fits-loop-alt
-invariant-alternative_fits-loop-alt l = alternative_fits (root_of (drop l.alt-index l.alts) no_alternatives) l.tag (value_of l.value) ≡ alternative_fits (root_of l.alts no_alternatives) l.tag (value_of l.value)
