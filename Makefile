@@ -1,9 +1,10 @@
 # make: proves and builds the program, as bin/oer
 # make quick: proves and tests all but the must-fail edits, over what earlier runs kept, for use before a commit
 # make test: the whole gate, then the commands that the documents show, then memory refused in turn; make install PREFIX=..: puts the program into PREFIX/bin
+# make lib: builds the library for C and C++, in lib/; make test-lib: tests it
 PREFIX ?= /usr/local
 
-.PHONY: all quick test install clean
+.PHONY: all quick test lib test-lib install clean
 
 all: bin/oer
 
@@ -20,6 +21,12 @@ test:
 	@cp crates/oer/out/oer bin/oer
 	@examples/check
 	@examples/refusals
+
+lib:
+	@PREFIX=$(PREFIX) tools/lib
+
+test-lib: lib
+	@tools/test_lib
 
 install: bin/oer
 	install -d $(DESTDIR)$(PREFIX)/bin
