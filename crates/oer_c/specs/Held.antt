@@ -1,0 +1,18 @@
+-- What a handle holds.
+use Rattle.std.specs.Prelude.{ℕ, Option, None, Some}
+use base.Fml.{Fml, ftrue}
+use denote.RawPtr.{Ptr}
+use Rattle.libc.specs.Heap.{chunk}
+use Rattle.std.specs.Box.Ownership.{box_owns}
+use Rattle.oer_notation.specs.contracts.types.Types.{the_row}
+use Rattle.oer_notation.specs.declared.types.Types.{Types}
+
+-- the types at p, with the right to free their block; or nothing
+abbrev pub holds : Ptr → Option Types → Fml
+holds p None = ftrue
+holds p (Some types) = box_owns chunk the_row p types
+
+-- whether there are any, as a number
+abbrev pub flag : Option Types → ℕ
+flag None = 0
+flag (Some types) = 1
