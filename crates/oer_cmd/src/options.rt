@@ -2,7 +2,7 @@
 ghost use Rattle.std.specs.Prelude.{◌≡◌, List, Option, Some, None, false, true, IfOk, IfErr, IfSome, map, option_map, string_bytes};
 ghost use Rattle.clap.specs.Words.{HasKind, fault_of, first_value, found_of, kind_of, rule_of, takes};
 ghost use Rattle.clap.specs.declared.error.kind.ErrorKind.TheVariants.{OutOfMemory};
-ghost use Rattle.oer_cmd.specs.Words.{Asks, HasShape, IsTask, hex_app, make_app, oer, option_rule, part_app, task_app};
+ghost use Rattle.oer_cmd.specs.Words.{Asks, HasShape, IsTask, hex_app, limit_rule, make_app, oer, option_rule, part_app, task_app};
 
 use clap::{Arg, ArgMatches, Command, Error};
 use std::alloc::{AllocError, Global};
@@ -56,19 +56,25 @@ fn option<'a>(alloc: Global, id: &'a str) -> Arg<'a>
     Arg::new(alloc, id).long(id)
 }
 
+/// The option that bounds how many octets the value may take.
+fn limit_option<'a>(alloc: Global) -> Arg<'a>
+    ensures rule { rule_of result ≡ limit_rule }
+    ensures local { result.global ≡ false }
+{
+    option(alloc, "limit")
+        .value_parser(clap::value_parser!(u64))
+        .default_value("1048576")
+}
+
 /// The subcommand of a task, with the options that all tasks have.
 fn task_command<'a>(alloc: Global, name: &'a str) -> Result<Command<'a>, AllocError>
     ensures { IfOk result (HasShape (task_app name.entry.now)) }
 {
-    let limit = Arg::new(alloc, "limit")
-        .long("limit")
-        .value_parser(clap::value_parser!(u64))
-        .default_value("1048576");
     Command::new(alloc, name)
         .arg(option(alloc, "type"))?
         .arg(option(alloc, "types"))?
         .arg(option(alloc, "name"))?
-        .arg(limit)
+        .arg(limit_option(alloc))
 }
 
 /// The subcommand of a task on octets.
@@ -96,18 +102,13 @@ fn part_command<'a>(alloc: Global) -> Result<Command<'a>, AllocError>
 fn command<'a>(alloc: Global) -> Result<Command<'a>, AllocError>
     ensures { IfOk result (HasShape oer) }
 {
-    let show = hex_command(alloc, "show")?;
-    let canon = hex_command(alloc, "canon")?;
-    let check = hex_command(alloc, "check")?;
-    let make = make_command(alloc)?;
-    let part = part_command(alloc)?;
     Command::new(alloc, "oer")
         .subcommand_required(true)
-        .subcommand(show)?
-        .subcommand(canon)?
-        .subcommand(check)?
-        .subcommand(make)?
-        .subcommand(part)
+        .subcommand(hex_command(alloc, "show")?)?
+        .subcommand(hex_command(alloc, "canon")?)?
+        .subcommand(hex_command(alloc, "check")?)?
+        .subcommand(make_command(alloc)?)?
+        .subcommand(part_command(alloc)?)
 }
 
 /// The task of that name, with the options that not all tasks have.

@@ -9,8 +9,8 @@ use Rattle.oer_cmd.proofs.options.command.Goals as goal
 pub returns : goal.returns
 returns c =
     let start : HasShape (on_top (λ s. record s { subcommand_required = true }) (new_app (codes "oer"))) c.subcommand_required.result = record { app = search rules; local = search rules } in
-    let one = adds_task _ _ _ _ _ start c.in_ok-show.ensures c.in_ok-subcommand.ensures in
-    let two = adds_task _ _ _ _ _ one c.in_ok-canon.ensures c.in_ok-subcommand-2.ensures in
-    let three = adds_task _ _ _ _ _ two c.in_ok-check.ensures c.in_ok-subcommand-3.ensures in
-    let four = adds_task _ _ _ _ _ three c.in_ok-make.ensures c.in_ok-subcommand-4.ensures in
-    IfOk-weaker c.subcommand-5.result _ _ (λ r h. adds_task _ _ _ _ _ four c.in_ok-part.ensures h) c.subcommand-5.ensures
+    let one = adds_task _ _ _ _ _ start c.in_ok-hex_command.ensures c.in_ok-subcommand.ensures in
+    let two = adds_task _ _ _ _ _ one c.in_ok-hex_command-2.ensures c.in_ok-subcommand-2.ensures in
+    let three = adds_task _ _ _ _ _ two c.in_ok-hex_command-3.ensures c.in_ok-subcommand-3.ensures in
+    let four = adds_task _ _ _ _ _ three c.in_ok-make_command.ensures c.in_ok-subcommand-4.ensures in
+    IfOk-weaker c.subcommand-5.result _ _ (λ r h. adds_task _ _ _ _ _ four c.in_ok-part_command.ensures h) c.subcommand-5.ensures
