@@ -4,6 +4,7 @@
 mod canon;
 mod check;
 mod fault;
+mod help;
 pub mod laws;
 mod make;
 mod octets;
