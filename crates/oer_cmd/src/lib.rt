@@ -1,4 +1,4 @@
-//! Values and their octets at the command line: what the program `oer` does with its words.
+//! Values and their octets at the command line: what the program `oer` does with its arguments.
 #![tactic(auto)]
 
 mod canon;

@@ -1,4 +1,4 @@
-//! What the words of the command line ask for.
+//! What the arguments of the program ask for.
 ghost use Rattle.std.specs.Prelude.{◌≡◌, List, Option, Some, None, false, true, IfOk, IfErr, IfSome, map, option_map, string_bytes};
 ghost use Rattle.clap.specs.Words.{HasKind, fault_of, first_value, found_of, kind_of, new_app, rule_of, takes};
 ghost use Rattle.clap.specs.declared.error.kind.ErrorKind.TheVariants.{OutOfMemory};
@@ -8,8 +8,8 @@ use crate::help::{self, Help};
 use clap::{Arg, ArgMatches, Command, Error};
 use std::alloc::{AllocError, Global};
 
-/// What the words ask for, and the options that not all tasks have. `hex` are octets in hexadecimal
-/// digits; without them the octets come from the input.
+/// What the arguments ask for, and the options that not all tasks have. `hex` are octets in
+/// hexadecimal digits; without them the octets come from the input.
 #[derive(Clone, Copy)]
 pub enum Task<'a> {
     /// The JSON of a value.
@@ -35,7 +35,7 @@ pub enum Task<'a> {
     },
 }
 
-/// What the words ask for, and with which options.
+/// What the arguments ask for, and with which options.
 #[derive(Clone, Copy)]
 pub struct Options<'a> {
     pub task: Task<'a>,
@@ -159,12 +159,13 @@ fn task_of<'a>(name: &str, found: &ArgMatches<'a>) -> Option<Task<'a>>
     None
 }
 
-/// What the words ask for, or what `clap` has to say to them.
+/// What the arguments ask for, or why `clap` rejects them. The first word is the name of the
+/// program.
 pub fn parsed<'a>(alloc: Global, words: &'a [String]) -> Result<Options<'a>, Error>
     ensures ok { IfOk result (λ o. Asks (map string_bytes words.entry.now) o) }
     ensures err { IfErr result (λ e. takes oer (map string_bytes words.entry.now) ≡ true
         → kind_of e ≡ OutOfMemory) }
-    // Memory ran out, or it is a fault that these words have.
+    // An allocation failed, or it is a fault that these words have.
     ensures kinds { IfErr result (HasKind (fault_of oer (map string_bytes words.entry.now))) }
 {
     let command = command(alloc)?;
