@@ -5,7 +5,11 @@ use Rattle.std.specs.Box.{box_value}
 use Rattle.std.specs.Str.Parse.{IsNumeral, digits_value, without_leading_plus}
 use Rattle.clap.specs.Words.{AddsArg, AddsSubcommand, App, with_subcommand, Row, Rule, rule_of, with_rule, Text, ReadsOne, found_of, first_value, one_text, is_simple, rows_of, subcommand_name_of, subcommand_of, subcommand_rows, subcommand_rows_of, is_simple_and_free}
 use Rattle.clap.specs.declared.builder.arg.Arg.{Arg}
+use Rattle.clap.specs.Simple.{Shape, app_of_fields, on_top}
 use Rattle.clap.specs.declared.builder.command.Command.{Command}
+use Rattle.clap.specs.declared.builder.command.Command.TheOpen.{Command-F}
+use Rattle.clap.specs.declared.builder.command.Command.TheViews.{out-Command}
+use Rattle.std.specs.Borrow.{Bor}
 use Rattle.clap.specs.declared.parser.matches.ArgMatches.{ArgMatches}
 use Rattle.clap.specs.declared.parser.matches.ArgMatches.TheViews.{out-ArgMatches, out-SubCommand}
 use Rattle.clap.specs.declared.parser.matches.SubCommand.{SubCommand}
@@ -75,4 +79,18 @@ pub adds_task : (a s : App) (c sub d : Command) → HasShape a c → HasShape s 
 adds_task a s c sub d shape of h = record {
   app = h.shape of.local ∙ ap₂ with_subcommand shape.app (ap (λ (x : App). x.top) of.app);
   local = h.globals ∙ or_none shape.local of.local;
+}
+
+-- the same command with a version
+pub has_version : (a : App) (c d : Command) (v : Bor Text) → HasShape a c → out-Command d ≡ record (out-Command c) { version = Some v } → HasShape (on_top (λ s. record s { has_version = true }) a) d
+has_version a c d v shape e = record {
+  app = ap app_of_fields e ∙ ap (on_top (λ (s : Shape). record s { has_version = true })) shape.app;
+  local = ap (λ (f : Command-F Command). f.has_globals) e ∙ shape.local;
+}
+
+-- the same command, where the arguments have to name a task
+pub requires_task : (a : App) (c d : Command) → HasShape a c → out-Command d ≡ record (out-Command c) { subcommand_required = true } → HasShape (on_top (λ s. record s { subcommand_required = true }) a) d
+requires_task a c d shape e = record {
+  app = ap app_of_fields e ∙ ap (on_top (λ (s : Shape). record s { subcommand_required = true })) shape.app;
+  local = ap (λ (f : Command-F Command). f.has_globals) e ∙ shape.local;
 }

@@ -11,9 +11,9 @@ use Rattle.clap.specs.declared.builder.command.Command.{Command}
 use Rattle.clap.specs.declared.builder.command.Command.TheViews.{out-Command}
 use Rattle.clap.specs.declared.builder.value_parser.ValueParser.TheVariants as vp
 
--- an option with a value, that is named by its id
+-- an option with a value, for which help has a name; the option is named by its id
 abbrev pub option_rule : Text → Rule
-option_rule id = record (new_rule id) { long = Some id }
+option_rule id = record (new_rule id) { long = Some id; value_names = 1 }
 
 abbrev pub limit_rule : Rule
 limit_rule = record (option_rule (codes "limit")) {
@@ -39,7 +39,7 @@ part_app = with_rule (hex_app (codes "part")) (option_rule (codes "path"))
 -- the whole command
 abbrev pub oer : App
 oer = with_subcommand (with_subcommand (with_subcommand (with_subcommand (with_subcommand
-    (on_top (λ s. record s { subcommand_required = true }) (new_app (codes "oer")))
+    (on_top (λ s. record s { has_version = true; subcommand_required = true }) (new_app (codes "oer")))
     (hex_app (codes "show")).top) (hex_app (codes "canon")).top) (hex_app (codes "check")).top) make_app.top) part_app.top
 
 -- the task that the words name

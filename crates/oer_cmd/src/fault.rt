@@ -84,7 +84,7 @@ impl<'a> Fault<'a> {
         }
     }
 
-    /// The status of the program: 1 where the octets are refused, 2 where the words are, 3 where
+    /// The status of the program: 1 where the octets are refused, 2 where the arguments are, 3 where
     /// the machine fails.
     pub fn status(self) -> u8
         ensures status { result ≡ status_of self.entry }

@@ -1,9 +1,10 @@
-//! Values and their octets at the command line: what the program `oer` does with its words.
+//! Values and their octets at the command line: what the program `oer` does with its arguments.
 #![tactic(auto)]
 
 mod canon;
 mod check;
 mod fault;
+mod help;
 pub mod laws;
 mod make;
 mod octets;

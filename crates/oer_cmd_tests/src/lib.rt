@@ -12,6 +12,8 @@ mod failing;
 #[cfg(test)]
 mod faults;
 #[cfg(test)]
+mod help;
+#[cfg(test)]
 mod input;
 #[cfg(test)]
 mod lines;

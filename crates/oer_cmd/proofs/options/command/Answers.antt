@@ -1,14 +1,10 @@
-use Rattle.std.proofs.Common.{rules, true, codes}
 use Rattle.std.proofs.lemmas.Result.{IfOk-weaker}
-use Rattle.clap.specs.Words.{new_app}
-use Rattle.clap.specs.Simple.{on_top}
-use Rattle.oer_cmd.specs.Words.{HasShape}
-use Rattle.oer_cmd.proofs.Asked.{adds_task}
+use Rattle.oer_cmd.proofs.Asked.{adds_task, has_version, requires_task}
 use Rattle.oer_cmd.proofs.options.command.Goals as goal
 
 pub returns : goal.returns
 returns c =
-    let start : HasShape (on_top (λ s. record s { subcommand_required = true }) (new_app (codes "oer"))) c.subcommand_required.result = record { app = search rules; local = search rules } in
+    let start = requires_task _ _ _ (has_version _ _ _ _ c.with_help.ensures c.version.ensures) c.subcommand_required.ensures in
     let one = adds_task _ _ _ _ _ start c.in_ok-hex_command.ensures c.in_ok-subcommand.ensures in
     let two = adds_task _ _ _ _ _ one c.in_ok-hex_command-2.ensures c.in_ok-subcommand-2.ensures in
     let three = adds_task _ _ _ _ _ two c.in_ok-hex_command-3.ensures c.in_ok-subcommand-3.ensures in
