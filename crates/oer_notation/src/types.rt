@@ -174,8 +174,8 @@ fn read_entry(
 {
     let name = read_new_name(types, cursor)?;
     cursor.expect(Sign::Assign)?;
-    let schema = read_definition(alloc, types, cursor)?;
     let name = String::from_str(alloc, name)?;
+    let schema = read_definition(alloc, types, cursor)?;
     Ok(Definition { name, schema })
 }
 
