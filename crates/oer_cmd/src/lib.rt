@@ -4,6 +4,7 @@
 mod canon;
 mod check;
 mod fault;
+mod gathering;
 pub mod laws;
 mod make;
 mod octets;
@@ -13,4 +14,5 @@ mod program;
 mod show;
 mod type_text;
 
+pub use gathering::{GatherFault, gather};
 pub use program::{put_all, run};
