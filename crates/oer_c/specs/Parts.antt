@@ -6,7 +6,7 @@ use Rattle.oer_types.specs.AsnType.{AsnType}
 use Rattle.oer_types.specs.Parts.{Step, StopsAt, Within}
 use Rattle.oer_checker.specs.Check.{Tells}
 use Rattle.oer_checker.specs.Handing.{Begins}
-use Rattle.oer_input.specs.Path.{SpellsPath}
+use Rattle.oer_checker.specs.Path.{SpellsPath}
 use Rattle.oer_c.specs.Buffers.{IsPut, only_written, refusal}
 use Rattle.oer_c.specs.declared.buffer.Written.{Written}
 

@@ -1,5 +1,6 @@
 -- From what the checker answers to what its caller learns.
-use Rattle.std.proofs.Common.{◌≡◌, ℕ, ◌-◌, ◌^◌, ◌<◌, ◌≤◌, Bool, List, [], ◌∷◌, ◌++◌, length, drop, Ok, Err, arith, refl, sym, ap, ap₂, ◌∙◌, subst, length-append}
+use Rattle.std.proofs.Common.{◌≡◌, ℕ, ◌-◌, ◌^◌, ◌<◌, ◌≤◌, Bool, List, [], ◌∷◌, ◌++◌, length, drop, Ok, Err, arith, refl, sym, ap, ap₂, ◌∙◌, subst, length-append, length-drop, take, Some}
+use Rattle.std.proofs.lemmas.List.{take_at}
 use Rattle.oer_units.specs.declared.fault.Why.{Why}
 use Rattle.oer_units.specs.declared.fault.ReadFault.{ReadFault}
 use Rattle.oer_units.specs.Octets.{IsOctets}
@@ -9,7 +10,7 @@ use Rattle.oer_types.specs.AsnType.{AsnType}
 use Rattle.oer_types.specs.AsnValue.{AsnValue}
 use Rattle.oer_types.specs.Checking.{check_value}
 use Rattle.oer_types.specs.Constraints.{KeepsLimits}
-use Rattle.oer_types.specs.Encoding.{Encodes}
+use Rattle.oer_types.specs.Encoding.{Encodes, IsSpelling}
 use Rattle.oer_types.specs.Fits.{DefaultsFit}
 use Rattle.oer_types.specs.Laws as law
 use Rattle.oer_types.specs.Laws.{Judges, Means}
@@ -18,7 +19,8 @@ use Rattle.oer_types.proofs.Checked.{front_same}
 use Rattle.oer_types.proofs.Judged.{check_tells}
 use Rattle.oer_types.proofs.Main.{value_lawful}
 use Rattle.oer_types.proofs.Theorems.{reads_each, reads_encodings}
-use Rattle.oer_checker.specs.Check.{Answers, Finds, Tells, most}
+use Rattle.oer_checker.specs.Check.{Answers, Finds, IsFound, Tells, most}
+use Rattle.oer_checker.specs.Walk.{CanSplit}
 use Rattle.oer_checker.specs.declared.verdict.Verdict.{Verdict}
 
 abbrev no : Why → List ℕ → Outcome Bool
@@ -108,3 +110,16 @@ module _ (T : AsnType) (wf : KeepsLimits T) (d : DefaultsFit T) (input : List �
       let j = judged (got v r) (comes v b more split s) in
       let same : refused why rest ≡ got j.1 r = h ∙ j.3 in
       absurd (cc)
+
+-- what is known of the encoding that the checker found
+pub found_again : (T : AsnType) → KeepsLimits T → DefaultsFit T → (input : List ℕ) → IsOctets input → length input < 2 ^ 64 → (verdict : Verdict) → IsFound T input verdict → Tells T input (Ok verdict) × Finds T input (Ok verdict)
+found_again T wf d input octs few verdict (e, within) =
+    let q : Place = at (drop verdict.octets input) (most - verdict.octets) in
+    let many : verdict.octets ≡ length input - length q.input = omega (arith, length-drop verdict.octets input, within) in
+    (found_told T wf d input octs few verdict verdict.canonical q many refl (sym e), found_comes T wf d input octs few verdict verdict.canonical q many (sym e))
+
+-- its steps find what is there
+pub front_splits : (T : AsnType) → KeepsLimits T → DefaultsFit T → (input : List ℕ) (verdict : Verdict) → Tells T input (Ok verdict) → CanSplit (Some T) (take verdict.octets input)
+front_splits T wf d input verdict (b, rest, split, size, (v, e), flags) =
+    let front : take verdict.octets input ≡ b = ap (λ (l : List ℕ). take verdict.octets l) split ∙ take_at b rest verdict.octets (sym size) in
+    ((wf, d), (v, subst (λ (s : List ℕ). IsSpelling T v s) (sym front) e.2))

@@ -21,3 +21,5 @@ mod ShapeCases
 mod Inside
 mod TagParts
 mod Leading
+mod Digits
+mod Paths

@@ -1,5 +1,5 @@
 -- What the caller of `check` learns, in the words of encodings.
-use Rattle.std.specs.Prelude.{◌≡◌, ◌↔◌, ℕ, ◌-◌, ◌^◌, List, ◌++◌, length, drop, true, Result, Ok, Err, IfErr}
+use Rattle.std.specs.Prelude.{◌≡◌, ◌↔◌, ◌≤◌, ℕ, ◌-◌, ◌^◌, List, ◌++◌, length, drop, true, Result, Ok, Err, IfErr}
 use Rattle.oer_units.specs.Reader.{at, got, refused}
 use Rattle.oer_units.specs.declared.fault.ReadFault.{ReadFault}
 use Rattle.oer_types.specs.AsnType.{AsnType}
@@ -38,3 +38,7 @@ Answers T octets (Err e) = check_value T (at octets most) ≡ refused e.why (dro
 -- Memory and the device are never the reason.
 abbrev pub IsOfOctets : Result Verdict ReadFault → Type 0
 IsOfOctets result = IfErr result (λ e. is_plain e.why ≡ true)
+
+-- The checker finds an encoding at the front of the octets, with this verdict.
+abbrev pub IsFound : AsnType → List ℕ → Verdict → Type 0
+IsFound T octets verdict = Answers T octets (Ok verdict) × (verdict.octets ≤ length octets)

@@ -7,3 +7,6 @@ pub mod Numbers
 pub mod Facts
 pub mod Walk
 pub mod Handing
+pub mod Path
+pub mod Encoding
+pub mod AtMostOne

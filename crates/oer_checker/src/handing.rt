@@ -1,14 +1,11 @@
 //! Handing out parts of an encoding.
-ghost use Rattle.std.specs.Prelude.{◌≡◌};
-ghost use Rattle.oer_types.specs.Parts.{find_part};
 ghost use Rattle.oer_types.specs.Schema.{the_type};
-ghost use Rattle.oer_checker.specs.Handing.{Agrees, AnswersPart, Follows, Hands, IsOfPath};
-ghost use Rattle.oer_checker.specs.Walk.{CanSplit, path_of, type_in};
+ghost use Rattle.oer_checker.specs.Handing.{AnswersPart, Follows, Hands, IsOfPath};
+ghost use Rattle.oer_checker.specs.Walk.{path_of};
 
+use crate::encoding::Encoding;
 use crate::fault::PartFault;
-use crate::front::check;
 use crate::step::Step;
-use crate::walk::Piece;
 use oer_types::Schema;
 
 /// The part of an encoding to which the steps lead, as it stands in the octets: the part's own
@@ -18,7 +15,7 @@ use oer_types::Schema;
 ///
 /// The whole is checked first, then the steps from the left; the first one that fails decides:
 ///
-/// - `Read`: [`check`] refuses the octets, with this fault;
+/// - `Read`: [`check`](crate::check) refuses the octets, with this fault;
 /// - `Absent`: the step names a component of the root or a known addition, which is absent;
 /// - `NoSuchStep`: any other step that leads nowhere.
 pub fn part<'a>(schema: &Schema, octets: &'a [u8], path: &[Step]) -> Result<&'a [u8], PartFault>
@@ -30,26 +27,8 @@ pub fn part<'a>(schema: &Schema, octets: &'a [u8], path: &[Step]) -> Result<&'a 
     ensures exact { AnswersPart (λ s. s.now) (the_type schema.now) octets.now (path_of path.now) result }
     ensures plain { IsOfPath result }
 {
-    match check(schema, octets) {
-        Ok(verdict) => {
-            let whole = Piece {
-                shape: Some(schema.shape()),
-                octets: &octets[..verdict.octets],
-            };
-            follow(whole, path)
-        }
+    match Encoding::at_front(schema, octets) {
+        Ok(encoding) => encoding.part(path),
         Err(fault) => Err(PartFault::Read(fault)),
     }
-}
-
-/// What the steps lead to.
-fn follow<'a>(whole: Piece<'_, 'a>, path: &[Step]) -> Result<&'a [u8], PartFault>
-    requires { CanSplit (type_in whole) whole.octets.now }
-    ensures { Agrees (λ s. s.now) result (find_part (type_in whole.entry) whole.entry.octets.now (path_of path.now)) }
-{
-    let mut at = whole;
-    for step in path {
-        at = at.enter(*step)?;
-    }
-    Ok(at.octets)
 }

@@ -4,13 +4,16 @@
 
 mod bit_strings;
 mod bits;
+mod encoding;
 mod facts;
 mod fault;
 mod front;
 mod handing;
+pub mod laws;
 mod lengths;
 mod numbers;
 mod parts;
+mod path;
 mod place;
 mod step;
 mod stop;
@@ -20,8 +23,10 @@ mod value;
 mod verdict;
 mod walk;
 
+pub use encoding::Encoding;
 pub use fault::PartFault;
 pub use front::check;
 pub use handing::part;
+pub use path::{PathFault, read_path};
 pub use step::Step;
 pub use verdict::Verdict;

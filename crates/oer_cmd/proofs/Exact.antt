@@ -36,7 +36,7 @@ use Rattle.oer_decoder.specs.Front.{IsTaken, ReadsAndCounts, first_of}
 use Rattle.oer_decoder.specs.Rewriting.{IsRewritten, ReadsAndWrites}
 use Rattle.oer_decoder.specs.declared.fault.RewriteFault.{RewriteFault}
 use Rattle.oer_decoder.specs.declared.fault.RewriteFault.TheVariants as rewrite
-use Rattle.oer_input.specs.Path.{OnePath}
+use Rattle.oer_checker.specs.Path.{OnePath}
 use Rattle.oer_json.specs.Made.{made}
 use Rattle.oer_json.specs.Take.{taken}
 use Rattle.oer_json.specs.declared.fault.JsonFault.{JsonFault}

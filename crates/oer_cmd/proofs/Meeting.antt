@@ -118,3 +118,24 @@ wholly view r next limit failed failed' (Some xs) None x made h end is = absurd 
 wholly view r next limit failed failed' (Some xs) (Some ys) x made h end is =
     let all : (whole xs (r (at xs limit)) >>= next) ≡ value (view made) = ap (λ o. o >>= next) (read_whole r limit failed failed' xs ys x h end) ∙ is in
     subst (λ o. Meets view o (Ok made)) (sym all) refl
+
+-- what is seen of an answer, and the answer itself
+pub seen_as : {X Y : Type 0} (view : X → Y) (o : Expected Y) (x : X) → Meets (λ (y : Y). y) o (Ok (view x)) → Meets view o (Ok x)
+seen_as view unknown x h = tt
+seen_as view (value y) x h = h
+seen_as view (refusal r) x h = h
+
+pub seen_in : {X Y : Type 0} (view : X → Y) (o : Expected Y) (x : X) → Meets view o (Ok x) → Meets (λ (y : Y). y) o (Ok (view x))
+seen_in view unknown x h = tt
+seen_in view (value y) x h = h
+seen_in view (refusal r) x h = h
+
+pub missed_as : {X Y : Type 0} (view : X → Y) (o : Expected Y) (fault : Fault) → Meets {X = Y} (λ (y : Y). y) o (Err fault) → Meets {X = X} view o (Err fault)
+missed_as view unknown fault h = tt
+missed_as view (value y) fault h = h
+missed_as view (refusal r) fault h = h
+
+pub missed_in : {X Y : Type 0} (view : X → Y) (o : Expected Y) (fault : Fault) → Meets {X = X} view o (Err fault) → Meets {X = Y} (λ (y : Y). y) o (Err fault)
+missed_in view unknown fault h = tt
+missed_in view (value y) fault h = h
+missed_in view (refusal r) fault h = h

@@ -17,7 +17,7 @@ use Rattle.oer_writer.specs.declared.fault.WriteFault.TheVariants as write
 use Rattle.oer_types.specs.AsnType.{AsnType}
 use Rattle.oer_types.specs.AsnValue.{AsnValue}
 use Rattle.oer_types.specs.Parts.{Step}
-use Rattle.oer_input.specs.Path.{OnePath}
+use Rattle.oer_checker.specs.Path.{OnePath}
 use Rattle.oer_json.specs.Denotes.{Takes}
 use Rattle.oer_checker.specs.Handing.{Follows}
 use Rattle.oer_checker.specs.declared.fault.PartFault.{PartFault}

@@ -13,7 +13,7 @@ use Rattle.oer_types.specs.AsnValue.{AsnValue}
 use Rattle.oer_types.specs.Encoding.{Encodes}
 use Rattle.oer_types.specs.Parts.{Step, Within}
 use Rattle.oer_types.specs.Strict.{IsCanonical}
-use Rattle.oer_input.specs.Path.{SpellsPath}
+use Rattle.oer_checker.specs.Path.{SpellsPath}
 use Rattle.oer_json.specs.Denotes.{Takes}
 use Rattle.oer_json.specs.Made.{made}
 use Rattle.oer_cmd.specs.Canon.{MakesCanonical}

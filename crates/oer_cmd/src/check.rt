@@ -1,6 +1,7 @@
 //! Whether octets are canonical.
 ghost use Rattle.std.specs.Prelude.{◌≡◌, ◌≢◌, ◌↔◌, length, true, None, IfErr, IfOk, string_bytes};
 ghost use Rattle.oer_types.specs.Schema.{the_type};
+ghost use Rattle.oer_checker.specs.Encoding.{octets_in, type_of_encoding};
 ghost use Rattle.oer_cmd.specs.Faults.{Refuses, status_of};
 ghost use Rattle.oer_cmd.specs.Answer.{check_answer, checked};
 ghost use Rattle.oer_cmd.specs.Expected.{Meets};
@@ -9,28 +10,31 @@ ghost use Rattle.oer_cmd.specs.Words.{behind};
 
 use crate::fault::Fault;
 use crate::octets::{all_octets, spelt};
-use oer_reader::check;
+use oer_reader::Encoding;
 use oer_types::Schema;
 use std::alloc::Global;
 use std::io::Read;
 
-/// Whether the octets, which have to be all of one encoding, are canonical. Refused as `Read` where no
-/// encoding stands at their front, and as `Follows` where octets follow it.
-pub fn judged<'a>(schema: &Schema, octets: &[u8]) -> Result<bool, Fault<'a>>
-    ensures whole { IfOk result (λ canonical. IsEncoding (the_type schema.now) octets.now) }
-    ensures tells { IfOk result (λ canonical. (canonical ≡ true) ↔ AreCanonical (the_type schema.now) octets.now) }
-    ensures only { IfOk result (λ canonical. IsNoFront (the_type schema.now) octets.now) }
-    ensures exact { Meets (λ canonical. canonical) (checked (the_type schema.now) octets.now) result }
+/// The encoding that the octets are, all of them. Refused as `Read` where no encoding stands at their
+/// front, and as `Follows` where octets follow it.
+pub fn judged<'s, 'o, 'a>(schema: &'s Schema, octets: &'o [u8]) -> Result<Encoding<'s, 'o>, Fault<'a>>
+    ensures kind { IfOk result (λ found. type_of_encoding found ≡ the_type schema.now) }
+    ensures octets { IfOk result (λ found. octets_in found ≡ octets.now) }
+    ensures whole { IfOk result (λ found. IsEncoding (the_type schema.now) octets.now) }
+    ensures tells { IfOk result (λ found. (found.verdict.canonical ≡ true) ↔ AreCanonical (the_type schema.now) octets.now) }
+    ensures only { IfOk result (λ found. IsNoFront (the_type schema.now) octets.now) }
+    ensures exact { Meets (λ found. found.verdict.canonical) (checked (the_type schema.now) octets.now) result }
     ensures none { IfErr result (λ fault. IsEncoding (the_type schema.now) octets.now → ⊥) }
 {
-    let verdict = match check(schema, octets) {
-        Ok(verdict) => verdict,
+    let encoding = match Encoding::at_front(schema, octets) {
+        Ok(encoding) => encoding,
         Err(fault) => return Err(Fault::of_read(fault)),
     };
+    let verdict = encoding.verdict;
     if verdict.octets != octets.len() {
         return Err(Fault::Follows(verdict.octets as u64));
     }
-    Ok(verdict.canonical)
+    Ok(encoding)
 }
 
 // The line for octets that are judged.
@@ -67,6 +71,6 @@ pub fn check_line<'a, R: Read>(
 {
     let spelt = spelt(alloc, hex)?;
     let octets = all_octets(alloc, spelt, input, limit)?;
-    let is_canonical = judged(schema, octets.as_slice())?;
-    verdict_line(alloc, is_canonical, octets.as_slice())
+    let encoding = judged(schema, octets.as_slice())?;
+    verdict_line(alloc, encoding.verdict.canonical, octets.as_slice())
 }

@@ -4,6 +4,7 @@
 mod canon;
 mod check;
 mod fault;
+mod gathering;
 mod help;
 pub mod laws;
 mod make;
@@ -14,4 +15,5 @@ mod program;
 mod show;
 mod type_text;
 
+pub use gathering::{GatherFault, gather};
 pub use program::{put_all, run};

@@ -7,8 +7,8 @@ ghost use Rattle.oer_cmd.specs.Octets.{AreAll, AreSpelt, IsTooLong, octets_of};
 ghost use Rattle.oer_cmd.specs.Words.{behind};
 
 use crate::fault::Fault;
+use crate::gathering::{GatherFault, gather};
 use hex::FromHexError;
-use oer_input::{GatherFault, gather};
 use oer_units::Metered;
 use std::alloc::Global;
 use std::io::Read;

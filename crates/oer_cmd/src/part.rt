@@ -12,9 +12,8 @@ ghost use Rattle.oer_cmd.specs.Words.{behind};
 use crate::check::judged;
 use crate::fault::Fault;
 use crate::octets::{all_octets, spelt};
-use oer_input::laws::one_path;
-use oer_input::{PathFault, read_path};
-use oer_reader::{PartFault, Step, part};
+use oer_checker::laws::one_path;
+use oer_reader::{PartFault, PathFault, Step, read_path};
 use oer_types::Schema;
 use std::alloc::Global;
 use std::io::Read;
@@ -49,8 +48,8 @@ fn digits_of_part<'a>(
     ensures refused { IfErr result (λ fault. Refuses fault (HasNoPart (the_type schema.now) (steps_of path.now) octets.now)) }
     ensures exact { Meets string_bytes (part_octets (the_type schema.now) (steps_of path.now) octets.now) result }
 {
-    judged(schema, octets)?;
-    let octets = match part(schema, octets, path) {
+    let encoding = judged(schema, octets)?;
+    let octets = match encoding.part(path) {
         Ok(octets) => octets,
         Err(PartFault::Read(fault)) => return Err(Fault::of_read(fault)),
         Err(PartFault::NoSuchStep) => return Err(Fault::NoSuchStep),

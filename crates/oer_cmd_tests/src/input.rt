@@ -1,6 +1,6 @@
 //! What is gathered of a source.
 use crate::devices::{Reader, Stop};
-use oer_input::{GatherFault, gather};
+use oer_cmd::{GatherFault, gather};
 use oer_units::{Metered, Source};
 use std::alloc::Global;
 use std::process::Abort;

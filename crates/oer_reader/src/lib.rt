@@ -4,5 +4,5 @@
 //! contract; here both are under one name.
 #![tactic(auto)]
 
-pub use oer_checker::{PartFault, Step, Verdict, check, part};
+pub use oer_checker::{Encoding, PartFault, PathFault, Step, Verdict, check, part, read_path};
 pub use oer_decoder::{RewriteFault, laws, read, read_with_length, rewrite};

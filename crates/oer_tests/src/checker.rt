@@ -1,8 +1,7 @@
 //! Octets that are checked: how long the encoding at their front is, whether it is canonical, and its
 //! parts.
 use crate::shared::{each, is_wanted, octets, schema_of};
-use oer_input::read_path;
-use oer_reader::{PartFault, Step, check, part};
+use oer_reader::{PartFault, Step, check, part, read_path};
 use oer_types::Schema;
 use std::alloc::Global;
 use std::test::Fail;

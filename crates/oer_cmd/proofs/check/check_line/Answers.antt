@@ -1,4 +1,4 @@
-use Rattle.std.proofs.Common.{rules}
+use Rattle.std.proofs.Common.{Bool, rules}
 use Rattle.std.proofs.lemmas.Result.{IfErr-weaker, IfOk-weaker, err_from_is_err_and}
 use Rattle.oer_types.specs.Schema.{the_type}
 use Rattle.oer_cmd.proofs.Lines.{of_all}
@@ -6,11 +6,17 @@ use Rattle.oer_cmd.specs.Words.{behind}
 use Rattle.oer_cmd.specs.Run.{IsCheckLine}
 use Rattle.oer_cmd.proofs.Refusals.{no_check_line, not_memory, too_high, too_long, unspelt}
 use Rattle.oer_cmd.proofs.Exact.{check_all, check_longer, check_unjudged, check_unspelt, judged_line}
+use Rattle.oer_checker.specs.declared.encoding.Encoding.{Encoding}
+use Rattle.oer_cmd.specs.Answer.{checked}
+use Rattle.oer_cmd.proofs.Meeting.{missed_in, seen_in}
 use Rattle.oer_cmd.proofs.check.check_line.Goals as goal
+
+abbrev seen : Encoding → Bool
+seen found = found.verdict.canonical
 
 pub returns-clause-line : goal.returns-clause-line
 returns-clause-line g c =
-    IfOk-weaker c.verdict_line.result _ _ (λ line e. of_all _ _ _ c.in_ok-octets.octets.items _ c.in_ok-spelt.ensures.octets c.in_ok-octets.ensures.all (search rules, c.in_ok-octets.ensures.within, (c.in_ok-is_canonical.is_canonical, search rules, search rules))) c.verdict_line.ensures.line
+    IfOk-weaker c.verdict_line.result _ _ (λ line e. of_all _ _ _ c.in_ok-octets.octets.items _ c.in_ok-spelt.ensures.octets c.in_ok-octets.ensures.all (search rules, c.in_ok-octets.ensures.within, (c.in_ok-encoding.encoding.verdict.canonical, search rules, search rules))) c.verdict_line.ensures.line
 
 pub returns-clause-refused : goal.returns-clause-refused
 returns-clause-refused g c = IfErr-weaker c.verdict_line.result _ _ (λ fault three small. absurd (too_high fault three small)) c.verdict_line.ensures.fails
@@ -25,15 +31,15 @@ returns-in_err-octets-clause-refused g c =
     let p = err_from_is_err_and c.from_residual-in_err-octets.result c.from_residual-in_err-octets.ensures.1 in
     rw (p.1, p.2) (too_long _ _ _ _ (IsCheckLine (the_type c.args.schema.now) c.args.limit) _ (λ line b h. h.1) c.in_ok-spelt.ensures.octets c.in_err-octets.ensures.refused)
 
-pub returns-in_err-is_canonical-clause-refused : goal.returns-in_err-is_canonical-clause-refused
-returns-in_err-is_canonical-clause-refused g c =
-    let p = err_from_is_err_and c.from_residual-in_err-is_canonical.result c.from_residual-in_err-is_canonical.ensures.1 in
-    rw (p.1, p.2) (λ small. no_check_line (the_type c.args.schema.now) c.args.limit _ _ _ c.in_ok-octets.octets.items _ c.in_ok-spelt.ensures.octets c.in_ok-octets.ensures.all c.as_slice.ensures.value c.in_err-is_canonical.ensures.none)
+pub returns-in_err-encoding-clause-refused : goal.returns-in_err-encoding-clause-refused
+returns-in_err-encoding-clause-refused g c =
+    let p = err_from_is_err_and c.from_residual-in_err-encoding.result c.from_residual-in_err-encoding.ensures.1 in
+    rw (p.1, p.2) (λ small. no_check_line (the_type c.args.schema.now) c.args.limit _ _ _ c.in_ok-octets.octets.items _ c.in_ok-spelt.ensures.octets c.in_ok-octets.ensures.all c.as_slice.ensures.value c.in_err-encoding.ensures.none)
 
 pub returns-clause-exact : goal.returns-clause-exact
 returns-clause-exact g c =
     check_all (the_type c.args.schema.now) c.args.limit (behind c.args.hex) _ c.in_ok-spelt.spelt c.in_ok-octets.octets c.verdict_line.result c.in_ok-spelt.ensures.exact c.in_ok-octets.ensures.exact
-    (judged_line (the_type c.args.schema.now) c.in_ok-octets.octets.items _ _ c.in_ok-is_canonical.is_canonical c.verdict_line.result c.in_ok-is_canonical.ensures.exact c.as_slice.ensures.value c.as_slice-2.ensures.value c.verdict_line.ensures.line c.verdict_line.ensures.fails)
+    (judged_line (the_type c.args.schema.now) c.in_ok-octets.octets.items _ _ c.in_ok-encoding.encoding.verdict.canonical c.verdict_line.result (seen_in seen (checked (the_type c.args.schema.now) c.as_slice.result.now) c.in_ok-encoding.encoding c.in_ok-encoding.ensures.exact) c.as_slice.ensures.value c.as_slice-2.ensures.value c.verdict_line.ensures.line c.verdict_line.ensures.fails)
 
 pub returns-in_err-spelt-clause-exact : goal.returns-in_err-spelt-clause-exact
 returns-in_err-spelt-clause-exact g c =
@@ -45,7 +51,7 @@ returns-in_err-octets-clause-exact g c =
     let p = err_from_is_err_and c.from_residual-in_err-octets.result c.from_residual-in_err-octets.ensures.1 in
     rw (p.1, p.2) (check_longer (the_type c.args.schema.now) c.args.limit (behind c.args.hex) _ c.in_ok-spelt.spelt _ c.in_ok-spelt.ensures.exact c.in_err-octets.ensures.exact)
 
-pub returns-in_err-is_canonical-clause-exact : goal.returns-in_err-is_canonical-clause-exact
-returns-in_err-is_canonical-clause-exact g c =
-    let p = err_from_is_err_and c.from_residual-in_err-is_canonical.result c.from_residual-in_err-is_canonical.ensures.1 in
-    rw (p.1, p.2) (check_all (the_type c.args.schema.now) c.args.limit (behind c.args.hex) _ c.in_ok-spelt.spelt c.in_ok-octets.octets _ c.in_ok-spelt.ensures.exact c.in_ok-octets.ensures.exact (check_unjudged (the_type c.args.schema.now) c.in_ok-octets.octets.items _ _ c.as_slice.ensures.value c.in_err-is_canonical.ensures.exact))
+pub returns-in_err-encoding-clause-exact : goal.returns-in_err-encoding-clause-exact
+returns-in_err-encoding-clause-exact g c =
+    let p = err_from_is_err_and c.from_residual-in_err-encoding.result c.from_residual-in_err-encoding.ensures.1 in
+    rw (p.1, p.2) (check_all (the_type c.args.schema.now) c.args.limit (behind c.args.hex) _ c.in_ok-spelt.spelt c.in_ok-octets.octets _ c.in_ok-spelt.ensures.exact c.in_ok-octets.ensures.exact (check_unjudged (the_type c.args.schema.now) c.in_ok-octets.octets.items _ _ c.as_slice.ensures.value (missed_in seen (checked (the_type c.args.schema.now) c.as_slice.result.now) _ c.in_err-encoding.ensures.exact)))

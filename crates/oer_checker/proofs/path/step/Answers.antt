@@ -1,8 +1,8 @@
 use Rattle.std.proofs.Common.{arith, ◌∙◌, sym, true≢false, codes}
 use Rattle.std.proofs.lemmas.Slice.Eq.{bytes_eq-Decides}
 use Rattle.std.proofs.lemmas.Str.Pattern.{strip_prefix_char}
-use Rattle.oer_input.proofs.Paths.{no_step}
-use Rattle.oer_input.proofs.path.step.Goals as goal
+use Rattle.oer_checker.proofs.Paths.{no_step}
+use Rattle.oer_checker.proofs.path.step.Goals as goal
 
 pub returns-else-eq : goal.returns-else-eq
 returns-else-eq c =

@@ -1,8 +1,8 @@
 use Rattle.std.proofs.Common.{length}
-use Rattle.oer_input.proofs.Paths.{Leads}
+use Rattle.oer_checker.proofs.Paths.{Leads}
 use denote.Text.{Utf8}
 use denote.Shadow.{shadow}
-use Rattle.oer_input.proofs.path.read_path.Given as goal
+use Rattle.oer_checker.proofs.path.read_path.Given as goal
 
 -- what the rest spells, behind the steps so far, is what the text spells
 abbrev pub invariant-loop-front : goal.invariant-loop-front

@@ -1,7 +1,7 @@
 use Rattle.std.proofs.Common.{◌∷◌, sym, ◌∙◌, ap, subst, eqb-true, eq-eqb, true≢false, length}
 use Rattle.std.specs.Str.Parse.{ParsesUnsigned}
-use Rattle.oer_input.proofs.Numbers.{empty, some_digit, no_plus, one_zero, zero_is, parsed, not_refused}
-use Rattle.oer_input.proofs.path.number.Goals as goal
+use Rattle.oer_checker.proofs.Digits.{empty, some_digit, no_plus, one_zero, zero_is, parsed, not_refused}
+use Rattle.oer_checker.proofs.path.number.Goals as goal
 
 pub returns-then-first-eq43 : goal.returns-then-first-eq43
 returns-then-first-eq43 c = λ n h e. no_plus _ _ n h (sym c.in-Some.ensures.cases.0 ∙ c.as_bytes.ensures.value ∙ e) c.if-first-eq43.true

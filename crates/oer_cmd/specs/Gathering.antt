@@ -1,8 +1,8 @@
 -- What gathering does to a source's count of failures.
 use Rattle.std.specs.Prelude.{ℕ, Result, Ok, Err}
 use Rattle.oer_units.specs.Stream.{one_more}
-use Rattle.oer_input.specs.declared.gathering.GatherFault.{GatherFault}
-use Rattle.oer_input.specs.declared.gathering.GatherFault.TheVariants.{Device, Longer, Memory}
+use Rattle.oer_cmd.specs.declared.gathering.GatherFault.{GatherFault}
+use Rattle.oer_cmd.specs.declared.gathering.GatherFault.TheVariants.{Device, Longer, Memory}
 
 -- one more at `Device`, and none elsewhere
 abbrev pub counted_by : {A : Type 0} → ℕ → Result A GatherFault → ℕ

@@ -10,8 +10,8 @@ use Rattle.std.proofs.lemmas.List.Sums.{split_at_first, fails_before_first, pass
 use Rattle.oer_types.specs.Parts.{Step, to_component, to_addition, to_item, to_chosen}
 use Rattle.oer_checker.specs.Walk.{step_of}
 use Rattle.oer_checker.specs.declared.step.Step as rust
-use Rattle.oer_input.specs.Path.{IsNumbered, OnePath, SpellsPath, SpellsStep}
-use Rattle.oer_input.proofs.Numbers.{no_other}
+use Rattle.oer_checker.specs.Path.{IsNumbered, OnePath, SpellsPath, SpellsStep}
+use Rattle.oer_checker.proofs.Digits.{no_other}
 
 -- there is no point in the text
 abbrev pub Lacks : List ℕ → Type 0

@@ -1,6 +1,6 @@
 //! All the octets that a source has left.
 ghost use Rattle.std.specs.Prelude.{◌≡◌, ◌≤◌, ◌<◌, length, IfErr, IfOk, IfSome};
-ghost use Rattle.oer_input.specs.Gathering.{counted_by};
+ghost use Rattle.oer_cmd.specs.Gathering.{counted_by};
 
 use oer_units::Source;
 use std::alloc::Global;

@@ -2,9 +2,9 @@
 ghost use Rattle.std.specs.Prelude.{◌≡◌, ◌<◌, ◌^◌, ℕ, List, decimal, IfOk, IfErr, MatchOption};
 ghost use Rattle.oer_checker.specs.Walk.{path_of, step_of};
 ghost use Rattle.oer_types.specs.Parts.{Step as PlainStep};
-ghost use Rattle.oer_input.specs.Path.{SpellsPath, SpellsStep};
+ghost use Rattle.oer_checker.specs.Path.{SpellsPath, SpellsStep};
 
-use oer_checker::Step;
+use crate::step::Step;
 use std::alloc::Global;
 use thiserror::Error;
 

@@ -3,7 +3,7 @@ use Rattle.oer_checker.specs.Walk.{path_of, type_in}
 use Rattle.oer_checker.specs.declared.step.Step.TheVariants.{Component}
 use Rattle.oer_checker.proofs.Exits.{at_stop}
 use Rattle.oer_checker.proofs.Leading.{path_stop, stop_agrees}
-use Rattle.oer_checker.proofs.handing.follow.Goals as goal
+use Rattle.oer_checker.proofs.encoding.follow.Goals as goal
 
 pub returns-in_err-at : goal.returns-in_err-at
 returns-in_err-at c =

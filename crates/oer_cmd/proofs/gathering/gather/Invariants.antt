@@ -1,6 +1,6 @@
 use Rattle.std.proofs.Common.{length, ◌-◌, ◌≡◌, suc}
 use Rattle.std.specs.Io.KnownBytes.{Consumes}
-use Rattle.oer_input.proofs.gathering.gather.Given as goal
+use Rattle.oer_cmd.proofs.gathering.gather.Given as goal
 
 -- what came is gathered, and no call failed
 abbrev pub invariant-loop-room : goal.invariant-loop-room

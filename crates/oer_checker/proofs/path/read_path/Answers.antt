@@ -1,6 +1,6 @@
 use Rattle.std.proofs.Common.{arith, rules, subst}
-use Rattle.oer_input.proofs.Paths.{Leads, found, goes_on, none_found, wrong_front, wrong_last}
-use Rattle.oer_input.proofs.path.read_path.Goals as goal
+use Rattle.oer_checker.proofs.Paths.{Leads, found, goes_on, none_found, wrong_front, wrong_last}
+use Rattle.oer_checker.proofs.path.read_path.Goals as goal
 
 pub returns-in_default-step-clause-form : goal.returns-in_default-step-clause-form
 returns-in_default-step-clause-form c = λ e.
