@@ -17,7 +17,10 @@ use std::io::Read;
 
 /// The encoding that the octets are, all of them. Refused as `Read` where no encoding stands at their
 /// front, and as `Follows` where octets follow it.
-pub fn judged<'s, 'o, 'a>(schema: &'s Schema, octets: &'o [u8]) -> Result<Encoding<'s, 'o>, Fault<'a>>
+pub fn judged<'s, 'o, 'a>(
+    schema: &'s Schema,
+    octets: &'o [u8],
+) -> Result<Encoding<'s, 'o>, Fault<'a>>
     ensures kind { IfOk result (λ found. type_of_encoding found ≡ the_type schema.now) }
     ensures octets { IfOk result (λ found. octets_in found ≡ octets.now) }
     ensures whole { IfOk result (λ found. IsEncoding (the_type schema.now) octets.now) }

@@ -30,14 +30,14 @@ returns-in-Err-Read-clause-refused c =
     let T = the_type c.args.schema.now in
     let path = steps_of c.args.path.now in
     λ small. unhanded {A = List ℕ} (λ s. s) T c.args.octets.now path _
-      (of_given (λ U xs. Follows {A = List ℕ} (λ s. s) U xs path (Err c.in-Err-Read.field-0)) c.in_ok-encoding.encoding T c.args.octets.now c.in_ok-encoding.ensures.kind c.in_ok-encoding.ensures.octets c.in-Err-Read.ensures.comes)
+    (of_given (λ U xs. Follows {A = List ℕ} (λ s. s) U xs path (Err c.in-Err-Read.field-0)) c.in_ok-encoding.encoding T c.args.octets.now c.in_ok-encoding.ensures.kind c.in_ok-encoding.ensures.octets c.in-Err-Read.ensures.comes)
 
 pub returns-in-Ok-encode-clause-exact : goal.returns-in-Ok-encode-clause-exact
 returns-in-Ok-encode-clause-exact c =
     let T = the_type c.args.schema.now in
     let path = steps_of c.args.path.now in
     part_made (λ s. s.now) T c.args.octets.now path _ c.in-Ok.octets (Ok c.in-Ok-encode.line) (seen_in seen (checked T c.args.octets.now) c.in_ok-encoding.encoding c.in_ok-encoding.ensures.exact)
-      (of_given (λ U xs. AnswersPart (λ s. s.now) U xs path (Ok c.in-Ok.octets)) c.in_ok-encoding.encoding T c.args.octets.now c.in_ok-encoding.ensures.kind c.in_ok-encoding.ensures.octets c.in-Ok.ensures.exact) c.in-Ok-encode.ensures
+    (of_given (λ U xs. AnswersPart (λ s. s.now) U xs path (Ok c.in-Ok.octets)) c.in_ok-encoding.encoding T c.args.octets.now c.in_ok-encoding.ensures.kind c.in_ok-encoding.ensures.octets c.in-Ok.ensures.exact) c.in-Ok-encode.ensures
 
 pub returns-in_err-encoding-clause-exact : goal.returns-in_err-encoding-clause-exact
 returns-in_err-encoding-clause-exact c =
