@@ -1,12 +1,11 @@
 # make: proves and builds the program, as bin/oer
 # make quick: proves and tests all but the must-fail edits, over what earlier runs kept, for use before a commit
 # make test: the whole gate, then the commands that the documents show, what a release has, and memory refused in turn
-# make lib: builds the library for C and C++, in lib/; make test-lib: tests it
 # make install PREFIX=.. DESTDIR=..: program, manual, completions, documents and examples, under PREFIX; make uninstall: takes them away
 # make dist: the archive of a release, in out/
 PREFIX ?= /usr/local
 
-.PHONY: all quick test lib test-lib install uninstall dist clean
+.PHONY: all quick test install uninstall dist clean
 
 all: bin/oer
 
@@ -25,12 +24,6 @@ test:
 	@tools/test_release
 	@examples/refusals
 
-lib:
-	@PREFIX=$(PREFIX) tools/lib
-
-test-lib: lib
-	@tools/test_lib
-
 install: bin/oer
 	@rm -rf out/layout
 	@tools/layout out/layout
@@ -43,4 +36,4 @@ dist: bin/oer
 	@tools/dist
 
 clean:
-	rm -rf bin lib out crates/*/out
+	rm -rf bin out crates/*/out
