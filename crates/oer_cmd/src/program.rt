@@ -24,6 +24,7 @@ use crate::show::show_line;
 use crate::type_text::{TypeText, definitions, named_type, one_type, type_text};
 use clap::error::ErrorKind;
 use oer_types::Schema;
+use oer_units::Metered;
 use std::alloc::Global;
 use std::io::{Read, Write};
 
@@ -112,21 +113,14 @@ fn answer<'a, R: Read>(
     }
 }
 
-/// Writes the octets in one call, and goes on with the rest where a call took only some. A call that
-/// fails, by an error (an interruption too) or by taking none, isn't tried again. Whether all were taken.
+/// Writes the octets as `Metered::put` does: in one call, which goes on with the rest where a call took
+/// only some; a call that fails, by an error (an interruption too) or by taking none, isn't tried again.
+/// Returns whether the writer took all of them.
 pub fn put_all<W: Write>(octets: &[u8], w: &mut W) -> bool
     ensures whole { result ≡ true → Appends (W.contents w.old) (W.contents w.new) octets.now }
     ensures front { AppendsFront (W.contents w.old) (W.contents w.new) octets.now }
 {
-    let mut at = 0;
-    while at < octets.len() {
-        match w.write(&octets[at..]) {
-            Ok(0) => return false,
-            Ok(taken) => at += taken,
-            Err(_) => return false,
-        }
-    }
-    true
+    Metered::new(w).put(octets).is_ok()
 }
 
 // Writes the line and its line feed in one call, and flushes.

@@ -130,6 +130,16 @@ fn held(at: Global, calls: usize, fails: bool) -> Result<String, Fail> {
     Ok(format!(in at; "{taken} {failures} {done:?}")?)
 }
 
+// The same of the octets, written to a sink that is borrowed.
+fn borrowed_held(at: Global, calls: usize, fails: bool) -> Result<String, Fail> {
+    let mut writer = SlowWriter::new(calls, fails);
+    let mut sink = Metered::new(&mut writer);
+    let done = sink.put(&[1, 2, 3]);
+    let failures = sink.failures();
+    let taken = hex::encode(at, sink.into_inner().taken())?;
+    Ok(format!(in at; "{taken} {failures} {done:?}")?)
+}
+
 // The same of a number.
 fn number_held(at: Global, calls: usize, fails: bool) -> Result<String, Fail> {
     let mut sink = Metered::new(SlowWriter::new(calls, fails));
@@ -142,7 +152,9 @@ fn number_held(at: Global, calls: usize, fails: bool) -> Result<String, Fail> {
 #[test]
 fn one_octet_a_call(rt: HostRuntime) -> Result<(), Fail> {
     let answer = held(rt.alloc(), 3, true)?;
-    is_wanted("octets", answer.as_str(), "010203 0 Ok(())")
+    is_wanted("octets", answer.as_str(), "010203 0 Ok(())")?;
+    let answer = borrowed_held(rt.alloc(), 3, true)?;
+    is_wanted("a writer that is borrowed", answer.as_str(), "010203 0 Ok(())")
 }
 
 #[test]
@@ -153,6 +165,12 @@ fn a_sink_that_stops(rt: HostRuntime) -> Result<(), Fail> {
             "a number",
             answer.as_str(),
             "01 1 Err(SinkFault { written: 1 })",
+        )?;
+        let answer = borrowed_held(rt.alloc(), 2, fails)?;
+        is_wanted(
+            "a writer that is borrowed",
+            answer.as_str(),
+            "0102 1 Err(SinkFault { written: 2 })",
         )?;
     }
     Ok(())

@@ -3,7 +3,9 @@ ghost use Rattle.std.specs.Prelude.{◌≡◌, ℕ, List, Option, None, Some, le
 ghost use Rattle.std.specs.Io.{ReadsAtMost, WritesAtMost};
 ghost use Rattle.std.specs.Io.KnownBytes.{ReadConsumes, WriteAppends};
 ghost use Rattle.oer_units.specs.Stream.{counted_read, counted_write, inner_of, failures_of};
+ghost use Rattle.oer_units.specs.Writing.{Puts};
 
+use crate::fault::SinkFault;
 use std::io;
 use std::io::{Read, Write};
 
@@ -91,6 +93,55 @@ impl<T: Read> Source for Metered<T> {
     }
 }
 
+// The count of failures after a write of the octets: one more where it is an error, or took none of one
+// or more octets.
+fn count_after(count: u64, answer: &io::Result<usize>, octets: &[u8]) -> u64
+    ensures { result ≡ counted_write count answer.now octets.now }
+{
+    let is_failure = match answer {
+        Ok(taken) => *taken == 0 && !octets.is_empty(),
+        Err(_) => true,
+    };
+    if is_failure {
+        count.saturating_add(1)
+    } else {
+        count
+    }
+}
+
+impl<W: Write> Metered<&mut W> {
+    // `push`, after which the same writer is borrowed as before.
+    fn push_borrowed(&mut self, from: &[u8]) -> io::Result<usize>
+        ensures same { (inner_of self.new).ghost_name ≡ (inner_of self.old).ghost_name }
+        ensures bound { WritesAtMost result from.now }
+        ensures bytes { WriteAppends (W.contents (inner_of self.old).now) (W.contents (inner_of self.new).now) result from.now }
+        ensures count { failures_of self.new ≡ counted_write (failures_of self.old) result from.now }
+    {
+        let answer = self.inner.write(from);
+        self.count = count_after(self.count, &answer, from);
+        answer
+    }
+
+    /// Writes the octets to the borrowed writer, as `put_octets` does: in one call, which goes on with
+    /// the rest where a call took only some. A call that fails, by an error (an interruption too) or by
+    /// taking none, isn't tried again. It answers `SinkFault` where the writer fails before it took all.
+    pub fn put(&mut self, octets: &[u8]) -> Result<(), SinkFault>
+        ensures same { (inner_of self.new).ghost_name ≡ (inner_of self.old).ghost_name }
+        ensures puts { Puts octets.now (W.contents (inner_of self.old).now) (failures_of self.old) result
+            (W.contents (inner_of self.new).now) (failures_of self.new) }
+    {
+        let mut at = 0;
+        while at < octets.len() {
+            match self.push_borrowed(&octets[at..]) {
+                Ok(0) => return Err(SinkFault { written: at as u64 }),
+                Ok(taken) => at += taken,
+                Err(_) => return Err(SinkFault { written: at as u64 }),
+            }
+        }
+        Ok(())
+    }
+}
+
 impl<T: Write> Sink for Metered<T> {
     ghost contents = { λ s. T.contents (inner_of s) };
 
@@ -98,13 +149,7 @@ impl<T: Write> Sink for Metered<T> {
 
     fn push(&mut self, from: &[u8]) -> io::Result<usize> {
         let answer = self.inner.write(from);
-        let is_failure = match &answer {
-            Ok(taken) => *taken == 0 && !from.is_empty(),
-            Err(_) => true,
-        };
-        if is_failure {
-            self.count = self.count.saturating_add(1);
-        }
+        self.count = count_after(self.count, &answer, from);
         answer
     }
 
