@@ -32,7 +32,8 @@ octets_for bits = (bits + 7) / 8
 abbrev pub IsPreamble : List Bool → List ℕ → Type 0
 IsPreamble s p = (padding : List Bool) × (length p ≡ octets_for (length s)) × (bits_of p ≡ s ++ padding) × (all_false padding ≡ true)
 
--- The contents of a BIT STRING of no fixed size (X.696, 13.3): the number u of unused bits, from 0 to 7 and 0 without octets, and the octets d of the bits s.
+-- The contents of a BIT STRING of no fixed size (X.696, 13.3): the number u of unused bits, from 0 to 7 and 0 without
+-- octets, and the octets d of the bits s.
 abbrev pub IsBits : List Bool → List ℕ → Type 0
 IsBits s c = (u : ℕ) × (d : List ℕ) × (c ≡ u ∷ d) × (u ≤ 7) × (length d ≡ 0 → u ≡ 0) × (s ≡ take (length (bits_of d) - u) (bits_of d))
 
@@ -42,7 +43,9 @@ bit_value true = 1
 
 -- eight bits to an octet
 abbrev pub packed : List Bool → List ℕ
-packed (a ∷ b ∷ c ∷ d ∷ e ∷ f ∷ g ∷ h ∷ s) = (128 * bit_value a + 64 * bit_value b + 32 * bit_value c + 16 * bit_value d + 8 * bit_value e + 4 * bit_value f + 2 * bit_value g + bit_value h) ∷ packed s
+packed (a ∷ b ∷ c ∷ d ∷ e ∷ f ∷ g ∷ h ∷ s) =
+    (128 * bit_value a + 64 * bit_value b + 32 * bit_value c + 16 * bit_value d + 8 * bit_value e + 4 * bit_value f + 2 *
+    bit_value g + bit_value h) ∷ packed s
 packed _ = []
 
 -- how many bits are missing to whole octets

@@ -241,10 +241,14 @@ abbrev mutual
   plain_octets (utf8_string size) v = at_text counted v
   plain_octets (octet_string size) v = at_octets (string_octets (fixed size)) v
   plain_octets (sequence fs) v = at_seq (λ root added us. padded (root_bits fs root) ++ plain_field_octets fs root) v
-  plain_octets (extensible_sequence fs more) v = at_seq (λ root added us. padded ((any_present added || any_unknown us) ∷ root_bits fs root) ++ (plain_field_octets fs root
-      ++ extension_octets (any_present added || any_unknown us) (bitmap_octets (addition_bits more added ++ unknown_marks (addition_count more) us) ++ (plain_addition_octets more added ++ unknown_octets us)))) v
+  plain_octets (extensible_sequence fs more) v =
+      at_seq (λ root added us. padded ((any_present added || any_unknown us) ∷ root_bits fs root) ++ (plain_field_octets fs root
+      ++ extension_octets (any_present added || any_unknown us) (bitmap_octets
+          (addition_bits more added ++ unknown_marks (addition_count more) us)
+          ++ (plain_addition_octets more added ++ unknown_octets us)))) v
   plain_octets (sequence_of size T) v = at_items (λ vs. counted (unsigned_octets (count vs)) ++ all_octets (plain_octets T) vs) v
-  plain_octets (choice extensible more) v = at_choice (λ t x. tag_octets t ++ plain_alternative_octets more t x) (λ t w. tag_octets t ++ counted w) v
+  plain_octets (choice extensible more) v =
+      at_choice (λ t x. tag_octets t ++ plain_alternative_octets more t x) (λ t w. tag_octets t ++ counted w) v
 
   pub plain_field_octets : Fields → Places → List ℕ
   plain_field_octets no_fields ps = []
@@ -256,8 +260,10 @@ abbrev mutual
 
   pub plain_alternative_octets : Alternatives → Tag → AsnValue → List ℕ
   plain_alternative_octets no_alternatives t v = []
-  plain_alternative_octets (alternative name u T more) t v = by_tag_octets (same_tag u t) (plain_octets T) (plain_alternative_octets more t) v
-  plain_alternative_octets (later name u T more) t v = by_tag_octets (same_tag u t) (λ x. counted (plain_octets T x)) (plain_alternative_octets more t) v
+  plain_alternative_octets (alternative name u T more) t v =
+      by_tag_octets (same_tag u t) (plain_octets T) (plain_alternative_octets more t) v
+  plain_alternative_octets (later name u T more) t v =
+      by_tag_octets (same_tag u t) (λ x. counted (plain_octets T x)) (plain_alternative_octets more t) v
 
 -- the canonical octets of v
 abbrev pub canonical_octets : AsnType → AsnValue → List ℕ

@@ -1,4 +1,5 @@
--- Whether octets are canonical, read without making a value: the answers of the reader, and true exactly where the octets taken are canonical.
+-- Whether octets are canonical, read without making a value: the answers of the reader, and true exactly where the
+-- octets taken are canonical.
 use Rattle.std.specs.Prelude.{ℕ, zero, suc, ◌-◌, List, [], ◌∷◌, length, take, drop, Bool, true, false, not, ◌&&◌, ◌||◌, leb, eqb, ℤ, Option}
 use Rattle.std.specs.Str.{is_utf8, chars}
 use Rattle.oer_units.specs.Reading as unit
@@ -96,7 +97,9 @@ is_bitmap n s m = are_least_bits bitmap_octets s m && (not (all_false s) && (leb
 
 abbrev pub check_extension : Bool → Additions → (List Bool → Reader Bool) → Reader Bool
 check_extension false more c = give true
-check_extension true more c = bind (judged (is_bitmap (addition_count more)) bitmap) (λ y. guard (all_false (drop 65536 y.0)) UnknownAddition (and_also y.1 (both (c y.0) (check_unknown (drop (addition_count more) y.0)))))
+check_extension true more c =
+    bind (judged (is_bitmap (addition_count more)) bitmap)
+    (λ y. guard (all_false (drop 65536 y.0)) UnknownAddition (and_also y.1 (both (c y.0) (check_unknown (drop (addition_count more) y.0)))))
 
 unfoldable pub check_sequence : ℕ → (List Bool → Reader Bool) → Reader Bool
 check_sequence k c = bind (preamble k) c
@@ -109,7 +112,8 @@ abbrev pub quantity_octets : ℕ → List ℕ
 quantity_octets n = counted (unsigned_octets n)
 
 unfoldable pub check_items : (ℕ → Bool) → Reader Bool → Reader Bool
-check_items fits c = bind (judged (is_least quantity_octets) quantity) (λ y. and_also y.1 (within y.0 (guard (fits y.0) reason.Size (check_times y.0 c))))
+check_items fits c = bind (judged (is_least quantity_octets) quantity) (λ y. and_also y.1
+    (within y.0 (guard (fits y.0) reason.Size (check_times y.0 c))))
 
 abbrev pub check_chosen : Bool → Alternatives → (Tag → Reader Bool) → Tag → Reader Bool
 check_chosen extensible more c t = choose (has_tag t more) (c t) (guard extensible UnknownAlternative check_octets)
@@ -121,7 +125,8 @@ check_choice extensible more c = bind tag (check_chosen extensible more c)
 abbrev pub check_integer : Form → (ℤ → Bool) → Reader Bool
 check_integer (unsigned_fixed n) test = bind (number IntegerRange natural test n) (λ z. give true)
 check_integer (signed_fixed n) test = bind (number IntegerRange signed test n) (λ z. give true)
-check_integer unsigned_counted test = bind (judged (is_least (integer_octets unsigned_counted)) (counted_number natural test)) (λ y. give y.1)
+check_integer unsigned_counted test =
+    bind (judged (is_least (integer_octets unsigned_counted)) (counted_number natural test)) (λ y. give y.1)
 check_integer signed_counted test = bind (judged (is_least (integer_octets signed_counted)) (counted_number signed test)) (λ y. give y.1)
 
 unfoldable pub check_enumerated : (ℤ → Bool) → Reader Bool
@@ -146,12 +151,14 @@ unfoldable pub check_text : (List ℕ → Bool) → Option ℕ → Size → Read
 check_text test fix s = bind (judged (is_least (string_octets fix)) (read_octets fix s)) (λ y. guard (test y.0) Character (give y.1))
 
 unfoldable pub check_utf8 : Size → Reader Bool
-check_utf8 s = bind (judged (is_least counted) counted_octets) (λ y. guard (is_utf8 y.0) Character (guard (size_fits s (length (chars y.0))) reason.Size (give y.1)))
+check_utf8 s = bind (judged (is_least counted) counted_octets) (λ y. guard (is_utf8 y.0) Character
+    (guard (size_fits s (length (chars y.0))) reason.Size (give y.1)))
 
 abbrev mutual
   pub check_value : AsnType → Reader Bool
   check_value (sequence fs) = check_sequence (optional fs) (check_fields fs)
-  check_value (extensible_sequence fs more) = check_extensible (optional fs) (check_fields fs) (λ x. check_extension x more (check_additions more))
+  check_value (extensible_sequence fs more) =
+      check_extensible (optional fs) (check_fields fs) (λ x. check_extension x more (check_additions more))
   check_value (sequence_of s T) = check_items (size_fits s) (check_value T)
   check_value (choice extensible more) = check_choice extensible more (check_alternative more)
   check_value boolean = bind octet (λ x. give (eqb x 0 || eqb x 255))

@@ -50,7 +50,8 @@ signed_within low high bits = low_from (neg_ℤ (pos (2 ^ bits))) low && high_to
 abbrev pub unsigned_form : Option ℤ → Form
 unsigned_form high =
     if high_to (pos 255) high then unsigned_fixed 1 else if high_to (pos 65535) high then unsigned_fixed 2
-    else if high_to (pos 4294967295) high then unsigned_fixed 4 else if high_to (pos 18446744073709551615) high then unsigned_fixed 8 else unsigned_counted
+    else if high_to (pos 4294967295) high then unsigned_fixed 4
+        else if high_to (pos 18446744073709551615) high then unsigned_fixed 8 else unsigned_counted
 
 -- of numbers that may be negative
 abbrev pub signed_form : Option ℤ → Option ℤ → Form
@@ -94,7 +95,9 @@ abbrev pub is_character : Alphabet → ℕ → Bool
 is_character ia5 x = is_within 0 127 x
 is_character visible x = is_within 32 126 x
 is_character numeric x = is_within 48 57 x || eqb x 32
-is_character printable x = is_within 65 90 x || is_within 97 122 x || is_within 48 57 x || is_among (32 ∷ 39 ∷ 40 ∷ 41 ∷ 43 ∷ 44 ∷ 45 ∷ 46 ∷ 47 ∷ 58 ∷ 61 ∷ 63 ∷ []) x
+is_character printable x =
+    is_within 65 90 x || is_within 97 122 x || is_within 48 57 x || is_among
+    (32 ∷ 39 ∷ 40 ∷ 41 ∷ 43 ∷ 44 ∷ 45 ∷ 46 ∷ 47 ∷ 58 ∷ 61 ∷ 63 ∷ []) x
 
 -- each is a character of the kind
 abbrev pub all_characters : Alphabet → List ℕ → Bool
@@ -157,8 +160,8 @@ abbrev mutual
 abbrev pub HasSizeLimit : Size → Type 0
 HasSizeLimit s = leb s.low 18446744073709551615 ≡ true
 
--- What encodings need of a type, part of its being well-formed: no element may take no octets; the lower ends of the sizes of strings have 64 bits, tag numbers 32 bits;
--- no more than 65,536 additions.
+-- What encodings need of a type, part of its being well-formed: no element may take no octets; the lower ends of the
+-- sizes of strings have 64 bits, tag numbers 32 bits; no more than 65,536 additions.
 abbrev mutual
   pub KeepsLimits : AsnType → Type 0
   KeepsLimits boolean = Unit {0}

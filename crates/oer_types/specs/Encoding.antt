@@ -40,7 +40,8 @@ SpellsText test fix size w b = SpellsOctets fix size w b × (test w ≡ true)
 
 -- the first component is there, spelt by the first octets; Rest: the others
 abbrev pub IsPresent : (AsnValue → List ℕ → Type 0) → (Places → List ℕ → Type 0) → Places → List ℕ → Type 0
-IsPresent S Rest ps b = (v : AsnValue) × (rest : Places) × (b1 : List ℕ) × (b2 : List ℕ) × (ps ≡ present v rest) × (b ≡ b1 ++ b2) × S v b1 × Rest rest b2
+IsPresent S Rest ps b = (v : AsnValue) × (rest : Places) × (b1 : List ℕ) × (b2 : List ℕ) × (ps ≡ present v rest) × (b ≡ b1 ++ b2)
+    × S v b1 × Rest rest b2
 
 -- the first component is absent and has no octets
 abbrev pub IsAbsent : (Places → List ℕ → Type 0) → Places → List ℕ → Type 0
@@ -51,7 +52,8 @@ abbrev pub ByBit : Bool → (AsnValue → List ℕ → Type 0) → (Places → L
 ByBit true S Rest ps b = IsPresent S Rest ps b
 ByBit false S Rest ps b = IsAbsent Rest ps b
 
--- a component without presence bit is present, any other exactly if its bit is set; Rest: the components after it, by the bits that are left
+-- a component without presence bit is present, any other exactly if its bit is set; Rest: the components after it, by
+-- the bits that are left
 abbrev pub ByNeed : Need → (AsnValue → List ℕ → Type 0) → (List Bool → Places → List ℕ → Type 0) → List Bool → Places → List ℕ → Type 0
 ByNeed must S Rest s ps b = IsPresent S (Rest s) ps b
 ByNeed may S Rest s ps b = ByBit (first_bit s) S (Rest (later_bits s)) ps b
@@ -69,19 +71,22 @@ IsItself w c = c ≡ w
 -- The additions from the place on that the type doesn't know, one for each bit that is set; S: how the octets of one are spelt.
 abbrev pub SpellsUnknown : (List ℕ → List ℕ → Type 0) → ℕ → List Bool → List Unknown → List ℕ → Type 0
 SpellsUnknown S place [] us b = (us ≡ []) × (b ≡ [])
-SpellsUnknown S place (true ∷ s) us b = (w : List ℕ) × (rest : List Unknown) × (b1 : List ℕ) × (b2 : List ℕ) × (us ≡ unknown place w ∷ rest) × (b ≡ b1 ++ b2) × S w b1 × SpellsUnknown S (suc place) s rest b2
+SpellsUnknown S place (true ∷ s) us b = (w : List ℕ) × (rest : List Unknown) × (b1 : List ℕ) × (b2 : List ℕ)
+    × (us ≡ unknown place w ∷ rest) × (b ≡ b1 ++ b2) × S w b1 × SpellsUnknown S (suc place) s rest b2
 SpellsUnknown S place (false ∷ s) us b = SpellsUnknown S (suc place) s us b
 
 -- The additions (X.696, 16.4): without the extension bit none; with it a bitmap, no bit of it set past place 65,535,
 -- and then each addition whose bit is set, as an open type.
 abbrev pub SpellsExtension : Bool → Additions → (List Bool → Places → List ℕ → Type 0) → Places → List Unknown → List ℕ → Type 0
 SpellsExtension false more S added us e = (added ≡ all_absent more) × (us ≡ []) × (e ≡ [])
-SpellsExtension true more S added us e = (s : List Bool) × (m : List ℕ) × (a : List ℕ) × (u : List ℕ) × (e ≡ m ++ (a ++ u)) × SpellsBitmap s m × (all_false (drop 65536 s) ≡ true) × S s added a
+SpellsExtension true more S added us e = (s : List Bool) × (m : List ℕ) × (a : List ℕ) × (u : List ℕ) × (e ≡ m ++ (a ++ u))
+    × SpellsBitmap s m × (all_false (drop 65536 s) ≡ true) × S s added a
     × SpellsUnknown (IsCounted IsItself) (addition_count more) (drop (addition_count more) s) us u
 
 -- an alternative of the type, spelt by S; or one that it doesn't know, where there is an extension marker, as an open type
 abbrev pub SpellsChosen : Bool → Alternatives → (AsnValue → List ℕ → Type 0) → Tag → AsnValue → List ℕ → Type 0
-SpellsChosen extensible more S t v c = ((x : AsnValue) × (v ≡ chosen t x) × S x c) ⊎ ((w : List ℕ) × (v ≡ foreign t w) × (extensible ≡ true) × (has_tag t more ≡ false) × IsCounted IsItself w c)
+SpellsChosen extensible more S t v c = ((x : AsnValue) × (v ≡ chosen t x) × S x c)
+    ⊎ ((w : List ℕ) × (v ≡ foreign t w) × (extensible ≡ true) × (has_tag t more ≡ false) × IsCounted IsItself w c)
 
 -- b spells v by Basic-OER: any length, any number of octets for a number in a counted form, any octet but 0 for TRUE.
 abbrev mutual
@@ -93,7 +98,8 @@ abbrev mutual
   -- INTEGER (10): by the form that the bounds choose.
   IsSpelling (integer low high) v b = (z : ℤ) × (v ≡ int z) × (in_range low high z ≡ true) × SpellsInteger (form_of low high) z b
   -- ENUMERATED (11): a listed number, or any of 64 bits where there is an extension marker.
-  IsSpelling (enumerated numbers extensible) v b = (z : ℤ) × (v ≡ enum z) × (is_int64 z ≡ true) × ((extensible || has_number numbers z) ≡ true) × IsEnumerated z b
+  IsSpelling (enumerated numbers extensible) v b = (z : ℤ) × (v ≡ enum z) × (is_int64 z ≡ true)
+      × ((extensible || has_number numbers z) ≡ true) × IsEnumerated z b
   -- BIT STRING (13).
   IsSpelling (bit_string size) v b = (s : List Bool) × (v ≡ bit_list s) × SpellsBits (fixed size) size s b
   -- OBJECT IDENTIFIER (21): the contents of X.690 after a length.
@@ -101,20 +107,25 @@ abbrev mutual
   -- IA5String, VisibleString, NumericString, PrintableString (27): an octet for each character.
   IsSpelling (restricted_string kind size) v b = (w : List ℕ) × (v ≡ text w) × SpellsText (all_characters kind) (fixed size) size w b
   -- UTF8String (27): UTF-8 after a length; the size counts characters.
-  IsSpelling (utf8_string size) v b = (w : List ℕ) × (v ≡ text w) × (is_utf8 w ≡ true) × (size_fits size (length (chars w)) ≡ true) × IsCounted IsItself w b
+  IsSpelling (utf8_string size) v b = (w : List ℕ) × (v ≡ text w) × (is_utf8 w ≡ true)
+      × (size_fits size (length (chars w)) ≡ true) × IsCounted IsItself w b
   -- OCTET STRING (14).
   IsSpelling (octet_string size) v b = (w : List ℕ) × (v ≡ octets w) × SpellsOctets (fixed size) size w b
   -- SEQUENCE (16): the preamble p of one presence bit for each component that may be absent, and the components r.
   IsSpelling (sequence fs) v b = (root : Places) × (s : List Bool) × (p : List ℕ) × (r : List ℕ)
       × (v ≡ seq root no_places []) × (b ≡ p ++ r) × (length s ≡ optional fs) × IsPreamble s p × SpellsFields fs s root r
   -- SEQUENCE with an extension marker (16): its preamble begins with the extension bit x; the additions e follow.
-  IsSpelling (extensible_sequence fs more) v b = (root : Places) × (added : Places) × (us : List Unknown) × (x : Bool) × (s : List Bool) × (p : List ℕ) × (r : List ℕ) × (e : List ℕ)
-      × (v ≡ seq root added us) × (b ≡ p ++ (r ++ e)) × (length s ≡ optional fs) × IsPreamble (x ∷ s) p × SpellsFields fs s root r × SpellsExtension x more (SpellsAdditions more) added us e
+  IsSpelling (extensible_sequence fs more) v b = (root : Places) × (added : Places) × (us : List Unknown) × (x : Bool)
+      × (s : List Bool) × (p : List ℕ) × (r : List ℕ) × (e : List ℕ)
+      × (v ≡ seq root added us) × (b ≡ p ++ (r ++ e)) × (length s ≡ optional fs) × IsPreamble (x ∷ s) p × SpellsFields fs s root r
+      × SpellsExtension x more (SpellsAdditions more) added us e
   -- SEQUENCE OF (17): the quantity q, a counted number, and the elements es.
   IsSpelling (sequence_of size T) v b = (vs : List AsnValue) × (q : List ℕ) × (es : List ℕ)
-      × (v ≡ items (listed vs)) × (b ≡ q ++ es) × IsCounted (StandsFor unsigned) (length vs) q × (size_fits size (length vs) ≡ true) × IsJoined (IsSpelling T) vs es
+      × (v ≡ items (listed vs)) × (b ≡ q ++ es) × IsCounted (StandsFor unsigned) (length vs) q
+      × (size_fits size (length vs) ≡ true) × IsJoined (IsSpelling T) vs es
   -- CHOICE (20): the tag p, and the alternative c.
-  IsSpelling (choice extensible more) v b = (t : Tag) × (p : List ℕ) × (c : List ℕ) × (b ≡ p ++ c) × IsTag t p × SpellsChosen extensible more (SpellsAlternative more t) t v c
+  IsSpelling (choice extensible more) v b = (t : Tag) × (p : List ℕ) × (c : List ℕ) × (b ≡ p ++ c) × IsTag t p
+      × SpellsChosen extensible more (SpellsAlternative more t) t v c
 
   -- by the presence bits s of these components
   pub SpellsFields : Fields → List Bool → Places → List ℕ → Type 0

@@ -54,7 +54,8 @@ abbrev pub zeros : ℕ → List ℕ
 zeros n = replicate n 0
 
 abbrev pub Booleans : Type 0
-Booleans = Gives boolean (0x01 ∷ []) (0xff ∷ []) × Stays boolean (0x00 ∷ []) × Reads boolean (0x01 ∷ []) (bool true) × Reads boolean (0x00 ∷ []) (bool false)
+Booleans = Gives boolean (0x01 ∷ []) (0xff ∷ []) × Stays boolean (0x00 ∷ []) × Reads boolean (0x01 ∷ []) (bool true)
+    × Reads boolean (0x00 ∷ []) (bool false)
 
 -- INTEGER (0..MAX)
 abbrev pub natural_number : AsnType
@@ -92,7 +93,8 @@ IntegerForms = (canonical_octets (up_to 255) (int (pos 255)) ≡ 0xff ∷ [])
 
 -- ENUMERATED {a(5), b(128), c(-1)}
 abbrev pub colours : AsnType
-colours = enumerated (record { name = unnamed; number = pos 5 } ∷ record { name = unnamed; number = pos 128 } ∷ record { name = unnamed; number = negsuc 0 } ∷ []) false
+colours = enumerated (record { name = unnamed; number = pos 5 } ∷ record { name = unnamed; number = pos 128 }
+    ∷ record { name = unnamed; number = negsuc 0 } ∷ []) false
 
 abbrev pub Enumerations : Type 0
 Enumerations = Gives colours (0x81 ∷ 0x05 ∷ []) (0x05 ∷ [])
@@ -152,22 +154,28 @@ Strings = Reads (utf8_string (exactly 1)) (0x02 ∷ 0xc3 ∷ 0xa9 ∷ []) (text 
 
 -- SEQUENCE {a BOOLEAN, b INTEGER (0..255) DEFAULT 7, c NULL OPTIONAL, ...}, and the same without a marker
 abbrev pub with_default : AsnType
-with_default = extensible_sequence (field unnamed must boolean (field unnamed (default (int (pos 7))) (up_to 255) (field unnamed may null no_fields))) no_additions
+with_default = extensible_sequence (field unnamed must boolean
+    (field unnamed (default (int (pos 7))) (up_to 255) (field unnamed may null no_fields))) no_additions
 
 abbrev pub without_marker : AsnType
-without_marker = sequence (field unnamed must boolean (field unnamed (default (int (pos 7))) (up_to 255) (field unnamed may null no_fields)))
+without_marker = sequence (field unnamed must boolean
+    (field unnamed (default (int (pos 7))) (up_to 255) (field unnamed may null no_fields)))
 
 -- SEQUENCE of nine components NULL OPTIONAL
 abbrev pub nine : AsnType
-nine = sequence (field unnamed may null (field unnamed may null (field unnamed may null (field unnamed may null (field unnamed may null (field unnamed may null (field unnamed may null (field unnamed may null (field unnamed may null no_fields)))))))))
+nine = sequence (field unnamed may null (field unnamed may null (field unnamed may null
+    (field unnamed may null (field unnamed may null (field unnamed may null
+    (field unnamed may null (field unnamed may null (field unnamed may null no_fields)))))))))
 
 -- SEQUENCE with a component of type SEQUENCE {b BOOLEAN DEFAULT TRUE}, whose default has no b
 abbrev pub nested : AsnType
-nested = sequence (field unnamed (default (seq (absent no_places) no_places [])) (sequence (field unnamed (default (bool true)) boolean no_fields)) no_fields)
+nested = sequence (field unnamed (default (seq (absent no_places) no_places []))
+    (sequence (field unnamed (default (bool true)) boolean no_fields)) no_fields)
 
 abbrev pub Sequences : Type 0
 Sequences = Gives with_default (0x40 ∷ 0xff ∷ 0x07 ∷ []) (0x00 ∷ 0xff ∷ [])
-    × Reads with_default (0x60 ∷ 0xff ∷ 0x08 ∷ []) (seq (present (bool true) (present (int (pos 8)) (present nothing no_places))) no_places [])
+    × Reads with_default (0x60 ∷ 0xff ∷ 0x08 ∷ [])
+        (seq (present (bool true) (present (int (pos 8)) (present nothing no_places))) no_places [])
     × Stays with_default (0x60 ∷ 0xff ∷ 0x08 ∷ [])
     × Refuses with_default (0x01 ∷ 0xff ∷ []) PreamblePadding 1
     × Gives without_marker (0x80 ∷ 0xff ∷ 0x07 ∷ []) (0x00 ∷ 0xff ∷ [])
@@ -193,7 +201,8 @@ octets_added = extensible_sequence no_fields (addition unnamed (octet_string any
 
 abbrev pub Extensions : Type 0
 Extensions = Stays extended (0x80 ∷ 0xff ∷ 0x02 ∷ 0x06 ∷ 0x80 ∷ 0x01 ∷ 0x09 ∷ [])
-    × Reads extended (0x80 ∷ 0xff ∷ 0x02 ∷ 0x06 ∷ 0x80 ∷ 0x01 ∷ 0x09 ∷ []) (seq (present (bool true) no_places) (present (int (pos 9)) (absent no_places)) [])
+    × Reads extended (0x80 ∷ 0xff ∷ 0x02 ∷ 0x06 ∷ 0x80 ∷ 0x01 ∷ 0x09 ∷ [])
+        (seq (present (bool true) no_places) (present (int (pos 9)) (absent no_places)) [])
     × Gives extended (0x80 ∷ 0xff ∷ 0x02 ∷ 0x07 ∷ 0x80 ∷ 0x01 ∷ 0x09 ∷ []) (0x80 ∷ 0xff ∷ 0x02 ∷ 0x06 ∷ 0x80 ∷ 0x01 ∷ 0x09 ∷ [])
     × Gives extended (0x80 ∷ 0xff ∷ 0x02 ∷ 0x06 ∷ 0x00 ∷ []) (0x00 ∷ 0xff ∷ [])
     × Gives extended (0x80 ∷ 0xff ∷ 0x01 ∷ 0x00 ∷ []) (0x00 ∷ 0xff ∷ [])
@@ -210,9 +219,11 @@ Extensions = Stays extended (0x80 ∷ 0xff ∷ 0x02 ∷ 0x06 ∷ 0x80 ∷ 0x01 �
 
 abbrev pub UnknownAdditions : Type 0
 UnknownAdditions = Stays extended (0x80 ∷ 0xff ∷ 0x02 ∷ 0x05 ∷ 0x20 ∷ 0x01 ∷ 0x09 ∷ [])
-    × Reads extended (0x80 ∷ 0xff ∷ 0x02 ∷ 0x05 ∷ 0x20 ∷ 0x01 ∷ 0x09 ∷ []) (seq (present (bool true) no_places) (absent (absent no_places)) (unknown 2 (0x09 ∷ []) ∷ []))
+    × Reads extended (0x80 ∷ 0xff ∷ 0x02 ∷ 0x05 ∷ 0x20 ∷ 0x01 ∷ 0x09 ∷ [])
+        (seq (present (bool true) no_places) (absent (absent no_places)) (unknown 2 (0x09 ∷ []) ∷ []))
     × Stays extended (0x80 ∷ 0xff ∷ 0x02 ∷ 0x04 ∷ 0x30 ∷ 0x01 ∷ 0x09 ∷ 0x00 ∷ [])
-    × Reads extended (0x80 ∷ 0xff ∷ 0x02 ∷ 0x04 ∷ 0x30 ∷ 0x01 ∷ 0x09 ∷ 0x00 ∷ []) (seq (present (bool true) no_places) (absent (absent no_places)) (unknown 2 (0x09 ∷ []) ∷ unknown 3 [] ∷ []))
+    × Reads extended (0x80 ∷ 0xff ∷ 0x02 ∷ 0x04 ∷ 0x30 ∷ 0x01 ∷ 0x09 ∷ 0x00 ∷ [])
+        (seq (present (bool true) no_places) (absent (absent no_places)) (unknown 2 (0x09 ∷ []) ∷ unknown 3 [] ∷ []))
     × Gives extended (0x80 ∷ 0xff ∷ 0x02 ∷ 0x00 ∷ 0x20 ∷ 0x81 ∷ 0x01 ∷ 0x09 ∷ []) (0x80 ∷ 0xff ∷ 0x02 ∷ 0x05 ∷ 0x20 ∷ 0x01 ∷ 0x09 ∷ [])
     × Gives older (0x80 ∷ 0xff ∷ 0x02 ∷ 0x06 ∷ 0x80 ∷ 0x01 ∷ 0x09 ∷ []) (0x80 ∷ 0xff ∷ 0x02 ∷ 0x07 ∷ 0x80 ∷ 0x01 ∷ 0x09 ∷ [])
     × Stays older (0x80 ∷ 0xff ∷ 0x02 ∷ 0x07 ∷ 0x80 ∷ 0x01 ∷ 0x09 ∷ [])
@@ -228,7 +239,8 @@ Lists = Stays (sequence_of any_size boolean) (0x01 ∷ 0x02 ∷ 0xff ∷ 0x00 �
 
 -- CHOICE {a [62] NULL, b [63] NULL, c [200] NULL}; CHOICE {a NULL, ..., b OCTET STRING}
 abbrev pub tagged : AsnType
-tagged = choice false (alternative unnamed (context 62) null (alternative unnamed (context 63) null (alternative unnamed (context 200) null no_alternatives)))
+tagged = choice false (alternative unnamed (context 62) null
+    (alternative unnamed (context 63) null (alternative unnamed (context 200) null no_alternatives)))
 
 abbrev pub open_choice : AsnType
 open_choice = choice true (alternative unnamed (context 0) null (later unnamed (context 1) (octet_string any_size) no_alternatives))
@@ -275,16 +287,22 @@ Checkings = Checks extended (0x80 ∷ 0xff ∷ 0x02 ∷ 0x06 ∷ 0x80 ∷ 0x01 �
 
 -- SEQUENCE {...} with an addition at the last place, 65,535, and with one past it
 abbrev pub Farthest : Type 0
-Farthest = (read_value (extensible_sequence no_fields no_additions) (at (0x80 ∷ 0x82 ∷ 0x20 ∷ 0x01 ∷ 0x00 ∷ (zeros 8191 ++ (0x01 ∷ 0x00 ∷ []))) 10000) ≡ got (seq no_places no_places (unknown 65535 [] ∷ [])) (at [] 1802))
-    × (canonical_octets (extensible_sequence no_fields no_additions) (seq no_places no_places (unknown 65535 [] ∷ [])) ≡ 0x80 ∷ 0x82 ∷ 0x20 ∷ 0x01 ∷ 0x00 ∷ (zeros 8191 ++ (0x01 ∷ 0x00 ∷ [])))
-    × RefusesWithin 10000 (extensible_sequence no_fields no_additions) (0x80 ∷ 0x82 ∷ 0x20 ∷ 0x02 ∷ 0x07 ∷ (zeros 8192 ++ (0x80 ∷ []))) UnknownAddition 8198
+Farthest = (read_value (extensible_sequence no_fields no_additions)
+    (at (0x80 ∷ 0x82 ∷ 0x20 ∷ 0x01 ∷ 0x00 ∷ (zeros 8191 ++ (0x01 ∷ 0x00 ∷ []))) 10000)
+    ≡ got (seq no_places no_places (unknown 65535 [] ∷ [])) (at [] 1802))
+    × (canonical_octets (extensible_sequence no_fields no_additions) (seq no_places no_places (unknown 65535 [] ∷ []))
+        ≡ 0x80 ∷ 0x82 ∷ 0x20 ∷ 0x01 ∷ 0x00 ∷ (zeros 8191 ++ (0x01 ∷ 0x00 ∷ [])))
+    × RefusesWithin 10000 (extensible_sequence no_fields no_additions)
+        (0x80 ∷ 0x82 ∷ 0x20 ∷ 0x02 ∷ 0x07 ∷ (zeros 8192 ++ (0x80 ∷ []))) UnknownAddition 8198
 
 -- what is found by a path
 abbrev pub Finds : AsnType → List ℕ → List Step → Answer → Type 0
 Finds T b path answer = find_part (Some T) b path ≡ answer
 
 abbrev pub PathsFollowed : Type 0
-PathsFollowed = Finds extended (0x80 ∷ 0xff ∷ 0x02 ∷ 0x06 ∷ 0x80 ∷ 0x01 ∷ 0x09 ∷ []) [] (found (Some extended) (0x80 ∷ 0xff ∷ 0x02 ∷ 0x06 ∷ 0x80 ∷ 0x01 ∷ 0x09 ∷ []))
+PathsFollowed =
+    Finds extended (0x80 ∷ 0xff ∷ 0x02 ∷ 0x06 ∷ 0x80 ∷ 0x01 ∷ 0x09 ∷ []) []
+        (found (Some extended) (0x80 ∷ 0xff ∷ 0x02 ∷ 0x06 ∷ 0x80 ∷ 0x01 ∷ 0x09 ∷ []))
     × Finds extended (0x80 ∷ 0xff ∷ 0x02 ∷ 0x06 ∷ 0x80 ∷ 0x01 ∷ 0x09 ∷ []) (to_component 0 ∷ []) (found (Some boolean) (0xff ∷ []))
     × Finds extended (0x80 ∷ 0xff ∷ 0x02 ∷ 0x06 ∷ 0x80 ∷ 0x01 ∷ 0x09 ∷ []) (to_addition 0 ∷ []) (found (Some (up_to 255)) (0x09 ∷ []))
     × Finds extended (0x80 ∷ 0xff ∷ 0x02 ∷ 0x06 ∷ 0x80 ∷ 0x01 ∷ 0x09 ∷ []) (to_addition 1 ∷ []) absent_part
@@ -295,7 +313,8 @@ PathsFollowed = Finds extended (0x80 ∷ 0xff ∷ 0x02 ∷ 0x06 ∷ 0x80 ∷ 0x0
     × Finds extended (0x80 ∷ 0xff ∷ 0x02 ∷ 0x05 ∷ 0x20 ∷ 0x01 ∷ 0x09 ∷ []) (to_addition 0 ∷ []) absent_part
     × Finds (sequence_of any_size boolean) (0x01 ∷ 0x02 ∷ 0xff ∷ 0x00 ∷ []) (to_item 1 ∷ []) (found (Some boolean) (0x00 ∷ []))
     × Finds (sequence_of any_size boolean) (0x01 ∷ 0x02 ∷ 0xff ∷ 0x00 ∷ []) (to_item 2 ∷ []) no_such_step
-    × Finds open_choice (0x81 ∷ 0x03 ∷ 0x02 ∷ 0x61 ∷ 0x62 ∷ []) (to_chosen ∷ []) (found (Some (octet_string any_size)) (0x02 ∷ 0x61 ∷ 0x62 ∷ []))
+    × Finds open_choice (0x81 ∷ 0x03 ∷ 0x02 ∷ 0x61 ∷ 0x62 ∷ []) (to_chosen ∷ [])
+        (found (Some (octet_string any_size)) (0x02 ∷ 0x61 ∷ 0x62 ∷ []))
     × Finds open_choice (0x85 ∷ 0x02 ∷ 0x01 ∷ 0x02 ∷ []) (to_chosen ∷ []) (found None (0x01 ∷ 0x02 ∷ []))
 
 -- ENUMERATED {a(0), ...}
@@ -314,7 +333,9 @@ Boundaries = Reads open_numbers (0x88 ∷ 0x80 ∷ zeros 7) (enum (negsuc 922337
     × Stays (restricted_string numeric any_size) (0x03 ∷ 0x20 ∷ 0x30 ∷ 0x39 ∷ [])
     × Refuses (restricted_string numeric any_size) (0x01 ∷ 0x2f ∷ []) Character 2
     × Refuses (restricted_string numeric any_size) (0x01 ∷ 0x3a ∷ []) Character 2
-    × Stays (restricted_string printable any_size) (0x12 ∷ 0x41 ∷ 0x5a ∷ 0x61 ∷ 0x7a ∷ 0x30 ∷ 0x39 ∷ 0x20 ∷ 0x27 ∷ 0x28 ∷ 0x29 ∷ 0x2b ∷ 0x2c ∷ 0x2d ∷ 0x2e ∷ 0x2f ∷ 0x3a ∷ 0x3d ∷ 0x3f ∷ [])
+    × Stays (restricted_string printable any_size)
+        (0x12 ∷ 0x41 ∷ 0x5a ∷ 0x61 ∷ 0x7a ∷ 0x30 ∷ 0x39 ∷ 0x20 ∷ 0x27 ∷ 0x28 ∷ 0x29
+        ∷ 0x2b ∷ 0x2c ∷ 0x2d ∷ 0x2e ∷ 0x2f ∷ 0x3a ∷ 0x3d ∷ 0x3f ∷ [])
     × Refuses (restricted_string printable any_size) (0x01 ∷ 0x5b ∷ []) Character 2
     × Refuses (restricted_string printable any_size) (0x01 ∷ 0x60 ∷ []) Character 2
     × Refuses (restricted_string printable any_size) (0x01 ∷ 0x7b ∷ []) Character 2

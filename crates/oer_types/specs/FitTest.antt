@@ -54,7 +54,8 @@ abbrev mutual
   is_fit (utf8_string s) (text w) = all_below 256 w && (is_utf8 w && size_fits s (length (chars w)))
   is_fit (octet_string s) (octets w) = all_below 256 w && size_fits s (length w)
   is_fit (sequence fs) (seq root added us) = is_without added us && fields_fit fs root
-  is_fit (extensible_sequence fs more) (seq root added us) = fields_fit fs root && (additions_fit more added && unknown_fit (addition_count more) us)
+  is_fit (extensible_sequence fs more) (seq root added us) =
+      fields_fit fs root && (additions_fit more added && unknown_fit (addition_count more) us)
   is_fit (sequence_of s T) (items vs) = size_fits s (values_length vs) && all_fit (is_fit T) vs
   is_fit (choice extensible more) (chosen t v) = alternative_fits more t v
   is_fit (choice extensible more) (foreign t w) = extensible && (not (has_tag t more) && (ltb t.number (2 ^ 32) && all_below 256 w))

@@ -33,7 +33,8 @@ AllBelow n (x ∷ xs) = (x < n) × AllBelow n xs
 
 -- two arcs or more; the first is 0, 1 or 2, the second at most 39 under 0 and 1 (X.690, 8.19.4); numbers below 2^128
 abbrev pub AreArcs : List ℕ → Type 0
-AreArcs arcs = (a : ℕ) × (b : ℕ) × (rest : List ℕ) × (arcs ≡ a ∷ b ∷ rest) × (a ≤ 2) × (a < 2 → b < 40) × (40 * a + b < 2 ^ 128) × AllBelow (2 ^ 128) rest
+AreArcs arcs = (a : ℕ) × (b : ℕ) × (rest : List ℕ) × (arcs ≡ a ∷ b ∷ rest) × (a ≤ 2) × (a < 2 → b < 40) × (40 * a + b < 2 ^ 128)
+    × AllBelow (2 ^ 128) rest
 
 -- a text of characters that pass the test, as many as the constraint allows
 abbrev pub IsText : (List ℕ → Bool) → Size → AsnValue → Type 0
@@ -70,7 +71,8 @@ FitsUnknown lowest (unknown place w ∷ us) = (lowest ≤ place) × (place ≤ 6
 
 -- an alternative of the type; or one that it doesn't know, where there is an extension marker
 abbrev pub FitsChosen : Bool → Alternatives → (Tag → AsnValue → Type 0) → AsnValue → Type 0
-FitsChosen extensible more P v = ((t : Tag) × (x : AsnValue) × (v ≡ chosen t x) × P t x) ⊎ ((t : Tag) × (w : List ℕ) × (v ≡ foreign t w) × (extensible ≡ true) × (has_tag t more ≡ false) × HasTagNumber t × IsOctets w)
+FitsChosen extensible more P v = ((t : Tag) × (x : AsnValue) × (v ≡ chosen t x) × P t x)
+    ⊎ ((t : Tag) × (w : List ℕ) × (v ≡ foreign t w) × (extensible ≡ true) × (has_tag t more ≡ false) × HasTagNumber t × IsOctets w)
 
 -- Which values fit a type: of its kind, within its bounds and sizes, each part fitting (X.680).
 abbrev mutual
@@ -85,7 +87,8 @@ abbrev mutual
   Fits (utf8_string size) v = (w : List ℕ) × (v ≡ text w) × IsOctets w × (is_utf8 w ≡ true) × (size_fits size (length (chars w)) ≡ true)
   Fits (octet_string size) v = (w : List ℕ) × (v ≡ octets w) × IsOctets w × (size_fits size (length w) ≡ true)
   Fits (sequence fs) v = (root : Places) × (v ≡ seq root no_places []) × FitsFields fs root
-  Fits (extensible_sequence fs more) v = (root : Places) × (added : Places) × (us : List Unknown) × (v ≡ seq root added us) × FitsFields fs root × FitsAdditions more added × FitsUnknown (addition_count more) us
+  Fits (extensible_sequence fs more) v = (root : Places) × (added : Places) × (us : List Unknown) × (v ≡ seq root added us)
+      × FitsFields fs root × FitsAdditions more added × FitsUnknown (addition_count more) us
   Fits (sequence_of size T) v = (vs : List AsnValue) × (v ≡ items (listed vs)) × (size_fits size (length vs) ≡ true) × AllFit (Fits T) vs
   Fits (choice extensible more) v = FitsChosen extensible more (FitsAlternative more) v
 

@@ -19,16 +19,19 @@ TellsValues T = (v w : AsnValue) (b : List ℕ) → Fits T v → Fits T w → Is
 -- The reader accepts exactly the inputs that begin with an encoding within the limit, gives its value and takes its octets.
 abbrev pub Accepts : AsnType → Type 0
 Accepts T = (input : List ℕ) (n : ℕ) → IsOctets input → (v : AsnValue) (rest : List ℕ)
-    → ((left : ℕ) × (read_value T (at input n) ≡ got v (at rest left))) ↔ ((b : List ℕ) × (input ≡ b ++ rest) × (length b ≤ n) × Encodes T v b)
+    → ((left : ℕ) × (read_value T (at input n) ≡ got v (at rest left)))
+    ↔ ((b : List ℕ) × (input ≡ b ++ rest) × (length b ≤ n) × Encodes T v b)
 
 -- No encoding begins another, and an encoding has one value.
 abbrev pub HasOneValue : AsnType → Type 0
 HasOneValue T = (v w : AsnValue) (b c rest : List ℕ) → Encodes T v b → Encodes T w c → c ≡ b ++ rest → (b ≡ c) × (v ≡ w)
 
--- What is rewritten are the canonical octets of the value at the front of the input, and rewriting leaves these unchanged, whatever follows them.
+-- What is rewritten are the canonical octets of the value at the front of the input, and rewriting leaves these
+-- unchanged, whatever follows them.
 abbrev pub Rewrites : AsnType → Type 0
 Rewrites T = (input : List ℕ) (n : ℕ) (c : List ℕ) (q : Place) → IsOctets input → rewritten T (at input n) ≡ got c q → length c < 2 ^ 64
-    → ((v : AsnValue) × (b : List ℕ) × (input ≡ b ++ q.input) × (length b ≤ n) × Encodes T v b × IsCanonical T v c) × ((rest : List ℕ) (m : ℕ) → rewritten T (at (c ++ rest) (length c + m)) ≡ got c (at rest m))
+    → ((v : AsnValue) × (b : List ℕ) × (input ≡ b ++ q.input) × (length b ≤ n) × Encodes T v b × IsCanonical T v c)
+    × ((rest : List ℕ) (m : ℕ) → rewritten T (at (c ++ rest) (length c + m)) ≡ got c (at rest m))
 
 abbrev pub Headline : Type 0
 Headline = (T : AsnType) → IsWellFormed T → TellsValues T × Accepts T × HasOneValue T × Rewrites T

@@ -57,19 +57,23 @@ named (refused why rest) = refused (named_inside why) rest
 
 -- What is read from an input within a limit is an encoding at its front; a refusal says that there is none.
 abbrev pub ReadsEncodings : Type 0
-ReadsEncodings = (T : AsnType) → KeepsLimits T → (input : List ℕ) (n : ℕ) → IsOctets input → Tells (λ why t rest. Means why T n t rest) T input n (read_value T (at input n))
+ReadsEncodings = (T : AsnType) → KeepsLimits T → (input : List ℕ) (n : ℕ) → IsOctets input
+    → Tells (λ why t rest. Means why T n t rest) T input n (read_value T (at input n))
 
 -- The same in an open type of n octets.
 abbrev pub ReadsInside : Type 0
-ReadsInside = (T : AsnType) → KeepsLimits T → (input : List ℕ) (n : ℕ) → IsOctets input → Tells (λ why t rest. MeansInside why T n t rest) T input n (named (read_value T (at input n)))
+ReadsInside = (T : AsnType) → KeepsLimits T → (input : List ℕ) (n : ℕ) → IsOctets input
+    → Tells (λ why t rest. MeansInside why T n t rest) T input n (named (read_value T (at input n)))
 
 -- An encoding at the front, within the limit, is read, whatever follows it.
 abbrev pub ReadsEach : Type 0
-ReadsEach = (T : AsnType) → KeepsLimits T → (v : AsnValue) (b rest : List ℕ) (n : ℕ) → Encodes T v b → length b ≤ n → read_value T (at (b ++ rest) n) ≡ got v (at rest (n - length b))
+ReadsEach = (T : AsnType) → KeepsLimits T → (v : AsnValue) (b rest : List ℕ) (n : ℕ) → Encodes T v b → length b ≤ n
+    → read_value T (at (b ++ rest) n) ≡ got v (at rest (n - length b))
 
 -- No encoding begins another, and an encoding has one value.
 abbrev pub OneReading : Type 0
-OneReading = (T : AsnType) → KeepsLimits T → (v w : AsnValue) (b c rest : List ℕ) → Encodes T v b → Encodes T w c → c ≡ b ++ rest → (b ≡ c) × (v ≡ w)
+OneReading = (T : AsnType) → KeepsLimits T → (v w : AsnValue) (b c rest : List ℕ) → Encodes T v b → Encodes T w c → c ≡ b ++ rest
+    → (b ≡ c) × (v ≡ w)
 
 -- A value has one list of canonical octets.
 abbrev pub OneCanonical : Type 0
@@ -77,11 +81,13 @@ OneCanonical = (T : AsnType) (v : AsnValue) (b c : List ℕ) → IsCanonical T v
 
 -- Values that fit share canonical octets exactly where they are equal after filling.
 abbrev pub CanonicalTellsFilled : Type 0
-CanonicalTellsFilled = (T : AsnType) → KeepsLimits T → (v w : AsnValue) (b : List ℕ) → Fits T v → Fits T w → IsCanonical T v b → (IsCanonical T w b ↔ (filled T v ≡ filled T w))
+CanonicalTellsFilled = (T : AsnType) → KeepsLimits T → (v w : AsnValue) (b : List ℕ) → Fits T v → Fits T w → IsCanonical T v b
+    → (IsCanonical T w b ↔ (filled T v ≡ filled T w))
 
 -- Canonical octets are an encoding, of a value that is equal after filling, and that value's canonical octets.
 abbrev pub CanonicalEncodes : Type 0
-CanonicalEncodes = (T : AsnType) (v : AsnValue) (b : List ℕ) → IsCanonical T v b → (w : AsnValue) × Encodes T w b × IsCanonical T w b × (filled T w ≡ filled T v)
+CanonicalEncodes = (T : AsnType) (v : AsnValue) (b : List ℕ) → IsCanonical T v b
+    → (w : AsnValue) × Encodes T w b × IsCanonical T w b × (filled T w ≡ filled T v)
 
 -- No fault is found exactly where none holds.
 abbrev pub NoFaultFound : Type 0
@@ -113,11 +119,13 @@ FilledTwice = (T : AsnType) (v : AsnValue) → filled T (filled T v) ≡ filled 
 
 -- A value has at most as many parts as its type, for each octet of its encoding, and holds no more octets than its encoding.
 abbrev pub PartsBounded : Type 0
-PartsBounded = (T : AsnType) → KeepsLimits T → (v : AsnValue) (b : List ℕ) → Encodes T v b → (nodes v ≤ type_nodes T * max 1 (length b)) × (payload v ≤ length b)
+PartsBounded = (T : AsnType) → KeepsLimits T → (v : AsnValue) (b : List ℕ) → Encodes T v b
+    → (nodes v ≤ type_nodes T * max 1 (length b)) × (payload v ≤ length b)
 
 -- The computed octets of a value that fits are its canonical octets, where they are fewer than 2 ^ 64.
 abbrev pub CanonicalGiven : Type 0
-CanonicalGiven = (T : AsnType) → KeepsLimits T → (v : AsnValue) → Fits T v → length (canonical_octets T v) < 2 ^ 64 → IsCanonical T v (canonical_octets T v)
+CanonicalGiven = (T : AsnType) → KeepsLimits T → (v : AsnValue) → Fits T v → length (canonical_octets T v) < 2 ^ 64
+    → IsCanonical T v (canonical_octets T v)
 
 -- Canonical octets are the computed ones.
 abbrev pub CanonicalComputed : Type 0
@@ -125,7 +133,8 @@ CanonicalComputed = (T : AsnType) (v : AsnValue) (b : List ℕ) → IsCanonical 
 
 -- Values that fit have the same computed octets exactly where they are equal after filling.
 abbrev pub EqualOctets : Type 0
-EqualOctets = (T : AsnType) → KeepsLimits T → (v w : AsnValue) → Fits T v → Fits T w → length (canonical_octets T v) < 2 ^ 64 → (canonical_octets T v ≡ canonical_octets T w) ↔ (filled T v ≡ filled T w)
+EqualOctets = (T : AsnType) → KeepsLimits T → (v w : AsnValue) → Fits T v → Fits T w → length (canonical_octets T v) < 2 ^ 64
+    → (canonical_octets T v ≡ canonical_octets T w) ↔ (filled T v ≡ filled T w)
 
 -- the canonical octets of the value at the front of the input
 abbrev pub rewritten : AsnType → Reader (List ℕ)
@@ -133,21 +142,25 @@ rewritten T = bind (read_value T) (λ v. give (canonical_octets T v))
 
 -- What canonical octets are rewritten to is themselves, whatever follows them.
 abbrev pub CanonicalStays : Type 0
-CanonicalStays = (T : AsnType) → KeepsLimits T → (v : AsnValue) (b rest : List ℕ) (m : ℕ) → IsCanonical T v b → rewritten T (at (b ++ rest) (length b + m)) ≡ got b (at rest m)
+CanonicalStays = (T : AsnType) → KeepsLimits T → (v : AsnValue) (b rest : List ℕ) (m : ℕ) → IsCanonical T v b
+    → rewritten T (at (b ++ rest) (length b + m)) ≡ got b (at rest m)
 
 -- Rewriting twice is rewriting once.
 abbrev pub RewriteTwice : Type 0
-RewriteTwice = (T : AsnType) → KeepsLimits T → (input : List ℕ) (n : ℕ) (c : List ℕ) (q : Place) → IsOctets input → rewritten T (at input n) ≡ got c q → length c < 2 ^ 64
+RewriteTwice = (T : AsnType) → KeepsLimits T → (input : List ℕ) (n : ℕ) (c : List ℕ) (q : Place) → IsOctets input
+    → rewritten T (at input n) ≡ got c q → length c < 2 ^ 64
     → (rest : List ℕ) (m : ℕ) → rewritten T (at (c ++ rest) (length c + m)) ≡ got c (at rest m)
 
 -- what the checker answers where the reader answers so: the same place and refusal, and whether the octets taken are canonical
 abbrev pub Judges : AsnType → List ℕ → Outcome AsnValue → Outcome Bool → Type 0
 Judges T input (refused why rest) o = o ≡ refused why rest
-Judges T input (got v q) o = (b : List ℕ) × (f : Bool) × (input ≡ b ++ q.input) × (o ≡ got f q) × (f ≡ true ↔ ((w : AsnValue) × IsCanonical T w b))
+Judges T input (got v q) o = (b : List ℕ) × (f : Bool) × (input ≡ b ++ q.input) × (o ≡ got f q)
+    × (f ≡ true ↔ ((w : AsnValue) × IsCanonical T w b))
 
 -- The checker answers as the reader does, and tells whether the octets are canonical.
 abbrev pub CheckTells : Type 0
-CheckTells = (T : AsnType) → KeepsLimits T → DefaultsFit T → (input : List ℕ) (n : ℕ) → IsOctets input → length input < 2 ^ 64 → Judges T input (read_value T (at input n)) (check_value T (at input n))
+CheckTells = (T : AsnType) → KeepsLimits T → DefaultsFit T → (input : List ℕ) (n : ℕ) → IsOctets input → length input < 2 ^ 64
+    → Judges T input (read_value T (at input n)) (check_value T (at input n))
 
 -- further additions at the end
 abbrev pub with_additions : Additions → Additions → Additions
@@ -166,31 +179,40 @@ IsOlder T U = KeepsLimits T → (v : AsnValue) (b : List ℕ) → Encodes U v b 
 
 -- What the older type T relays is read by the newer type U as the sender's value, filled.
 abbrev pub Relays : AsnType → AsnType → Type 0
-Relays T U = KeepsLimits T → KeepsLimits U → (v w : AsnValue) (b c : List ℕ) → Encodes U v b → Encodes T w b → IsCanonical T w c → (x : AsnValue) × Encodes U x c × (filled U x ≡ filled U v)
+Relays T U = KeepsLimits T → KeepsLimits U → (v w : AsnValue) (b c : List ℕ) → Encodes U v b → Encodes T w b → IsCanonical T w c
+    → (x : AsnValue) × Encodes U x c × (filled U x ≡ filled U v)
 
 -- of a SEQUENCE and the same with further additions at its end
 abbrev pub OlderSequence : Type 0
-OlderSequence = (fs : Fields) (more extra : Additions) → IsOlder (extensible_sequence fs more) (extensible_sequence fs (with_additions more extra))
+OlderSequence = (fs : Fields) (more extra : Additions)
+    → IsOlder (extensible_sequence fs more) (extensible_sequence fs (with_additions more extra))
 
 -- of a CHOICE and the same with further alternatives after the marker, at its end
 abbrev pub OlderChoice : Type 0
 OlderChoice = (more extra : Alternatives) → AreLater extra → IsOlder (choice true more) (choice true (with_alternatives more extra))
 
 abbrev pub RelayedSequence : Type 0
-RelayedSequence = (fs : Fields) (more extra : Additions) → Relays (extensible_sequence fs more) (extensible_sequence fs (with_additions more extra))
+RelayedSequence = (fs : Fields) (more extra : Additions)
+    → Relays (extensible_sequence fs more) (extensible_sequence fs (with_additions more extra))
 
 abbrev pub RelayedChoice : Type 0
 RelayedChoice = (more extra : Alternatives) → AreLater extra → Relays (choice true more) (choice true (with_alternatives more extra))
 
 -- What is found in an encoding by a path is just what the path leads to.
 abbrev pub FindsParts : Type 0
-FindsParts = (T : AsnType) → KeepsLimits T → DefaultsFit T → (v : AsnValue) (b : List ℕ) → Encodes T v b → (path : List Step) (U : Option AsnType) (s : List ℕ) → find_part (Some T) b path ≡ found U s ↔ Within (Some T) b path U s
+FindsParts = (T : AsnType) → KeepsLimits T → DefaultsFit T → (v : AsnValue) (b : List ℕ) → Encodes T v b
+    → (path : List Step) (U : Option AsnType) (s : List ℕ) → find_part (Some T) b path ≡ found U s ↔ Within (Some T) b path U s
 
--- Otherwise the first step that leads nowhere decides: the part is absent where it names a root component or a known addition, else there is no such step.
+-- Otherwise the first step that leads nowhere decides: the part is absent where it names a root component or a known
+-- addition, else there is no such step.
 abbrev pub MissesParts : Type 0
-MissesParts = (T : AsnType) → KeepsLimits T → DefaultsFit T → (v : AsnValue) (b : List ℕ) → Encodes T v b → (path : List Step) (known : Bool) → find_part (Some T) b path ≡ nothing_at known ↔ StopsAt (Some T) b path known
+MissesParts = (T : AsnType) → KeepsLimits T → DefaultsFit T → (v : AsnValue) (b : List ℕ) → Encodes T v b
+    → (path : List Step) (known : Bool) → find_part (Some T) b path ≡ nothing_at known ↔ StopsAt (Some T) b path known
 
--- A path to an unknown part of the canonical octets leads to the same octets in what was read; and the other way round, unless it enters a DEFAULT component that equals its default.
+-- A path to an unknown part of the canonical octets leads to the same octets in what was read; and the other way round,
+-- unless it enters a DEFAULT component that equals its default.
 abbrev pub KeepsUnknown : Type 0
-KeepsUnknown = (T : AsnType) → KeepsLimits T → DefaultsFit T → (v : AsnValue) (b c : List ℕ) → Encodes T v b → IsCanonical T v c → (path : List Step) (s : List ℕ)
-    → (Within (Some T) c path None s → Within (Some T) b path None s) × (Within (Some T) b path None s → Within (Some T) c path None s ⊎ EntersDefault T b path)
+KeepsUnknown = (T : AsnType) → KeepsLimits T → DefaultsFit T → (v : AsnValue) (b c : List ℕ) → Encodes T v b → IsCanonical T v c
+    → (path : List Step) (s : List ℕ)
+    → (Within (Some T) c path None s → Within (Some T) b path None s)
+    × (Within (Some T) b path None s → Within (Some T) c path None s ⊎ EntersDefault T b path)

@@ -37,14 +37,17 @@ Holds T c b = (c ≡ b) × ((v : AsnValue) × IsSpelling T v b)
 
 -- the first part is there, its octets spelt by S; Rest: the others
 abbrev pub Starts : Step → Option AsnType → (List ℕ → List ℕ → Type 0) → (List Part → List ℕ → Type 0) → List Part → List ℕ → Type 0
-Starts step V S Rest parts b = (c : List ℕ) × (rest : List Part) × (b1 : List ℕ) × (b2 : List ℕ) × (parts ≡ part step V c ∷ rest) × (b ≡ b1 ++ b2) × S c b1 × Rest rest b2
+Starts step V S Rest parts b = (c : List ℕ) × (rest : List Part) × (b1 : List ℕ) × (b2 : List ℕ) × (parts ≡ part step V c ∷ rest)
+    × (b ≡ b1 ++ b2) × S c b1 × Rest rest b2
 
 -- there exactly if the bit is set
-abbrev pub StartsByBit : Bool → Step → Option AsnType → (List ℕ → List ℕ → Type 0) → (List Part → List ℕ → Type 0) → List Part → List ℕ → Type 0
+abbrev pub StartsByBit : Bool → Step → Option AsnType → (List ℕ → List ℕ → Type 0) → (List Part → List ℕ → Type 0) → List Part
+    → List ℕ → Type 0
 StartsByBit true step V S Rest parts b = Starts step V S Rest parts b
 StartsByBit false step V S Rest parts b = Rest parts b
 
-abbrev pub StartsByNeed : Need → Step → Option AsnType → (List ℕ → List ℕ → Type 0) → (List Bool → List Part → List ℕ → Type 0) → List Bool → List Part → List ℕ → Type 0
+abbrev pub StartsByNeed : Need → Step → Option AsnType → (List ℕ → List ℕ → Type 0) → (List Bool → List Part → List ℕ → Type 0)
+    → List Bool → List Part → List ℕ → Type 0
 StartsByNeed must step V S Rest s parts b = Starts step V S (Rest s) parts b
 StartsByNeed may step V S Rest s parts b = StartsByBit (first_bit s) step V S (Rest (later_bits s)) parts b
 StartsByNeed (default d) step V S Rest s parts b = StartsByBit (first_bit s) step V S (Rest (later_bits s)) parts b
@@ -57,7 +60,8 @@ SplitsFields (field name need T fs) i s parts b = StartsByNeed need (to_componen
 -- known additions from the one with the number i on: of each the content of its open type
 abbrev pub SplitsAdditions : Additions → ℕ → List Bool → List Part → List ℕ → Type 0
 SplitsAdditions no_additions i s parts b = (parts ≡ []) × (b ≡ [])
-SplitsAdditions (addition name T more) i s parts b = StartsByBit (first_bit s) (to_addition i) (Some T) (IsCounted (Holds T)) (SplitsAdditions more (suc i) (later_bits s)) parts b
+SplitsAdditions (addition name T more) i s parts b =
+    StartsByBit (first_bit s) (to_addition i) (Some T) (IsCounted (Holds T)) (SplitsAdditions more (suc i) (later_bits s)) parts b
 
 -- unknown additions from the place i on
 abbrev pub SplitsUnknown : ℕ → List Bool → List Part → List ℕ → Type 0
@@ -67,7 +71,8 @@ SplitsUnknown i (false ∷ s) parts b = SplitsUnknown (suc i) s parts b
 
 abbrev pub SplitsExtension : Bool → Additions → List Part → List ℕ → Type 0
 SplitsExtension false more parts e = (parts ≡ []) × (e ≡ [])
-SplitsExtension true more parts e = (s : List Bool) × (m : List ℕ) × (p : List Part) × (q : List Part) × (a : List ℕ) × (u : List ℕ) × (parts ≡ p ++ q) × (e ≡ m ++ (a ++ u))
+SplitsExtension true more parts e = (s : List Bool) × (m : List ℕ) × (p : List Part) × (q : List Part) × (a : List ℕ)
+    × (u : List ℕ) × (parts ≡ p ++ q) × (e ≡ m ++ (a ++ u))
     × SpellsBitmap s m × SplitsAdditions more 0 s p a × SplitsUnknown (addition_count more) (drop (addition_count more) s) q u
 
 -- n elements from the one with the number i on
@@ -85,16 +90,23 @@ AloneByTag false S Rest parts b = Rest parts b
 
 abbrev pub SplitsAlternative : Alternatives → Tag → List Part → List ℕ → Type 0
 SplitsAlternative no_alternatives t parts b = ⊥
-SplitsAlternative (alternative name u T more) t parts b = AloneByTag (same_tag u t) (IsAlone (Some T) (Holds T)) (SplitsAlternative more t) parts b
-SplitsAlternative (later name u T more) t parts b = AloneByTag (same_tag u t) (IsAlone (Some T) (IsCounted (Holds T))) (SplitsAlternative more t) parts b
+SplitsAlternative (alternative name u T more) t parts b =
+    AloneByTag (same_tag u t) (IsAlone (Some T) (Holds T)) (SplitsAlternative more t) parts b
+SplitsAlternative (later name u T more) t parts b =
+    AloneByTag (same_tag u t) (IsAlone (Some T) (IsCounted (Holds T))) (SplitsAlternative more t) parts b
 
 -- An encoding b of T splits into these parts, by the case of the type (X.696, 16, 17 and 20). A type without parts has none.
 abbrev pub IsSplit : AsnType → List Part → List ℕ → Type 0
-IsSplit (sequence fs) parts b = (s : List Bool) × (p : List ℕ) × (r : List ℕ) × (b ≡ p ++ r) × (length s ≡ optional fs) × IsPreamble s p × SplitsFields fs 0 s parts r
-IsSplit (extensible_sequence fs more) parts b = (x : Bool) × (s : List Bool) × (p : List ℕ) × (r : List ℕ) × (e : List ℕ) × (root : List Part) × (added : List Part)
-    × (parts ≡ root ++ added) × (b ≡ p ++ (r ++ e)) × (length s ≡ optional fs) × IsPreamble (x ∷ s) p × SplitsFields fs 0 s root r × SplitsExtension x more added e
-IsSplit (sequence_of size T) parts b = (n : ℕ) × (q : List ℕ) × (es : List ℕ) × (b ≡ q ++ es) × IsCounted (StandsFor unsigned) n q × (size_fits size n ≡ true) × SplitsItems T 0 n parts es
-IsSplit (choice extensible more) parts b = (t : Tag) × (p : List ℕ) × (c : List ℕ) × (b ≡ p ++ c) × IsTag t p × (SplitsAlternative more t parts c ⊎ ((has_tag t more ≡ false) × IsAlone None (IsCounted IsItself) parts c))
+IsSplit (sequence fs) parts b = (s : List Bool) × (p : List ℕ) × (r : List ℕ) × (b ≡ p ++ r) × (length s ≡ optional fs)
+    × IsPreamble s p × SplitsFields fs 0 s parts r
+IsSplit (extensible_sequence fs more) parts b = (x : Bool) × (s : List Bool) × (p : List ℕ) × (r : List ℕ) × (e : List ℕ)
+    × (root : List Part) × (added : List Part)
+    × (parts ≡ root ++ added) × (b ≡ p ++ (r ++ e)) × (length s ≡ optional fs) × IsPreamble (x ∷ s) p × SplitsFields fs 0 s root r
+    × SplitsExtension x more added e
+IsSplit (sequence_of size T) parts b = (n : ℕ) × (q : List ℕ) × (es : List ℕ) × (b ≡ q ++ es) × IsCounted (StandsFor unsigned) n q
+    × (size_fits size n ≡ true) × SplitsItems T 0 n parts es
+IsSplit (choice extensible more) parts b = (t : Tag) × (p : List ℕ) × (c : List ℕ) × (b ≡ p ++ c) × IsTag t p
+    × (SplitsAlternative more t parts c ⊎ ((has_tag t more ≡ false) × IsAlone None (IsCounted IsItself) parts c))
 IsSplit T parts b = parts ≡ []
 
 -- what is found at the end of a path: octets of a type, if that is known; or why there are none
@@ -111,7 +123,8 @@ lookup otherwise step (part other V c ∷ rest) = if same_step other step then f
 abbrev pub LeadsTo : AsnType → List ℕ → Step → Option AsnType → List ℕ → Type 0
 LeadsTo T b step V c = (parts : List Part) × IsSplit T parts b × (lookup no_such_step step parts ≡ found V c)
 
--- The path leads from the octets b, of type T where that is known, to s, of type U where that is known. From a part whose type isn't known no step leads.
+-- The path leads from the octets b, of type T where that is known, to s, of type U where that is known. From a part
+-- whose type isn't known no step leads.
 abbrev pub Within : Option AsnType → List ℕ → List Step → Option AsnType → List ℕ → Type 0
 Within T b [] U s = (U ≡ T) × (s ≡ b)
 Within None b (step ∷ path) U s = ⊥
@@ -135,7 +148,8 @@ abbrev pub first_by_bit : Bool → Step → Option AsnType → Reader (List ℕ)
 first_by_bit true step V r rest = read_first step V r rest
 first_by_bit false step V r rest = rest
 
-abbrev pub first_by_need : Need → Step → Option AsnType → Reader (List ℕ) → (List Bool → Reader (List Part)) → List Bool → Reader (List Part)
+abbrev pub first_by_need : Need → Step → Option AsnType → Reader (List ℕ) → (List Bool → Reader (List Part)) → List Bool
+    → Reader (List Part)
 first_by_need must step V r rest s = read_first step V r (rest s)
 first_by_need may step V r rest s = first_by_bit (first_bit s) step V r (rest (later_bits s))
 first_by_need (default d) step V r rest s = first_by_bit (first_bit s) step V r (rest (later_bits s))
@@ -146,7 +160,8 @@ field_parts (field name need T fs) i s = first_by_need need (to_component i) (So
 
 abbrev pub addition_parts : Additions → ℕ → List Bool → Reader (List Part)
 addition_parts no_additions i s = give []
-addition_parts (addition name T more) i s = first_by_bit (first_bit s) (to_addition i) (Some T) (open_type (octets_of (check_value T))) (addition_parts more (suc i) (later_bits s))
+addition_parts (addition name T more) i s =
+    first_by_bit (first_bit s) (to_addition i) (Some T) (open_type (octets_of (check_value T))) (addition_parts more (suc i) (later_bits s))
 
 abbrev pub unknown_parts : ℕ → List Bool → Reader (List Part)
 unknown_parts i [] = give []
@@ -159,7 +174,8 @@ join_parts r q = bind r (λ p. bind q (λ parts. give (p ++ parts)))
 
 abbrev pub extension_parts : Bool → Additions → Reader (List Part)
 extension_parts false more = give []
-extension_parts true more = bind bitmap (λ s. join_parts (addition_parts more 0 s) (unknown_parts (addition_count more) (drop (addition_count more) s)))
+extension_parts true more =
+    bind bitmap (λ s. join_parts (addition_parts more 0 s) (unknown_parts (addition_count more) (drop (addition_count more) s)))
 
 abbrev pub item_parts : AsnType → ℕ → ℕ → Reader (List Part)
 item_parts T i zero = give []
@@ -174,13 +190,16 @@ alone_by_tag false r rest = rest
 
 abbrev pub alternative_parts : Alternatives → Tag → Reader (List Part)
 alternative_parts no_alternatives t = refuse UnknownAlternative
-alternative_parts (alternative name u T more) t = alone_by_tag (same_tag u t) (read_alone (Some T) (octets_of (check_value T))) (alternative_parts more t)
-alternative_parts (later name u T more) t = alone_by_tag (same_tag u t) (read_alone (Some T) (open_type (octets_of (check_value T)))) (alternative_parts more t)
+alternative_parts (alternative name u T more) t =
+    alone_by_tag (same_tag u t) (read_alone (Some T) (octets_of (check_value T))) (alternative_parts more t)
+alternative_parts (later name u T more) t =
+    alone_by_tag (same_tag u t) (read_alone (Some T) (open_type (octets_of (check_value T)))) (alternative_parts more t)
 
 -- the parts of an encoding
 abbrev pub read_parts : AsnType → Reader (List Part)
 read_parts (sequence fs) = bind (preamble (optional fs)) (field_parts fs 0)
-read_parts (extensible_sequence fs more) = bind (preamble (suc (optional fs))) (λ s. join_parts (field_parts fs 0 (later_bits s)) (extension_parts (first_bit s) more))
+read_parts (extensible_sequence fs more) =
+    bind (preamble (suc (optional fs))) (λ s. join_parts (field_parts fs 0 (later_bits s)) (extension_parts (first_bit s) more))
 read_parts (sequence_of size T) = bind quantity (item_parts T 0)
 read_parts (choice extensible more) = bind tag (λ t. choose (has_tag t more) (alternative_parts more t) (read_alone None counted_octets))
 read_parts T = give []
@@ -213,17 +232,20 @@ go_on no_such_step k = no_such_step
 abbrev pub find_part : Option AsnType → List ℕ → List Step → Answer
 find_part T b [] = found T b
 find_part None b (step ∷ path) = no_such_step
-find_part (Some T) b (step ∷ path) = go_on (lookup (nothing_at (knows T step)) step (parts_in (read_parts T (at b (length b))))) (λ V c. find_part V c path)
+find_part (Some T) b (step ∷ path) =
+    go_on (lookup (nothing_at (knows T step)) step (parts_in (read_parts T (at b (length b))))) (λ V c. find_part V c path)
 
 -- the same of a part whose type may be unknown
 abbrev pub knows_in : Option AsnType → Step → Bool
 knows_in None step = false
 knows_in (Some T) step = knows T step
 
--- The path leads to the octets c, of type W where that is known, from which its next step leads nowhere; known: that step names a root component or a known addition.
+-- The path leads to the octets c, of type W where that is known, from which its next step leads nowhere; known: that
+-- step names a root component or a known addition.
 abbrev pub StopsAt : Option AsnType → List ℕ → List Step → Bool → Type 0
 StopsAt T b path known = (W : Option AsnType) × (c : List ℕ) × (step : Step) × (front : List Step) × (rest : List Step)
-    × (path ≡ front ++ (step ∷ rest)) × Within T b front W c × ((U : Option AsnType) (s : List ℕ) → Within W c (step ∷ []) U s → ⊥) × (knows_in W step ≡ known)
+    × (path ≡ front ++ (step ∷ rest)) × Within T b front W c
+    × ((U : Option AsnType) (s : List ℕ) → Within W c (step ∷ []) U s → ⊥) × (knows_in W step ≡ known)
 
 -- whether a component may be absent; must where the step is to no root component
 abbrev pub need_of : Fields → ℕ → Need
@@ -243,4 +265,5 @@ IsItsDefault T step U c = (d : AsnValue) × (v : AsnValue) × (need_at T step �
 -- The path enters a DEFAULT component that equals its default after filling.
 abbrev pub EntersDefault : AsnType → List ℕ → List Step → Type 0
 EntersDefault T b [] = ⊥
-EntersDefault T b (step ∷ path) = (U : AsnType) × (c : List ℕ) × LeadsTo T b step (Some U) c × (IsItsDefault T step U c ⊎ EntersDefault U c path)
+EntersDefault T b (step ∷ path) = (U : AsnType) × (c : List ℕ) × LeadsTo T b step (Some U) c
+    × (IsItsDefault T step U c ⊎ EntersDefault U c path)

@@ -33,7 +33,8 @@ preamble k = bind (group (octets_for k)) (λ p. guard (all_false (drop k (bits_o
 
 -- after the initial octet u, in a bit string of n octets
 abbrev pub bits_sized : Size → ℕ → ℕ → Reader (List Bool)
-bits_sized s n u = guard (leb u 7 && (leb 2 n || eqb u 0)) BitUnused (guard (size_fits s (8 * (n - 1) - u)) reason.Size (bind (group (n - 1)) (λ d. give (take (length (bits_of d) - u) (bits_of d)))))
+bits_sized s n u = guard (leb u 7 && (leb 2 n || eqb u 0)) BitUnused (guard (size_fits s (8 * (n - 1) - u)) reason.Size
+    (bind (group (n - 1)) (λ d. give (take (length (bits_of d) - u) (bits_of d)))))
 
 -- a BIT STRING: of one size, or after a length and the initial octet
 abbrev pub read_bits : Option ℕ → Size → Reader (List Bool)
@@ -85,7 +86,9 @@ read_both r q = bind r (λ added. bind q (λ us. give (added, us)))
 -- the additions; without the extension bit none
 abbrev pub read_extension : Bool → Additions → (List Bool → Reader Places) → Reader (Places × List Unknown)
 read_extension false more r = give (all_absent more, [])
-read_extension true more r = bind bitmap (λ s. guard (all_false (drop 65536 s)) UnknownAddition (read_both (r s) (read_unknown (addition_count more) (drop (addition_count more) s))))
+read_extension true more r =
+    bind bitmap (λ s. guard (all_false (drop 65536 s)) UnknownAddition
+    (read_both (r s) (read_unknown (addition_count more) (drop (addition_count more) s))))
 
 -- k presence bits, and then the root
 unfoldable pub read_sequence : ℕ → (List Bool → Reader Places) → Reader AsnValue
@@ -93,7 +96,8 @@ read_sequence k r = bind (preamble k) (λ s. bind (r s) (λ root. give (seq root
 
 -- the extension bit and k presence bits, the root, the additions
 unfoldable pub read_extensible : ℕ → (List Bool → Reader Places) → (Bool → Reader (Places × List Unknown)) → Reader AsnValue
-read_extensible k r x = bind (preamble (suc k)) (λ s. bind (r (later_bits s)) (λ root. bind (x (first_bit s)) (λ added. give (seq root added.0 added.1))))
+read_extensible k r x = bind (preamble (suc k)) (λ s. bind (r (later_bits s))
+    (λ root. bind (x (first_bit s)) (λ added. give (seq root added.0 added.1))))
 
 -- the quantity, which is not above the octets left, and so many elements
 unfoldable pub read_items : Size → Reader AsnValue → Reader AsnValue
@@ -101,7 +105,9 @@ read_items s r = bind quantity (λ n. within n (guard (size_fits s n) reason.Siz
 
 -- what follows the tag t
 abbrev pub read_chosen : Bool → Alternatives → (Tag → Reader AsnValue) → Tag → Reader AsnValue
-read_chosen extensible more r t = choose (has_tag t more) (bind (r t) (λ v. give (chosen t v))) (guard extensible UnknownAlternative (bind counted_octets (λ w. give (foreign t w))))
+read_chosen extensible more r t =
+    choose (has_tag t more) (bind (r t) (λ v. give (chosen t v)))
+    (guard extensible UnknownAlternative (bind counted_octets (λ w. give (foreign t w))))
 
 -- a tag, and what follows it
 unfoldable pub read_choice : Bool → Alternatives → (Tag → Reader AsnValue) → Reader AsnValue
@@ -121,14 +127,16 @@ abbrev mutual
   read_value boolean = bind octet (λ x. give (bool (not (eqb x 0))))
   read_value null = give nothing
   read_value (integer low high) = bind (read_integer (form_of low high) (in_range low high)) (λ z. give (int z))
-  read_value (enumerated numbers extensible) = bind unit.enumerated (λ z. guard (extensible || has_number numbers z) UnknownEnum (give (enum z)))
+  read_value (enumerated numbers extensible) =
+      bind unit.enumerated (λ z. guard (extensible || has_number numbers z) UnknownEnum (give (enum z)))
   read_value (bit_string s) = bind (read_bits (fixed s) s) (λ w. give (bit_list w))
   read_value object_id = bind object_identifier (λ w. give (oid w))
   read_value (restricted_string kind s) = bind (read_text (all_characters kind) (fixed s) s) (λ w. give (text w))
   read_value (utf8_string s) = bind (read_utf8 s) (λ w. give (text w))
   read_value (octet_string s) = bind (read_octets (fixed s) s) (λ w. give (octets w))
   read_value (sequence fs) = read_sequence (optional fs) (read_fields fs)
-  read_value (extensible_sequence fs more) = read_extensible (optional fs) (read_fields fs) (λ x. read_extension x more (read_additions more))
+  read_value (extensible_sequence fs more) =
+      read_extensible (optional fs) (read_fields fs) (λ x. read_extension x more (read_additions more))
   read_value (sequence_of s T) = read_items s (read_value T)
   read_value (choice extensible more) = read_choice extensible more (read_alternative more)
 

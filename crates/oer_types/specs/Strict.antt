@@ -23,7 +23,9 @@ StrictCounted S x b = (l : List ℕ) × (c : List ℕ) × (b ≡ l ++ c) × IsSh
 
 -- the unused bits are 0
 abbrev pub StrictBits : List Bool → List ℕ → Type 0
-StrictBits s c = IsOctets c × ((u : ℕ) × (d : List ℕ) × (padding : List Bool) × (c ≡ u ∷ d) × (u ≤ 7) × (length d ≡ 0 → u ≡ 0) × (length padding ≡ u) × (all_false padding ≡ true) × (bits_of d ≡ s ++ padding))
+StrictBits s c = IsOctets c
+    × ((u : ℕ) × (d : List ℕ) × (padding : List Bool) × (c ≡ u ∷ d) × (u ≤ 7) × (length d ≡ 0 → u ≡ 0) × (length padding ≡ u)
+    × (all_false padding ≡ true) × (bits_of d ≡ s ++ padding))
 
 -- octets that are the preamble
 abbrev pub StrictPreamble : List Bool → List ℕ → Type 0
@@ -43,7 +45,8 @@ abbrev pub StrictQuantity : ℕ → List ℕ → Type 0
 StrictQuantity n q = IsShortest (IsCounted (StandsFor unsigned) n) q
 
 -- as ByNeed, but a DEFAULT component that is there has another fill than its default; f: the fill of the component's type
-abbrev pub StrictNeed : Need → (AsnValue → AsnValue) → (AsnValue → List ℕ → Type 0) → (List Bool → Places → List ℕ → Type 0) → List Bool → Places → List ℕ → Type 0
+abbrev pub StrictNeed : Need → (AsnValue → AsnValue) → (AsnValue → List ℕ → Type 0) → (List Bool → Places → List ℕ → Type 0)
+    → List Bool → Places → List ℕ → Type 0
 StrictNeed must f S Rest s ps b = IsPresent S (Rest s) ps b
 StrictNeed may f S Rest s ps b = ByBit (first_bit s) S (Rest (later_bits s)) ps b
 StrictNeed (default d) f S Rest s ps b = ByBit (first_bit s) (λ v c. S v c × (f v ≡ f d → ⊥)) (Rest (later_bits s)) ps b
@@ -52,12 +55,16 @@ StrictNeed (default d) f S Rest s ps b = ByBit (first_bit s) (λ v c. S v c × (
 -- or as many as the place after the last unknown one if these are more; s: the bits of the known ones
 abbrev pub StrictExtension : Bool → Additions → (List Bool → Places → List ℕ → Type 0) → Places → List Unknown → List ℕ → Type 0
 StrictExtension false more S added us e = (added ≡ all_absent more) × (us ≡ []) × (e ≡ [])
-StrictExtension true more S added us e = (s : List Bool) × (z : List Bool) × (m : List ℕ) × (a : List ℕ) × (u : List ℕ) × (e ≡ m ++ (a ++ u)) × StrictBitmap (s ++ z) m
-    × (length s ≡ addition_count more) × (length (s ++ z) ≡ max (addition_count more) (after_last us)) × (all_false (s ++ z) ≡ false) × (all_false (drop 65536 (s ++ z)) ≡ true) × S s added a × SpellsUnknown (StrictCounted IsItself) (addition_count more) z us u
+StrictExtension true more S added us e = (s : List Bool) × (z : List Bool) × (m : List ℕ) × (a : List ℕ) × (u : List ℕ)
+    × (e ≡ m ++ (a ++ u)) × StrictBitmap (s ++ z) m
+    × (length s ≡ addition_count more) × (length (s ++ z) ≡ max (addition_count more) (after_last us))
+    × (all_false (s ++ z) ≡ false) × (all_false (drop 65536 (s ++ z)) ≡ true) × S s added a
+    × SpellsUnknown (StrictCounted IsItself) (addition_count more) z us u
 
 -- as SpellsChosen, with a length in its least form
 abbrev pub StrictChosen : Bool → Alternatives → (AsnValue → List ℕ → Type 0) → Tag → AsnValue → List ℕ → Type 0
-StrictChosen extensible more S t v c = ((x : AsnValue) × (v ≡ chosen t x) × S x c) ⊎ ((w : List ℕ) × (v ≡ foreign t w) × (extensible ≡ true) × (has_tag t more ≡ false) × StrictCounted IsItself w c)
+StrictChosen extensible more S t v c = ((x : AsnValue) × (v ≡ chosen t x) × S x c)
+    ⊎ ((w : List ℕ) × (v ≡ foreign t w) × (extensible ≡ true) × (has_tag t more ≡ false) × StrictCounted IsItself w c)
 
 -- b spells v by Canonical-OER: the cases of IsSpelling with the strict forms of their parts.
 abbrev mutual
@@ -70,13 +77,17 @@ abbrev mutual
   IsStrictSpelling (sequence fs) v b = (root : Places) × (s : List Bool) × (p : List ℕ) × (r : List ℕ)
       × (v ≡ seq root no_places []) × (b ≡ p ++ r) × (length s ≡ optional fs) × StrictPreamble s p × SpellsFieldsStrictly fs s root r
   -- SEQUENCE with an extension marker.
-  IsStrictSpelling (extensible_sequence fs more) v b = (root : Places) × (added : Places) × (us : List Unknown) × (x : Bool) × (s : List Bool) × (p : List ℕ) × (r : List ℕ) × (e : List ℕ)
-      × (v ≡ seq root added us) × (b ≡ p ++ (r ++ e)) × (length s ≡ optional fs) × StrictPreamble (x ∷ s) p × SpellsFieldsStrictly fs s root r × StrictExtension x more (SpellsAdditionsStrictly more) added us e
+  IsStrictSpelling (extensible_sequence fs more) v b = (root : Places) × (added : Places) × (us : List Unknown) × (x : Bool)
+      × (s : List Bool) × (p : List ℕ) × (r : List ℕ) × (e : List ℕ)
+      × (v ≡ seq root added us) × (b ≡ p ++ (r ++ e)) × (length s ≡ optional fs) × StrictPreamble (x ∷ s) p
+      × SpellsFieldsStrictly fs s root r × StrictExtension x more (SpellsAdditionsStrictly more) added us e
   -- SEQUENCE OF: the least form of the quantity.
   IsStrictSpelling (sequence_of size T) v b = (vs : List AsnValue) × (q : List ℕ) × (es : List ℕ)
-      × (v ≡ items (listed vs)) × (b ≡ q ++ es) × StrictQuantity (length vs) q × (size_fits size (length vs) ≡ true) × IsJoined (IsStrictSpelling T) vs es
+      × (v ≡ items (listed vs)) × (b ≡ q ++ es) × StrictQuantity (length vs) q × (size_fits size (length vs) ≡ true)
+      × IsJoined (IsStrictSpelling T) vs es
   -- CHOICE.
-  IsStrictSpelling (choice extensible more) v b = (t : Tag) × (p : List ℕ) × (c : List ℕ) × (b ≡ p ++ c) × IsTag t p × StrictChosen extensible more (SpellsAlternativeStrictly more t) t v c
+  IsStrictSpelling (choice extensible more) v b = (t : Tag) × (p : List ℕ) × (c : List ℕ) × (b ≡ p ++ c) × IsTag t p
+      × StrictChosen extensible more (SpellsAlternativeStrictly more t) t v c
   -- BIT STRING: unused bits are 0.
   IsStrictSpelling (bit_string size) v b = (s : List Bool) × (v ≡ bit_list s) × StrictBitString (fixed size) size s b
   -- Every other type: the least spelling.
@@ -88,12 +99,15 @@ abbrev mutual
 
   pub SpellsAdditionsStrictly : Additions → List Bool → Places → List ℕ → Type 0
   SpellsAdditionsStrictly no_additions s ps b = (ps ≡ no_places) × (b ≡ [])
-  SpellsAdditionsStrictly (addition name T more) s ps b = ByBit (first_bit s) (StrictCounted (IsStrictSpelling T)) (SpellsAdditionsStrictly more (later_bits s)) ps b
+  SpellsAdditionsStrictly (addition name T more) s ps b =
+      ByBit (first_bit s) (StrictCounted (IsStrictSpelling T)) (SpellsAdditionsStrictly more (later_bits s)) ps b
 
   pub SpellsAlternativeStrictly : Alternatives → Tag → AsnValue → List ℕ → Type 0
   SpellsAlternativeStrictly no_alternatives t v b = ⊥
-  SpellsAlternativeStrictly (alternative name u T more) t v b = ByTag (same_tag u t) (IsStrictSpelling T) (SpellsAlternativeStrictly more t) v b
-  SpellsAlternativeStrictly (later name u T more) t v b = ByTag (same_tag u t) (StrictCounted (IsStrictSpelling T)) (SpellsAlternativeStrictly more t) v b
+  SpellsAlternativeStrictly (alternative name u T more) t v b =
+      ByTag (same_tag u t) (IsStrictSpelling T) (SpellsAlternativeStrictly more t) v b
+  SpellsAlternativeStrictly (later name u T more) t v b =
+      ByTag (same_tag u t) (StrictCounted (IsStrictSpelling T)) (SpellsAlternativeStrictly more t) v b
 
 -- b is a strict encoding of v, by Canonical-OER.
 abbrev pub EncodesStrictly : AsnType → AsnValue → List ℕ → Type 0

@@ -209,7 +209,8 @@ pub record IsFirstFault (T : AsnType) (fault : SchemaFault) : Type 0 where
   pub holds : HasFault T fault
   pub first : (other : SchemaFault) → fault_number other < fault_number fault → HasFault T other → ⊥
 
--- No fault holds, and the numbers in the type have the widths of those in every `Shape`. The limits follow from both; they are what the laws on encodings ask for.
+-- No fault holds, and the numbers in the type have the widths of those in every `Shape`. The limits follow from both;
+-- they are what the laws on encodings ask for.
 pub record IsWellFormed (T : AsnType) : Type 0 where
   pub faultless : (fault : SchemaFault) → HasFault T fault → ⊥
   pub widths : HasWidths T

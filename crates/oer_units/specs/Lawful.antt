@@ -16,6 +16,8 @@ abbrev pub Excludes : {A : Type 0} → (A → List ℕ → Type 0) → Why → �
 Excludes {A} Spells why n t = (x : A) (b u v : List ℕ) → Spells x b → b ++ u ≡ t ++ v → SpokenOf why n b v → ⊥
 
 pub record Lawful {A : Type 0} (r : Reader A) (Spells : A → List ℕ → Type 0) : Type 0 where
-  pub sound : (p : Place) (x : A) (q : Place) → r p ≡ got x q → (b : List ℕ) × Spells x b × (p.input ≡ b ++ q.input) × (p.left ≡ length b + q.left)
+  pub sound : (p : Place) (x : A) (q : Place) → r p ≡ got x q
+      → (b : List ℕ) × Spells x b × (p.input ≡ b ++ q.input) × (p.left ≡ length b + q.left)
   pub complete : (x : A) (b rest : List ℕ) (m : ℕ) → Spells x b → r (at (b ++ rest) (length b + m)) ≡ got x (at rest m)
-  pub refusal : (p : Place) (why : Why) (rest : List ℕ) → r p ≡ refused why rest → (t : List ℕ) × (p.input ≡ t ++ rest) × (length t ≤ p.left) × Excludes Spells why p.left t × (why ≡ End → rest ≡ [])
+  pub refusal : (p : Place) (why : Why) (rest : List ℕ) → r p ≡ refused why rest
+      → (t : List ℕ) × (p.input ≡ t ++ rest) × (length t ≤ p.left) × Excludes Spells why p.left t × (why ≡ End → rest ≡ [])

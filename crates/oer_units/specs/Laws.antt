@@ -22,7 +22,8 @@ EachSpellsOne {A} Spells = (x y : A) (b : List ℕ) → Spells x b → Spells y 
 
 -- Each x of the range has one shortest list of octets, and that is its least form.
 abbrev pub HasOneShortest : {A : Type 0} → (A → List ℕ → Type 0) → (A → Type 0) → (A → List ℕ) → Type 0
-HasOneShortest {A} Spells Range least = (x : A) → Range x → IsShortest (Spells x) (least x) × ((b : List ℕ) → IsShortest (Spells x) b → b ≡ least x)
+HasOneShortest {A} Spells Range least = (x : A) → Range x
+    → IsShortest (Spells x) (least x) × ((b : List ℕ) → IsShortest (Spells x) b → b ≡ least x)
 
 -- ---- the kinds of units
 
@@ -83,8 +84,11 @@ IsSubidentifierRead k x b = IsSubidentifier x.0 b × (length b ≡ x.1) × (x.1 
 -- v the octets that are supposed to follow t, an end speaks of those that need no more octets, a Limit of those that the bound
 -- allows together with what they count, and every other refusal of all.
 pub record ReadsLengths : Type 0 where
-  pub sound : (p : Place) (n : ℕ) (q : Place) → counted_length p ≡ got n q → (b : List ℕ) × IsLength n b × (p.input ≡ b ++ q.input) × (p.left ≡ length b + q.left) × (n ≤ q.left)
-  pub complete : (n : ℕ) (b rest : List ℕ) (m : ℕ) → IsLength n b → n ≤ m → counted_length (at (b ++ rest) (length b + m)) ≡ got n (at rest m)
-  pub refusal : (p : Place) (why : Why) (rest : List ℕ) → counted_length p ≡ refused why rest → (t : List ℕ) × (p.input ≡ t ++ rest) × (length t ≤ p.left)
+  pub sound : (p : Place) (n : ℕ) (q : Place) → counted_length p ≡ got n q
+      → (b : List ℕ) × IsLength n b × (p.input ≡ b ++ q.input) × (p.left ≡ length b + q.left) × (n ≤ q.left)
+  pub complete : (n : ℕ) (b rest : List ℕ) (m : ℕ) → IsLength n b → n ≤ m
+      → counted_length (at (b ++ rest) (length b + m)) ≡ got n (at rest m)
+  pub refusal : (p : Place) (why : Why) (rest : List ℕ) → counted_length p ≡ refused why rest
+      → (t : List ℕ) × (p.input ≡ t ++ rest) × (length t ≤ p.left)
       × ((n : ℕ) (b u v : List ℕ) → IsLength n b → b ++ u ≡ t ++ v → (why ≡ End → v ≡ []) → (why ≡ Limit → length b + n ≤ p.left) → ⊥)
       × (why ≡ End → rest ≡ [])

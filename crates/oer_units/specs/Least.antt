@@ -47,7 +47,8 @@ unfoldable pub base128_octets : ℕ → List ℕ
 base128_octets n = upper_digits n (n / 128) ++ (n % 128) ∷ []
 
 unfoldable pub tag_octets : Tag → List ℕ
-tag_octets t = cond (nat_lt t.number 63) ((64 * class_number t.class + t.number) ∷ []) ((64 * class_number t.class + 63) ∷ base128_octets t.number)
+tag_octets t = cond (nat_lt t.number 63) ((64 * class_number t.class + t.number) ∷ []) ((64 * class_number t.class + 63)
+    ∷ base128_octets t.number)
 
 -- subidentifiers, one after another
 abbrev pub subidentifier_octets : List ℕ → List ℕ

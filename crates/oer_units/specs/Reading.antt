@@ -78,12 +78,14 @@ class_of (suc (suc zero)) = Context
 class_of (suc (suc (suc n))) = Private
 
 abbrev pub tag_after : ℕ → Reader Tag
-tag_after x = guard (leb x 255) TagForm (choose (ltb (x % 64) 63) (give (record { class = class_of (x / 64); number = x % 64 })) (bind long_number (λ n. give (record { class = class_of (x / 64); number = n }))))
+tag_after x = guard (leb x 255) TagForm (choose (ltb (x % 64) 63) (give (record { class = class_of (x / 64); number = x % 64 }))
+    (bind long_number (λ n. give (record { class = class_of (x / 64); number = n }))))
 
 unfoldable pub tag : Reader Tag
 tag = bind octet tag_after
 
--- After the octet x, in a subidentifier that goes on from high, k octets being left after x. Beside the number stands how many octets it has.
+-- After the octet x, in a subidentifier that goes on from high, k octets being left after x. Beside the number stands
+-- how many octets it has.
 abbrev pub subidentifier_after : (ℕ → Reader (ℕ × ℕ)) → ℕ → ℕ → Reader (ℕ × ℕ)
 subidentifier_after next high x = guard (leb x 255 && ltb (high * 128 + x % 128) (2 ^ 128)) ObjectId
     (choose (ltb x 128) (give (high * 128 + x % 128, 1)) (bind (next (high * 128 + x % 128)) (λ y. give (y.0, suc y.1))))
@@ -103,7 +105,8 @@ subidentifier k = first_subidentifier k
 -- the subidentifiers of n octets, of which there are at most fuel
 unfoldable pub subidentifiers : ℕ → ℕ → Reader (List ℕ)
 subidentifiers zero n = give []
-subidentifiers (suc fuel) n = choose (eqb n 0) (give []) (bind (subidentifier n) (λ x. bind (subidentifiers fuel (n - x.1)) (λ xs. give (x.0 ∷ xs))))
+subidentifiers (suc fuel) n =
+    choose (eqb n 0) (give []) (bind (subidentifier n) (λ x. bind (subidentifiers fuel (n - x.1)) (λ xs. give (x.0 ∷ xs))))
 
 abbrev pub arcs_of : List ℕ → List ℕ
 arcs_of [] = []

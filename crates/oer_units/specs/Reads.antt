@@ -70,7 +70,8 @@ Exactly r (Some xs) b result (Some ys) b' = Gives (renamed b.inside (r (place xs
 
 -- At Ok there are octets that r reads as the answer, whatever follows them: those that were taken, whether they were known before or not.
 abbrev pub Made : {A : Type 0} → Reader A → Span → Result A ReadFault → Span → Type 0
-Made r b (Ok x) b' = (t : List ℕ) × AllByRecursion (λ y. y < 256) t × (b.taken + length t ≡ b'.taken) × ((rest : List ℕ) → Exactly r (Some (t ++ rest)) b (Ok x) (Some rest) b')
+Made r b (Ok x) b' = (t : List ℕ) × AllByRecursion (λ y. y < 256) t × (b.taken + length t ≡ b'.taken)
+    × ((rest : List ℕ) → Exactly r (Some (t ++ rest)) b (Ok x) (Some rest) b')
 Made r b (Err e) b' = ⊤
 
 -- what stays of a bound while octets are taken
@@ -80,7 +81,8 @@ pub record Keeps (b b' : Span) : Type 0 where
   pub inside : b'.inside ≡ b.inside
   pub grows : b.taken ≤ b'.taken
 
--- a window as contracts see it: the name of the loan, the octets that its reader has left, where they are known, its count of failures, and the bound
+-- a window as contracts see it: the name of the loan, the octets that its reader has left, where they are known, its
+-- count of failures, and the bound
 pub record State : Type 0 where
   pub name : GName
   pub known : Option (List ℕ)
@@ -91,9 +93,11 @@ abbrev pub bound_of : {R : Type 0} → Window R → Span
 bound_of w = span w.bound
 
 abbrev pub state : {R : Type 0} → (R → Option (List ℕ)) → (R → ℕ) → Window R → State
-state remaining failed w = record { name = w.reader.ghost_name; known = remaining w.reader.now; failed = failed w.reader.now; bound = bound_of w }
+state remaining failed w =
+    record { name = w.reader.ghost_name; known = remaining w.reader.now; failed = failed w.reader.now; bound = bound_of w }
 
--- From old to new a call reads as r does, and answers result. Where it is refused inside an open type, that one's bound may still be in force.
+-- From old to new a call reads as r does, and answers result. Where it is refused inside an open type, that one's bound
+-- may still be in force.
 pub record Reads {A : Type 0} (r : Reader A) (old : State) (result : Result A ReadFault) (new : State) : Type 0 where
   -- at any reader
   pub reader : new.name ≡ old.name
@@ -124,18 +128,22 @@ was_inside outer = outer.is_inside
 
 -- an open type of n octets begins
 abbrev pub entered : ℕ → State → State
-entered n s = record { name = s.name; known = s.known; failed = s.failed; bound = record { taken = s.bound.taken; end = s.bound.taken + n; limit = s.bound.limit; inside = true } }
+entered n s = record { name = s.name; known = s.known; failed = s.failed;
+    bound = record { taken = s.bound.taken; end = s.bound.taken + n; limit = s.bound.limit; inside = true } }
 
 -- the bound is put back
 abbrev pub returned : ℕ → Bool → State → State
-returned end inside s = record { name = s.name; known = s.known; failed = s.failed; bound = record { taken = s.bound.taken; end = end; limit = s.bound.limit; inside = inside } }
+returned end inside s = record { name = s.name; known = s.known; failed = s.failed;
+    bound = record { taken = s.bound.taken; end = end; limit = s.bound.limit; inside = inside } }
 
 -- a window that was just made
 abbrev pub start : GName → Option (List ℕ) → ℕ → ℕ → State
-start name known failed limit = record { name = name; known = known; failed = failed; bound = record { taken = 0; end = limit; limit = limit; inside = false } }
+start name known failed limit =
+    record { name = name; known = known; failed = failed; bound = record { taken = 0; end = limit; limit = limit; inside = false } }
 
 -- A call reads as r does from the front of a reader, under a limit.
-pub record ReadsFront {A : Type 0} (r : Reader A) (limit : ℕ) (known : Option (List ℕ)) (failed : ℕ) (result : Result A ReadFault) (known' : Option (List ℕ)) (failed' : ℕ) : Type 0 where
+pub record ReadsFront {A : Type 0} (r : Reader A) (limit : ℕ) (known : Option (List ℕ)) (failed : ℕ) (result : Result A ReadFault)
+    (known' : Option (List ℕ)) (failed' : ℕ) : Type 0 where
   pub name : GName
   pub bound : Span
   pub within : bound.taken ≤ limit

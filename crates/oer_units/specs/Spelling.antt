@@ -7,7 +7,8 @@ use Rattle.oer_units.specs.declared.tagging.Tag.{Tag}
 
 -- The length determinant of n (X.696, 8.6): [n] with n < 128, or [128 + k] and k octets that stand for n, k from 1 to 127.
 abbrev pub IsLength : ℕ → List ℕ → Type 0
-IsLength n b = ((b ≡ n ∷ []) × (n < 128)) ⊎ ((k : ℕ) × (w : List ℕ) × (b ≡ (128 + k) ∷ w) × (1 ≤ k) × (k ≤ 127) × (length w ≡ k) × (unsigned w ≡ n))
+IsLength n b = ((b ≡ n ∷ []) × (n < 128))
+    ⊎ ((k : ℕ) × (w : List ℕ) × (b ≡ (128 + k) ∷ w) × (1 ≤ k) × (k ≤ 127) × (length w ≡ k) × (unsigned w ≡ n))
 
 -- A length determinant, and then as many octets, which spell x by S.
 abbrev pub IsCounted : {A : Type 0} → (A → List ℕ → Type 0) → A → List ℕ → Type 0
@@ -19,7 +20,8 @@ StandsFor f z w = (1 ≤ length w) × (f w ≡ z)
 
 -- The number of an ENUMERATED (X.696, 11): [x] with x from 0 to 127, or [128 + k] and k octets that stand for it, k from 1 to 127.
 abbrev pub IsEnumerated : ℤ → List ℕ → Type 0
-IsEnumerated z b = ((x : ℕ) × (b ≡ x ∷ []) × (x < 128) × (z ≡ pos x)) ⊎ ((k : ℕ) × (w : List ℕ) × (b ≡ (128 + k) ∷ w) × (1 ≤ k) × (k ≤ 127) × (length w ≡ k) × (signed w ≡ z))
+IsEnumerated z b = ((x : ℕ) × (b ≡ x ∷ []) × (x < 128) × (z ≡ pos x))
+    ⊎ ((k : ℕ) × (w : List ℕ) × (b ≡ (128 + k) ∷ w) × (1 ≤ k) × (k ≤ 127) × (length w ≡ k) × (signed w ≡ z))
 
 -- The digits in base 128 of the number n, which goes on from high: 128 is added to each but the last.
 abbrev pub IsDigits : ℕ → ℕ → List ℕ → Type 0
@@ -55,4 +57,5 @@ IsSubidentifier n w = IsBase128 n w × (n < 2 ^ 128)
 
 -- The contents of an OBJECT IDENTIFIER (X.690, 8.19.3 to 8.19.5): the first subidentifier stands for two arcs.
 abbrev pub IsObjectId : List ℕ → List ℕ → Type 0
-IsObjectId arcs c = (a : ℕ) × (b : ℕ) × (rest : List ℕ) × (arcs ≡ a ∷ b ∷ rest) × (a ≤ 2) × (a < 2 → b < 40) × IsJoined IsSubidentifier ((40 * a + b) ∷ rest) c
+IsObjectId arcs c = (a : ℕ) × (b : ℕ) × (rest : List ℕ) × (arcs ≡ a ∷ b ∷ rest) × (a ≤ 2) × (a < 2 → b < 40)
+    × IsJoined IsSubidentifier ((40 * a + b) ∷ rest) c

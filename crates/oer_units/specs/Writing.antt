@@ -15,7 +15,8 @@ counted_put n (Ok x) = n
 counted_put n (Err e) = one_more n
 
 -- A call writes the octets: all of them, or those before a failure.
-pub record Puts {A : Type 0} (octets : List ℕ) (old : Option (List ℕ)) (failed : ℕ) (result : Result A SinkFault) (new : Option (List ℕ)) (failed' : ℕ) : Type 0 where
+pub record Puts {A : Type 0} (octets : List ℕ) (old : Option (List ℕ)) (failed : ℕ) (result : Result A SinkFault)
+    (new : Option (List ℕ)) (failed' : ℕ) : Type 0 where
   pub within : IfErr result (λ e. e.written < length octets)
   pub appends : Appends old new (take (written (length octets) result) octets)
   pub count : failed' ≡ counted_put failed result
