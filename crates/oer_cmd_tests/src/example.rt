@@ -305,9 +305,9 @@ Ieee1609Dot2Data ::= SEQUENCE {
 ";
 
 const NEWER: &str =
-    "-- HeaderInfo as IEEE 1609.2-2022 has it, with two more additions; read behind types.asn.
--- The extensions that contributors define are open types there. An OCTET STRING
--- has the same octets, a length and the content, and stands in their place.
+    "-- What a later edition might make of HeaderInfo: that of types.asn with two more additions. They are
+-- this example's own, so that it shows what becomes of parts that a type doesn't know; no standard has
+-- them. Read after types.asn.
 
 NewerHeaderInfo ::= SEQUENCE {
   psid Psid,
@@ -320,10 +320,10 @@ NewerHeaderInfo ::= SEQUENCE {
   ...,
   inlineP2pcdRequest SEQUENCE OF HashedId3 OPTIONAL,
   requestedCertificate Certificate OPTIONAL,
-  pduFunctionalType INTEGER (0..255) OPTIONAL,
-  contributedExtensions SEQUENCE (SIZE(1..MAX)) OF SEQUENCE {
-    contributorId INTEGER (0..255),
-    extns SEQUENCE (SIZE(1..MAX)) OF OCTET STRING
+  newerNumber INTEGER (0..255) OPTIONAL,
+  newerList SEQUENCE (SIZE(1..MAX)) OF SEQUENCE {
+    kind INTEGER (0..255),
+    contents SEQUENCE (SIZE(1..MAX)) OF OCTET STRING
   } OPTIONAL
 }
 ";
