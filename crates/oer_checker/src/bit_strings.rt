@@ -248,7 +248,7 @@ fn marks_all(bits: Bits, known: u64) -> bool
 }
 
 /// The presence bitmap of additions (X.696, 16.4), of which `known` are known, and whether it is
-/// canonical. A set bit past place 65,535 is refused as `UnknownAddition`.
+/// canonical. A set bit past place 65,535 is rejected with `UnknownAddition`.
 pub(crate) fn addition_map<'a>(
     known: usize,
     place: Place<'a>,

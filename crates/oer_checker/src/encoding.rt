@@ -15,8 +15,8 @@ use crate::walk::Piece;
 use oer_types::Schema;
 use oer_units::ReadFault;
 
-/// The encoding at the front of some octets. It was checked as a whole, so that its parts are handed
-/// out without that.
+/// The encoding at the front of some octets. It was checked as a whole, so taking its parts
+/// doesn't check it again.
 #[derive(Clone, Copy)]
 pub struct Encoding<'s, 'a> {
     schema: &'s Schema,
@@ -30,7 +30,7 @@ impl<'s, 'a> Encoding<'s, 'a> {
     ghost use Rattle.oer_checker.specs.Encoding.{octets_in, type_of_encoding, verdict_seen};
 
     /// The encoding of a value of the type that stands at the front of the octets, as [`check`] finds
-    /// it; refused as [`check`] refuses the octets.
+    /// it; it fails as [`check`] does.
     pub fn at_front(schema: &'s Schema, octets: &'a [u8]) -> Result<Encoding<'s, 'a>, ReadFault>
         ensures kind { IfOk result (λ found. type_of_encoding found ≡ the_type schema.now) }
         ensures octets { IfOk result (λ found. octets_in found ≡ octets.now) }
@@ -49,8 +49,8 @@ impl<'s, 'a> Encoding<'s, 'a> {
 
     /// The part to which the steps lead, as it stands in the octets: the part's own encoding, without
     /// its tag and without the length of an open type. Without a step it is the whole encoding. Of an
-    /// addition or alternative that the type doesn't know it is the content of its open type. No
-    /// memory is taken. The first step that fails decides:
+    /// addition or alternative that the type doesn't know it is the content of its open type. Nothing
+    /// is allocated. The first step that fails decides:
     ///
     /// - `Absent`: the step names a component of the root or a known addition, which is absent;
     /// - `NoSuchStep`: any other step that leads nowhere.

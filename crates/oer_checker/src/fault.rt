@@ -1,9 +1,9 @@
-//! Why no part is handed out.
+//! Why no part is returned.
 
 use oer_units::ReadFault;
 use thiserror::Error;
 
-/// Why no part of an encoding is handed out.
+/// Why no part of an encoding is returned.
 #[derive(Clone, Copy, Debug, PartialEq, Eq, Error)]
 pub enum PartFault {
     /// There is no encoding at the front of the octets.

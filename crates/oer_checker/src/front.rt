@@ -8,14 +8,14 @@ use crate::verdict::Verdict;
 use oer_types::Schema;
 use oer_units::ReadFault;
 
-/// How many octets at the front are a Basic-OER encoding (X.696) of a value of the type, and
-/// whether they are canonical. What follows them is not looked at, and no memory is taken. It is
-/// refused where no encoding stands at the front, as a value that is read under the greatest limit;
-/// the fault says how many octets were looked at:
+/// How many octets at the front are a Basic-OER encoding (X.696) of a value of the type, and whether
+/// they are canonical. What follows them is not looked at, and nothing is allocated. It fails
+/// where no encoding stands at the front, as a read under the greatest limit does; the error says how
+/// many octets were looked at:
 ///
 /// - `End`: there is no further octet, and no front of the octets is an encoding;
 /// - `Limit`: an encoding that begins with those looked at has more than 2^64 - 1 octets;
-/// - any other reason but `Memory` and `Device`, which are never answered: no encoding begins with
+/// - any other reason but `Memory` and `Device`, which are never returned: no encoding begins with
 ///   those looked at.
 pub fn check(schema: &Schema, octets: &[u8]) -> Result<Verdict, ReadFault>
     // What an answer says of the octets.

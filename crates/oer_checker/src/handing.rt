@@ -11,17 +11,17 @@ use oer_types::Schema;
 /// The part of an encoding to which the steps lead, as it stands in the octets: the part's own
 /// encoding, without its tag and without the length of an open type. Without a step it is the whole
 /// encoding. Of an addition or alternative that the type doesn't know it is the content of its open
-/// type. What follows the encoding is not looked at, and no memory is taken.
+/// type. What follows the encoding is not looked at, and nothing is allocated.
 ///
 /// The whole is checked first, then the steps from the left; the first one that fails decides:
 ///
-/// - `Read`: [`check`](crate::check) refuses the octets, with this fault;
+/// - `Read`: [`check`](crate::check) rejects the octets, with this error;
 /// - `Absent`: the step names a component of the root or a known addition, which is absent;
 /// - `NoSuchStep`: any other step that leads nowhere.
 pub fn part<'a>(schema: &Schema, octets: &'a [u8], path: &[Step]) -> Result<&'a [u8], PartFault>
-    // What is handed out, and what a fault says.
+    // What is returned, and what a fault says.
     ensures told { Hands (λ s. s.now) (the_type schema.now) octets.now (path_of path.now) result }
-    // A part is handed out, and its absence said, wherever an encoding is at the front.
+    // A part is returned, and its absence said, wherever an encoding is at the front.
     ensures comes { Follows (λ s. s.now) (the_type schema.now) octets.now (path_of path.now) result }
     // Which fault it is, as the checker and the plain function of paths answer.
     ensures exact { AnswersPart (λ s. s.now) (the_type schema.now) octets.now (path_of path.now) result }

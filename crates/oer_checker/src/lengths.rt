@@ -50,8 +50,8 @@ pub(crate) fn check_octets<'a>(place: Place<'a>) -> Result<(bool, Place<'a>), St
     Ok((is_least, end))
 }
 
-/// What an open type of `count` octets (X.696, 30) answers, whose content began at `start` and
-/// answers so. Where octets are left in it, or it would be passed, it is refused as `Window`.
+/// What an open type of `count` octets (X.696, 30) answers, whose content began at `start` and answers
+/// so. Where octets are left in it, or it would be passed, it fails with `Window`.
 pub(crate) fn leave<'a>(
     start: Place<'a>,
     count: u64,

@@ -1,5 +1,5 @@
 //! Encodings (X.696, Basic-OER) checked without making their values: how long they are, whether they
-//! are canonical, and where their parts stand. Nothing here takes memory.
+//! are canonical, and where their parts stand. Nothing here allocates.
 #![tactic(auto)]
 
 mod bit_strings;

@@ -11,7 +11,7 @@ use thiserror::Error;
 /// Why a path was not read.
 #[derive(Clone, Copy, Debug, PartialEq, Eq, Error)]
 pub enum PathFault {
-    /// A growth of memory was refused.
+    /// An allocation failed.
     #[error("Memory")]
     Memory,
     /// The text spells no path.
@@ -67,8 +67,8 @@ fn step(text: &str) -> Option<Step>
 }
 
 /// The path that the text spells: one step or more, joined by `.`, each `c` (component), `a` (addition)
-/// or `i` (item) and a number counted from 0, in decimal digits without leading zeros and below 2^64, or
-/// `v` (the alternative chosen). Every other text is refused as `Form`.
+/// or `i` (item) and a number counted from 0, in decimal digits without leading zeros and below 2^64,
+/// or `v` (the alternative chosen). Every other text is rejected with `Form`.
 pub fn read_path(alloc: Global, text: &str) -> Result<Vec<Step>, PathFault>
     ensures spelt { IfOk result (λ path. SpellsPath text.now (path_of path.items)) }
     ensures form { IfErr result (λ fault. fault ≡ PathFault.Form

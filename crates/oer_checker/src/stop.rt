@@ -1,10 +1,10 @@
-//! Why octets are refused.
+//! Why octets are rejected.
 ghost use Rattle.std.specs.Prelude.{◌≡◌, true};
 ghost use Rattle.oer_checker.specs.Plain.{is_plain};
 
 use oer_units::Why;
 
-/// Why octets are refused, and those that were not taken.
+/// Why octets are rejected, and those that were not taken.
 #[derive(Clone, Copy)]
 pub(crate) struct Stop<'a> {
     pub why: Why,

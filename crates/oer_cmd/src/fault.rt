@@ -47,7 +47,7 @@ pub enum Fault<'a> {
     Input,
     /// A write to the output failed, or its flush.
     Output,
-    /// A growth of memory was refused.
+    /// An allocation failed.
     Memory,
 }
 

@@ -9,7 +9,7 @@ use thiserror::Error;
 /// Why the octets of a source were not gathered.
 #[derive(Clone, Copy, Debug, PartialEq, Eq, Error)]
 pub enum GatherFault {
-    /// A growth of memory was refused.
+    /// An allocation failed.
     #[error("Memory")]
     Memory,
     /// A call of the source failed.
@@ -20,9 +20,9 @@ pub enum GatherFault {
     Longer,
 }
 
-/// All the octets that the source has left, at most `limit` of them. Memory grows with the octets
-/// that came. It is refused as `Longer` where the source gave more octets than the limit, of which
-/// some may be left; as `Device` at the first call that fails; and as `Memory`.
+/// All the octets that the source has left, at most `limit` of them. Memory grows with the octets that
+/// came. It fails with `Longer` where the source gave more octets than the limit, of which some may be
+/// left; with `Device` at the first call that fails; and with `Memory` if an allocation fails.
 pub fn gather<R: Source>(alloc: Global, reader: &mut R, limit: u64) -> Result<Vec<u8>, GatherFault>
     ensures all { IfOk result (λ octets. IfSome (R.remaining reader.old) (λ xs. xs ≡ octets.items)) }
     ensures within { IfOk result (λ octets. length octets.items ≤ limit) }

@@ -26,9 +26,9 @@ pub enum TypeText<'a> {
 }
 
 /// Where the options say that the type stands: in the text of `--type`, or among the definitions of
-/// `--types` under the Name of `--name`. It is refused as `OneType` where neither `--type` nor
-/// `--types` is given or both are, as `NoTypes` where `--name` is given beside `--type`, and as
-/// `NoName` where it isn't beside `--types`.
+/// `--types` under the Name of `--name`. It fails with `OneType` where neither `--type` nor `--types`
+/// is given or both are, with `NoTypes` where `--name` is given beside `--type`, and with `NoName` where it
+/// isn't beside `--types`.
 pub fn type_text(options: Options<'_>) -> Result<TypeText<'_>, Fault<'_>>
     ensures named { MatchResult result (λ text. texts_at text ≡ texts_of options.entry)
         (λ fault. (fault ≡ lack_of (texts_of options.entry)) × NamesNone (texts_of options.entry)) }

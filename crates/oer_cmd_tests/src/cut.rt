@@ -73,7 +73,7 @@ pub fn is_cut<R: Abort>(
     }
 }
 
-// Whether octets are cut at this place: at each, but for thousands of them, of which that is at the
+// Whether octets are cut at this place: at each, except thousands of them, of which that is at the
 // first and last ones and at each 64th.
 fn is_place(count: usize, all: usize) -> bool {
     all < 2000 || count < 64 || all.saturating_sub(count) < 64 || count % 64 == 0

@@ -392,7 +392,7 @@ fn rewrites<R: Abort>(
     expect(rt, alloc, words.as_str(), &[], 0, canonical)
 }
 
-// A run of `canon` that refuses the octets.
+// A run of `canon` that rejects the octets.
 fn refuses<R: Abort>(rt: &R, alloc: Global, row: (&str, &str, &str, &str)) -> Result<(), Fail> {
     let (name, limit, digits, reason) = row;
     let words = format!(in alloc;

@@ -1,4 +1,4 @@
-//! Every line that says why there is no answer. The three of status 3 stand in `failing`, but for the
+//! Every line that says why there is no answer. The three of status 3 stand in `failing`, except the
 //! one on memory, which no test here can want.
 use crate::shared::{columns, expect};
 use std::alloc::Global;

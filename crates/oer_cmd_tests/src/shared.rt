@@ -31,7 +31,7 @@ pub fn columns<'t, R: Abort>(rt: &R, row: &'t str) -> (&'t str, &'t str, &'t str
     (first, second, third)
 }
 
-/// The words that ` | ` separates, behind the program's name.
+/// The words that ` | ` separates, after the program's name.
 pub fn words_of(alloc: Global, text: &str) -> Result<Vec<String>, Fail> {
     let mut words = Vec::new(alloc);
     words.push(String::from_str(alloc, "oer")?)?;
@@ -41,7 +41,7 @@ pub fn words_of(alloc: Global, text: &str) -> Result<Vec<String>, Fail> {
     Ok(words)
 }
 
-/// Runs the program with these words behind its name. The status.
+/// Runs the program with these words after its name. The status.
 pub fn ran(alloc: Global, words: &str, on: &mut Devices<'_>) -> Result<u8, Fail> {
     let words = words_of(alloc, words)?;
     let status = run(

@@ -239,7 +239,7 @@ fn put_in(alloc: Global, text: &str, part: &str) -> Result<String, Fail> {
     }
 }
 
-// The octets of a value at a place: behind what stands before it, and in an open type behind their
+// The octets of a value at a place: after what stands before it, and in an open type after their
 // length.
 fn put_at(alloc: Global, place: &str, octets: &str) -> Result<String, Fail> {
     let octets = digits(alloc, octets)?;
@@ -297,7 +297,7 @@ fn places(rt: HostRuntime) -> Result<(), Fail> {
     Ok(())
 }
 
-// The type BOOLEAN behind so many `SEQUENCE OF`.
+// The type BOOLEAN after so many `SEQUENCE OF`.
 fn nested(alloc: Global, depth: u16) -> Result<String, Fail> {
     let mut text = String::new(alloc);
     for _ in 0..depth {

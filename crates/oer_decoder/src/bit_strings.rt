@@ -118,8 +118,8 @@ pub(crate) fn octets_needed(count: u64) -> u64
 }
 
 /// The presence bitmap of the additions (X.696, 16.4), as far as additions are kept: up to place
-/// 65,535. It is a BIT STRING without size constraint, so more than 2^64 - 1 bits are refused as
-/// `Size`. A set bit past place 65,535 is refused as `UnknownAddition`.
+/// 65,535. It is a BIT STRING without size constraint, so more than 2^64 - 1 bits are rejected with
+/// `Size`. A set bit past place 65,535 is rejected with `UnknownAddition`.
 pub(crate) fn addition_map<R: Source>(
     alloc: Global,
     w: &mut Window<R>,

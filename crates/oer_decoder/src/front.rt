@@ -14,12 +14,11 @@ use oer_types::{Schema, Shape, Value};
 use oer_units::{ReadFault, Source, Window};
 use std::alloc::Global;
 
-/// Reads the value of the type whose Basic-OER encoding (X.696) comes next, of at most `limit`
-/// octets. It takes exactly the octets of the encoding, and what follows is left unread; memory
-/// grows with the octets that came. A refusal says how many octets were taken, and no others are
-/// gone:
+/// Reads the value of the type whose Basic-OER encoding (X.696) comes next, of at most `limit` octets.
+/// It takes exactly the octets of the encoding, and what follows is left unread; memory grows with the
+/// octets that came. An error says how many octets were taken, and no others are gone:
 ///
-/// - `Memory`: a growth was refused, never for BOOLEAN, NULL, INTEGER and ENUMERATED;
+/// - `Memory`: an allocation failed, never for BOOLEAN, NULL, INTEGER and ENUMERATED;
 /// - `Device`: the reader failed;
 /// - `End`: the reader gave no further octet, and all that it gave has no encoding at its front;
 /// - `Limit`: no encoding of at most `limit` octets begins with what was taken;
@@ -46,8 +45,8 @@ pub fn read<R: Source>(
     Ok(value)
 }
 
-/// Reads a value as [`read`] does, and answers how many octets its encoding has, too. Refused as
-/// [`read`] is.
+/// Reads a value as [`read`] does, and returns how many octets its encoding has, too. It fails as
+/// [`read`] does.
 pub fn read_with_length<R: Source>(
     alloc: Global,
     schema: &Schema,
@@ -71,7 +70,7 @@ pub fn read_with_length<R: Source>(
     read_counted(schema.shape(), alloc, reader, limit)
 }
 
-// Reads a value, and answers how many octets were taken, too.
+// Reads a value, and returns how many octets were taken, too.
 pub(crate) fn read_counted<R: Source>(
     shape: &Shape,
     alloc: Global,

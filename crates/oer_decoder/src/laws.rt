@@ -12,16 +12,16 @@ use oer_types::laws;
 /// octets; and [`rewrite`](crate::rewrite) of an accepted encoding gives that value's canonical
 /// octets, which it leaves unchanged.
 ///
-/// It speaks of runs of both, by what their contracts promise: those in which the reader and the
-/// sink tell their octets, neither failed, and no growth was refused. Where the canonical octets
-/// are 2^64 or more, the answer is `TooLong`.
+/// It speaks of runs of both, by what their contracts promise: those in which the reader and the sink
+/// tell their octets, neither failed, and no allocation failed. Where the canonical octets are 2^64 or
+/// more, the answer is `TooLong`.
 pub fn headline()
     ensures holds { Headline }
 {}
 
 /// The octets of parts that the type doesn't know stand unchanged, and at the same paths, in an
-/// encoding of a value and in its canonical octets; but for those in a DEFAULT component that
-/// equals its default, which is left out.
+/// encoding of a value and in its canonical octets, except those in a DEFAULT component that equals its
+/// default, which is left out.
 pub fn relaying()
     // Of an encoding of a value, and its canonical octets.
     ensures octets { CanonicalKeepsUnknown }

@@ -1,4 +1,4 @@
-//! BOOLEAN, INTEGER and ENUMERATED, which take no memory.
+//! BOOLEAN, INTEGER and ENUMERATED, which don't allocate.
 ghost use Rattle.std.specs.Prelude.{◌≡◌, ◌||◌, map};
 ghost use Rattle.oer_units.specs.Reads.{Reads, TakesNoMemory, seen, state};
 ghost use Rattle.oer_types.specs.AsnType.{boolean, enumerated as enumerated_type, integer as integer_type};

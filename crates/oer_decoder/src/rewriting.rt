@@ -11,13 +11,13 @@ use oer_units::{Sink, Source};
 use oer_writer::write;
 use std::alloc::Global;
 
-/// Reads the value of the type whose Basic-OER encoding (X.696) comes next, of at most `limit`
-/// octets, and appends its Canonical-OER encoding to the sink: how many octets were taken, and how
-/// many were written. Canonical octets are written as they were read. It takes exactly the octets
-/// of the encoding, and what follows is left unread. Nothing is flushed. It is refused as
+/// Reads the value of the type whose Basic-OER encoding (X.696) comes next, of at most `limit` octets,
+/// and appends its Canonical-OER encoding to the sink: how many octets were taken, and how many were
+/// written. Canonical octets are written as they were read. It takes exactly the octets of the
+/// encoding, and what follows is left unread. Nothing is flushed. It fails with
 ///
-/// - `Read`, with the refusal of [`read`](crate::read): nothing was written;
-/// - `Write`, with the refusal of [`write`](oer_writer::write): the value was read.
+/// - `Read`, with the error of [`read`](crate::read): nothing was written;
+/// - `Write`, with the error of [`write`](oer_writer::write): the value was read.
 pub fn rewrite<R: Source, W: Sink>(
     alloc: Global,
     schema: &Schema,

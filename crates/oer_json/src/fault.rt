@@ -11,7 +11,7 @@ use std::fmt;
 /// order. It displays as its name.
 #[derive(Clone, Copy, Debug, PartialEq, Eq)]
 pub enum JsonFault {
-    /// A growth of memory was refused.
+    /// An allocation failed.
     Memory,
     /// The JSON is of another kind than the type's values have, or its text has another form; the
     /// object of a CHOICE has no key or several.

@@ -46,7 +46,7 @@ pub(crate) fn item_json(alloc: Global, items: &[Item], number: i64) -> Result<Js
     }
 }
 
-/// Two small hexadecimal digits for each octet.
+/// Two lower-case hexadecimal digits for each octet.
 pub(crate) fn octets_json(alloc: Global, octets: &[u8]) -> Result<Json, AllocError>
     ensures { IfOk result (λ j. view j ≡ made_octets octets.now) }
 {
@@ -96,7 +96,7 @@ fn push_number(alloc: Global, text: &mut String, number: u128) -> Result<(), All
     text.push_str(digits.as_str())
 }
 
-/// Each number behind a point.
+/// Each number after a point.
 fn push_after_points(alloc: Global, text: &mut String, numbers: &[u128]) -> Result<(), AllocError>
     ensures { OnOk result (string_bytes text.new ≡ string_bytes text.old ++ after_points numbers.now) }
 {

@@ -20,7 +20,7 @@ use oer_units::Tag;
 use serde_json::{Map, Value as Json};
 use std::alloc::{AllocError, Global};
 
-/// The JSON of a value of the type (JSON.md). Fails where memory is refused.
+/// The JSON of a value of the type (docs/JSON.md). Fails if an allocation fails.
 pub fn to_json(alloc: Global, schema: &Schema, value: &Value) -> Result<Json, AllocError>
     requires { Fits (the_type schema.now) (value_of value.now) }
     ensures { IfOk result (λ j. view j ≡ made (the_type schema.now) (value_of value.now)) }

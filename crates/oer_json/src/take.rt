@@ -26,7 +26,7 @@ use oer_types::{Addition, Alt, Field, Schema, Shape, Size, Value};
 use serde_json::{Map, Value as Json};
 use std::alloc::Global;
 
-/// The value of the type that the JSON stands for (JSON.md), which fits the type; or the first fault.
+/// The value of the type that the JSON stands for (docs/JSON.md), which fits the type; or the first fault.
 /// A fault other than `Memory` comes only where the JSON stands for no value that fits. What
 /// `to_json` made of a value is taken as this value.
 pub fn from_json(alloc: Global, schema: &Schema, json: &Json) -> Result<Value, JsonFault>

@@ -1,7 +1,7 @@
-//! Encodings (X.696, Basic-OER) and what is done with them. Values are read and rewritten as
-//! canonical octets (`oer_decoder`); octets that are there are checked without making a value, and
-//! their parts are handed out (`oer_checker`). Each call stands in one of these two crates, with its
-//! contract; here both are under one name.
+//! Encodings (X.696, Basic-OER) and what is done with them. Values are read and rewritten as canonical
+//! octets (`oer_decoder`); octets that are there are checked without making a value, and their parts
+//! are returned (`oer_checker`). Each call stands in one of these two crates, with its contract; here
+//! both are under one name.
 #![tactic(auto)]
 
 pub use oer_checker::{Encoding, PartFault, PathFault, Step, Verdict, check, part, read_path};

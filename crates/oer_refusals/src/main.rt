@@ -5,8 +5,8 @@
 //!   notation, and octets in hexadecimal digits or JSON;
 //! - `oer_refusals TASK TYPES NAME TEXT`: the same of the type with the name.
 //!
-//! It prints the task's answer. Where a growth was refused it prints `Memory` and ends with status
-//! 3; where there is no answer for another reason, `Other` and 1.
+//! It prints the task's answer. Where an allocation failed it prints `Memory` and ends with status 3;
+//! where there is no answer for another reason, `Other` and 1.
 #![tactic(auto)]
 
 mod refusal;

@@ -4,7 +4,7 @@ use oer_text::{JsonFault, PrintFault, TextFault, TextWhy};
 use oer_units::{ReadFault, Why};
 use std::alloc::{AllocError, AllocFailed};
 
-/// Why a task has no answer: a growth of memory was refused, or anything else.
+/// Why a task has no answer: an allocation failed, or anything else.
 #[derive(Clone, Copy)]
 pub(crate) enum Refusal {
     Memory,

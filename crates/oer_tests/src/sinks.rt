@@ -46,7 +46,7 @@ fn stop_at_each_octet(rt: HostRuntime) -> Result<(), Fail> {
     each(rt.alloc(), VALUES, stops)
 }
 
-// That nothing is written where the sink fails always.
+// That nothing is written if the sink fails always.
 fn breaks(at: Global, row: &str) -> Result<(), Fail> {
     let case = case_of(at, row)?;
     if case.canonical.is_empty() || !fits(&case.schema, &case.value) {

@@ -53,7 +53,7 @@ fn faults_of_texts(rt: HostRuntime) -> Result<(), Fail> {
     each(rt.alloc(), TEXTS, has_text_fault)
 }
 
-// That the shape has that fault, and is handed back as it was.
+// That the shape has that fault, and is returned as it was.
 fn has_fault(at: Global, row: &str, shape: Shape, want: &str) -> Result<(), Fail> {
     let before = drawn(at, &shape)?;
     match Schema::new(shape) {
@@ -297,7 +297,7 @@ fn texts_stand_for_shapes(rt: HostRuntime) -> Result<(), Fail> {
 
 // ---- bits
 
-// The bits of the octets: how many, packed, and the third and fifth; or the octets, handed back.
+// The bits of the octets: how many, packed, and the third and fifth; or the octets, returned.
 fn bits_of(at: Global, octets: &[u8], count: u64) -> Result<String, Fail> {
     match Bits::from_octets(Vec::from_slice(at, octets)?, count) {
         Ok(bits) => {

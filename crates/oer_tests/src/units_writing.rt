@@ -43,7 +43,7 @@ two octets -129: ff7f 0";
 
 type Held = Metered<Vec<u8>>;
 
-// Writes a number of one of the kinds that carry their length, and answers how many octets it has.
+// Writes a number of one of the kinds that carry their length, and returns how many octets it has.
 fn put_counted(unit: &str, number: &str, w: &mut Held) -> Result<u64, Fail> {
     match unit {
         "length" => {

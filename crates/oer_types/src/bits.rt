@@ -28,8 +28,8 @@ impl Model for Bits {
 }
 
 impl Bits {
-    /// The first `count` bits of the octets; the bits after them are set to zero. Hands the octets
-    /// back exactly where their number isn't `count / 8`, rounded up.
+    /// The first `count` bits of the octets; the bits after them are set to zero. Returns the
+    /// octets exactly if their number isn't `count / 8`, rounded up.
     pub fn from_octets(octets: Vec<u8>, count: u64) -> Result<Bits, Vec<u8>>
         ensures { MatchResult result
             (λ b. (length octets.items ≡ octets_for count) × (b ≡ take count (bits_of octets.items)))

@@ -29,7 +29,7 @@ pub fn same_filled(schema: &Schema, one: &Value, other: &Value) -> bool
 }
 
 /// The value of the type with the default in the place of every absent root component that has one,
-/// at every depth, inside defaults too. Fails where memory is refused.
+/// at every depth, inside defaults too. Fails if an allocation fails.
 pub fn filled(alloc: Global, schema: &Schema, value: &Value) -> Result<Value, AllocError>
     ensures { IfOk result (λ v. value_of v ≡ spec_filled (the_type schema.now) (value_of value.now)) }
 {

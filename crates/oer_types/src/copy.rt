@@ -6,7 +6,7 @@ use crate::shape::{Addition, Alt, Field, Item, Need, Shape};
 use std::alloc::{AllocError, Global};
 
 impl Shape {
-    /// The same shape, in memory of its own. Fails where memory is refused.
+    /// The same shape, in memory of its own. Fails if an allocation fails.
     pub fn clone_in(&self, alloc: Global) -> Result<Shape, AllocError>
         ensures { IfOk result (λ s. type_of s ≡ type_of self.now) }
     {

@@ -14,7 +14,7 @@ pub fn headline()
     ensures holds { Headline }
 {}
 
-/// What is read is an encoding at the front of the input and within the limit, and a refusal says that
+/// What is read is an encoding at the front of the input and within the limit, and an error says that
 /// there is none; every encoding at the front and within the limit is read.
 pub fn reading()
     ensures encodings { ReadsEncodings }
@@ -82,8 +82,8 @@ pub fn finding_parts()
     ensures misses { MissesParts }
 {}
 
-/// The octets of parts that the type doesn't know stand unchanged in the canonical octets, and the other
-/// way round but for those in a DEFAULT component that equals its default.
+/// The octets of parts that the type doesn't know stand unchanged in the canonical octets, and the
+/// other way round, except those in a DEFAULT component that equals its default.
 pub fn relaying()
     ensures keeps { KeepsUnknown }
 {}

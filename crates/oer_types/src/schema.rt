@@ -29,7 +29,7 @@ impl Schema {
 
     /// The type, exactly where no fault holds of the shape. Else the fault of least number that
     /// holds anywhere in it, and the shape. It looks no deeper than 32 levels and counts no further
-    /// than 4,096 parts, and takes no memory.
+    /// than 4,096 parts, and doesn't allocate.
     pub fn new(shape: Shape) -> Result<Schema, (SchemaFault, Shape)>
         ensures { MatchResult result (λ schema. (shape_of schema ≡ shape) × IsWellFormed (type_of shape))
             (λ refused. IsFirstFault (type_of shape) refused.0 × (refused.1 ≡ shape)) }

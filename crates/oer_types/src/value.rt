@@ -58,7 +58,7 @@ impl Value {
         same(self, other)
     }
 
-    /// The same value, in memory of its own. Fails where memory is refused.
+    /// The same value, in memory of its own. Fails if an allocation fails.
     pub fn clone_in(&self, alloc: Global) -> Result<Value, AllocError>
         ensures { IfOk result (λ v. value_of v ≡ value_of self.now) }
     {

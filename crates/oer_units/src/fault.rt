@@ -1,16 +1,16 @@
-//! Why octets are refused.
+//! Why octets are rejected.
 ghost use Rattle.std.specs.Prelude.{◌≡◌};
 ghost use Rattle.oer_units.specs.Faults.{why_number, why_name};
 
 use thiserror::Error;
 
-/// Why octets are refused by a reader. It displays as its name.
+/// Why octets are rejected by a reader. It displays as its name.
 #[derive(Clone, Copy, Debug, PartialEq, Eq, Error)]
 #[error("{}", self.name())]
 pub enum Why {
-    /// A growth of memory was refused.
+    /// An allocation failed.
     Memory,
-    /// The reader failed.
+    /// The source failed.
     Device,
     /// The reader gave no further octet.
     End,
@@ -100,7 +100,7 @@ impl Why {
     }
 }
 
-/// A refusal, and how many octets had been taken when it was decided.
+/// An error, and how many octets had been read when it was found.
 #[derive(Clone, Copy, Debug, PartialEq, Eq, Error)]
 #[error("{why} at {taken}")]
 pub struct ReadFault {

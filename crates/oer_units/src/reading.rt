@@ -59,8 +59,8 @@ fn fill_from<R: Source>(w: &mut Window<R>, octets: &mut Vec<u8>, at: usize) -> R
     w.fill_all(&mut octets[at..])
 }
 
-/// The next `n` octets. Memory grows with what has come, so a number of octets that never come
-/// costs nothing. `Memory` is answered where a growth was refused, and by no other reader of a unit.
+/// The next `n` octets. Memory grows with what has come, so a number of octets that never come costs
+/// nothing. It returns `Memory` if an allocation fails; no other reader of a unit allocates.
 pub fn octets<R: Source>(alloc: Global, w: &mut Window<R>, n: u64) -> Result<Vec<u8>, ReadFault>
     ensures bound { Keeps (bound_of w.old) (bound_of w.new) }
     ensures count { IfOk result (λ v. vec_len v ≡ n) }
@@ -80,8 +80,8 @@ pub fn octets<R: Source>(alloc: Global, w: &mut Window<R>, n: u64) -> Result<Vec
     Ok(octets)
 }
 
-/// The next octets, as many as `into` holds. At a refusal it may be filled in part. No memory is
-/// taken.
+/// The next octets, as many as `into` holds. If it fails, it may be filled in part. Nothing is
+/// allocated.
 pub fn octets_into<R: Source>(w: &mut Window<R>, into: &mut [u8]) -> Result<(), ReadFault>
     ensures bound { Keeps (bound_of w.old) (bound_of w.new) }
     ensures memory { TakesNoMemory result }
@@ -203,9 +203,9 @@ fn long_length<R: Source>(w: &mut Window<R>, count: u64) -> Result<u64, ReadFaul
     w.allow(length)
 }
 
-/// A length determinant (X.696, 8.6): the length, in octets or elements, which is not above what
-/// is left after it. A first octet `80` is refused as `LengthForm`, and a length above what is left
-/// as `Window` in an open type and as `Limit` outside one.
+/// A length determinant (X.696, 8.6): the length, in octets or elements, which is not above what is
+/// left after it. A first octet `80` is rejected with `LengthForm`, and a length above what is
+/// left with `Window` in an open type and with `Limit` outside one.
 pub fn length<R: Source>(w: &mut Window<R>) -> Result<u64, ReadFault>
     ensures bound { Keeps (bound_of w.old) (bound_of w.new) }
     ensures memory { TakesNoMemory result }
@@ -245,8 +245,8 @@ pub fn signed_fixed<R: Source>(w: &mut Window<R>, width: Width) -> Result<i64, R
     Ok(number.narrow())
 }
 
-/// An unsigned number after its count of octets (X.696, 10.3), with any number of zeros in front.
-/// A count of 0 is refused as `EmptyNumber`, and a number from 2^127 on as `IntegerRange`.
+/// An unsigned number after its count of octets (X.696, 10.3), with any number of zeros in front. A
+/// count of 0 is rejected with `EmptyNumber`, and a number from 2^127 on with `IntegerRange`.
 pub fn unsigned_counted<R: Source>(w: &mut Window<R>) -> Result<i128, ReadFault>
     ensures bound { Keeps (bound_of w.old) (bound_of w.new) }
     ensures memory { TakesNoMemory result }
@@ -265,8 +265,8 @@ pub fn unsigned_counted<R: Source>(w: &mut Window<R>) -> Result<i128, ReadFault>
     }
 }
 
-/// A number in two's complement after its count of octets (X.696, 10.4), with any number of sign
-/// octets in front. A count of 0 is refused as `EmptyNumber`, and a number outside 128 bits as
+/// A number in two's complement after its count of octets (X.696, 10.4), with any number of sign octets
+/// in front. A count of 0 is rejected with `EmptyNumber`, and a number outside 128 bits with
 /// `IntegerRange`.
 pub fn signed_counted<R: Source>(w: &mut Window<R>) -> Result<i128, ReadFault>
     ensures bound { Keeps (bound_of w.old) (bound_of w.new) }
@@ -302,8 +302,8 @@ fn long_enumerated<R: Source>(w: &mut Window<R>, count: u64) -> Result<i64, Read
     }
 }
 
-/// The number of an ENUMERATED (X.696, 11), in either form and with any number of sign octets in
-/// front. A first octet `80`, and a number outside 64 bits, are refused as `EnumForm`.
+/// The number of an ENUMERATED (X.696, 11), in either form and with any number of sign octets in front.
+/// A first octet `80`, and a number outside 64 bits, are rejected with `EnumForm`.
 pub fn enumerated<R: Source>(w: &mut Window<R>) -> Result<i64, ReadFault>
     ensures bound { Keeps (bound_of w.old) (bound_of w.new) }
     ensures memory { TakesNoMemory result }
@@ -380,10 +380,10 @@ fn base128<R: Source>(
     }
 }
 
-/// A subidentifier (X.690, 8.19.2), read from `content` octets at most, below 2^128. It is refused
-/// as `ObjectId` at a first octet `80`, at the octet with which the number passes 2^128 - 1, and at
-/// the last of the `content` octets where that has bit 8 set. (The number and how many octets it
-/// took are what the reader on lists gives.)
+/// A subidentifier (X.690, 8.19.2), read from `content` octets at most, below 2^128. It fails with
+/// `ObjectId` at a first octet `80`, at the octet with which the number passes 2^128 - 1, and at the
+/// last of the `content` octets where that has bit 8 set. (The number and how many octets it took are
+/// what the reader on lists gives.)
 pub fn subidentifier<R: Source>(w: &mut Window<R>, content: u64) -> Result<u128, ReadFault>
     requires some { 1 ≤ content }
     requires room { content ≤ left_of (bound_of w.old) }
@@ -422,9 +422,9 @@ fn class(first: u8) -> Class
     }
 }
 
-/// A tag (X.696, 8.7.2). It is refused as `TagForm` at a first further octet whose bits 7 to 1 are
-/// all zero, at the octet that ends a number below 63, and at the octet with which the number
-/// passes 2^32 - 1.
+/// A tag (X.696, 8.7.2). It fails with `TagForm` at a first further octet whose bits 7 to 1 are all
+/// zero, at the octet that ends a number below 63, and at the octet with which the number passes
+/// 2^32 - 1.
 pub fn tag<R: Source>(w: &mut Window<R>) -> Result<Tag, ReadFault>
     ensures bound { Keeps (bound_of w.old) (bound_of w.new) }
     ensures memory { TakesNoMemory result }

@@ -9,7 +9,7 @@ use crate::fault::SinkFault;
 use std::io;
 use std::io::{Read, Write};
 
-/// What octets are read from. It counts the calls that failed: those that answered an error, an
+/// What octets are read from. It counts the calls that failed: those that returned an error, an
 /// interrupted one too.
 pub trait Source {
     /// The octets that it will give from here on, where they are known.
@@ -18,8 +18,8 @@ pub trait Source {
     /// How many calls failed, up to `u64::MAX`.
     ghost failed: { Self → ℕ };
 
-    /// Reads octets into the front of `into`, as `Read::read` does, and answers how many. A call
-    /// that answers an error takes none, and is counted.
+    /// Reads octets into the front of `into`, as `Read::read` does, and returns how many. A call that
+    /// returns an error takes none, and is counted.
     fn pull(&mut self, into: &mut [u8]) -> io::Result<usize>
         ensures bound { ReadsAtMost result into.new }
         ensures bytes { ReadConsumes (remaining self.old) (remaining self.new) result into.new }
@@ -30,7 +30,7 @@ pub trait Source {
         ensures { result ≡ failed self.now };
 }
 
-/// What octets are written to. It counts the calls that failed: those that answered an error, an
+/// What octets are written to. It counts the calls that failed: those that returned an error, an
 /// interrupted one too, or took none of one or more octets.
 pub trait Sink {
     /// The octets that it holds, where they are known.
@@ -39,8 +39,8 @@ pub trait Sink {
     /// How many calls failed, up to `u64::MAX`.
     ghost failed: { Self → ℕ };
 
-    /// Takes octets from the front of `from`, as `Write::write` does, and answers how many. A call
-    /// that answers an error takes none. It is counted, and so is one that takes none of one or more.
+    /// Takes octets from the front of `from`, as `Write::write` does, and returns how many. A call that
+    /// returns an error takes none. It is counted, and so is one that takes none of one or more.
     fn push(&mut self, from: &[u8]) -> io::Result<usize>
         ensures bound { WritesAtMost result from.now }
         ensures bytes { WriteAppends (contents self.old) (contents self.new) result from.now }
@@ -124,7 +124,7 @@ impl<W: Write> Metered<&mut W> {
 
     /// Writes the octets to the borrowed writer, as `put_octets` does: in one call, which goes on with
     /// the rest where a call took only some. A call that fails, by an error (an interruption too) or by
-    /// taking none, isn't tried again. It answers `SinkFault` where the writer fails before it took all.
+    /// taking none, isn't tried again. It returns `SinkFault` if the writer fails before it took all.
     pub fn put(&mut self, octets: &[u8]) -> Result<(), SinkFault>
         ensures same { (inner_of self.new).ghost_name ≡ (inner_of self.old).ghost_name }
         ensures puts { Puts octets.now (W.contents (inner_of self.old).now) (failures_of self.old) result

@@ -55,7 +55,7 @@ impl<'r, R: Source> Window<'r, R> {
         self.bound.end - self.bound.taken
     }
 
-    /// The refusal for this reason, here. It takes nothing.
+    /// The error with this reason, here. It takes nothing.
     pub fn fault(&self, why: Why) -> ReadFault
         ensures taken { result.taken ≡ (bound_of self.now).taken }
         ensures why { result.why ≡ why }
@@ -66,8 +66,8 @@ impl<'r, R: Source> Window<'r, R> {
         }
     }
 
-    /// `n`, if the bound in force allows so many octets more. Otherwise the refusal here, which is
-    /// `Window` in an open type and `Limit` outside one.
+    /// `n`, if the bound in force allows so many octets more. Otherwise the error at this place, which
+    /// is `Window` in an open type and `Limit` outside one.
     pub fn allow(&self, n: u128) -> Result<u64, ReadFault>
         ensures room { OnOk result (n ≤ left_of (bound_of self.now)) }
         ensures value { IfOk result (λ m. m ≡ n) }
@@ -84,7 +84,7 @@ impl<'r, R: Source> Window<'r, R> {
         }
     }
 
-    // Takes octets into the front of `into`, and answers how many. One is taken at least, or it is
+    // Takes octets into the front of `into`, and returns how many. One is taken at least, or it is
     // refused; at most as many are taken as the bound in force allows.
     pub(crate) fn fill(&mut self, into: &mut [u8]) -> Result<usize, ReadFault>
         requires some { 0 < length into.old }
@@ -136,7 +136,7 @@ impl<'r, R: Source> Window<'r, R> {
         Ok(one[0])
     }
 
-    /// Begins an open type of `n` octets (X.696, 30), and hands out the former bound.
+    /// Begins an open type of `n` octets (X.696, 30), and returns the former bound.
     pub fn enter(&mut self, n: u64) -> Outer
         requires { n ≤ left_of (bound_of self.old) }
         ensures end { end_of result ≡ (bound_of self.old).end }
@@ -158,8 +158,8 @@ impl<'r, R: Source> Window<'r, R> {
         Outer { end, is_inside }
     }
 
-    /// Puts the bound back that `enter` handed out. Where octets are left in the open type it is
-    /// refused as `Window`, and nothing changes.
+    /// Puts the bound back that `enter` returned. Where octets are left in the open type it fails with
+    /// `Window`, and nothing changes.
     pub fn leave(&mut self, outer: Outer) -> Result<(), ReadFault>
         requires later { (bound_of self.old).end ≤ end_of outer }
         requires within { end_of outer ≤ (bound_of self.old).limit }

@@ -2,7 +2,7 @@
 //!
 //! Each hands its octets to the sink in one push, and goes on with the rest where a push took only
 //! some. A push that failed, by an error (an interruption too) or by taking none, isn't tried again:
-//! the call answers `SinkFault`, with how many octets of this unit the sink took, fewer than all.
+//! the call returns `SinkFault`, with how many octets of this unit the sink took, fewer than all.
 ghost use Rattle.std.specs.Prelude.{◌≡◌, ◌≤◌, ◌<◌, ◌^◌, ◌≤ℤ◌, pos, drop, ◌*◌, unsigned_abs, List, ◌∷◌, ℕ, length};
 ghost use Rattle.oer_units.specs.Least.{big_endian, octets_needed, unsigned_octets, signed_octets, length_octets, counted, fixed_signed_octets, enumerated_octets, base128_octets, tag_octets};
 ghost use Rattle.oer_units.specs.Spelling.{class_number};
@@ -14,7 +14,7 @@ use crate::stream::Sink;
 use crate::tagging::{Class, Tag};
 use crate::width::Width;
 
-/// Writes the octets. It answers `SinkFault` where the sink fails before it took all of them.
+/// Writes the octets. It returns `SinkFault` if the sink fails before it took all of them.
 pub fn put_octets<W: Sink>(octets: &[u8], w: &mut W) -> Result<(), SinkFault>
     ensures { Puts octets.now (W.contents w.old) (W.failed w.old) result (W.contents w.new) (W.failed w.new) }
 {
@@ -62,7 +62,7 @@ fn put_low_octets<W: Sink>(head: u8, n: u128, count: u32, w: &mut W) -> Result<(
     put_octets(&buffer[from..], w)
 }
 
-/// Writes the shortest length determinant of `n` (X.696, 8.6), or `SinkFault` where the sink fails.
+/// Writes the shortest length determinant of `n` (X.696, 8.6), or `SinkFault` if the sink fails.
 pub fn put_length<W: Sink>(n: u64, w: &mut W) -> Result<(), SinkFault>
     ensures { Puts (length_octets n) (W.contents w.old) (W.failed w.old) result (W.contents w.new) (W.failed w.new) }
 {
@@ -85,8 +85,8 @@ pub fn length_len(n: u64) -> u64
     }
 }
 
-/// Writes a number in the octets of the width (X.696, 10.3), which it has to fit, or `SinkFault`
-/// where the sink fails.
+/// Writes a number in the octets of the width (X.696, 10.3), which it has to fit, or `SinkFault` if the
+/// sink fails.
 pub fn put_unsigned_fixed<W: Sink>(value: u64, width: Width, w: &mut W) -> Result<(), SinkFault>
     requires { FitsUnsignedWidth width value }
     ensures { Puts (big_endian (octets_of_width width) value) (W.contents w.old) (W.failed w.old) result (W.contents w.new) (W.failed w.new) }
@@ -94,8 +94,8 @@ pub fn put_unsigned_fixed<W: Sink>(value: u64, width: Width, w: &mut W) -> Resul
     put_octets(&value.to_be_bytes()[8 - width.octets()..], w)
 }
 
-/// Writes a number in two's complement in the octets of the width (X.696, 10.4), which it has to
-/// fit, or `SinkFault` where the sink fails.
+/// Writes a number in two's complement in the octets of the width (X.696, 10.4), which it has to fit,
+/// or `SinkFault` if the sink fails.
 pub fn put_signed_fixed<W: Sink>(value: i64, width: Width, w: &mut W) -> Result<(), SinkFault>
     requires { FitsSignedWidth width value }
     ensures { Puts (fixed_signed_octets (octets_of_width width) value) (W.contents w.old) (W.failed w.old) result (W.contents w.new) (W.failed w.new) }
@@ -105,7 +105,7 @@ pub fn put_signed_fixed<W: Sink>(value: i64, width: Width, w: &mut W) -> Result<
 }
 
 /// Writes a number from 0 on: a length, and the fewest octets that stand for it (X.696, 10.3), or
-/// `SinkFault` where the sink fails.
+/// `SinkFault` if the sink fails.
 pub fn put_unsigned_counted<W: Sink>(value: i128, w: &mut W) -> Result<(), SinkFault>
     requires { pos 0 ≤ℤ value }
     ensures { Puts (counted (unsigned_octets (unsigned_abs value))) (W.contents w.old) (W.failed w.old) result (W.contents w.new) (W.failed w.new) }
@@ -116,7 +116,7 @@ pub fn put_unsigned_counted<W: Sink>(value: i128, w: &mut W) -> Result<(), SinkF
 }
 
 /// Writes a number: a length, and the fewest octets that stand for it in two's complement (X.696,
-/// 10.4), or `SinkFault` where the sink fails.
+/// 10.4), or `SinkFault` if the sink fails.
 pub fn put_signed_counted<W: Sink>(value: i128, w: &mut W) -> Result<(), SinkFault>
     ensures { Puts (counted (signed_octets value)) (W.contents w.old) (W.failed w.old) result (W.contents w.new) (W.failed w.new) }
 {
@@ -140,7 +140,7 @@ pub fn signed_counted_len(value: i128) -> u64
 }
 
 /// Writes the number of an enumeration (X.696, 11): one octet from 0 to 127, else a count and the
-/// fewest octets that stand for it in two's complement. `SinkFault` where the sink fails.
+/// fewest octets that stand for it in two's complement. `SinkFault` if the sink fails.
 pub fn put_enumerated<W: Sink>(value: i64, w: &mut W) -> Result<(), SinkFault>
     ensures { Puts (enumerated_octets value) (W.contents w.old) (W.failed w.old) result (W.contents w.new) (W.failed w.new) }
 {
@@ -182,8 +182,8 @@ fn fill_digits(n: u128, buffer: &mut [u8; 20]) -> usize
     at
 }
 
-/// Writes a subidentifier (X.690, 8.19.2): its number in base 128, from the first digit that isn't
-/// zero on. `SinkFault` where the sink fails.
+/// Writes a subidentifier (X.690, 8.19.2): its number in base 128, from the first digit that isn't zero
+/// on. `SinkFault` if the sink fails.
 pub fn put_subidentifier<W: Sink>(value: u128, w: &mut W) -> Result<(), SinkFault>
     ensures { Puts (base128_octets value) (W.contents w.old) (W.failed w.old) result (W.contents w.new) (W.failed w.new) }
 {
@@ -219,8 +219,8 @@ fn class_bits(class: Class) -> u8
     }
 }
 
-/// Writes a tag (X.696, 8.7.2): a number up to 62 in the first octet, any other in base 128 after
-/// it. `SinkFault` where the sink fails.
+/// Writes a tag (X.696, 8.7.2): a number up to 62 in the first octet, any other in base 128 after it.
+/// `SinkFault` if the sink fails.
 pub fn put_tag<W: Sink>(tag: Tag, w: &mut W) -> Result<(), SinkFault>
     ensures { Puts (tag_octets tag) (W.contents w.old) (W.failed w.old) result (W.contents w.new) (W.failed w.new) }
 {
