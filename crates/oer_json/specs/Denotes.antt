@@ -23,7 +23,8 @@ DenotesInteger z j = HoldsWhole z j ⊎ (j ≡ json.string (signed_decimal z))
 
 -- such a number, or the name of an item that has the number
 abbrev pub DenotesItem : List NamedNumber → ℤ → Data → Type 0
-DenotesItem numbers z j = HoldsWhole z j ⊎ ((name : List ℕ) × (j ≡ json.string name) × AnyOf (λ (i : NamedNumber). (i.name ≡ name) × (i.number ≡ z)) numbers)
+DenotesItem numbers z j = HoldsWhole z j
+    ⊎ ((name : List ℕ) × (j ≡ json.string name) × AnyOf (λ (i : NamedNumber). (i.name ≡ name) × (i.number ≡ z)) numbers)
 
 -- two hexadecimal digits of either case for each octet
 abbrev pub DenotesOctets : List ℕ → Data → Type 0
@@ -61,7 +62,8 @@ IsPart fs more us key = IsOneOf (field_names fs) key ⊎ (IsOneOf (addition_name
 abbrev pub only : List ℕ → Data → Data
 only key j = json.object (json.member key j json.no_members)
 
--- The JSON is of the form that the type's values have, and stands for the value; whether this fits is said apart. An object's keys come in any order, and it has none but those of parts that are there.
+-- The JSON is of the form that the type's values have, and stands for the value; whether this fits is said apart. An
+-- object's keys come in any order, and it has none but those of parts that are there.
 abbrev mutual
   pub Denotes : AsnType → AsnValue → Data → Type 0
   Denotes boolean (bool b) j = j ≡ json.boolean b
@@ -73,8 +75,10 @@ abbrev mutual
   Denotes object_id (oid arcs) j = j ≡ json.string (dotted arcs)
   Denotes (restricted_string kind size) (text w) j = j ≡ json.string w
   Denotes (utf8_string size) (text w) j = j ≡ json.string w
-  Denotes (sequence fs) (seq root added us) j = (ms : Members) × (j ≡ json.object ms) × EachKey (IsOneOf (field_names fs)) ms × DenoteFields fs root ms
-  Denotes (extensible_sequence fs more) (seq root added us) j = (ms : Members) × (j ≡ json.object ms) × EachKey (IsPart fs more us) ms × DenoteFields fs root ms × DenoteAdditions more added ms × DenoteUnknown us ms
+  Denotes (sequence fs) (seq root added us) j = (ms : Members) × (j ≡ json.object ms) × EachKey (IsOneOf (field_names fs)) ms
+      × DenoteFields fs root ms
+  Denotes (extensible_sequence fs more) (seq root added us) j = (ms : Members) × (j ≡ json.object ms)
+      × EachKey (IsPart fs more us) ms × DenoteFields fs root ms × DenoteAdditions more added ms × DenoteUnknown us ms
   Denotes (sequence_of size T) (items vs) j = (js : Items) × (j ≡ json.array js) × DenoteItems (Denotes T) vs js
   Denotes (choice extensible more) (chosen t v) j = (key : List ℕ) × (d : Data) × (j ≡ only key d) × DenotesAlternative more key t v d
   Denotes (choice extensible more) (foreign t w) j = (d : Data) × (j ≡ only (tag_key t) d) × DenotesOctets w d

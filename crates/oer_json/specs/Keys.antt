@@ -39,7 +39,8 @@ place_digits (c ∷ cs) = if c == 35 && is_natural cs then Some cs else None
 
 -- the class that a letter stands for
 abbrev pub class_in : ℕ → Option Class
-class_in c = if c == 117 then Some Universal else if c == 97 then Some Application else if c == 99 then Some Context else if c == 112 then Some Private else None
+class_in c = if c == 117 then Some Universal else if c == 97 then Some Application else if c == 99 then Some Context
+    else if c == 112 then Some Private else None
 
 abbrev pub with_class : List ℕ → Option Class → Option (Class × List ℕ)
 with_class w None = None

@@ -17,7 +17,8 @@ IntegersSpelt = (s : List ℕ) (z : ℤ) → decimal_in s ≡ Ok z → s ≡ sig
 
 -- An integer of 128 bits in decimal is read as this integer.
 abbrev pub IntegersRead : Type 0
-IntegersRead = (z : ℤ) → int_le (negsuc 170141183460469231731687303715884105727) z ≡ true → int_le z (pos 170141183460469231731687303715884105727) ≡ true → decimal_in (signed_decimal z) ≡ Ok z
+IntegersRead = (z : ℤ) → int_le (negsuc 170141183460469231731687303715884105727) z ≡ true
+    → int_le z (pos 170141183460469231731687303715884105727) ≡ true → decimal_in (signed_decimal z) ≡ Ok z
 
 -- A text that is read as arcs is the arcs in decimal with points between them.
 abbrev pub ArcsSpelt : Type 0

@@ -54,7 +54,8 @@ abbrev mutual
   made (restricted_string kind size) (text w) = json.string w
   made (utf8_string size) (text w) = json.string w
   made (sequence fs) (seq root added us) = json.object (put_fields fs root json.no_members)
-  made (extensible_sequence fs more) (seq root added us) = json.object (put_unknown us (put_additions more added (put_fields fs root json.no_members)))
+  made (extensible_sequence fs more) (seq root added us) =
+      json.object (put_unknown us (put_additions more added (put_fields fs root json.no_members)))
   made (sequence_of size T) (items vs) = json.array (made_items (made T) vs)
   made (choice extensible more) (chosen t v) = made_alternative more t v
   made (choice extensible more) (foreign t w) = one_member (tag_key t) (made_octets w)

@@ -193,25 +193,33 @@ abbrev mutual
   take object_id j = fitted object_id oid (arcs_in j)
   take (restricted_string kind size) j = fitted (restricted_string kind size) text (text_in j)
   take (utf8_string size) j = fitted (utf8_string size) text (text_in j)
-  take (sequence fs) j = members_in j >>= λ ms. if all_pass (is_among (field_names fs)) (keys_of ms) then (take_fields fs ms >>= λ root. Ok (seq root no_places [])) else Err Name
+  take (sequence fs) j = members_in j
+      >>= λ ms. if all_pass (is_among (field_names fs)) (keys_of ms) then
+      (take_fields fs ms >>= λ root. Ok (seq root no_places [])) else Err Name
   take (extensible_sequence fs more) j = members_in j >>= λ ms. if all_pass (is_key (field_names fs) (addition_names more)) (keys_of ms)
-      then (take_fields fs ms >>= λ root. take_additions more ms >>= λ added. take_unknown (addition_count more) ms >>= λ us. Ok (seq root added us)) else Err Name
+      then (take_fields fs ms >>= λ root. take_additions more ms >>= λ added. take_unknown (addition_count more) ms
+          >>= λ us. Ok (seq root added us)) else Err Name
   take (sequence_of size T) j = items_in j >>= λ js. take_items (take T) js >>= sized size
-  take (choice extensible more) j = one_member j >>= λ m. take_alternative (take_foreign (choice extensible more) extensible m.0 m.1) more m.0 m.1
+  take (choice extensible more) j =
+      one_member j >>= λ m. take_alternative (take_foreign (choice extensible more) extensible m.0 m.1) more m.0 m.1
 
   pub take_fields : Fields → Members → Result Places JsonFault
   take_fields no_fields ms = Ok no_places
-  take_fields (field name need T fs) ms = take_place (may_be_absent need) (take T) (get_member name ms) >>= λ p. take_fields fs ms >>= λ ps. Ok (place p ps)
+  take_fields (field name need T fs) ms =
+      take_place (may_be_absent need) (take T) (get_member name ms) >>= λ p. take_fields fs ms >>= λ ps. Ok (place p ps)
 
   pub take_additions : Additions → Members → Result Places JsonFault
   take_additions no_additions ms = Ok no_places
-  take_additions (addition name T more) ms = take_place true (take T) (get_member name ms) >>= λ p. take_additions more ms >>= λ ps. Ok (place p ps)
+  take_additions (addition name T more) ms =
+      take_place true (take T) (get_member name ms) >>= λ p. take_additions more ms >>= λ ps. Ok (place p ps)
 
   -- by the first alternative that has the name; otherwise: what is answered where none has it
   pub take_alternative : Result AsnValue JsonFault → Alternatives → List ℕ → Data → Result AsnValue JsonFault
   take_alternative otherwise no_alternatives key j = otherwise
-  take_alternative otherwise (alternative name t T more) key j = if bytes_eq name key then (take T j >>= λ v. Ok (chosen t v)) else take_alternative otherwise more key j
-  take_alternative otherwise (later name t T more) key j = if bytes_eq name key then (take T j >>= λ v. Ok (chosen t v)) else take_alternative otherwise more key j
+  take_alternative otherwise (alternative name t T more) key j =
+      if bytes_eq name key then (take T j >>= λ v. Ok (chosen t v)) else take_alternative otherwise more key j
+  take_alternative otherwise (later name t T more) key j =
+      if bytes_eq name key then (take T j >>= λ v. Ok (chosen t v)) else take_alternative otherwise more key j
 
 -- the value, or the first fault. In the end the whole value is tested for its fit.
 unfoldable pub taken : AsnType → Data → Result AsnValue JsonFault

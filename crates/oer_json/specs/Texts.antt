@@ -52,12 +52,14 @@ is_numeral w = nat_lt 0 (length w) && all_ascii_digits w
 -- the number that the digits stand for, with a sign or without, where it has 128 bits
 unfoldable pub integer_of : List ℕ → Option ℤ
 integer_of w =
-    if is_numeral (without_leading_sign w) && (int_le (negsuc 170141183460469231731687303715884105727) (signed_digits_value 10 w) && int_le (signed_digits_value 10 w) (pos 170141183460469231731687303715884105727))
+    if is_numeral (without_leading_sign w) && (int_le (negsuc 170141183460469231731687303715884105727)
+        (signed_digits_value 10 w) && int_le (signed_digits_value 10 w) (pos 170141183460469231731687303715884105727))
     then Some (signed_digits_value 10 w) else None
 
 -- the number that the digits stand for, where it is below the limit
 abbrev pub natural_below : ℕ → List ℕ → Option ℕ
-natural_below limit w = if is_numeral (without_leading_plus w) && nat_lt (digits_value 10 (without_leading_plus w)) limit then Some (digits_value 10 (without_leading_plus w)) else None
+natural_below limit w = if is_numeral (without_leading_plus w) && nat_lt (digits_value 10
+    (without_leading_plus w)) limit then Some (digits_value 10 (without_leading_plus w)) else None
 
 -- an arc
 unfoldable pub arc_of : List ℕ → Option ℕ
@@ -85,7 +87,8 @@ one_at w i = if slice_index w i == 49 then 1 else 0
 
 -- the octet of the first eight digits 0 and 1, with zeros for those that are missing
 unfoldable pub octet_of : List ℕ → ℕ
-octet_of w = 128 * one_at w 0 + 64 * one_at w 1 + 32 * one_at w 2 + 16 * one_at w 3 + 8 * one_at w 4 + 4 * one_at w 5 + 2 * one_at w 6 + one_at w 7
+octet_of w = 128 * one_at w 0 + 64 * one_at w 1 + 32 * one_at w 2 + 16 * one_at w 3 + 8 * one_at w 4 + 4 * one_at w 5 + 2 * one_at
+    w 6 + one_at w 7
 
 abbrev pub is_empty : List ℕ → Bool
 is_empty [] = true
