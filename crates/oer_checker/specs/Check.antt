@@ -18,7 +18,8 @@ most = 2 ^ 64 - 1
 -- An encoding of a value is at the front of the octets, and it is as long as the verdict says; it is canonical exactly where the verdict
 -- says so. A refusal took t, and means what it means where a value is read.
 abbrev pub Tells : AsnType → List ℕ → Result Verdict ReadFault → Type 0
-Tells T octets (Ok verdict) = (b : List ℕ) × (rest : List ℕ) × (octets ≡ b ++ rest) × (verdict.octets ≡ length b) × ((v : AsnValue) × Encodes T v b)
+Tells T octets (Ok verdict) = (b : List ℕ) × (rest : List ℕ) × (octets ≡ b ++ rest) × (verdict.octets ≡ length b)
+    × ((v : AsnValue) × Encodes T v b)
     × ((verdict.canonical ≡ true) ↔ ((w : AsnValue) × IsCanonical T w b))
 Tells T octets (Err e) = (t : List ℕ) × (rest : List ℕ) × (octets ≡ t ++ rest) × (e.taken ≡ length t) × Means e.why T most t rest
 
@@ -32,7 +33,8 @@ Finds T octets result = (v : AsnValue) (b rest : List ℕ) → octets ≡ b ++ r
 
 -- Which refusal it is, and where: as the checker on lists answers.
 abbrev pub Answers : AsnType → List ℕ → Result Verdict ReadFault → Type 0
-Answers T octets (Ok verdict) = check_value T (at octets most) ≡ got verdict.canonical (at (drop verdict.octets octets) (most - verdict.octets))
+Answers T octets (Ok verdict) =
+    check_value T (at octets most) ≡ got verdict.canonical (at (drop verdict.octets octets) (most - verdict.octets))
 Answers T octets (Err e) = check_value T (at octets most) ≡ refused e.why (drop e.taken octets)
 
 -- Memory and the device are never the reason.

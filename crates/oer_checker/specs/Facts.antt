@@ -13,7 +13,8 @@ IsOne xs x = (i : ℕ) × (i < length xs) × (x ≡ get_or xs i x)
 
 -- a SEQUENCE with an extension marker, of these components and additions
 abbrev pub IsExtensible : Shape → List Field → List Addition → Type 0
-IsExtensible shape fs xs = (root : Vec Field Global) × (more : Vec Addition Global) × (shape ≡ Sequence root (Some more)) × (fs ≡ root.items) × (xs ≡ more.items)
+IsExtensible shape fs xs = (root : Vec Field Global) × (more : Vec Addition Global) × (shape ≡ Sequence root (Some more))
+    × (fs ≡ root.items) × (xs ≡ more.items)
 
 -- a CHOICE of these alternatives, and of those after its extension marker if it has one
 abbrev pub IsChoice : Shape → List Alt → Option (Vec Alt Global) → Type 0

@@ -15,8 +15,9 @@ use Rattle.oer_checker.specs.declared.fault.PartFault.TheVariants.{Read, NoSuchS
 abbrev pub Begins : AsnType → List ℕ → (List ℕ → Type 0) → Type 0
 Begins T octets P = (b : List ℕ) × (rest : List ℕ) × (octets ≡ b ++ rest) × ((v : AsnValue) × Encodes T v b) × P b
 
--- What is handed out, seen by f, is what the path leads to in the encoding at the front. Where the path leads nowhere, the fault is Absent if
--- the first step that does so names a root component or a known addition, else NoSuchStep. Read is a refusal of `check`.
+-- What is handed out, seen by f, is what the path leads to in the encoding at the front. Where the path leads nowhere,
+-- the fault is Absent if the first step that does so names a root component or a known addition, else NoSuchStep. Read
+-- is a refusal of `check`.
 abbrev pub Hands : {A : Type 0} → (A → List ℕ) → AsnType → List ℕ → List plain.Step → Result A PartFault → Type 0
 Hands f T octets path (Ok s) = Begins T octets (λ b. (U : Option AsnType) × Within (Some T) b path U (f s))
 Hands f T octets path (Err (Read e)) = Tells T octets (Err e)
@@ -36,10 +37,12 @@ abbrev pub IsMissed : {A : Type 0} → Bool → Result A PartFault → Type 0
 IsMissed known (Ok r) = ⊥
 IsMissed known (Err e) = e ≡ fault_of known
 
--- Where an encoding b is at the front, that to which the path leads in b is handed out; and where it leads nowhere, no refusal of `check` is answered.
+-- Where an encoding b is at the front, that to which the path leads in b is handed out; and where it leads nowhere, no
+-- refusal of `check` is answered.
 abbrev pub Follows : {A : Type 0} → (A → List ℕ) → AsnType → List ℕ → List plain.Step → Result A PartFault → Type 0
 Follows f T octets path result = (v : AsnValue) (b rest : List ℕ) → octets ≡ b ++ rest → Encodes T v b
-    → ((U : Option AsnType) (s : List ℕ) → Within (Some T) b path U s → IsHanded f s result) × ((known : Bool) → StopsAt (Some T) b path known → IsMissed known result)
+    → ((U : Option AsnType) (s : List ℕ) → Within (Some T) b path U s → IsHanded f s result)
+    × ((known : Bool) → StopsAt (Some T) b path known → IsMissed known result)
 
 -- the answer of the plain function
 abbrev pub Agrees : {A : Type 0} → (A → List ℕ) → Result A PartFault → Answer → Type 0
@@ -49,7 +52,8 @@ Agrees f (Err NoSuchStep) answer = answer ≡ no_such_step
 Agrees f (Err Absent) answer = answer ≡ absent_part
 
 abbrev pub AgreesWith : {A : Type 0} → (A → List ℕ) → List ℕ → List plain.Step → AsnType → Outcome Bool → Result A PartFault → Type 0
-AgreesWith f octets path T (got canonical q) result = Agrees f result (find_part (Some T) (take (length octets - length q.input) octets) path)
+AgreesWith f octets path T (got canonical q) result =
+    Agrees f result (find_part (Some T) (take (length octets - length q.input) octets) path)
 AgreesWith f octets path T (refused why rest) (Err (Read e)) = (e.why ≡ why) × (rest ≡ drop e.taken octets)
 AgreesWith f octets path T (refused why rest) _ = ⊥
 

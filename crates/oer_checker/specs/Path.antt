@@ -17,7 +17,8 @@ SpellsStep text to_chosen = text ≡ codes "v"
 abbrev pub SpellsPath : List ℕ → List Step → Type 0
 SpellsPath text [] = ⊥
 SpellsPath text (step ∷ []) = SpellsStep text step
-SpellsPath text (step ∷ next ∷ path) = (front : List ℕ) × (rest : List ℕ) × (text ≡ front ++ 46 ∷ rest) × SpellsStep front step × SpellsPath rest (next ∷ path)
+SpellsPath text (step ∷ next ∷ path) = (front : List ℕ) × (rest : List ℕ) × (text ≡ front ++ 46 ∷ rest) × SpellsStep front step
+    × SpellsPath rest (next ∷ path)
 
 abbrev pub OnePath : Type 0
 OnePath = (text : List ℕ) (p q : List Step) → SpellsPath text p → SpellsPath text q → p ≡ q

@@ -63,4 +63,5 @@ Enters V b step (Err Absent) = find_part V b (step ∷ []) ≡ absent_part
 -- the first of the alternatives that has the tag, or none
 abbrev pub IsFirst : List Alt → Tag → Option Alt → Type 0
 IsFirst xs t None = has_tag t (root_of xs no_alternatives) ≡ false
-IsFirst xs t (Some a) = (i : ℕ) × (i < length xs) × (a ≡ get_or xs i a) × (same_tag a.tag t ≡ true) × (has_tag t (root_of (take i xs) no_alternatives) ≡ false)
+IsFirst xs t (Some a) = (i : ℕ) × (i < length xs) × (a ≡ get_or xs i a) × (same_tag a.tag t ≡ true)
+    × (has_tag t (root_of (take i xs) no_alternatives) ≡ false)

@@ -33,7 +33,8 @@ IsFound v rest (Some ys) (Err e) = (e.why ≡ Device) ⊎ (e.why ≡ Memory)
 
 -- An encoding that comes next, within the limit, is read, unless the device failed or memory ran out.
 abbrev pub ReadsWhatComes : AsnType → ℕ → Option (List ℕ) → Option (List ℕ) → Result AsnValue ReadFault → Type 0
-ReadsWhatComes T n known known' result = (v : AsnValue) (b rest : List ℕ) → known ≡ Some (b ++ rest) → Encodes T v b → length b ≤ n → IsFound v rest known' result
+ReadsWhatComes T n known known' result = (v : AsnValue) (b rest : List ℕ) → known ≡ Some (b ++ rest) → Encodes T v b
+    → length b ≤ n → IsFound v rest known' result
 
 -- a value beside the number of octets that were taken
 abbrev pub counted_of : Value × ℕ → AsnValue × ℕ
@@ -58,9 +59,11 @@ abbrev pub second_of : {A : Type 0} → A × ℕ → ℕ
 second_of p = p.1
 
 -- A call reads as r does from the front of a reader, under a limit, and answers how many octets it took, too.
-pub record ReadsAndCounts {A : Type 0} (r : Reader A) (limit : ℕ) (known : Option (List ℕ)) (failed : ℕ) (result : Result (A × ℕ) ReadFault) (known' : Option (List ℕ)) (failed' : ℕ) : Type 0 where
+pub record ReadsAndCounts {A : Type 0} (r : Reader A) (limit : ℕ) (known : Option (List ℕ)) (failed : ℕ)
+    (result : Result (A × ℕ) ReadFault) (known' : Option (List ℕ)) (failed' : ℕ) : Type 0 where
   pub name : GName
   pub bound : Span
   pub within : bound.taken ≤ limit
-  pub reads : Reads r (start name known failed limit) (seen first_of result) (record { name = name; known = known'; failed = failed'; bound = bound })
+  pub reads : Reads r (start name known failed limit) (seen first_of result) (record
+      { name = name; known = known'; failed = failed'; bound = bound })
   pub count : IfOk result (λ p. second_of p ≡ bound.taken)

@@ -50,8 +50,8 @@ pub record RewritePromises (T : AsnType) (limit : ℕ) (reader reader' sink sink
 
 -- ---- two values
 
--- Two values that fit have equal canonical octets exactly where they are equal after defaults are filled in: where c are those of v, they are
--- those of w, too, exactly then. No other octets are those of v.
+-- Two values that fit have equal canonical octets exactly where they are equal after defaults are filled in: where c
+-- are those of v, they are those of w, too, exactly then. No other octets are those of v.
 abbrev pub TellsValues : AsnType → Type 0
 TellsValues T = (v w : AsnValue) (c : List ℕ) → Fits T v → Fits T w → IsCanonical T v c
     → (IsCanonical T w c ↔ (filled T v ≡ filled T w)) × ((d : List ℕ) → IsCanonical T v d → d ≡ c)

@@ -25,13 +25,15 @@ Puts T v old new n = (c : List ℕ) × IsCanonical T v c × (n ≡ length c) × 
 
 -- At Ok: m octets were taken, an encoding of a value, and that value's canonical octets, n of them, were appended.
 abbrev pub IsRewritten : AsnType → ℕ → Known → Known → Known → Known → ℕ × ℕ → Type 0
-IsRewritten T limit known known' old new (m, n) = (v : AsnValue) × (t : List ℕ) × Takes T limit known known' v t × (m ≡ length t) × Puts T v old new n
+IsRewritten T limit known known' old new (m, n) = (v : AsnValue) × (t : List ℕ) × Takes T limit known known' v t × (m ≡ length t)
+    × Puts T v old new n
 
 -- Where the value was not read nothing was written, and what `read` says of its refusals holds. Where it was read and not all of it was
 -- written, an encoding of a value was taken, and the sink is as after that refusal of `write` for this value.
 abbrev pub IsRefused : AsnType → ℕ → Known → Known → Known → RewriteFault → Known → Type 0
 IsRefused T limit known known' old (Read e) new = Told T limit known known' (Err e) × (new ≡ old)
-IsRefused T limit known known' old (Write e) new = (v : AsnValue) × (t : List ℕ) × Takes T limit known known' v t × StopsWriting T v old e new
+IsRefused T limit known known' old (Write e) new = (v : AsnValue) × (t : List ℕ) × Takes T limit known known' v t
+    × StopsWriting T v old e new
 
 -- what becomes of an encoding of v that comes next, before the octets rest
 abbrev pub BecomesCanonical : AsnType → AsnValue → List ℕ → List ℕ → Known → Known → Known → Result (ℕ × ℕ) RewriteFault → Type 0
@@ -39,13 +41,16 @@ BecomesCanonical T v b rest known' old new (Ok (m, n)) = (known' ≡ Some rest) 
 BecomesCanonical T v b rest known' old new (Err (Read e)) = (e.why ≡ Device) ⊎ (e.why ≡ Memory)
 BecomesCanonical T v b rest known' old new (Err (Write e)) = known' ≡ Some rest
 
--- An encoding that comes next, within the limit, is rewritten, unless the reader or the sink failed, memory ran out, or the octets are too many.
+-- An encoding that comes next, within the limit, is rewritten, unless the reader or the sink failed, memory ran out, or
+-- the octets are too many.
 abbrev pub RewritesWhatComes : AsnType → ℕ → Known → Known → Known → Known → Result (ℕ × ℕ) RewriteFault → Type 0
-RewritesWhatComes T limit known known' old new result = (v : AsnValue) (b rest : List ℕ) → known ≡ Some (b ++ rest) → Encodes T v b → length b ≤ limit → BecomesCanonical T v b rest known' old new result
+RewritesWhatComes T limit known known' old new result = (v : AsnValue) (b rest : List ℕ) → known ≡ Some (b ++ rest)
+    → Encodes T v b → length b ≤ limit → BecomesCanonical T v b rest known' old new result
 
 -- Where canonical octets of a value come next, these are taken and appended as they are.
 abbrev pub KeepsCanonical : AsnType → Known → Known → Known → Known → Result (ℕ × ℕ) RewriteFault → Type 0
-KeepsCanonical T known known' old new result = (v : AsnValue) (b rest : List ℕ) → known ≡ Some (b ++ rest) → IsCanonical T v b → IfOk result (λ done. (done ≡ (length b, length b)) × (known' ≡ Some rest) × Appends old new b)
+KeepsCanonical T known known' old new result = (v : AsnValue) (b rest : List ℕ) → known ≡ Some (b ++ rest) → IsCanonical T v b
+    → IfOk result (λ done. (done ≡ (length b, length b)) × (known' ≡ Some rest) × Appends old new b)
 
 -- No growth of memory was refused.
 abbrev pub NotForMemory : RewriteFault → Type 0
@@ -61,4 +66,5 @@ Follows T (Ok v) old count (Err (Write e)) new count' = Fails (canonical_octets 
 
 -- It does what `read` does, and then what `write` does.
 abbrev pub ReadsAndWrites : AsnType → ℕ → Known → ℕ → Known → ℕ → Known → ℕ → Result (ℕ × ℕ) RewriteFault → Known → ℕ → Type 0
-ReadsAndWrites T limit known failed known' failed' old count result new count' = (answer : Result AsnValue ReadFault) × ReadsFront (read_value T) limit known failed answer known' failed' × Follows T answer old count result new count'
+ReadsAndWrites T limit known failed known' failed' old count result new count' = (answer : Result AsnValue ReadFault)
+    × ReadsFront (read_value T) limit known failed answer known' failed' × Follows T answer old count result new count'
