@@ -142,33 +142,22 @@ fn whole(at: Global, text: &str) -> Result<String, Fail> {
     }
 }
 
-/// Texts that spell a well-formed type, and its whole text.
+/// That the text spells a well-formed type, and that this is its whole text.
+fn is_whole(rt: &HostRuntime, text: &str, want: &str) -> Result<(), Fail> {
+    assert_eq!(rt; whole(rt.alloc(), text)?.as_str(), want, "{text}");
+    Ok(())
+}
+
 #[test]
 fn takes(rt: HostRuntime) -> Result<(), Fail> {
     for (text, want) in [
         (" INTEGER(-5 .. MAX) -- five -- ", "INTEGER (-5..MAX)"),
         ("INTEGER (7)", "INTEGER (7)"),
-        (
-            "SEQUENCE {a BOOLEAN, b INTEGER (0..255) DEFAULT 7, c NULL OPTIONAL, ...}",
-            "SEQUENCE {a BOOLEAN, b INTEGER (0..255) DEFAULT 7, c NULL OPTIONAL, ...}",
-        ),
         ("SEQUENCE {}", "SEQUENCE {}"),
         ("SEQUENCE {...}", "SEQUENCE {...}"),
         (
             "SEQUENCE {..., a NULL OPTIONAL, b NULL}",
             "SEQUENCE {..., a NULL, b NULL}",
-        ),
-        (
-            "SEQUENCE {a ENUMERATED {b, ..., c} DEFAULT c, d BOOLEAN DEFAULT FALSE, e NULL DEFAULT NULL}",
-            "SEQUENCE {a ENUMERATED {b(0), c(1), ...} DEFAULT c, d BOOLEAN DEFAULT FALSE, e NULL DEFAULT NULL}",
-        ),
-        (
-            "SEQUENCE {a OCTET STRING DEFAULT '0aFF'H, b BIT STRING (SIZE(12)) DEFAULT 'ABC'H, c BIT STRING (SIZE(9)) DEFAULT '110000001'B}",
-            "SEQUENCE {a OCTET STRING DEFAULT '0AFF'H, b BIT STRING (SIZE(12)) DEFAULT '101010111100'B, c BIT STRING (SIZE(9)) DEFAULT '110000001'B}",
-        ),
-        (
-            "SEQUENCE {a IA5String (SIZE(3)) DEFAULT \"a\"\"b\", b OBJECT IDENTIFIER DEFAULT {1 2 840}}",
-            "SEQUENCE {a IA5String (SIZE(3)) DEFAULT \"a\"\"b\", b OBJECT IDENTIFIER DEFAULT {1 2 840}}",
         ),
         (
             "SEQUENCE SIZE(1..4) OF SEQUENCE (SIZE(0..MAX)) OF UTF8String",
@@ -184,7 +173,32 @@ fn takes(rt: HostRuntime) -> Result<(), Fail> {
             "ENUMERATED {a(5), b(128), c(-1)}",
         ),
     ] {
-        assert_eq!(rt; whole(rt.alloc(), text)?.as_str(), want, "{text}");
+        is_whole(&rt, text, want)?;
+    }
+    Ok(())
+}
+
+#[test]
+fn takes_defaults(rt: HostRuntime) -> Result<(), Fail> {
+    for (text, want) in [
+        (
+            "SEQUENCE {a BOOLEAN, b INTEGER (0..255) DEFAULT 7, c NULL OPTIONAL, ...}",
+            "SEQUENCE {a BOOLEAN, b INTEGER (0..255) DEFAULT 7, c NULL OPTIONAL, ...}",
+        ),
+        (
+            "SEQUENCE {a ENUMERATED {b, ..., c} DEFAULT c, d BOOLEAN DEFAULT FALSE, e NULL DEFAULT NULL}",
+            "SEQUENCE {a ENUMERATED {b(0), c(1), ...} DEFAULT c, d BOOLEAN DEFAULT FALSE, e NULL DEFAULT NULL}",
+        ),
+        (
+            "SEQUENCE {a OCTET STRING DEFAULT '0aFF'H, b BIT STRING (SIZE(12)) DEFAULT 'ABC'H, c BIT STRING (SIZE(9)) DEFAULT '110000001'B}",
+            "SEQUENCE {a OCTET STRING DEFAULT '0AFF'H, b BIT STRING (SIZE(12)) DEFAULT '101010111100'B, c BIT STRING (SIZE(9)) DEFAULT '110000001'B}",
+        ),
+        (
+            "SEQUENCE {a IA5String (SIZE(3)) DEFAULT \"a\"\"b\", b OBJECT IDENTIFIER DEFAULT {1 2 840}}",
+            "SEQUENCE {a IA5String (SIZE(3)) DEFAULT \"a\"\"b\", b OBJECT IDENTIFIER DEFAULT {1 2 840}}",
+        ),
+    ] {
+        is_whole(&rt, text, want)?;
     }
     Ok(())
 }
