@@ -1,5 +1,5 @@
 -- What was written beside octets, and whether it is they.
-use Rattle.std.proofs.Common.{◌≡◌, ◌↔◌, ℕ, ◌<◌, ◌≤◌, ◌^◌, List, [], ◌∷◌, ◌++◌, length, take, drop, Bool, true, false, eqb, Option, Some, None, Result, Ok, Err, IsTrue, arith, refl, sym, ap, ◌∙◌, subst, append-nil, append_assoc}
+use Rattle.std.proofs.Common.{inl, inr, ◌≡◌, ◌↔◌, ℕ, ◌<◌, ◌≤◌, ◌^◌, List, [], ◌∷◌, ◌++◌, length, take, drop, Bool, true, false, eqb, Option, Some, None, Result, Ok, Err, IsTrue, arith, refl, sym, ap, ◌∙◌, subst, append-nil, append_assoc}
 use Rattle.std.proofs.lemmas.List.{append_cancel_left, length-take, take-append-drop, take_all}
 use Rattle.std.proofs.Math.Seq.{drop-append_seam, take-append_seam}
 use Rattle.std.specs.Io.KnownBytes.{Appends}
@@ -14,8 +14,7 @@ use Rattle.oer_types.specs.Strict.{IsCanonical}
 use Rattle.oer_writer.specs.Comparing.{begins_with, beside, failures_at, held_at}
 use Rattle.oer_writer.specs.Wrote.{Stopped, Wrote}
 use Rattle.oer_writer.specs.declared.comparison.Differing.{Differing}
-use Rattle.oer_writer.specs.declared.fault.WriteFault.{WriteFault}
-use Rattle.oer_writer.specs.declared.fault.WriteFault.TheVariants.{Device, TooLong}
+use Rattle.oer_units.specs.declared.fault.SinkFault.{SinkFault}
 
 -- it tells which octets they are, and what was written
 beside_same : (o p b d : List ℕ) → beside o b ≡ beside p d → (o ≡ p) × (b ≡ d)
@@ -68,10 +67,10 @@ taken whole o p at (Some x) e =
     (λ k. absurd (cc k.0), λ same. absurd (differs _ h.0 (is_next p at x.octet [] (h.1 ∙ same ∙ sym h.2))))
 
 -- it failed only after an octet that isn't the next
-failed : (e : WriteFault) (whole o p : List ℕ) (at : ℕ) (d : Option Differing) → length o < 2 ^ 64 → Stopped 0 whole (Some (beside o [])) 0 e (held_at p at d) (failures_at d) → o ≡ whole → ⊥
-failed TooLong whole o p at d few many same = omega (arith, many, few, ap length same)
-failed (Device k) whole o p at None few (j, is, less, app, count) same = omega (arith, count)
-failed (Device k) whole o p at (Some x) few (j, is, less, app, count) same =
+failed : (e : SinkFault) (whole o p : List ℕ) (at : ℕ) (d : Option Differing) → length o < 2 ^ 64 → Stopped 0 whole (Some (beside o [])) 0 e (held_at p at d) (failures_at d) → o ≡ whole → ⊥
+failed k whole o p at d few (inr many) same = omega (arith, many, few, ap length same)
+failed k whole o p at None few (inl (j, is, less, app, count)) same = omega (arith, count)
+failed k whole o p at (Some x) few (inl (j, is, less, app, count)) same =
     let h = held_some p at x o (take j whole) (held_then o (take j whole) _ app) in
     let split : p ≡ take j whole ++ drop j whole = h.1 ∙ same ∙ sym (take-append-drop j whole) in
     let next : p ≡ take at p ++ x.octet ∷ drop j whole = split ∙ ap (λ (l : List ℕ). l ++ drop j whole) (sym h.2) ∙ append_assoc (take at p) (x.octet ∷ []) (drop j whole) in
@@ -82,13 +81,13 @@ canonical_is T v given computed limits fits o few = (λ same. subst (λ b. IsCan
 
 -- ---- what the comparison tells, by how the writer ended
 
-pub where_ok : (T : AsnType) (v : AsnValue) → CanonicalGiven → CanonicalComputed → KeepsLimits T → Fits T v → (r : Result ℕ WriteFault) (o p : List ℕ) (at : ℕ) (d : Option Differing) (s : Bool) → length o < 2 ^ 64 → is_ok r ≡ true → Wrote 0 (canonical_octets T v) (Some (beside o [])) 0 r (held_at p at d) (failures_at d) → (IsTrue s ↔ ((d ≡ None) × (length p ≤ at))) → IsTrue s ↔ IsCanonical T v o
+pub where_ok : (T : AsnType) (v : AsnValue) → CanonicalGiven → CanonicalComputed → KeepsLimits T → Fits T v → (r : Result ℕ SinkFault) (o p : List ℕ) (at : ℕ) (d : Option Differing) (s : Bool) → length o < 2 ^ 64 → is_ok r ≡ true → Wrote 0 (canonical_octets T v) (Some (beside o [])) 0 r (held_at p at d) (failures_at d) → (IsTrue s ↔ ((d ≡ None) × (length p ≤ at))) → IsTrue s ↔ IsCanonical T v o
 where_ok T v given computed limits fits (Ok n) o p at d s few ok (is, app, count) same =
     let all = taken (canonical_octets T v) o p at d (held_then o (canonical_octets T v) (held_at p at d) app) in
     let one = canonical_is T v given computed limits fits o few in
     (λ yes. one.0 (all.0 (same.0 yes)), λ h. same.1 (all.1 (one.1 h)))
 where_ok T v given computed limits fits (Err e) o p at d s few ok stopped same = absurd (cc ok)
 
-pub where_err : (T : AsnType) (v : AsnValue) → CanonicalComputed → (r : Result ℕ WriteFault) (o p : List ℕ) (at : ℕ) (d : Option Differing) (s : Bool) → length o < 2 ^ 64 → s ≡ is_ok r → is_ok r ≡ false → Wrote 0 (canonical_octets T v) (Some (beside o [])) 0 r (held_at p at d) (failures_at d) → IsTrue s ↔ IsCanonical T v o
+pub where_err : (T : AsnType) (v : AsnValue) → CanonicalComputed → (r : Result ℕ SinkFault) (o p : List ℕ) (at : ℕ) (d : Option Differing) (s : Bool) → length o < 2 ^ 64 → s ≡ is_ok r → is_ok r ≡ false → Wrote 0 (canonical_octets T v) (Some (beside o [])) 0 r (held_at p at d) (failures_at d) → IsTrue s ↔ IsCanonical T v o
 where_err T v computed (Ok n) o p at d s few is err wrote = absurd (cc err)
 where_err T v computed (Err e) o p at d s few is err stopped = rw (is) (λ yes. absurd (cc yes), λ h. absurd (failed e (canonical_octets T v) o p at d few stopped (computed T v o h)))

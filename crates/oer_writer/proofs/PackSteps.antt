@@ -2,7 +2,7 @@
 use Rattle.std.proofs.Common.{◌≡◌, ℕ, ◌+◌, List, [], ◌∷◌, ◌++◌, length, Bool, Option, Result, Ok, Err, arith, refl, sym, ap, ◌∙◌, append_assoc, append-nil, suc, ◌*◌, take, replicate, false, subst}
 use Rattle.std.specs.Result.{IsErrAnd}
 use Rattle.std.proofs.lemmas.Result.{err_from_is_err_and}
-use Rattle.oer_writer.specs.declared.fault.WriteFault.{WriteFault}
+use Rattle.oer_units.specs.declared.fault.SinkFault.{SinkFault}
 use Rattle.oer_writer.specs.declared.packer.Packer.{Packer}
 use Rattle.oer_writer.specs.Packing.{packed_from, pending, IsReady, Packs}
 use Rattle.oer_types.specs.Bits.{bit_value, packed, padded, spare_bits}
@@ -26,16 +26,16 @@ through_more start mid n bits part a rest p₀ p q old now new f f' f'' h e step
   ahead = λ t. ahead_then start mid n (pending p₀ (bits ++ t)) (pending p (a ++ (rest ++ t))) (pending q (rest ++ t)) old now new f f' f'' (subst (λ (l : List ℕ). Ahead start (pending p₀ (bits ++ t)) old f mid now f' l) (split p part a rest t e) (h.ahead t)) (step (rest ++ t)).1;
 }
 
-pub through_failed : (r : Result ℕ WriteFault) (e : WriteFault) (start mid : ℕ) (bits part a rest : List Bool) (p₀ p q q' : Packer) (old now new : Option (List ℕ)) (f f' f'' : ℕ) → Through start bits p₀ old f mid now f' p part → part ≡ a ++ rest → IsErrAnd r (λ y. y ≡ e) → Packs a p q mid now f' (Err e) new f'' → Packs bits p₀ q' start old f r new f''
+pub through_failed : (r : Result ℕ SinkFault) (e : SinkFault) (start mid : ℕ) (bits part a rest : List Bool) (p₀ p q q' : Packer) (old now new : Option (List ℕ)) (f f' f'' : ℕ) → Through start bits p₀ old f mid now f' p part → part ≡ a ++ rest → IsErrAnd r (λ y. y ≡ e) → Packs a p q mid now f' (Err e) new f'' → Packs bits p₀ q' start old f r new f''
 through_failed r e start mid bits part a rest p₀ p q q' old now new f f' f'' h is exit step =
     let k = err_from_is_err_and r exit in
-    subst (λ x. Packs bits p₀ q' start old f x new f'') (sym (k.1 ∙ ap (λ (y : WriteFault). Err y) k.2))
+    subst (λ x. Packs bits p₀ q' start old f x new f'') (sym (k.1 ∙ ap (λ (y : SinkFault). Err y) k.2))
     (λ t. ahead_stopped e start mid (pending p₀ (bits ++ t)) (pending p (a ++ (rest ++ t))) old now new f f' f'' (subst (λ (l : List ℕ). Ahead start (pending p₀ (bits ++ t)) old f mid now f' l) (split p part a rest t is) (h.ahead t)) (step (rest ++ t)))
 
 pub through_done : (start n : ℕ) (bits rest : List Bool) (p₀ p : Packer) (old now : Option (List ℕ)) (f f' : ℕ) → Through start bits p₀ old f n now f' p rest → rest ≡ [] → Packs bits p₀ p start old f (Ok n) now f'
 through_done start n bits rest p₀ p old now f f' h e = λ t. (h.ready, subst (λ (s : List Bool). Ahead start (pending p₀ (bits ++ t)) old f n now f' (pending p (s ++ t))) e (h.ahead t))
 
-pub through_last : (r : Result ℕ WriteFault) (start mid : ℕ) (bits part : List Bool) (p₀ p q : Packer) (old now new : Option (List ℕ)) (f f' f'' : ℕ) → Through start bits p₀ old f mid now f' p part → Packs part p q mid now f' r new f'' → Packs bits p₀ q start old f r new f''
+pub through_last : (r : Result ℕ SinkFault) (start mid : ℕ) (bits part : List Bool) (p₀ p q : Packer) (old now new : Option (List ℕ)) (f f' f'' : ℕ) → Through start bits p₀ old f mid now f' p part → Packs part p q mid now f' r new f'' → Packs bits p₀ q start old f r new f''
 through_last (Ok n) start mid bits part p₀ p q old now new f f' f'' h step = λ t. ((step t).0, ahead_then start mid n (pending p₀ (bits ++ t)) (pending p (part ++ t)) (pending q t) old now new f f' f'' (h.ahead t) (step t).1)
 through_last (Err e) start mid bits part p₀ p q old now new f f' f'' h step = λ t. ahead_stopped e start mid (pending p₀ (bits ++ t)) (pending p (part ++ t)) old now new f f' f'' (h.ahead t) (step t)
 
@@ -43,17 +43,17 @@ pub through_same : (start mid : ℕ) (bits part part' : List Bool) (p₀ p : Pac
 through_same start mid bits part part' p₀ p old now f f' e h = subst (λ s. Through start bits p₀ old f mid now f' p s) e h
 
 -- the last octets
-pub through_finish : (r : Result ℕ WriteFault) (start mid : ℕ) (bits : List Bool) (p₀ p : Packer) (whole : List ℕ) (old now new : Option (List ℕ)) (f f' f'' : ℕ) → whole ≡ pending p₀ bits → Through start bits p₀ old f mid now f' p [] → Wrote mid (pending p []) now f' r new f'' → Wrote start whole old f r new f''
+pub through_finish : (r : Result ℕ SinkFault) (start mid : ℕ) (bits : List Bool) (p₀ p : Packer) (whole : List ℕ) (old now new : Option (List ℕ)) (f f' f'' : ℕ) → whole ≡ pending p₀ bits → Through start bits p₀ old f mid now f' p [] → Wrote mid (pending p []) now f' r new f'' → Wrote start whole old f r new f''
 through_finish r start mid bits p₀ p whole old now new f f' f'' is h last =
     ahead_last r start mid whole (pending p []) old now new f f' f'' (subst (λ l. Ahead start l old f mid now f' (pending p [])) (ap (pending p₀) (append-nil bits) ∙ sym is) (h.ahead [])) last
 
-pub through_stopped : (r : Result ℕ WriteFault) (e : WriteFault) (start mid : ℕ) (bits part a rest : List Bool) (p₀ p q : Packer) (whole : List ℕ) (old now new : Option (List ℕ)) (f f' f'' : ℕ) → whole ≡ pending p₀ bits → Through start bits p₀ old f mid now f' p part → part ≡ a ++ rest → IsErrAnd r (λ y. y ≡ e) → Packs a p q mid now f' (Err e) new f'' → Wrote start whole old f r new f''
+pub through_stopped : (r : Result ℕ SinkFault) (e : SinkFault) (start mid : ℕ) (bits part a rest : List Bool) (p₀ p q : Packer) (whole : List ℕ) (old now new : Option (List ℕ)) (f f' f'' : ℕ) → whole ≡ pending p₀ bits → Through start bits p₀ old f mid now f' p part → part ≡ a ++ rest → IsErrAnd r (λ y. y ≡ e) → Packs a p q mid now f' (Err e) new f'' → Wrote start whole old f r new f''
 through_stopped r e start mid bits part a rest p₀ p q whole old now new f f' f'' is h split_is exit step =
     let k = err_from_is_err_and r exit in
     let t : List Bool = rest in
     let ahead : Ahead start whole old f mid now f' (pending p (part ++ [])) = subst (λ l. Ahead start l old f mid now f' (pending p (part ++ []))) (ap (pending p₀) (append-nil bits) ∙ sym is) (h.ahead []) in
     let ahead' : Ahead start whole old f mid now f' (pending p (a ++ rest)) = subst (λ (s : List Bool). Ahead start whole old f mid now f' (pending p s)) (append-nil part ∙ split_is) ahead in
-    subst (λ x. Wrote start whole old f x new f'') (sym (k.1 ∙ ap (λ (y : WriteFault). Err y) k.2)) (ahead_stopped e start mid whole (pending p (a ++ rest)) old now new f f' f'' ahead' (step rest))
+    subst (λ x. Wrote start whole old f x new f'') (sym (k.1 ∙ ap (λ (y : SinkFault). Err y) k.2)) (ahead_stopped e start mid whole (pending p (a ++ rest)) old now new f f' f'' ahead' (step rest))
 
 packed_is : (s : List Bool) → packed_from 128 0 s ≡ padded s
 unfolding padded
@@ -84,15 +84,15 @@ module _ (start : ℕ) (a b : List Bool) (p₀ : Packer) (whole : List ℕ) (old
   are : whole ≡ pending p₀ (a ++ b)
   are = is ∙ pending_new p₀ (a ++ b) full octet weight
 
-  pub first_failed : (r : Result ℕ WriteFault) (e : WriteFault) (q : Packer) (new : Option (List ℕ)) (f' : ℕ) → IsErrAnd r (λ y. y ≡ e) → Packs a p₀ q start old f (Err e) new f' → Wrote start whole old f r new f'
+  pub first_failed : (r : Result ℕ SinkFault) (e : SinkFault) (q : Packer) (new : Option (List ℕ)) (f' : ℕ) → IsErrAnd r (λ y. y ≡ e) → Packs a p₀ q start old f (Err e) new f' → Wrote start whole old f r new f'
   first_failed r e q new f' exit step = through_stopped r e start start (a ++ b) (a ++ b) a b p₀ p₀ q whole old old new f f f' are begin refl exit step
 
   module _ (mid : ℕ) (p : Packer) (now : Option (List ℕ)) (f₁ : ℕ) (one : Packs a p₀ p start old f (Ok mid) now f₁) where
     middle : Through start (a ++ b) p₀ old f mid now f₁ p b
     middle = through_more start start mid (a ++ b) (a ++ b) a b p₀ p₀ p old old now f f f₁ begin refl one
 
-    pub second_failed : (r : Result ℕ WriteFault) (e : WriteFault) (q : Packer) (new : Option (List ℕ)) (f' : ℕ) → IsErrAnd r (λ y. y ≡ e) → Packs b p q mid now f₁ (Err e) new f' → Wrote start whole old f r new f'
+    pub second_failed : (r : Result ℕ SinkFault) (e : SinkFault) (q : Packer) (new : Option (List ℕ)) (f' : ℕ) → IsErrAnd r (λ y. y ≡ e) → Packs b p q mid now f₁ (Err e) new f' → Wrote start whole old f r new f'
     second_failed r e q new f' exit step = through_stopped r e start mid (a ++ b) b b [] p₀ p q whole old now new f f₁ f' are middle (sym (append-nil b)) exit step
 
-    pub all_packed : (r : Result ℕ WriteFault) (n : ℕ) (q : Packer) (held new : Option (List ℕ)) (f₂ f' : ℕ) → Packs b p q mid now f₁ (Ok n) held f₂ → Wrote n (pending q []) held f₂ r new f' → Wrote start whole old f r new f'
+    pub all_packed : (r : Result ℕ SinkFault) (n : ℕ) (q : Packer) (held new : Option (List ℕ)) (f₂ f' : ℕ) → Packs b p q mid now f₁ (Ok n) held f₂ → Wrote n (pending q []) held f₂ r new f' → Wrote start whole old f r new f'
     all_packed r n q held new f₂ f' two last = through_finish r start n (a ++ b) p₀ q whole old held new f f₂ f' are (through_more start mid n (a ++ b) b b [] p₀ p q old now held f f₁ f₂ middle (sym (append-nil b)) two) last

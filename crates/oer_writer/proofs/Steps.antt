@@ -1,5 +1,5 @@
 -- Octets that are written one after another.
-use Rattle.std.proofs.Common.{◌≡◌, ℕ, ◌+◌, ◌≤◌, ◌^◌, List, [], ◌++◌, length, take, Option, Some, None, Result, Ok, Err, arith, refl, sym, ap, ◌∙◌, append_assoc, append-nil, subst, length-append}
+use Rattle.std.proofs.Common.{◌≡◌, ℕ, ◌+◌, ◌≤◌, ◌^◌, List, [], ◌++◌, length, take, Option, Some, None, Result, Ok, Err, arith, refl, sym, ap, ◌∙◌, inl, inr, append_assoc, append-nil, subst, length-append}
 use Rattle.std.proofs.lemmas.List.{take-append-le}
 use Rattle.std.proofs.Math.Seq.{take-append-add}
 use Rattle.std.specs.Result.{IsErrAnd, result_ok}
@@ -7,8 +7,7 @@ use Rattle.std.proofs.lemmas.Result.{err_from_is_err_and}
 use Rattle.std.specs.Io.KnownBytes.{Appends}
 use Rattle.oer_units.specs.Least.{counted, length_octets}
 use Rattle.oer_units.specs.Stream.{one_more}
-use Rattle.oer_writer.specs.declared.fault.WriteFault.{WriteFault}
-use Rattle.oer_writer.specs.declared.fault.WriteFault.TheVariants.{Device, TooLong}
+use Rattle.oer_units.specs.declared.fault.SinkFault.{SinkFault}
 use Rattle.oer_writer.specs.Wrote.{Stopped, Wrote, Measures, Ahead}
 
 pub appends_both : (a b c : Option (List ℕ)) (xs ys : List ℕ) → Appends a b xs → Appends b c ys → Appends a c (xs ++ ys)
@@ -25,32 +24,32 @@ appends_none (Some a) = sym (append-nil a)
 abbrev pub AllOf : ℕ → List ℕ → Option (List ℕ) → ℕ → ℕ → Option (List ℕ) → ℕ → Type 0
 AllOf done octets old failed n new failed' = (n ≡ done + length octets) × Appends old new octets × (failed' ≡ failed)
 
-pub stopped_more : (e : WriteFault) (done : ℕ) (a b whole : List ℕ) (old new : Option (List ℕ)) (f f' : ℕ) → whole ≡ a ++ b → Stopped done a old f e new f' → Stopped done whole old f e new f'
-stopped_more (Device k) done a b whole old new f f' e (j, is, less, app, count) =
-    (j, is, omega (arith, ap length e, length-append a b), subst (λ l. Appends old new l) (sym (ap (take j) e ∙ take-append-le j a b (omega arith))) app, count)
-stopped_more TooLong done a b whole old new f f' e h = omega (arith, ap length e, length-append a b)
+pub stopped_more : (e : SinkFault) (done : ℕ) (a b whole : List ℕ) (old new : Option (List ℕ)) (f f' : ℕ) → whole ≡ a ++ b → Stopped done a old f e new f' → Stopped done whole old f e new f'
+stopped_more x done a b whole old new f f' e (inl (j, is, less, app, count)) =
+    inl (j, is, omega (arith, ap length e, length-append a b), subst (λ l. Appends old new l) (sym (ap (take j) e ∙ take-append-le j a b (omega arith))) app, count)
+stopped_more x done a b whole old new f f' e (inr h) = inr (omega (arith, ap length e, length-append a b))
 
-pub stopped_then : (e : WriteFault) (done mid : ℕ) (a b whole : List ℕ) (old now new : Option (List ℕ)) (f f' f'' : ℕ) → whole ≡ a ++ b → AllOf done a old f mid now f' → Stopped mid b now f' e new f'' → Stopped done whole old f e new f''
-stopped_then (Device k) done mid a b whole old now new f f' f'' e (n, app, same) (j, is, less, app', count) =
-    (length a + j, omega arith, omega (arith, ap length e, length-append a b), subst (λ l. Appends old new l) (sym (ap (take (length a + j)) e ∙ take-append-add a b j)) (appends_both old now new a (take j b) app app'), count ∙ ap one_more same)
-stopped_then TooLong done mid a b whole old now new f f' f'' e (n, app, same) h = omega (arith, ap length e, length-append a b)
+pub stopped_then : (e : SinkFault) (done mid : ℕ) (a b whole : List ℕ) (old now new : Option (List ℕ)) (f f' f'' : ℕ) → whole ≡ a ++ b → AllOf done a old f mid now f' → Stopped mid b now f' e new f'' → Stopped done whole old f e new f''
+stopped_then x done mid a b whole old now new f f' f'' e (n, app, same) (inl (j, is, less, app', count)) =
+    inl (length a + j, omega arith, omega (arith, ap length e, length-append a b), subst (λ l. Appends old new l) (sym (ap (take (length a + j)) e ∙ take-append-add a b j)) (appends_both old now new a (take j b) app app'), count ∙ ap one_more same)
+stopped_then x done mid a b whole old now new f f' f'' e (n, app, same) (inr h) = inr (omega (arith, ap length e, length-append a b))
 
 -- a first call that was Ok, and a second
-pub wrote_then : (r : Result ℕ WriteFault) (done mid : ℕ) (a b whole : List ℕ) (old now new : Option (List ℕ)) (f f' f'' : ℕ) → whole ≡ a ++ b → AllOf done a old f mid now f' → Wrote mid b now f' r new f'' → Wrote done whole old f r new f''
+pub wrote_then : (r : Result ℕ SinkFault) (done mid : ℕ) (a b whole : List ℕ) (old now new : Option (List ℕ)) (f f' f'' : ℕ) → whole ≡ a ++ b → AllOf done a old f mid now f' → Wrote mid b now f' r new f'' → Wrote done whole old f r new f''
 wrote_then (Ok n) done mid a b whole old now new f f' f'' e (m, app, same) (m', app', same') =
     (omega (arith, ap length e, length-append a b), subst (λ l. Appends old new l) (sym e) (appends_both old now new a b app app'), same' ∙ same)
 wrote_then (Err x) done mid a b whole old now new f f' f'' e one two = stopped_then x done mid a b whole old now new f f' f'' e one two
 
-pub same_wrote : (r : Result ℕ WriteFault) (done : ℕ) (a whole : List ℕ) (old new : Option (List ℕ)) (f f' : ℕ) → whole ≡ a → Wrote done a old f r new f' → Wrote done whole old f r new f'
+pub same_wrote : (r : Result ℕ SinkFault) (done : ℕ) (a whole : List ℕ) (old new : Option (List ℕ)) (f f' : ℕ) → whole ≡ a → Wrote done a old f r new f' → Wrote done whole old f r new f'
 same_wrote r done a whole old new f f' e h = subst (λ l. Wrote done l old f r new f') (sym e) h
 
 -- the exit of a `?`
-pub passed : (r : Result ℕ WriteFault) (e : WriteFault) (done : ℕ) (a b whole : List ℕ) (old new : Option (List ℕ)) (f f' : ℕ) → whole ≡ a ++ b → IsErrAnd r (λ y. y ≡ e) → Stopped done a old f e new f' → Wrote done whole old f r new f'
+pub passed : (r : Result ℕ SinkFault) (e : SinkFault) (done : ℕ) (a b whole : List ℕ) (old new : Option (List ℕ)) (f f' : ℕ) → whole ≡ a ++ b → IsErrAnd r (λ y. y ≡ e) → Stopped done a old f e new f' → Wrote done whole old f r new f'
 passed r e done a b whole old new f f' is exit h =
     let p = err_from_is_err_and r exit in
-    subst (λ x. Wrote done whole old f x new f') (sym (p.1 ∙ ap (λ (y : WriteFault). Err y) p.2)) (stopped_more e done a b whole old new f f' is h)
+    subst (λ x. Wrote done whole old f x new f') (sym (p.1 ∙ ap (λ (y : SinkFault). Err y) p.2)) (stopped_more e done a b whole old new f f' is h)
 
-pub passed_then : (r : Result ℕ WriteFault) (e : WriteFault) (done mid : ℕ) (a b d whole : List ℕ) (old now new : Option (List ℕ)) (f f' f'' : ℕ) → whole ≡ a ++ (b ++ d) → IsErrAnd r (λ y. y ≡ e) → AllOf done a old f mid now f' → Stopped mid b now f' e new f'' → Wrote done whole old f r new f''
+pub passed_then : (r : Result ℕ SinkFault) (e : SinkFault) (done mid : ℕ) (a b d whole : List ℕ) (old now new : Option (List ℕ)) (f f' f'' : ℕ) → whole ≡ a ++ (b ++ d) → IsErrAnd r (λ y. y ≡ e) → AllOf done a old f mid now f' → Stopped mid b now f' e new f'' → Wrote done whole old f r new f''
 passed_then r e done mid a b d whole old now new f f' f'' is exit one h =
     passed r e done (a ++ b) d whole old new f f'' (is ∙ sym (append_assoc a b d)) exit (stopped_then e done mid a b (a ++ b) old now new f f' f'' refl one h)
 
@@ -75,16 +74,16 @@ ahead_then start mid n octets part rest old now new f f' f'' p q = record {
 pub ahead_more : (start mid n : ℕ) (octets part a rest : List ℕ) (old now new : Option (List ℕ)) (f f' f'' : ℕ) → Ahead start octets old f mid now f' part → part ≡ a ++ rest → AllOf mid a now f' n new f'' → Ahead start octets old f n new f'' rest
 ahead_more start mid n octets part a rest old now new f f' f'' p e one = ahead_then start mid n octets part rest old now new f f' f'' p (ahead_all mid n a rest part now new f' f'' e one)
 
-pub ahead_stopped : (e : WriteFault) (start mid : ℕ) (octets part : List ℕ) (old now new : Option (List ℕ)) (f f' f'' : ℕ) → Ahead start octets old f mid now f' part → Stopped mid part now f' e new f'' → Stopped start octets old f e new f''
+pub ahead_stopped : (e : SinkFault) (start mid : ℕ) (octets part : List ℕ) (old now new : Option (List ℕ)) (f f' f'' : ℕ) → Ahead start octets old f mid now f' part → Stopped mid part now f' e new f'' → Stopped start octets old f e new f''
 ahead_stopped e start mid octets part old now new f f' f'' p h = stopped_then e start mid p.front part octets old now new f f' f'' p.is (p.count, p.appended, p.same) h
 
 -- the step of the octets a failed
-pub ahead_failed : (r : Result ℕ WriteFault) (e : WriteFault) (start mid : ℕ) (octets part a rest : List ℕ) (old now new : Option (List ℕ)) (f f' f'' : ℕ) → Ahead start octets old f mid now f' part → part ≡ a ++ rest → IsErrAnd r (λ y. y ≡ e) → Stopped mid a now f' e new f'' → Wrote start octets old f r new f''
+pub ahead_failed : (r : Result ℕ SinkFault) (e : SinkFault) (start mid : ℕ) (octets part a rest : List ℕ) (old now new : Option (List ℕ)) (f f' f'' : ℕ) → Ahead start octets old f mid now f' part → part ≡ a ++ rest → IsErrAnd r (λ y. y ≡ e) → Stopped mid a now f' e new f'' → Wrote start octets old f r new f''
 ahead_failed r e start mid octets part a rest old now new f f' f'' p is exit h =
     passed_then r e start mid p.front a rest octets old now new f f' f'' (p.is ∙ ap (λ (l : List ℕ). p.front ++ l) is) exit (p.count, p.appended, p.same) h
 
 -- a last call
-pub ahead_last : (r : Result ℕ WriteFault) (start mid : ℕ) (octets part : List ℕ) (old now new : Option (List ℕ)) (f f' f'' : ℕ) → Ahead start octets old f mid now f' part → Wrote mid part now f' r new f'' → Wrote start octets old f r new f''
+pub ahead_last : (r : Result ℕ SinkFault) (start mid : ℕ) (octets part : List ℕ) (old now new : Option (List ℕ)) (f f' f'' : ℕ) → Ahead start octets old f mid now f' part → Wrote mid part now f' r new f'' → Wrote start octets old f r new f''
 ahead_last r start mid octets part old now new f f' f'' p h = wrote_then r start mid p.front part octets old now new f f' f'' p.is (p.count, p.appended, p.same) h
 
 pub ahead_done : (start n : ℕ) (octets rest : List ℕ) (old new : Option (List ℕ)) (f f' : ℕ) → Ahead start octets old f n new f' rest → rest ≡ [] → AllOf start octets old f n new f'
@@ -95,10 +94,10 @@ ahead_done start n octets rest old new f f' p e =
 -- ---- with no sink
 
 -- the number done, where nothing can fail
-pub nowhere : (r : Result ℕ WriteFault) (o : Option ℕ) (done : ℕ) (octets : List ℕ) (new : Option (List ℕ)) → o ≡ result_ok r → Wrote done octets None 0 r new 0 → Measures done octets o
+pub nowhere : (r : Result ℕ SinkFault) (o : Option ℕ) (done : ℕ) (octets : List ℕ) (new : Option (List ℕ)) → o ≡ result_ok r → Wrote done octets None 0 r new 0 → Measures done octets o
 nowhere (Ok n) o done octets new e h = subst (λ x. Measures done octets x) (sym e) h.0
-nowhere (Err (Device k)) o done octets new e (j, is, less, app, count) = absurd (omega (arith, count))
-nowhere (Err TooLong) o done octets new e h = subst (λ x. Measures done octets x) (sym e) h
+nowhere (Err x) o done octets new e (inl (j, is, less, app, count)) = absurd (omega (arith, count))
+nowhere (Err x) o done octets new e (inr h) = subst (λ x. Measures done octets x) (sym e) h
 
 -- ---- lengths
 
@@ -127,9 +126,9 @@ all_same done n a whole old new f f' e h = subst (λ l. AllOf done l old f n new
 
 -- an open type
 
-pub head_then : (r : Result ℕ WriteFault) (done mid : ℕ) (o : List ℕ) (old now new : Option (List ℕ)) (f f' f'' : ℕ) → AllOf done (length_octets (length o)) old f mid now f' → Wrote mid o now f' r new f'' → Wrote done (counted o) old f r new f''
+pub head_then : (r : Result ℕ SinkFault) (done mid : ℕ) (o : List ℕ) (old now new : Option (List ℕ)) (f f' f'' : ℕ) → AllOf done (length_octets (length o)) old f mid now f' → Wrote mid o now f' r new f'' → Wrote done (counted o) old f r new f''
 head_then r done mid o old now new f f' f'' one two = wrote_then r done mid (length_octets (length o)) o (counted o) old now new f f' f'' refl one two
 
 -- from a moment when the sink was the same
-pub from_start : (r : Result ℕ WriteFault) (done : ℕ) (o : List ℕ) (start old new : Option (List ℕ)) (f₀ f f' : ℕ) → old ≡ start → f ≡ f₀ → Wrote done o old f r new f' → Wrote done o start f₀ r new f'
+pub from_start : (r : Result ℕ SinkFault) (done : ℕ) (o : List ℕ) (start old new : Option (List ℕ)) (f₀ f f' : ℕ) → old ≡ start → f ≡ f₀ → Wrote done o old f r new f' → Wrote done o start f₀ r new f'
 from_start r done o start old new f₀ f f' e g h = subst (λ x. Wrote done o start x r new f') g (subst (λ x. Wrote done o x f r new f') e h)

@@ -1,5 +1,5 @@
 -- From the start of a value to its end, and from the computed octets to the canonical ones.
-use Rattle.std.proofs.Common.{◌≡◌, ◌↔◌, ◌⊎◌, ℕ, ◌-◌, ◌<◌, ◌≤◌, ◌^◌, List, length, take, Option, Some, None, Result, Ok, Err, arith, refl, sym, ap, ◌∙◌, subst}
+use Rattle.std.proofs.Common.{inl, inr, ◌≡◌, ◌↔◌, ◌⊎◌, ℕ, ◌-◌, ◌<◌, ◌≤◌, ◌^◌, List, length, take, Option, Some, None, Result, Ok, Err, arith, refl, sym, ap, ◌∙◌, subst}
 use Rattle.std.specs.Io.KnownBytes.{Appends}
 use Rattle.oer_units.specs.Stream.{one_more}
 use Rattle.oer_types.specs.AsnType.{AsnType}
@@ -10,15 +10,18 @@ use Rattle.oer_types.specs.Fits.{Fits}
 use Rattle.oer_types.specs.Laws.{CanonicalComputed, CanonicalGiven}
 use Rattle.oer_types.specs.ShapeView.{type_of}
 use Rattle.oer_types.specs.declared.shape.Shape.{Shape}
+use Rattle.oer_units.specs.declared.fault.SinkFault.{SinkFault}
 use Rattle.oer_writer.specs.declared.fault.WriteFault.{WriteFault}
 use Rattle.oer_writer.specs.declared.fault.WriteFault.TheVariants.{Device, TooLong}
 use Rattle.oer_writer.specs.Write.{Counts, HasLength, IsTooLong, TellsFailure, TellsLength, Writes, WritesAll, WritesCanonical}
 use Rattle.oer_writer.specs.Wrote.{Wrote}
 
-pub from_nothing : (r : Result ℕ WriteFault) (octets : List ℕ) (old new : Option (List ℕ)) (f f' : ℕ) → length octets < 2 ^ 64 → Wrote 0 octets old f r new f' → Writes octets old f r new f'
-from_nothing (Ok n) octets old new f f' few (is, app, same) = let e : n ≡ length octets = omega (arith, is) in (e, omega (arith, e, few), app, same)
-from_nothing (Err (Device k)) octets old new f f' few (j, is, less, app, count) = let e : j ≡ k = omega (arith, is) in (few, omega (arith, is, less), subst (λ n. Appends old new (take n octets)) e app, count)
-from_nothing (Err TooLong) octets old new f f' few h = absurd (omega (arith, h, few))
+pub from_ok : (n : ℕ) (octets : List ℕ) (old new : Option (List ℕ)) (f f' : ℕ) → length octets < 2 ^ 64 → Wrote 0 octets old f (Ok n) new f' → Writes octets old f (Ok n) new f'
+from_ok n octets old new f f' few (is, app, same) = let e : n ≡ length octets = omega (arith, is) in (e, omega (arith, e, few), app, same)
+
+pub from_err : (x : SinkFault) (octets : List ℕ) (old new : Option (List ℕ)) (f f' : ℕ) → length octets < 2 ^ 64 → Wrote 0 octets old f (Err x) new f' → Writes octets old f (Err (Device x.written)) new f'
+from_err x octets old new f f' few (inl (j, is, less, app, count)) = let e : j ≡ x.written = omega (arith, is) in (few, omega (arith, is, less), subst (λ n. Appends old new (take n octets)) e app, count)
+from_err x octets old new f f' few (inr h) = absurd (omega (arith, h, few))
 
 -- ---- of the shape of a schema
 

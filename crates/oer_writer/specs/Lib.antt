@@ -3,3 +3,4 @@ pub mod Parts
 pub mod Packing
 pub mod Write
 pub mod Comparing
+pub mod Gathering

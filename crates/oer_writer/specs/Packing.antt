@@ -1,7 +1,7 @@
 -- Bits on their way into octets.
 use Rattle.std.specs.Prelude.{ℕ, ◌+◌, ◌*◌, ◌/◌, ◌<◌, ◌≤◌, List, [], ◌∷◌, ◌++◌, take, Bool, eqb, if◌then◌else◌, Option, Result, MatchResult}
 use Rattle.oer_types.specs.Bits.{bit_value}
-use Rattle.oer_writer.specs.declared.fault.WriteFault.{WriteFault}
+use Rattle.oer_units.specs.declared.fault.SinkFault.{SinkFault}
 use Rattle.oer_writer.specs.declared.packer.Packer.{Packer}
 use Rattle.oer_writer.specs.Wrote.{Ahead, Stopped}
 
@@ -23,5 +23,5 @@ abbrev pub IsReady : Packer → Type 0
 IsReady p = HasRoom p × (p.full < 32)
 
 -- The bits were taken: of the octets with any bits after them all but those still pending were written.
-abbrev pub Packs : List Bool → Packer → Packer → ℕ → Option (List ℕ) → ℕ → Result ℕ WriteFault → Option (List ℕ) → ℕ → Type 0
+abbrev pub Packs : List Bool → Packer → Packer → ℕ → Option (List ℕ) → ℕ → Result ℕ SinkFault → Option (List ℕ) → ℕ → Type 0
 Packs s p p' done old failed result new failed' = (t : List Bool) → MatchResult result (λ n. IsReady p' × Ahead done (pending p (s ++ t)) old failed n new failed' (pending p' t)) (λ e. Stopped done (pending p (s ++ t)) old failed e new failed')

@@ -25,7 +25,9 @@ pub fn length(schema: &Schema, value: &Value) -> Option<u64>
 }
 
 /// Writes the canonical octets (X.696, Canonical-OER) of a value that fits the type, straight to
-/// the sink, and answers how many they are. It takes no memory, and flushes nothing.
+/// the sink, and answers how many they are. It takes no memory, writes nothing of a value that is
+/// too long, and flushes nothing. A value of at most 512 octets goes to the sink in one push, if the
+/// sink takes all of them; a longer one part by part.
 ///
 /// `TooLong` comes exactly where `length` is None: nothing is written then. `Device` comes where a
 /// call of the sink fails, and elsewhere only where the sink's count of failures stands at

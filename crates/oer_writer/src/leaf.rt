@@ -11,24 +11,23 @@ ghost use Rattle.oer_types.specs.ValueView.{value_of};
 ghost use Rattle.oer_writer.specs.Parts.{leaf_octets};
 ghost use Rattle.oer_writer.specs.Wrote.{Wrote};
 
-use crate::fault::WriteFault;
 use crate::slice::{Nowhere, is_fixed, put_count, put_counted, put_slice, put_string, settle};
 use oer_types::{Bits, Form, Shape, Size, Value};
 use oer_units::{
-    Sink, Tag, Width, enumerated_len, put_enumerated, put_signed_counted, put_subidentifier,
-    put_tag, put_unsigned_counted, signed_counted_len, subidentifier_len, tag_len,
-    unsigned_counted_len,
+    Sink, SinkFault, Tag, Width, enumerated_len, put_enumerated, put_signed_counted,
+    put_subidentifier, put_tag, put_unsigned_counted, signed_counted_len, subidentifier_len,
+    tag_len, unsigned_counted_len,
 };
 
 // Writes a tag (X.696, 8.7).
-pub(crate) fn put_tag_octets<W: Sink>(tag: Tag, done: u64, w: &mut W) -> Result<u64, WriteFault>
+pub(crate) fn put_tag_octets<W: Sink>(tag: Tag, done: u64, w: &mut W) -> Result<u64, SinkFault>
     ensures { Wrote done (tag_octets tag) (W.contents w.old) (W.failed w.old) result (W.contents w.new) (W.failed w.new) }
 {
     settle(done, tag_len(tag), put_tag(tag, w))
 }
 
 // Writes how many elements there are (X.696, 17.2).
-pub(crate) fn put_quantity<W: Sink>(count: usize, done: u64, w: &mut W) -> Result<u64, WriteFault>
+pub(crate) fn put_quantity<W: Sink>(count: usize, done: u64, w: &mut W) -> Result<u64, SinkFault>
     ensures { Wrote done (counted (unsigned_octets count)) (W.contents w.old) (W.failed w.old) result (W.contents w.new) (W.failed w.new) }
 {
     let count = count as i128;
@@ -40,21 +39,21 @@ pub(crate) fn put_quantity<W: Sink>(count: usize, done: u64, w: &mut W) -> Resul
 }
 
 // Writes a BOOLEAN (X.696, 9).
-pub(crate) fn put_boolean<W: Sink>(value: bool, done: u64, w: &mut W) -> Result<u64, WriteFault>
+pub(crate) fn put_boolean<W: Sink>(value: bool, done: u64, w: &mut W) -> Result<u64, SinkFault>
     ensures { Wrote done ((if value then 255 else 0) ∷ []) (W.contents w.old) (W.failed w.old) result (W.contents w.new) (W.failed w.new) }
 {
     put_slice(&[if value { 255 } else { 0 }], done, w)
 }
 
 // Writes an ENUMERATED (X.696, 11).
-pub(crate) fn put_item<W: Sink>(value: i64, done: u64, w: &mut W) -> Result<u64, WriteFault>
+pub(crate) fn put_item<W: Sink>(value: i64, done: u64, w: &mut W) -> Result<u64, SinkFault>
     ensures { Wrote done (enumerated_octets value) (W.contents w.old) (W.failed w.old) result (W.contents w.new) (W.failed w.new) }
 {
     settle(done, enumerated_len(value), put_enumerated(value, w))
 }
 
 // Writes the lowest octets of a number in two's complement.
-fn put_low<W: Sink>(value: i128, count: usize, done: u64, w: &mut W) -> Result<u64, WriteFault>
+fn put_low<W: Sink>(value: i128, count: usize, done: u64, w: &mut W) -> Result<u64, SinkFault>
     requires { count ≤ 8 }
     ensures { Wrote done (big_endian count (cast_unsigned w128 value)) (W.contents w.old) (W.failed w.old) result (W.contents w.new) (W.failed w.new) }
 {
@@ -63,7 +62,7 @@ fn put_low<W: Sink>(value: i128, count: usize, done: u64, w: &mut W) -> Result<u
 }
 
 // Writes a number in the octets of the width (X.696, 10.3 and 10.4).
-fn put_fixed<W: Sink>(value: i128, width: Width, done: u64, w: &mut W) -> Result<u64, WriteFault>
+fn put_fixed<W: Sink>(value: i128, width: Width, done: u64, w: &mut W) -> Result<u64, SinkFault>
     ensures { Wrote done (fixed_signed_octets (octets_of_width width) value) (W.contents w.old) (W.failed w.old) result (W.contents w.new) (W.failed w.new) }
 {
     match width {
@@ -81,7 +80,7 @@ pub(crate) fn put_integer<W: Sink>(
     value: i128,
     done: u64,
     w: &mut W,
-) -> Result<u64, WriteFault>
+) -> Result<u64, SinkFault>
     ensures { Wrote done (integer_octets (form_of low high) value) (W.contents w.old) (W.failed w.old) result (W.contents w.new) (W.failed w.new) }
 {
     match Form::of_bounds(low, high) {
@@ -119,7 +118,7 @@ pub(crate) fn put_bits_head<W: Sink>(
     unused: u8,
     done: u64,
     w: &mut W,
-) -> Result<u64, WriteFault>
+) -> Result<u64, SinkFault>
     ensures { Wrote done (length_octets length ++ unused ∷ []) (W.contents w.old) (W.failed w.old) result (W.contents w.new) (W.failed w.new) }
 {
     let done = put_count(length, done, w)?;
@@ -132,7 +131,7 @@ pub(crate) fn put_bits<W: Sink>(
     bits: &Bits,
     done: u64,
     w: &mut W,
-) -> Result<u64, WriteFault>
+) -> Result<u64, SinkFault>
     ensures { Wrote done (bit_octets (fixed size) bits.now) (W.contents w.old) (W.failed w.old) result (W.contents w.new) (W.failed w.new) }
 {
     let octets = bits.octets();
@@ -161,7 +160,7 @@ fn fill_upper(n: u128, buffer: &mut [u8; 20]) -> usize
 }
 
 // Writes the subidentifier of the first two arcs (X.690, 8.19.4).
-fn put_first<W: Sink>(first: u128, second: u128, done: u64, w: &mut W) -> Result<u64, WriteFault>
+fn put_first<W: Sink>(first: u128, second: u128, done: u64, w: &mut W) -> Result<u64, SinkFault>
     ensures { Wrote done (base128_octets (40 * first + second)) (W.contents w.old) (W.failed w.old) result (W.contents w.new) (W.failed w.new) }
 {
     let low = 40 * (first % 128) + second % 128;
@@ -173,14 +172,14 @@ fn put_first<W: Sink>(first: u128, second: u128, done: u64, w: &mut W) -> Result
 }
 
 // Writes a subidentifier (X.690, 8.19.2).
-fn put_arc<W: Sink>(arc: u128, done: u64, w: &mut W) -> Result<u64, WriteFault>
+fn put_arc<W: Sink>(arc: u128, done: u64, w: &mut W) -> Result<u64, SinkFault>
     ensures { Wrote done (base128_octets arc) (W.contents w.old) (W.failed w.old) result (W.contents w.new) (W.failed w.new) }
 {
     settle(done, subidentifier_len(arc), put_subidentifier(arc, w))
 }
 
 // Writes subidentifiers, one after another.
-fn put_arcs<W: Sink>(arcs: &[u128], done: u64, w: &mut W) -> Result<u64, WriteFault>
+fn put_arcs<W: Sink>(arcs: &[u128], done: u64, w: &mut W) -> Result<u64, SinkFault>
     ensures { Wrote done (subidentifier_octets arcs.now) (W.contents w.old) (W.failed w.old) result (W.contents w.new) (W.failed w.new) }
 {
     let mut done = done;
@@ -191,7 +190,7 @@ fn put_arcs<W: Sink>(arcs: &[u128], done: u64, w: &mut W) -> Result<u64, WriteFa
 }
 
 // Writes the contents of an OBJECT IDENTIFIER.
-fn put_all_arcs<W: Sink>(arcs: &[u128], done: u64, w: &mut W) -> Result<u64, WriteFault>
+fn put_all_arcs<W: Sink>(arcs: &[u128], done: u64, w: &mut W) -> Result<u64, SinkFault>
     ensures { Wrote done (object_id_octets arcs.now) (W.contents w.old) (W.failed w.old) result (W.contents w.new) (W.failed w.new) }
 {
     let Some((first, later)) = arcs.split_first() else {
@@ -205,7 +204,7 @@ fn put_all_arcs<W: Sink>(arcs: &[u128], done: u64, w: &mut W) -> Result<u64, Wri
 }
 
 // Writes an OBJECT IDENTIFIER (X.696, 21).
-pub(crate) fn put_object_id<W: Sink>(arcs: &[u128], done: u64, w: &mut W) -> Result<u64, WriteFault>
+pub(crate) fn put_object_id<W: Sink>(arcs: &[u128], done: u64, w: &mut W) -> Result<u64, SinkFault>
     ensures { Wrote done (counted (object_id_octets arcs.now)) (W.contents w.old) (W.failed w.old) result (W.contents w.new) (W.failed w.new) }
 {
     let length = put_all_arcs(arcs, 0, &mut Nowhere)?;
@@ -214,7 +213,7 @@ pub(crate) fn put_object_id<W: Sink>(arcs: &[u128], done: u64, w: &mut W) -> Res
 }
 
 // Writes an alternative that the type doesn't know (X.696, 20).
-fn put_foreign<W: Sink>(tag: Tag, octets: &[u8], done: u64, w: &mut W) -> Result<u64, WriteFault>
+fn put_foreign<W: Sink>(tag: Tag, octets: &[u8], done: u64, w: &mut W) -> Result<u64, SinkFault>
     ensures { Wrote done (tag_octets tag ++ counted octets.now) (W.contents w.old) (W.failed w.old) result (W.contents w.new) (W.failed w.new) }
 {
     let done = put_tag_octets(tag, done, w)?;
@@ -228,7 +227,7 @@ pub(crate) fn put_leaf<W: Sink>(
     value: &Value,
     done: u64,
     w: &mut W,
-) -> Result<u64, WriteFault>
+) -> Result<u64, SinkFault>
     ensures { Wrote done (leaf_octets (type_of shape.now) (value_of value.now)) (W.contents w.old) (W.failed w.old) result (W.contents w.new) (W.failed w.new) }
 {
     match (shape, value) {

@@ -11,6 +11,7 @@ pub mod parts;
 mod presence;
 mod put;
 mod slice;
+mod small;
 mod whole;
 
 pub use calls::{length, write};

@@ -3,9 +3,8 @@ ghost use Rattle.std.specs.Prelude.{◌≡◌, ◌<◌, ◌≤◌, ◌∷◌, []
 ghost use Rattle.oer_writer.specs.Packing.{pending, HasRoom, IsReady, Packs};
 ghost use Rattle.oer_writer.specs.Wrote.{Wrote};
 
-use crate::fault::WriteFault;
 use crate::slice::put_slice;
-use oer_units::Sink;
+use oer_units::{Sink, SinkFault};
 
 // Octets that wait, the octet that is begun, and what its next bit is worth.
 #[derive(Drop)]
@@ -51,12 +50,7 @@ impl Packer {
     }
 
     // Takes a bit. The octets go to the sink where no further one can wait.
-    pub(crate) fn put<W: Sink>(
-        &mut self,
-        bit: bool,
-        done: u64,
-        w: &mut W,
-    ) -> Result<u64, WriteFault>
+    pub(crate) fn put<W: Sink>(&mut self, bit: bool, done: u64, w: &mut W) -> Result<u64, SinkFault>
         requires { IsReady self.old }
         ensures { Packs (bit ∷ []) self.old self.new done (W.contents w.old) (W.failed w.old) result (W.contents w.new) (W.failed w.new) }
     {
@@ -69,7 +63,7 @@ impl Packer {
     }
 
     // Writes the octets that wait, the last one with zeros at its end.
-    pub(crate) fn finish<W: Sink>(self, done: u64, w: &mut W) -> Result<u64, WriteFault>
+    pub(crate) fn finish<W: Sink>(self, done: u64, w: &mut W) -> Result<u64, SinkFault>
         requires { IsReady self }
         ensures { Wrote done (pending self []) (W.contents w.old) (W.failed w.old) result (W.contents w.new) (W.failed w.new) }
     {

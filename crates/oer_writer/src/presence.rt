@@ -8,12 +8,11 @@ ghost use Rattle.oer_writer.specs.Packing.{IsReady, Packs};
 ghost use Rattle.oer_writer.specs.Parts.{field_bits, first_bits, kept_place, known_bits, place_bit};
 ghost use Rattle.oer_writer.specs.Wrote.{Wrote};
 
-use crate::fault::WriteFault;
 use crate::leaf::{put_bits_head, unused_bits};
 use crate::packer::Packer;
 use crate::slice::put_counted;
 use oer_types::{Addition, Field, Need, Unknown, Value, same_filled_at};
-use oer_units::Sink;
+use oer_units::{Sink, SinkFault};
 
 // The component, where it is there and isn't equal to its default after both are filled.
 pub(crate) fn kept<'a>(field: &Field, place: &'a Option<Value>) -> Option<&'a Value>
@@ -41,7 +40,7 @@ fn put_place_bit<W: Sink>(
     packer: &mut Packer,
     done: u64,
     w: &mut W,
-) -> Result<u64, WriteFault>
+) -> Result<u64, SinkFault>
     requires { IsReady packer.old }
     ensures { Packs (place_bit (need_of field.now.need) (kept_place (need_of field.now.need) (type_of field.now.shape) (option_map value_of place.now))) packer.old packer.new done (W.contents w.old) (W.failed w.old) result (W.contents w.new) (W.failed w.new) }
 {
@@ -60,7 +59,7 @@ pub(crate) fn put_root_bits<W: Sink>(
     packer: &mut Packer,
     done: u64,
     w: &mut W,
-) -> Result<u64, WriteFault>
+) -> Result<u64, SinkFault>
     requires { IsReady packer.old }
     ensures { Packs (field_bits (fields_of fields.now) (places_of places.now)) packer.old packer.new done (W.contents w.old) (W.failed w.old) result (W.contents w.new) (W.failed w.new) }
 {
@@ -83,7 +82,7 @@ pub(crate) fn put_known_bits<W: Sink>(
     packer: &mut Packer,
     done: u64,
     w: &mut W,
-) -> Result<u64, WriteFault>
+) -> Result<u64, SinkFault>
     requires { IsReady packer.old }
     ensures { Packs (known_bits (additions_of additions.now) (places_of places.now)) packer.old packer.new done (W.contents w.old) (W.failed w.old) result (W.contents w.new) (W.failed w.new) }
 {
@@ -105,7 +104,7 @@ fn put_mark<W: Sink>(
     packer: &mut Packer,
     done: u64,
     w: &mut W,
-) -> Result<u64, WriteFault>
+) -> Result<u64, SinkFault>
     requires { IsReady packer.old }
     ensures { Packs (replicate count false ++ true ∷ []) packer.old packer.new done (W.contents w.old) (W.failed w.old) result (W.contents w.new) (W.failed w.new) }
 {
@@ -123,7 +122,7 @@ pub(crate) fn put_unknown_bits<W: Sink>(
     packer: &mut Packer,
     done: u64,
     w: &mut W,
-) -> Result<u64, WriteFault>
+) -> Result<u64, SinkFault>
     requires { IsReady packer.old }
     ensures { Packs (unknown_marks next (map unknown_of unknown.now)) packer.old packer.new done (W.contents w.old) (W.failed w.old) result (W.contents w.new) (W.failed w.new) }
 {
@@ -158,7 +157,7 @@ fn put_first_bit<W: Sink>(
     packer: &mut Packer,
     done: u64,
     w: &mut W,
-) -> Result<u64, WriteFault>
+) -> Result<u64, SinkFault>
     requires { IsReady packer.old }
     ensures { Packs (first_bits first) packer.old packer.new done (W.contents w.old) (W.failed w.old) result (W.contents w.new) (W.failed w.new) }
 {
@@ -175,7 +174,7 @@ pub(crate) fn put_preamble<W: Sink>(
     places: &[Option<Value>],
     done: u64,
     w: &mut W,
-) -> Result<u64, WriteFault>
+) -> Result<u64, SinkFault>
     ensures { Wrote done (padded (first_bits first ++ field_bits (fields_of fields.now) (places_of places.now))) (W.contents w.old) (W.failed w.old) result (W.contents w.new) (W.failed w.new) }
 {
     let mut packer = Packer::new();
@@ -191,7 +190,7 @@ fn put_marks<W: Sink>(
     unknown: &[Unknown],
     done: u64,
     w: &mut W,
-) -> Result<u64, WriteFault>
+) -> Result<u64, SinkFault>
     ensures { Wrote done (padded (known_bits (additions_of additions.now) (places_of added.now) ++ unknown_marks (length additions.now) (map unknown_of unknown.now))) (W.contents w.old) (W.failed w.old) result (W.contents w.new) (W.failed w.new) }
 {
     let mut packer = Packer::new();
@@ -207,13 +206,13 @@ pub(crate) fn put_bitmap<W: Sink>(
     unknown: &[Unknown],
     done: u64,
     w: &mut W,
-) -> Result<u64, WriteFault>
+) -> Result<u64, SinkFault>
     ensures { Wrote done (bitmap_octets (known_bits (additions_of additions.now) (places_of added.now) ++ unknown_marks (length additions.now) (map unknown_of unknown.now))) (W.contents w.old) (W.failed w.old) result (W.contents w.new) (W.failed w.new) }
 {
     let known = additions.len().min(added.len()) as u128;
     let count = known + count_unknown_bits(additions.len(), unknown);
     let Ok(length) = u64::try_from((count + 7) / 8 + 1) else {
-        return Err(WriteFault::TooLong);
+        return Err(SinkFault { written: done });
     };
     let done = put_bits_head(length, unused_bits(count), done, w)?;
     put_marks(additions, added, unknown, done, w)
@@ -236,7 +235,7 @@ pub(crate) fn put_unknown<W: Sink>(
     unknown: &[Unknown],
     done: u64,
     w: &mut W,
-) -> Result<u64, WriteFault>
+) -> Result<u64, SinkFault>
     ensures { Wrote done (unknown_octets (map unknown_of unknown.now)) (W.contents w.old) (W.failed w.old) result (W.contents w.new) (W.failed w.new) }
 {
     let mut done = done;

@@ -7,13 +7,12 @@ ghost use Rattle.oer_types.specs.ValueView.{places_of, value_of, values_of};
 ghost use Rattle.oer_writer.specs.Parts.{chosen_octets, counted_place, field_octets, kept_place, known_octets, place_octets_of, values_octets};
 ghost use Rattle.oer_writer.specs.Wrote.{Wrote, WroteHead};
 
-use crate::fault::WriteFault;
 use crate::leaf::{put_leaf, put_quantity, put_tag_octets};
 use crate::measure::measured;
 use crate::presence::{is_extended, kept, put_bitmap, put_preamble, put_unknown};
 use crate::slice::put_count;
 use oer_types::{Addition, Alt, Field, Shape, Unknown, Value, contains_tag, is_same_tag};
-use oer_units::{Sink, Tag};
+use oer_units::{Sink, SinkFault, Tag};
 
 // Writes the length of a value in an open type.
 fn put_open_head<W: Sink>(
@@ -21,11 +20,11 @@ fn put_open_head<W: Sink>(
     value: &Value,
     done: u64,
     w: &mut W,
-) -> Result<u64, WriteFault>
+) -> Result<u64, SinkFault>
     ensures { WroteHead done (canonical_octets (type_of shape.now) (value_of value.now)) (W.contents w.old) (W.failed w.old) result (W.contents w.new) (W.failed w.new) }
 {
     let Some(length) = measured(shape, value, 0) else {
-        return Err(WriteFault::TooLong);
+        return Err(SinkFault { written: done });
     };
     put_count(length, done, w)
 }
@@ -38,7 +37,7 @@ pub(crate) fn put<W: Sink>(
     value: &Value,
     done: u64,
     w: &mut W,
-) -> Result<u64, WriteFault>
+) -> Result<u64, SinkFault>
     ensures { Wrote done (canonical_octets (type_of shape.now) (value_of value.now)) (W.contents w.old) (W.failed w.old) result (W.contents w.new) (W.failed w.new) }
 {
     match (shape, value) {
@@ -94,7 +93,7 @@ fn put_fields<W: Sink>(
     places: &[Option<Value>],
     done: u64,
     w: &mut W,
-) -> Result<u64, WriteFault>
+) -> Result<u64, SinkFault>
     ensures { Wrote done (field_octets (fields_of fields.now) (places_of places.now)) (W.contents w.old) (W.failed w.old) result (W.contents w.new) (W.failed w.new) }
 {
     let mut done = done;
@@ -115,7 +114,7 @@ fn put_field<W: Sink>(
     place: &Option<Value>,
     done: u64,
     w: &mut W,
-) -> Result<u64, WriteFault>
+) -> Result<u64, SinkFault>
     ensures { Wrote done (place_octets_of (type_of field.now.shape) (kept_place (need_of field.now.need) (type_of field.now.shape) (option_map value_of place.now))) (W.contents w.old) (W.failed w.old) result (W.contents w.new) (W.failed w.new) }
 {
     match kept(field, place) {
@@ -131,7 +130,7 @@ fn put_additions<W: Sink>(
     places: &[Option<Value>],
     done: u64,
     w: &mut W,
-) -> Result<u64, WriteFault>
+) -> Result<u64, SinkFault>
     ensures { Wrote done (known_octets (additions_of additions.now) (places_of places.now)) (W.contents w.old) (W.failed w.old) result (W.contents w.new) (W.failed w.new) }
 {
     let mut done = done;
@@ -152,7 +151,7 @@ fn put_addition<W: Sink>(
     place: &Option<Value>,
     done: u64,
     w: &mut W,
-) -> Result<u64, WriteFault>
+) -> Result<u64, SinkFault>
     ensures { Wrote done (counted_place (type_of addition.now.shape) (option_map value_of place.now)) (W.contents w.old) (W.failed w.old) result (W.contents w.new) (W.failed w.new) }
 {
     match place {
@@ -170,7 +169,7 @@ fn put_values<W: Sink>(
     values: &[Value],
     done: u64,
     w: &mut W,
-) -> Result<u64, WriteFault>
+) -> Result<u64, SinkFault>
     ensures { Wrote done (values_octets (type_of item.now) (values_of values.now)) (W.contents w.old) (W.failed w.old) result (W.contents w.new) (W.failed w.new) }
 {
     let mut done = done;
@@ -188,7 +187,7 @@ fn put_alternative<W: Sink>(
     value: &Value,
     done: u64,
     w: &mut W,
-) -> Result<u64, WriteFault>
+) -> Result<u64, SinkFault>
     ensures { Wrote done (chosen_octets (root_of alternatives.now no_alternatives) tag (value_of value.now)) (W.contents w.old) (W.failed w.old) result (W.contents w.new) (W.failed w.new) }
 {
     for alternative in alternatives {
@@ -207,7 +206,7 @@ fn put_later<W: Sink>(
     value: &Value,
     done: u64,
     w: &mut W,
-) -> Result<u64, WriteFault>
+) -> Result<u64, SinkFault>
     ensures { Wrote done (chosen_octets (later_of alternatives.now) tag (value_of value.now)) (W.contents w.old) (W.failed w.old) result (W.contents w.new) (W.failed w.new) }
 {
     for alternative in alternatives {

@@ -8,7 +8,6 @@ ghost use Rattle.oer_types.specs.Canonical.{string_octets};
 ghost use Rattle.oer_types.specs.Constraints.{fixed};
 ghost use Rattle.oer_writer.specs.Wrote.{Wrote, Settles};
 
-use crate::fault::WriteFault;
 use oer_types::Size;
 use oer_units::{Sink, SinkFault, length_len, put_length, put_octets};
 use std::io;
@@ -30,34 +29,34 @@ impl Sink for Nowhere {
 }
 
 // What a unit of `count` octets comes to that was put after `done` octets.
-pub(crate) fn settle(done: u64, count: u64, put: Result<(), SinkFault>) -> Result<u64, WriteFault>
+pub(crate) fn settle(done: u64, count: u64, put: Result<(), SinkFault>) -> Result<u64, SinkFault>
     ensures { Settles done count put result }
 {
     match put {
-        Ok(()) => done.checked_add(count).ok_or(WriteFault::TooLong),
+        Ok(()) => done.checked_add(count).ok_or(SinkFault { written: done }),
         Err(fault) => match done.checked_add(fault.written) {
-            Some(written) => Err(WriteFault::Device { written }),
-            None => Err(WriteFault::TooLong),
+            Some(written) => Err(SinkFault { written }),
+            None => Err(SinkFault { written: done }),
         },
     }
 }
 
 // Writes the octets, in one push where the sink takes them.
-pub(crate) fn put_slice<W: Sink>(octets: &[u8], done: u64, w: &mut W) -> Result<u64, WriteFault>
+pub(crate) fn put_slice<W: Sink>(octets: &[u8], done: u64, w: &mut W) -> Result<u64, SinkFault>
     ensures { Wrote done octets.now (W.contents w.old) (W.failed w.old) result (W.contents w.new) (W.failed w.new) }
 {
     settle(done, octets.len() as u64, put_octets(octets, w))
 }
 
 // Writes a length determinant (X.696, 8.6).
-pub(crate) fn put_count<W: Sink>(n: u64, done: u64, w: &mut W) -> Result<u64, WriteFault>
+pub(crate) fn put_count<W: Sink>(n: u64, done: u64, w: &mut W) -> Result<u64, SinkFault>
     ensures { Wrote done (length_octets n) (W.contents w.old) (W.failed w.old) result (W.contents w.new) (W.failed w.new) }
 {
     settle(done, length_len(n), put_length(n, w))
 }
 
 // Writes the octets after their length.
-pub(crate) fn put_counted<W: Sink>(octets: &[u8], done: u64, w: &mut W) -> Result<u64, WriteFault>
+pub(crate) fn put_counted<W: Sink>(octets: &[u8], done: u64, w: &mut W) -> Result<u64, SinkFault>
     ensures { Wrote done (counted octets.now) (W.contents w.old) (W.failed w.old) result (W.contents w.new) (W.failed w.new) }
 {
     let done = put_count(octets.len() as u64, done, w)?;
@@ -77,7 +76,7 @@ pub(crate) fn put_string<W: Sink>(
     octets: &[u8],
     done: u64,
     w: &mut W,
-) -> Result<u64, WriteFault>
+) -> Result<u64, SinkFault>
     ensures { Wrote done (string_octets (fixed size) octets.now) (W.contents w.old) (W.failed w.old) result (W.contents w.new) (W.failed w.new) }
 {
     if is_fixed(size) {

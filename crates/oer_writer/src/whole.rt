@@ -1,4 +1,5 @@
 //! A value from its first octet to its last.
+ghost use Rattle.std.specs.Prelude.{◌<◌, ◌^◌, length};
 ghost use Rattle.oer_types.specs.Canonical.{canonical_octets};
 ghost use Rattle.oer_types.specs.ShapeView.{type_of};
 ghost use Rattle.oer_types.specs.ValueView.{value_of};
@@ -7,6 +8,8 @@ ghost use Rattle.oer_writer.specs.Write.{Counts, Writes};
 use crate::fault::WriteFault;
 use crate::measure::measured;
 use crate::put::put;
+use crate::slice::put_slice;
+use crate::small::Small;
 use oer_types::{Shape, Value};
 use oer_units::Sink;
 
@@ -17,12 +20,41 @@ pub(crate) fn count(shape: &Shape, value: &Value) -> Option<u64>
     measured(shape, value, 0)
 }
 
-// Writes them, if they are fewer than 2^64.
-pub(crate) fn put_all<W: Sink>(shape: &Shape, value: &Value, w: &mut W) -> Result<u64, WriteFault>
+// Writes octets that are there.
+fn put_few<W: Sink>(octets: &[u8], w: &mut W) -> Result<u64, WriteFault>
+    requires { length octets.now < 2 ^ 64 }
+    ensures { Writes octets.now (W.contents w.old) (W.failed w.old) result (W.contents w.new) (W.failed w.new) }
+{
+    match put_slice(octets, 0, w) {
+        Ok(count) => Ok(count),
+        Err(fault) => Err(WriteFault::Device {
+            written: fault.written,
+        }),
+    }
+}
+
+// Writes the octets of a value with more of them than there is room for.
+fn put_many<W: Sink>(shape: &Shape, value: &Value, w: &mut W) -> Result<u64, WriteFault>
     ensures { Writes (canonical_octets (type_of shape.now) (value_of value.now)) (W.contents w.old) (W.failed w.old) result (W.contents w.new) (W.failed w.new) }
 {
     if measured(shape, value, 0).is_none() {
         return Err(WriteFault::TooLong);
     }
-    put(shape, value, 0, w)
+    match put(shape, value, 0, w) {
+        Ok(count) => Ok(count),
+        Err(fault) => Err(WriteFault::Device {
+            written: fault.written,
+        }),
+    }
+}
+
+// Writes them, if they are fewer than 2^64.
+pub(crate) fn put_all<W: Sink>(shape: &Shape, value: &Value, w: &mut W) -> Result<u64, WriteFault>
+    ensures { Writes (canonical_octets (type_of shape.now) (value_of value.now)) (W.contents w.old) (W.failed w.old) result (W.contents w.new) (W.failed w.new) }
+{
+    let mut small = Small::new();
+    match put(shape, value, 0, &mut small) {
+        Ok(_) => put_few(small.taken(), w),
+        Err(_) => put_many(shape, value, w),
+    }
 }

@@ -18,13 +18,13 @@ pub measured-returns-in_err-done-in-Sequence-Seq :
 measured-returns-in_err-done-in-Sequence-Seq t c =
     let s = c.in-Sequence-Seq in
     let is = at_sequence c.args.shape.now c.args.value.now s.root s.places s.added s.unknown c.deref-fields.result.now c.deref-places.result.now (s.is-0 ∙ ap (Sequence s.root) c.in_default-additions.is) s.is-1 c.deref-fields.ensures.value c.deref-places.ensures.value in
-    measured_none c.from_residual.result _ _ _ c.from_residual.ensures (none_is c.ok.result _ _ c.in_err-done-in-Sequence-Seq.was (nowhere c.put_preamble.result c.ok.result _ _ _ c.ok.ensures.value c.put_preamble.ensures)) (let len = length-two _ (padded (first_bits None ++ field_bits (fields_of c.deref-fields.result.now) (places_of c.deref-places.result.now))) (field_octets (fields_of c.deref-fields.result.now) (places_of c.deref-places.result.now)) is in omega (arith, len))
+    measured_none c.from_residual.result _ _ _ c.from_residual.ensures (none_is c.ok.result _ _ c.in_err-done-in-Sequence-Seq.was (nowhere c.put_preamble.result c.ok.result _ _ None c.ok.ensures.value c.put_preamble.ensures)) (let len = length-two _ (padded (first_bits None ++ field_bits (fields_of c.deref-fields.result.now) (places_of c.deref-places.result.now))) (field_octets (fields_of c.deref-fields.result.now) (places_of c.deref-places.result.now)) is in omega (arith, len))
 
 pub measured-returns-in_default-additions : goal.measured-returns-in_default-additions
 measured-returns-in_default-additions t c =
     let s = c.in-Sequence-Seq in
     let is = at_sequence c.args.shape.now c.args.value.now s.root s.places s.added s.unknown c.deref-fields.result.now c.deref-places.result.now (s.is-0 ∙ ap (Sequence s.root) c.in_default-additions.is) s.is-1 c.deref-fields.ensures.value c.deref-places.ensures.value in
-    let first = some_is c.ok.result _ _ _ c.in_ok-done-in-Sequence-Seq.was (nowhere c.put_preamble.result c.ok.result _ _ _ c.ok.ensures.value c.put_preamble.ensures) in
+    let first = some_is c.ok.result _ _ _ c.in_ok-done-in-Sequence-Seq.was (nowhere c.put_preamble.result c.ok.result _ _ None c.ok.ensures.value c.put_preamble.ensures) in
     measured_last c.measured_fields.result _ _ _ _ (let len = length-two _ (padded (first_bits None ++ field_bits (fields_of c.deref-fields.result.now) (places_of c.deref-places.result.now))) (field_octets (fields_of c.deref-fields.result.now) (places_of c.deref-places.result.now)) is in omega (arith, len, first)) c.measured_fields.ensures
 
 pub measured-returns-in_err-done-in-Sequence-Seq-2 :
@@ -44,7 +44,7 @@ measured-returns-in_err-done-in-Sequence-Seq-2 t c =
     let k = known_octets (additions_of xs) (places_of qs) in
     let u = unknown_octets (map unknown_of us) in
     let len = length-least (canonical_octets (type_of c.args.shape.now) (value_of c.args.value.now)) p f (b ++ (k ++ u)) x is in
-    let many = none_is c.ok-in-Sequence-Seq.result _ p c.in_err-done-in-Sequence-Seq-2.was (nowhere c.put_preamble-in-Sequence-Seq.result c.ok-in-Sequence-Seq.result _ p _ c.ok-in-Sequence-Seq.ensures.value c.put_preamble-in-Sequence-Seq.ensures) in
+    let many = none_is c.ok-in-Sequence-Seq.result _ p c.in_err-done-in-Sequence-Seq-2.was (nowhere c.put_preamble-in-Sequence-Seq.result c.ok-in-Sequence-Seq.result _ p None c.ok-in-Sequence-Seq.ensures.value c.put_preamble-in-Sequence-Seq.ensures) in
     measured_none c.from_residual-in_err-done-in-Sequence-Seq-2.result _ _ _ c.from_residual-in_err-done-in-Sequence-Seq-2.ensures many (omega (arith, len))
 
 pub measured-returns-in_err-done-in-Sequence-Seq-3 :
@@ -64,7 +64,7 @@ measured-returns-in_err-done-in-Sequence-Seq-3 t c =
     let k = known_octets (additions_of xs) (places_of qs) in
     let u = unknown_octets (map unknown_of us) in
     let len = length-least (canonical_octets (type_of c.args.shape.now) (value_of c.args.value.now)) p f (b ++ (k ++ u)) x is in
-    let n1 = some_is c.ok-in-Sequence-Seq.result _ _ p c.in_ok-done-in-Sequence-Seq-2.was (nowhere c.put_preamble-in-Sequence-Seq.result c.ok-in-Sequence-Seq.result _ p _ c.ok-in-Sequence-Seq.ensures.value c.put_preamble-in-Sequence-Seq.ensures) in
+    let n1 = some_is c.ok-in-Sequence-Seq.result _ _ p c.in_ok-done-in-Sequence-Seq-2.was (nowhere c.put_preamble-in-Sequence-Seq.result c.ok-in-Sequence-Seq.result _ p None c.ok-in-Sequence-Seq.ensures.value c.put_preamble-in-Sequence-Seq.ensures) in
     let many = none_is c.measured_fields-in-Sequence-Seq.result _ f c.in_err-done-in-Sequence-Seq-3.was c.measured_fields-in-Sequence-Seq.ensures in
     measured_none c.from_residual-in_err-done-in-Sequence-Seq-3.result _ _ _ c.from_residual-in_err-done-in-Sequence-Seq-3.ensures many (omega (arith, len, n1))
 
@@ -83,7 +83,7 @@ measured-returns-then-not-extended t c =
     let b = bitmap_octets (known_bits (additions_of xs) (places_of qs) ++ unknown_marks (length xs) (map unknown_of us)) in
     let k = known_octets (additions_of xs) (places_of qs) in
     let u = unknown_octets (map unknown_of us) in
-    let n1 = some_is c.ok-in-Sequence-Seq.result _ _ p c.in_ok-done-in-Sequence-Seq-2.was (nowhere c.put_preamble-in-Sequence-Seq.result c.ok-in-Sequence-Seq.result _ p _ c.ok-in-Sequence-Seq.ensures.value c.put_preamble-in-Sequence-Seq.ensures) in
+    let n1 = some_is c.ok-in-Sequence-Seq.result _ _ p c.in_ok-done-in-Sequence-Seq-2.was (nowhere c.put_preamble-in-Sequence-Seq.result c.ok-in-Sequence-Seq.result _ p None c.ok-in-Sequence-Seq.ensures.value c.put_preamble-in-Sequence-Seq.ensures) in
     let n2 = some_is c.measured_fields-in-Sequence-Seq.result _ _ f c.in_ok-done-in-Sequence-Seq-3.was c.measured_fields-in-Sequence-Seq.ensures in
     let len = length-closed (canonical_octets (type_of c.args.shape.now) (value_of c.args.value.now)) p f (b ++ (k ++ u)) x is c.if-not-extended.true in
     omega (arith, len, n1, n2)
@@ -105,9 +105,9 @@ measured-returns-in_err-done-in-Sequence-Seq-4 t c =
     let k = known_octets (additions_of xs) (places_of qs) in
     let u = unknown_octets (map unknown_of us) in
     let len = length-extended (canonical_octets (type_of c.args.shape.now) (value_of c.args.value.now)) p f b k u x is c.if-not-extended.false in
-    let n1 = some_is c.ok-in-Sequence-Seq.result _ _ p c.in_ok-done-in-Sequence-Seq-2.was (nowhere c.put_preamble-in-Sequence-Seq.result c.ok-in-Sequence-Seq.result _ p _ c.ok-in-Sequence-Seq.ensures.value c.put_preamble-in-Sequence-Seq.ensures) in
+    let n1 = some_is c.ok-in-Sequence-Seq.result _ _ p c.in_ok-done-in-Sequence-Seq-2.was (nowhere c.put_preamble-in-Sequence-Seq.result c.ok-in-Sequence-Seq.result _ p None c.ok-in-Sequence-Seq.ensures.value c.put_preamble-in-Sequence-Seq.ensures) in
     let n2 = some_is c.measured_fields-in-Sequence-Seq.result _ _ f c.in_ok-done-in-Sequence-Seq-3.was c.measured_fields-in-Sequence-Seq.ensures in
-    let many = none_is c.ok-in-Sequence-Seq-2.result _ b c.in_err-done-in-Sequence-Seq-4.was (nowhere c.put_bitmap.result c.ok-in-Sequence-Seq-2.result _ b _ c.ok-in-Sequence-Seq-2.ensures.value c.put_bitmap.ensures) in
+    let many = none_is c.ok-in-Sequence-Seq-2.result _ b c.in_err-done-in-Sequence-Seq-4.was (nowhere c.put_bitmap.result c.ok-in-Sequence-Seq-2.result _ b None c.ok-in-Sequence-Seq-2.ensures.value c.put_bitmap.ensures) in
     measured_none c.from_residual-in_err-done-in-Sequence-Seq-4.result _ _ _ c.from_residual-in_err-done-in-Sequence-Seq-4.ensures many (omega (arith, len, n1, n2))
 
 pub measured-returns-in_err-done-in-Sequence-Seq-5 :
@@ -127,9 +127,9 @@ measured-returns-in_err-done-in-Sequence-Seq-5 t c =
     let k = known_octets (additions_of xs) (places_of qs) in
     let u = unknown_octets (map unknown_of us) in
     let len = length-extended (canonical_octets (type_of c.args.shape.now) (value_of c.args.value.now)) p f b k u x is c.if-not-extended.false in
-    let n1 = some_is c.ok-in-Sequence-Seq.result _ _ p c.in_ok-done-in-Sequence-Seq-2.was (nowhere c.put_preamble-in-Sequence-Seq.result c.ok-in-Sequence-Seq.result _ p _ c.ok-in-Sequence-Seq.ensures.value c.put_preamble-in-Sequence-Seq.ensures) in
+    let n1 = some_is c.ok-in-Sequence-Seq.result _ _ p c.in_ok-done-in-Sequence-Seq-2.was (nowhere c.put_preamble-in-Sequence-Seq.result c.ok-in-Sequence-Seq.result _ p None c.ok-in-Sequence-Seq.ensures.value c.put_preamble-in-Sequence-Seq.ensures) in
     let n2 = some_is c.measured_fields-in-Sequence-Seq.result _ _ f c.in_ok-done-in-Sequence-Seq-3.was c.measured_fields-in-Sequence-Seq.ensures in
-    let n3 = some_is c.ok-in-Sequence-Seq-2.result _ _ b c.in_ok-done-in-Sequence-Seq-4.was (nowhere c.put_bitmap.result c.ok-in-Sequence-Seq-2.result _ b _ c.ok-in-Sequence-Seq-2.ensures.value c.put_bitmap.ensures) in
+    let n3 = some_is c.ok-in-Sequence-Seq-2.result _ _ b c.in_ok-done-in-Sequence-Seq-4.was (nowhere c.put_bitmap.result c.ok-in-Sequence-Seq-2.result _ b None c.ok-in-Sequence-Seq-2.ensures.value c.put_bitmap.ensures) in
     let many = none_is c.measured_additions.result _ k c.in_err-done-in-Sequence-Seq-5.was c.measured_additions.ensures in
     measured_none c.from_residual-in_err-done-in-Sequence-Seq-5.result _ _ _ c.from_residual-in_err-done-in-Sequence-Seq-5.ensures many (omega (arith, len, n1, n2, n3))
 
@@ -150,11 +150,11 @@ measured-returns-in_ok-done-in-Sequence-Seq-5 t c =
     let k = known_octets (additions_of xs) (places_of qs) in
     let u = unknown_octets (map unknown_of us) in
     let len = length-extended (canonical_octets (type_of c.args.shape.now) (value_of c.args.value.now)) p f b k u x is c.if-not-extended.false in
-    let n1 = some_is c.ok-in-Sequence-Seq.result _ _ p c.in_ok-done-in-Sequence-Seq-2.was (nowhere c.put_preamble-in-Sequence-Seq.result c.ok-in-Sequence-Seq.result _ p _ c.ok-in-Sequence-Seq.ensures.value c.put_preamble-in-Sequence-Seq.ensures) in
+    let n1 = some_is c.ok-in-Sequence-Seq.result _ _ p c.in_ok-done-in-Sequence-Seq-2.was (nowhere c.put_preamble-in-Sequence-Seq.result c.ok-in-Sequence-Seq.result _ p None c.ok-in-Sequence-Seq.ensures.value c.put_preamble-in-Sequence-Seq.ensures) in
     let n2 = some_is c.measured_fields-in-Sequence-Seq.result _ _ f c.in_ok-done-in-Sequence-Seq-3.was c.measured_fields-in-Sequence-Seq.ensures in
-    let n3 = some_is c.ok-in-Sequence-Seq-2.result _ _ b c.in_ok-done-in-Sequence-Seq-4.was (nowhere c.put_bitmap.result c.ok-in-Sequence-Seq-2.result _ b _ c.ok-in-Sequence-Seq-2.ensures.value c.put_bitmap.ensures) in
+    let n3 = some_is c.ok-in-Sequence-Seq-2.result _ _ b c.in_ok-done-in-Sequence-Seq-4.was (nowhere c.put_bitmap.result c.ok-in-Sequence-Seq-2.result _ b None c.ok-in-Sequence-Seq-2.ensures.value c.put_bitmap.ensures) in
     let n4 = some_is c.measured_additions.result _ _ k c.in_ok-done-in-Sequence-Seq-5.was c.measured_additions.ensures in
-    measured_last c.ok-in-Sequence-Seq-3.result _ _ u _ (omega (arith, len, n1, n2, n3, n4)) (nowhere c.put_unknown.result c.ok-in-Sequence-Seq-3.result _ u _ c.ok-in-Sequence-Seq-3.ensures.value c.put_unknown.ensures)
+    measured_last c.ok-in-Sequence-Seq-3.result _ _ u _ (omega (arith, len, n1, n2, n3, n4)) (nowhere c.put_unknown.result c.ok-in-Sequence-Seq-3.result _ u None c.ok-in-Sequence-Seq-3.ensures.value c.put_unknown.ensures)
 
 -- SEQUENCE OF
 
@@ -163,14 +163,14 @@ pub measured-returns-in_err-done-in-SequenceOf-List :
 measured-returns-in_err-done-in-SequenceOf-List t c =
     let s = c.in-SequenceOf-List in
     let is = at_list c.args.shape.now c.args.value.now s.size-0 s.item s.values s.item.value s.values.items c.len.result s.is-0 s.is-1 refl refl (omega (arith, c.len.ensures, s.values.ok.0)) in
-    measured_none c.from_residual-in_err-done-in-SequenceOf-List.result _ _ _ c.from_residual-in_err-done-in-SequenceOf-List.ensures (none_is c.ok-in-SequenceOf-List.result _ _ c.in_err-done-in-SequenceOf-List.was (nowhere c.put_quantity.result c.ok-in-SequenceOf-List.result _ _ _ c.ok-in-SequenceOf-List.ensures.value c.put_quantity.ensures)) (let len = length-two _ (counted (unsigned_octets c.len.result)) (values_octets (type_of s.item.value) (values_of s.values.items)) is in omega (arith, len))
+    measured_none c.from_residual-in_err-done-in-SequenceOf-List.result _ _ _ c.from_residual-in_err-done-in-SequenceOf-List.ensures (none_is c.ok-in-SequenceOf-List.result _ _ c.in_err-done-in-SequenceOf-List.was (nowhere c.put_quantity.result c.ok-in-SequenceOf-List.result _ _ None c.ok-in-SequenceOf-List.ensures.value c.put_quantity.ensures)) (let len = length-two _ (counted (unsigned_octets c.len.result)) (values_octets (type_of s.item.value) (values_of s.values.items)) is in omega (arith, len))
 
 pub measured-returns-in_ok-done-in-SequenceOf-List :
     goal.measured-returns-in_ok-done-in-SequenceOf-List
 measured-returns-in_ok-done-in-SequenceOf-List t c =
     let s = c.in-SequenceOf-List in
     let is = at_list c.args.shape.now c.args.value.now s.size-0 s.item s.values c.deref.result.now c.deref-in-SequenceOf-List.result.now c.len.result s.is-0 s.is-1 c.deref.ensures c.deref-in-SequenceOf-List.ensures.value (omega (arith, c.len.ensures, s.values.ok.0)) in
-    let first = some_is c.ok-in-SequenceOf-List.result _ _ _ c.in_ok-done-in-SequenceOf-List.was (nowhere c.put_quantity.result c.ok-in-SequenceOf-List.result _ _ _ c.ok-in-SequenceOf-List.ensures.value c.put_quantity.ensures) in
+    let first = some_is c.ok-in-SequenceOf-List.result _ _ _ c.in_ok-done-in-SequenceOf-List.was (nowhere c.put_quantity.result c.ok-in-SequenceOf-List.result _ _ None c.ok-in-SequenceOf-List.ensures.value c.put_quantity.ensures) in
     measured_last c.measured_values.result _ _ _ _ (let len = length-two _ (counted (unsigned_octets c.len.result)) (values_octets (type_of c.deref.result.now) (values_of c.deref-in-SequenceOf-List.result.now)) is in omega (arith, len, first)) c.measured_values.ensures
 
 -- CHOICE
@@ -179,7 +179,7 @@ pub measured-returns-in_err-done-in-Choice-Chosen :
     goal.measured-returns-in_err-done-in-Choice-Chosen
 measured-returns-in_err-done-in-Choice-Chosen t c =
     let s = c.in-Choice-Chosen in
-    let many = none_is c.ok-in-Choice-Chosen.result _ (tag_octets s.tag) c.in_err-done-in-Choice-Chosen.was (nowhere c.put_tag_octets.result c.ok-in-Choice-Chosen.result _ (tag_octets s.tag) _ c.ok-in-Choice-Chosen.ensures.value c.put_tag_octets.ensures) in
+    let many = none_is c.ok-in-Choice-Chosen.result _ (tag_octets s.tag) c.in_err-done-in-Choice-Chosen.was (nowhere c.put_tag_octets.result c.ok-in-Choice-Chosen.result _ (tag_octets s.tag) None c.ok-in-Choice-Chosen.ensures.value c.put_tag_octets.ensures) in
     let len = tag_least c.args.shape.now c.args.value.now s.root s.additions s.tag s.value s.is-0 s.is-1 in
     measured_none c.from_residual-in_err-done-in-Choice-Chosen.result _ _ _ c.from_residual-in_err-done-in-Choice-Chosen.ensures many (omega (arith, len))
 
@@ -187,20 +187,20 @@ pub measured-returns-then-contains_tag : goal.measured-returns-then-contains_tag
 measured-returns-then-contains_tag t c =
     let s = c.in-Choice-Chosen in
     let is = at_root c.args.shape.now c.args.value.now s.root s.additions s.tag s.value c.deref-then-contains_tag.result.now c.deref-then-contains_tag-2.result.now s.is-0 s.is-1 c.deref-then-contains_tag.ensures.value c.deref-then-contains_tag-2.ensures (tag_is _ _ _ _ _ _ c.contains_tag.ensures c.deref-in-Choice-Chosen.ensures.value c.deref-then-contains_tag.ensures.value c.if-contains_tag.true) in
-    let first = some_is c.ok-in-Choice-Chosen.result _ _ _ c.in_ok-done-in-Choice-Chosen.was (nowhere c.put_tag_octets.result c.ok-in-Choice-Chosen.result _ _ _ c.ok-in-Choice-Chosen.ensures.value c.put_tag_octets.ensures) in
+    let first = some_is c.ok-in-Choice-Chosen.result _ _ _ c.in_ok-done-in-Choice-Chosen.was (nowhere c.put_tag_octets.result c.ok-in-Choice-Chosen.result _ _ None c.ok-in-Choice-Chosen.ensures.value c.put_tag_octets.ensures) in
     measured_last c.measured_alternative.result _ _ _ _ (let len = length-two _ (tag_octets s.tag) (chosen_octets (root_of c.deref-then-contains_tag.result.now no_alternatives) s.tag (value_of c.deref-then-contains_tag-2.result.now)) is in omega (arith, len, first)) c.measured_alternative.ensures
 
 pub measured-returns-in-None : goal.measured-returns-in-None
 measured-returns-in-None t c =
     let s = c.in-Choice-Chosen in
-    let first = some_is c.ok-in-Choice-Chosen.result _ _ (tag_octets s.tag) c.in_ok-done-in-Choice-Chosen.was (nowhere c.put_tag_octets.result c.ok-in-Choice-Chosen.result _ _ _ c.ok-in-Choice-Chosen.ensures.value c.put_tag_octets.ensures) in
+    let first = some_is c.ok-in-Choice-Chosen.result _ _ (tag_octets s.tag) c.in_ok-done-in-Choice-Chosen.was (nowhere c.put_tag_octets.result c.ok-in-Choice-Chosen.result _ _ None c.ok-in-Choice-Chosen.ensures.value c.put_tag_octets.ensures) in
     let len = ap length (at_none c.args.shape.now c.args.value.now s.root s.tag s.value c.deref-in-Choice-Chosen.result.now (s.is-0 ∙ ap (Choice s.root) c.in-None.is) s.is-1 c.deref-in-Choice-Chosen.ensures.value (sym c.contains_tag.ensures ∙ c.if-contains_tag.false)) in
     omega (arith, len, first)
 
 pub measured-returns-in-Some-additions : goal.measured-returns-in-Some-additions
 measured-returns-in-Some-additions t c =
     let s = c.in-Choice-Chosen in
-    let first = some_is c.ok-in-Choice-Chosen.result _ _ (tag_octets s.tag) c.in_ok-done-in-Choice-Chosen.was (nowhere c.put_tag_octets.result c.ok-in-Choice-Chosen.result _ _ _ c.ok-in-Choice-Chosen.ensures.value c.put_tag_octets.ensures) in
+    let first = some_is c.ok-in-Choice-Chosen.result _ _ (tag_octets s.tag) c.in_ok-done-in-Choice-Chosen.was (nowhere c.put_tag_octets.result c.ok-in-Choice-Chosen.result _ _ None c.ok-in-Choice-Chosen.ensures.value c.put_tag_octets.ensures) in
     let is = at_later c.args.shape.now c.args.value.now s.root c.in-Some-additions.additions s.tag s.value c.deref-in-Choice-Chosen.result.now c.deref-in-Some-additions.result.now c.deref-in-Some-additions-2.result.now (s.is-0 ∙ ap (Choice s.root) c.in-Some-additions.is) s.is-1 c.deref-in-Choice-Chosen.ensures.value c.deref-in-Some-additions.ensures.value c.deref-in-Some-additions-2.ensures (sym c.contains_tag.ensures ∙ c.if-contains_tag.false) in
     let len = length-two _ (tag_octets s.tag) (chosen_octets (later_of c.deref-in-Some-additions.result.now) s.tag (value_of c.deref-in-Some-additions-2.result.now)) is in
     measured_last c.measured_later.result _ _ _ _ (omega (arith, len, first)) c.measured_later.ensures

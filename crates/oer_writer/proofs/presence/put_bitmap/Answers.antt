@@ -1,4 +1,4 @@
-use Rattle.std.proofs.Common.{arith, ◌+◌, ◌++◌, ◌∷◌, [], length, map}
+use Rattle.std.proofs.Common.{inr, arith, ◌+◌, ◌++◌, ◌∷◌, [], length, map}
 use Rattle.oer_units.specs.Least.{length_octets}
 use Rattle.oer_types.specs.Bits.{padded}
 use Rattle.oer_types.specs.Canonical.{unknown_marks}
@@ -14,7 +14,7 @@ pub returns-in_default : goal.returns-in_default
 returns-in_default g c =
     let us = unknown_marks (length c.args.additions.now) (map unknown_of c.args.unknown.now) in
     let n = bits_count c.args.additions.now c.args.added.now us c.min-known.result c.count_unknown_bits.result c.min-known.ensures c.count_unknown_bits.ensures.value in
-    omega (arith, bitmap_long (known_bits (additions_of c.args.additions.now) (places_of c.args.added.now) ++ us) _ n c.in_default.ensures)
+    inr (omega (arith, bitmap_long (known_bits (additions_of c.args.additions.now) (places_of c.args.added.now) ++ us) _ n c.in_default.ensures))
 
 pub returns-in_err-done : goal.returns-in_err-done
 returns-in_err-done g c =
