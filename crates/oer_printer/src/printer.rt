@@ -11,7 +11,7 @@ use oer_lexer::{Sign, Token};
 use std::alloc::{AllocError, Global};
 
 /// What a token is, as far as the spaces beside it depend on it.
-#[derive(Clone, Copy, PartialEq, Eq)]
+#[derive(Clone, Copy)]
 pub enum Edge {
     /// A word that is joined to a parenthesis behind it.
     Tight,

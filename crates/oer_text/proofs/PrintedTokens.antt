@@ -43,7 +43,7 @@ item_ids : (T : AsnType) → (Somewhere HasBadNames T → ⊥) → AllIds (item_
 item_ids boolean h = tt
 item_ids null h = tt
 item_ids (integer low high) h = tt
-item_ids (enumerated is marker) h = ids (item_names is) h
+item_ids (enumerated is _) h = ids (item_names is) h
 item_ids (bit_string size) h = tt
 item_ids (octet_string size) h = tt
 item_ids object_id h = tt
@@ -58,7 +58,7 @@ items_once : (T : AsnType) → (Somewhere RepeatsNames T → ⊥) → Repeats (i
 items_once boolean h r = r
 items_once null h r = r
 items_once (integer low high) h r = r
-items_once (enumerated is marker) h r = h r
+items_once (enumerated is _) h r = h r
 items_once (bit_string size) h r = r
 items_once (octet_string size) h r = r
 items_once object_id h r = r
