@@ -52,7 +52,7 @@ item_ids (utf8_string size) h = tt
 item_ids (sequence fs) h = tt
 item_ids (extensible_sequence fs more) h = tt
 item_ids (sequence_of size T) h = tt
-item_ids (choice marker more) h = tt
+item_ids (choice _ more) h = tt
 
 items_once : (T : AsnType) → (Somewhere RepeatsNames T → ⊥) → Repeats (item_names (items_of T)) → ⊥
 items_once boolean h r = r
@@ -67,7 +67,7 @@ items_once (utf8_string size) h r = r
 items_once (sequence fs) h r = r
 items_once (extensible_sequence fs more) h r = r
 items_once (sequence_of size T) h r = r
-items_once (choice marker more) h r = r
+items_once (choice _ more) h r = r
 
 -- ---- parts
 
