@@ -1,7 +1,7 @@
 //! Tokens.
 
 /// The signs of the notation.
-#[derive(Clone, Copy, Debug, PartialEq, Eq)]
+#[derive(Clone, Copy, PartialEq, Eq)]
 pub enum Sign {
     OpenBrace,
     CloseBrace,
@@ -19,7 +19,7 @@ pub enum Sign {
 }
 
 /// The kinds of token that stand for themselves.
-#[derive(Clone, Copy, Debug, PartialEq, Eq)]
+#[derive(Clone, Copy)]
 pub enum Kind {
     Word,
     Number,
@@ -29,7 +29,7 @@ pub enum Kind {
 }
 
 /// A token. All but a sign have the text that they are, quotes included.
-#[derive(Clone, Copy, Debug)]
+#[derive(Clone, Copy)]
 pub enum Token<'t> {
     /// A letter, then letters, digits and single hyphens.
     Word(&'t str),
@@ -45,7 +45,7 @@ pub enum Token<'t> {
 }
 
 /// A token, and the byte of the text at which it begins.
-#[derive(Clone, Copy, Debug)]
+#[derive(Clone, Copy)]
 pub struct Spot<'t> {
     pub at: usize,
     pub token: Token<'t>,

@@ -9,16 +9,9 @@ pub mod Definitions
 pub mod Digits
 pub mod DigitsGiven
 pub mod Finding
-pub mod Levels
 pub mod Loops
 pub mod NamesGiven
 pub mod Numerals
-pub mod Printed
-pub mod PrintedNumbers
-pub mod PrintedParts
-pub mod PrintedText
-pub mod PrintedTokens
-pub mod PrintedValues
 pub mod SpeltWidths
 pub mod Sound
 pub mod SoundAll

@@ -1,10 +1,9 @@
 -- Laws of reading against the grammar.
-use Rattle.std.specs.Prelude.{◌≡◌, ℕ, List, Some, Ok, Err}
+use Rattle.std.specs.Prelude.{◌≡◌, ℕ, List, Ok, Err}
 use Rattle.oer_types.specs.AsnType.{AsnType}
 use Rattle.oer_types.specs.WellFormed.{IsWellFormed}
 use Rattle.oer_notation.specs.Grammar.{Spells, SpellsAll, AreWellFormed}
 use Rattle.oer_notation.specs.Parsing.{parse, parse_all}
-use Rattle.oer_notation.specs.Printing.{printed}
 use Rattle.oer_notation.specs.Reading.{Known}
 use Rattle.oer_notation.specs.declared.fault.TextFault.{TextFault}
 
@@ -35,7 +34,3 @@ ParseAllRefuses = (bs : List ℕ) (e : TextFault) → parse_all bs ≡ Err e →
 -- A text spells at most one well-formed type.
 abbrev pub OneType : Type 0
 OneType = (bs : List ℕ) (T U : AsnType) → Spells T bs → Spells U bs → IsWellFormed T → IsWellFormed U → T ≡ U
-
--- What is printed of a well-formed type is read as this type.
-abbrev pub PrintedIsRead : Type 0
-PrintedIsRead = (T : AsnType) (text : List ℕ) → IsWellFormed T → printed T ≡ Some text → parse text ≡ Ok T

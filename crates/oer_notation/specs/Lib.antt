@@ -2,8 +2,6 @@ pub mod Grammar
 pub mod Laws
 pub mod Numbers
 pub mod Parsing
-pub mod Printer
-pub mod Printing
 pub mod Reading
 pub mod State
 pub mod Values
@@ -11,4 +9,3 @@ pub mod Views
 pub mod Words
 pub mod Refusing
 pub mod Faults
-pub mod Shapes

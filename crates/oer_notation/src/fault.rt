@@ -2,7 +2,6 @@
 ghost use Rattle.std.specs.Prelude.{◌≡◌};
 ghost use Rattle.oer_notation.specs.Faults.{text_why_name};
 ghost use Rattle.oer_notation.specs.declared.fault.TextWhy.TheVariants.{Memory};
-ghost use Rattle.oer_notation.specs.declared.fault.PrintFault.TheVariants as print;
 
 use oer_types::SchemaFault;
 use std::alloc::{AllocError, AllocFailed};
@@ -68,26 +67,6 @@ impl TextWhy {
 pub struct TextFault {
     pub at: usize,
     pub why: TextWhy,
-}
-
-/// Why a type has no text.
-#[derive(Clone, Copy, Debug, PartialEq, Eq, Error)]
-pub enum PrintFault {
-    /// A growth of memory was refused.
-    #[error("Memory")]
-    Memory,
-    /// A default is of constructed type, is an enumeration number that no item has, or is a text
-    /// with a character below U+0020.
-    #[error("NoNotation")]
-    NoNotation,
-}
-
-impl From<AllocError> for PrintFault {
-    ghost from_gives = { λ _ e. e ≡ print.Memory };
-
-    fn from(_: AllocError) -> PrintFault {
-        PrintFault::Memory
-    }
 }
 
 impl From<AllocError> for TextFault {

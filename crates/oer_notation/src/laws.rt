@@ -1,9 +1,9 @@
 //! What holds of the notation. Each function does nothing; its contract is the law.
 
-ghost use Rattle.oer_notation.specs.Laws.{ParseSound, ParseAllSound, ParseComplete, ParseAllComplete, ParseRefuses, ParseAllRefuses, OneType, PrintedIsRead};
+ghost use Rattle.oer_notation.specs.Laws.{ParseSound, ParseAllSound, ParseComplete, ParseAllComplete, ParseRefuses, ParseAllRefuses, OneType};
 
 use oer_lexer::laws::{lex_complete, lex_sound};
-use oer_types::laws::{defaults_fit, first_fault};
+use oer_types::laws::first_fault;
 
 /// What is read of a text is a well-formed type that the text spells; and definitions that are read
 /// are those that the text spells, their types well-formed.
@@ -26,12 +26,4 @@ pub fn complete()
 {
     lex_complete();
     first_fault();
-}
-
-/// What is printed of a well-formed type is read as the same type.
-pub fn printing()
-    ensures { PrintedIsRead }
-{
-    complete();
-    defaults_fit();
 }

@@ -1,5 +1,0 @@
-use Rattle.oer_notation.proofs.PrintedTokens.{printed_read}
-use Rattle.oer_notation.proofs.laws.printing.Goals as goal
-
-pub returns : goal.returns
-returns c = printed_read c.complete.ensures.one c.defaults_fit.ensures.fit

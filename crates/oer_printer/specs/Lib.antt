@@ -1,0 +1,3 @@
+pub mod Printer
+pub mod Printing
+pub mod Shapes

@@ -1,0 +1,329 @@
+-- The text of a type, on one line: its tokens, with a space where two of them need one.
+use Rattle.std.specs.Prelude.{ℕ, ℤ, List, [], ◌∷◌, ◌++◌, map, ◌==◌, nat_lt, Bool, true, false, not, ◌&&◌, ◌||◌, Option, Some, None, is_some, codes, if◌then◌else◌}
+use Rattle.std.specs.Char.{encode_utf8, is_ascii_lowercase}
+use Rattle.std.specs.Fmt.{decimal, signed_decimal}
+use Rattle.std.specs.Ordering.{int_eq}
+use Rattle.std.specs.Str.{bytes_eq, chars}
+use Rattle.hex.specs.Hex.{encode_upper}
+use Rattle.oer_lexer.specs.Characters.{quote, double_quote, starts}
+use Rattle.oer_lexer.specs.FallsInto.{sign_text}
+use Rattle.oer_lexer.specs.Token.{Token, word, number, bits, digits, text, sign}
+use Rattle.oer_lexer.specs.declared.token.Sign.{Sign}
+use Rattle.oer_lexer.specs.declared.token.Sign.TheVariants.{OpenBrace, CloseBrace, OpenParenthesis, CloseParenthesis, OpenBracket, CloseBracket, Comma, Range, Ellipsis}
+use Rattle.oer_units.specs.declared.tagging.Class.{Class}
+use Rattle.oer_units.specs.declared.tagging.Class.TheVariants.{Universal, Application, Context, Private}
+use Rattle.oer_units.specs.declared.tagging.Tag.{Tag}
+use Rattle.oer_types.specs.AsnType.{Need, must, may, default, NamedNumber, Alphabet, ia5, visible, numeric, printable, AsnType, boolean, null, integer, enumerated, bit_string, octet_string, object_id, restricted_string, utf8_string, sequence, extensible_sequence, sequence_of, choice, Fields, no_fields, field, Additions, no_additions, addition, Alternatives, no_alternatives, alternative, later}
+use Rattle.oer_types.specs.AsnValue.{AsnValue, bool, nothing, int, enum, bit_list, octets, text as string, oid, seq, items as list, chosen, foreign}
+use Rattle.oer_types.specs.declared.size.Size.{Size}
+
+-- the items of an ENUMERATED; other types have none
+abbrev pub items_of : AsnType → List NamedNumber
+items_of boolean = []
+items_of null = []
+items_of (integer low high) = []
+items_of (enumerated items extensible) = items
+items_of (bit_string size) = []
+items_of (octet_string size) = []
+items_of object_id = []
+items_of (restricted_string letters size) = []
+items_of (utf8_string size) = []
+items_of (sequence _) = []
+items_of (extensible_sequence _ _) = []
+items_of (sequence_of size T) = []
+items_of (choice extensible more) = []
+
+-- ---- tokens
+
+abbrev pub integer_token : ℤ → Token
+integer_token z = number (signed_decimal z)
+
+abbrev pub natural_token : ℕ → Token
+natural_token n = number (decimal n)
+
+abbrev pub in_brackets : List Token → List Token
+in_brackets ts = sign OpenParenthesis ∷ (ts ++ sign CloseParenthesis ∷ [])
+
+-- each part behind a comma
+abbrev pub after_commas : List (List Token) → List Token
+after_commas [] = []
+after_commas (p ∷ ps) = sign Comma ∷ (p ++ after_commas ps)
+
+-- the parts, with commas between them
+abbrev pub joined : List (List Token) → List Token
+joined [] = []
+joined (p ∷ ps) = p ++ after_commas ps
+
+abbrev pub in_braces : List (List Token) → List Token
+in_braces ps = sign OpenBrace ∷ (joined ps ++ sign CloseBrace ∷ [])
+
+abbrev pub marker : List Token
+marker = sign Ellipsis ∷ []
+
+abbrev pub marker_if : Bool → List (List Token)
+marker_if true = marker ∷ []
+marker_if false = []
+
+-- ---- bounds, sizes, items and tags
+
+abbrev pub bounds_tokens : Option ℤ → Option ℤ → List Token
+bounds_tokens None None = []
+bounds_tokens None (Some high) = in_brackets (word (codes "MIN") ∷ sign Range ∷ integer_token high ∷ [])
+bounds_tokens (Some low) None = in_brackets (integer_token low ∷ sign Range ∷ word (codes "MAX") ∷ [])
+bounds_tokens (Some low) (Some high) = if int_eq low high then in_brackets (integer_token low ∷ []) else in_brackets (integer_token low ∷ sign Range ∷ integer_token high ∷ [])
+
+abbrev pub sized : List Token → List Token
+sized ts = in_brackets (word (codes "SIZE") ∷ in_brackets ts)
+
+-- nothing where every size is allowed
+abbrev pub ends_tokens : ℕ → Option ℕ → List Token
+ends_tokens low None = if low == 0 then [] else sized (natural_token low ∷ sign Range ∷ word (codes "MAX") ∷ [])
+ends_tokens low (Some high) = if low == high then sized (natural_token low ∷ []) else sized (natural_token low ∷ sign Range ∷ natural_token high ∷ [])
+
+abbrev pub size_tokens : Size → List Token
+size_tokens s = ends_tokens s.low s.high
+
+abbrev pub item_tokens : NamedNumber → List Token
+item_tokens i = word i.name ∷ in_brackets (integer_token i.number ∷ [])
+
+-- context has no word
+abbrev pub class_tokens : Class → List Token
+class_tokens Universal = word (codes "UNIVERSAL") ∷ []
+class_tokens Application = word (codes "APPLICATION") ∷ []
+class_tokens Context = []
+class_tokens Private = word (codes "PRIVATE") ∷ []
+
+abbrev pub tag_tokens : Tag → List Token
+tag_tokens t = sign OpenBracket ∷ (class_tokens t.class ++ natural_token t.number ∷ sign CloseBracket ∷ [])
+
+abbrev pub alphabet_name : Alphabet → List ℕ
+alphabet_name ia5 = codes "IA5String"
+alphabet_name visible = codes "VisibleString"
+alphabet_name numeric = codes "NumericString"
+alphabet_name printable = codes "PrintableString"
+
+-- ---- values after DEFAULT
+
+abbrev pub truth_word : Bool → List ℕ
+truth_word true = codes "TRUE"
+truth_word false = codes "FALSE"
+
+abbrev pub bit_digit : Bool → ℕ
+bit_digit true = 49
+bit_digit false = 48
+
+-- a quote is doubled
+abbrev pub inside_quotes : ℕ → List ℕ
+inside_quotes c = if c == double_quote then codes "\"\"" else encode_utf8 c
+
+abbrev pub doubled : List ℕ → List ℕ
+doubled [] = []
+doubled (c ∷ cs) = inside_quotes c ++ doubled cs
+
+abbrev pub quoted_text : List ℕ → List ℕ
+quoted_text w = double_quote ∷ (doubled (chars w) ++ codes "\"")
+
+-- the name of the first item with this number
+abbrev pub name_of : List NamedNumber → ℤ → Option (List ℕ)
+name_of [] z = None
+name_of (i ∷ is) z = if int_eq i.number z then Some i.name else name_of is z
+
+abbrev pub name_tokens : Option (List ℕ) → List Token
+name_tokens None = []
+name_tokens (Some w) = word w ∷ []
+
+-- a value of a type with these items
+abbrev pub value_tokens : List NamedNumber → AsnValue → List Token
+value_tokens is (bool b) = word (truth_word b) ∷ []
+value_tokens is nothing = word (codes "NULL") ∷ []
+value_tokens is (int z) = integer_token z ∷ []
+value_tokens is (enum z) = name_tokens (name_of is z)
+value_tokens is (bit_list bs) = bits (quote ∷ (map bit_digit bs ++ codes "'B")) ∷ []
+value_tokens is (octets xs) = digits (quote ∷ (encode_upper xs ++ codes "'H")) ∷ []
+value_tokens is (string w) = text (quoted_text w) ∷ []
+value_tokens is (oid arcs) = sign OpenBrace ∷ (map natural_token arcs ++ sign CloseBrace ∷ [])
+value_tokens is (seq root added more) = []
+value_tokens is (list vs) = []
+value_tokens is (chosen t v) = []
+value_tokens is (foreign t xs) = []
+
+abbrev pub need_tokens : List NamedNumber → Need → List Token
+need_tokens is must = []
+need_tokens is may = word (codes "OPTIONAL") ∷ []
+need_tokens is (default v) = word (codes "DEFAULT") ∷ value_tokens is v
+
+-- ---- types
+
+abbrev pub component_tokens : List ℕ → List Token → List Token → List Token
+component_tokens name type need = word name ∷ (type ++ need)
+
+abbrev pub alternative_tokens : List ℕ → Tag → List Token → List Token
+alternative_tokens name tag type = word name ∷ (tag_tokens tag ++ type)
+
+abbrev mutual
+  pub type_tokens : AsnType → List Token
+  type_tokens boolean = word (codes "BOOLEAN") ∷ []
+  type_tokens null = word (codes "NULL") ∷ []
+  type_tokens (integer low high) = word (codes "INTEGER") ∷ bounds_tokens low high
+  type_tokens (enumerated is extensible) = word (codes "ENUMERATED") ∷ in_braces (map item_tokens is ++ marker_if extensible)
+  type_tokens (bit_string size) = word (codes "BIT") ∷ word (codes "STRING") ∷ size_tokens size
+  type_tokens (octet_string size) = word (codes "OCTET") ∷ word (codes "STRING") ∷ size_tokens size
+  type_tokens object_id = word (codes "OBJECT") ∷ word (codes "IDENTIFIER") ∷ []
+  type_tokens (restricted_string letters size) = word (alphabet_name letters) ∷ size_tokens size
+  type_tokens (utf8_string size) = word (codes "UTF8String") ∷ size_tokens size
+  type_tokens (sequence fs) = word (codes "SEQUENCE") ∷ in_braces (field_parts fs)
+  type_tokens (extensible_sequence fs more) = word (codes "SEQUENCE") ∷ in_braces (field_parts fs ++ marker ∷ addition_parts more)
+  type_tokens (sequence_of size T) = word (codes "SEQUENCE") ∷ (size_tokens size ++ word (codes "OF") ∷ type_tokens T)
+  type_tokens (choice extensible more) = word (codes "CHOICE") ∷ in_braces (root_parts more ++ (marker_if extensible ++ later_parts more))
+
+  pub field_parts : Fields → List (List Token)
+  field_parts no_fields = []
+  field_parts (field name need T more) = component_tokens name (type_tokens T) (need_tokens (items_of T) need) ∷ field_parts more
+
+  pub addition_parts : Additions → List (List Token)
+  addition_parts no_additions = []
+  addition_parts (addition name T more) = component_tokens name (type_tokens T) [] ∷ addition_parts more
+
+  -- the alternatives before the extension marker
+  pub root_parts : Alternatives → List (List Token)
+  root_parts no_alternatives = []
+  root_parts (alternative name tag T more) = alternative_tokens name tag (type_tokens T) ∷ root_parts more
+  root_parts (later name tag T more) = root_parts more
+
+  -- those behind it
+  pub later_parts : Alternatives → List (List Token)
+  later_parts no_alternatives = []
+  later_parts (alternative name tag T more) = later_parts more
+  later_parts (later name tag T more) = alternative_tokens name tag (type_tokens T) ∷ later_parts more
+
+-- ---- what has a notation
+
+-- no character below U+0020
+abbrev pub is_visible : List ℕ → Bool
+is_visible [] = true
+is_visible (c ∷ cs) = if nat_lt c 32 then false else is_visible cs
+
+-- all but values of constructed type, numbers that no item has, and texts with control characters
+abbrev pub value_has_notation : List NamedNumber → AsnValue → Bool
+value_has_notation is (bool b) = true
+value_has_notation is nothing = true
+value_has_notation is (int z) = true
+value_has_notation is (enum z) = is_some (name_of is z)
+value_has_notation is (bit_list bs) = true
+value_has_notation is (octets xs) = true
+value_has_notation is (string w) = is_visible (chars w)
+value_has_notation is (oid arcs) = true
+value_has_notation is (seq root added more) = false
+value_has_notation is (list vs) = false
+value_has_notation is (chosen t v) = false
+value_has_notation is (foreign t xs) = false
+
+abbrev pub need_has_notation : List NamedNumber → Need → Bool
+need_has_notation is must = true
+need_has_notation is may = true
+need_has_notation is (default v) = value_has_notation is v
+
+abbrev mutual
+  -- all defaults in the type have one
+  pub has_notation : AsnType → Bool
+  has_notation boolean = true
+  has_notation null = true
+  has_notation (integer low high) = true
+  has_notation (enumerated is extensible) = true
+  has_notation (bit_string size) = true
+  has_notation (octet_string size) = true
+  has_notation object_id = true
+  has_notation (restricted_string letters size) = true
+  has_notation (utf8_string size) = true
+  has_notation (sequence fs) = have_notation fs
+  has_notation (extensible_sequence fs more) = have_notation fs && additions_have_notation more
+  has_notation (sequence_of size T) = has_notation T
+  has_notation (choice extensible more) = alternatives_have_notation more
+
+  pub have_notation : Fields → Bool
+  have_notation no_fields = true
+  have_notation (field name need T more) = has_notation T && need_has_notation (items_of T) need && have_notation more
+
+  pub additions_have_notation : Additions → Bool
+  additions_have_notation no_additions = true
+  additions_have_notation (addition name T more) = has_notation T && additions_have_notation more
+
+  pub alternatives_have_notation : Alternatives → Bool
+  alternatives_have_notation no_alternatives = true
+  alternatives_have_notation (alternative name tag T more) = has_notation T && alternatives_have_notation more
+  alternatives_have_notation (later name tag T more) = has_notation T && alternatives_have_notation more
+
+-- ---- spaces
+
+abbrev pub is_word : Token → Bool
+is_word (word w) = true
+is_word (number w) = false
+is_word (bits w) = false
+is_word (digits w) = false
+is_word (text w) = false
+is_word (sign s) = false
+
+-- an item's id or SIZE, behind which no space stands before a parenthesis
+abbrev pub is_tight : Token → Bool
+is_tight (word w) = starts is_ascii_lowercase w || bytes_eq w (codes "SIZE")
+is_tight (number w) = false
+is_tight (bits w) = false
+is_tight (digits w) = false
+is_tight (text w) = false
+is_tight (sign s) = false
+
+-- a word, a number or a quoted token
+abbrev pub is_plain : Token → Bool
+is_plain (word w) = true
+is_plain (number w) = true
+is_plain (bits w) = true
+is_plain (digits w) = true
+is_plain (text w) = true
+is_plain (sign s) = false
+
+abbrev pub is_sign : Sign → Token → Bool
+is_sign s (word w) = false
+is_sign s (number w) = false
+is_sign s (bits w) = false
+is_sign s (digits w) = false
+is_sign s (text w) = false
+is_sign s (sign u) = bytes_eq (sign_text s) (sign_text u)
+
+abbrev pub is_opening : Token → Bool
+is_opening t = is_sign OpenParenthesis t || is_sign OpenBrace t || is_sign OpenBracket t
+
+abbrev pub is_closing : Token → Bool
+is_closing t = is_sign CloseParenthesis t || is_sign CloseBrace t || is_sign CloseBracket t
+
+-- whether a space stands between a token and the next
+unfoldable pub is_apart : Token → Token → Bool
+is_apart t u =
+    is_sign Comma t
+    || ((is_plain t && is_plain u)
+    || ((is_word t && (is_opening u && not (is_tight t && is_sign OpenParenthesis u)))
+    || (is_closing t && is_word u)))
+
+abbrev pub token_text : Token → List ℕ
+token_text (word w) = w
+token_text (number w) = w
+token_text (bits w) = w
+token_text (digits w) = w
+token_text (text w) = w
+token_text (sign s) = sign_text s
+
+abbrev pub space_if : Bool → List ℕ
+space_if true = codes " "
+space_if false = []
+
+-- tokens behind another one
+abbrev pub behind : Token → List Token → List ℕ
+behind t [] = []
+behind t (u ∷ us) = space_if (is_apart t u) ++ (token_text u ++ behind u us)
+
+abbrev pub spaced : List Token → List ℕ
+spaced [] = []
+spaced (t ∷ ts) = token_text t ++ behind t ts
+
+-- the text of a type, if it has one
+abbrev pub printed : AsnType → Option (List ℕ)
+printed T = if has_notation T then Some (spaced (type_tokens T)) else None
