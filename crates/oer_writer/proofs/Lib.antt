@@ -4,6 +4,7 @@ pub mod PackSteps
 pub mod Places
 pub mod Views
 pub mod Components
+pub mod Elements
 pub mod Sizes
 pub mod WholeValues
 pub mod Compared

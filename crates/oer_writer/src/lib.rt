@@ -1,6 +1,7 @@
 //! Canonical octets of a value, straight to a sink.
 #![tactic(auto)]
 
+mod booleans;
 mod calls;
 mod comparison;
 mod fault;

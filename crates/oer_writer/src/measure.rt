@@ -9,6 +9,7 @@ ghost use Rattle.oer_types.specs.ValueView.{places_of, unknown_of, value_of, val
 ghost use Rattle.oer_writer.specs.Parts.{chosen_octets, counted_place, field_bits, field_octets, first_bits, kept_place, known_bits, known_octets, leaf_octets, place_octets_of, values_octets};
 ghost use Rattle.oer_writer.specs.Wrote.{Measures};
 
+use crate::booleans::measured_booleans;
 use crate::leaf::{put_leaf, put_quantity, put_tag_octets};
 use crate::presence::{is_extended, kept, put_bitmap, put_preamble, put_unknown};
 use crate::slice::Nowhere;
@@ -134,6 +135,9 @@ fn open_len(count: u64, done: u64) -> Option<u64>
 fn measured_values(item: &Shape, values: &[Value], done: u64) -> Option<u64>
     ensures { Measures done (values_octets (type_of item.now) (values_of values.now)) result }
 {
+    if let Shape::Boolean = item {
+        return measured_booleans(values, done);
+    }
     let mut done = done;
     for value in values {
         done = measured(item, value, done)?;

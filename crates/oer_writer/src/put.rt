@@ -7,6 +7,7 @@ ghost use Rattle.oer_types.specs.ValueView.{places_of, value_of, values_of};
 ghost use Rattle.oer_writer.specs.Parts.{chosen_octets, counted_place, field_octets, kept_place, known_octets, place_octets_of, values_octets};
 ghost use Rattle.oer_writer.specs.Wrote.{Wrote, WroteHead};
 
+use crate::booleans::put_booleans;
 use crate::leaf::{put_leaf, put_quantity, put_tag_octets};
 use crate::measure::measured;
 use crate::presence::{is_extended, kept, put_bitmap, put_preamble, put_unknown};
@@ -172,6 +173,9 @@ fn put_values<W: Sink>(
 ) -> Result<u64, SinkFault>
     ensures { Wrote done (values_octets (type_of item.now) (values_of values.now)) (W.contents w.old) (W.failed w.old) result (W.contents w.new) (W.failed w.new) }
 {
+    if let Shape::Boolean = item {
+        return put_booleans(values, done, w);
+    }
     let mut done = done;
     for value in values {
         done = put(item, value, done, w)?;

@@ -9,6 +9,7 @@ use Rattle.oer_types.specs.Canonical.{bitmap_octets, canonical_octets, unknown_m
 use Rattle.oer_types.specs.ShapeView.{additions_of, fields_of, later_of, root_of, type_of}
 use Rattle.oer_types.specs.ValueView.{places_of, unknown_of, value_of, values_of}
 use Rattle.oer_writer.specs.Parts.{chosen_octets, field_bits, field_octets, first_bits, known_bits, known_octets, values_octets}
+use Rattle.oer_writer.proofs.Elements.{booleans_measured}
 use Rattle.oer_writer.proofs.measure.+measured.Goals as goal
 
 -- SEQUENCE without an extension marker
@@ -236,6 +237,9 @@ measured_fields-loop-field-preserved t c =
     omega (arith, c.loop-field.invariant, len, part)
 
 -- elements
+
+pub measured_values-returns-in-Boolean : goal.measured_values-returns-in-Boolean
+measured_values-returns-in-Boolean t c = booleans_measured c.measured_booleans.result _ _ _ c.in-Boolean.is c.measured_booleans.ensures
 
 pub measured_values-returns-in_err-done : goal.measured_values-returns-in_err-done
 measured_values-returns-in_err-done t c =

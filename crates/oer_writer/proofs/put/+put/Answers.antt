@@ -10,6 +10,7 @@ use Rattle.oer_writer.proofs.Sizes.{fields_fall, additions_fall, later_fall}
 use Rattle.oer_writer.specs.Parts.{chosen_octets, counted_place, field_bits, field_octets, first_bits, kept_place, known_bits, known_octets, place_octets_of, values_octets}
 use Rattle.oer_writer.proofs.Steps.{ahead_more, ahead_failed, all_same, all_then, from_start, head_then, passed, passed_then, same_wrote, wrote_then}
 use Rattle.oer_writer.proofs.Components.{at_sequence, at_extended, at_list, at_root, at_none, at_later, field_step, known_step, later_found, later_passed, root_found, root_passed, tag_first, tag_is, values_step}
+use Rattle.oer_writer.proofs.Elements.{booleans_wrote}
 use Rattle.oer_writer.proofs.put.+put.Goals as goal
 
 -- SEQUENCE
@@ -221,6 +222,9 @@ put_additions-loop-addition-preserved g t c =
     ahead_more c.args.done c.loop-addition.done c.in_ok-done.done _ _ (counted_place (type_of x.shape) (option_map value_of c.in-Some.place.now)) (known_octets (additions_of (drop (i + 1) c.args.additions.now)) (places_of c.in-Some.more.now)) _ _ _ _ _ _ c.loop-addition.invariant step c.in_ok-done.ensures
 
 -- elements
+
+pub put_values-returns-in-Boolean : goal.put_values-returns-in-Boolean
+put_values-returns-in-Boolean g t c = booleans_wrote c.put_booleans.result _ _ _ _ _ _ _ c.in-Boolean.is c.put_booleans.ensures
 
 pub put_values-returns-in_err-done : goal.put_values-returns-in_err-done
 put_values-returns-in_err-done g t c =

@@ -1,0 +1,9 @@
+use Rattle.std.proofs.Common.{drop}
+use Rattle.oer_types.specs.AsnType.{boolean}
+use Rattle.oer_types.specs.ValueView.{values_of}
+use Rattle.oer_writer.specs.Parts.{values_octets}
+use Rattle.oer_writer.specs.Wrote.{Ahead}
+use Rattle.oer_writer.proofs.booleans.put_booleans.Given as goal
+
+abbrev pub invariant-loop-value : goal.invariant-loop-value
+invariant-loop-value g l = Ahead l.fn.done (values_octets boolean (values_of l.values)) (g.W.Sink.contents l.fn.w) (g.W.Sink.failed l.fn.w) l.done (g.W.Sink.contents l.w) (g.W.Sink.failed l.w) (values_octets boolean (values_of (drop l.value-index l.values)))
