@@ -126,7 +126,8 @@ json_taken (Ok v) = value v
 json_taken (Err e) = stop (Json e)
 
 abbrev pub make_text : AsnType → Text → Expected Text
-make_text T text = json_read (if is_utf8 text then read text else None) >>= λ j. json_taken (taken T j) >>= λ v. in_digits (canonical_octets T v)
+make_text T text = json_read (if is_utf8 text then read text else None) >>= λ j. json_taken (taken T j)
+    >>= λ v. in_digits (canonical_octets T v)
 
 abbrev pub canon_answer : AsnType → ℕ → Option Text → Option (List ℕ) → Expected Text
 canon_answer T limit hex told = given_octets hex told >>= canonical_of T limit >>= in_digits

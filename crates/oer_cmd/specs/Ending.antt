@@ -67,9 +67,9 @@ pub record Does (words : List Text) (told : Option (List ℕ)) (untouched : Type
 abbrev pub AsksForHelp : List Text → Type 0
 AsksForHelp words = IsAmong DisplayHelp (fault_of oer words) ⊎ IsAmong DisplayVersion (fault_of oer words)
 
--- The words are not taken. They ask for help, which is on the output, with status 0, and nothing is on the errors; or the errors say what is
--- wrong with them, with status 2, and nothing is on the output; or the machine failed. What is said is not fixed. Of words that are taken
--- nothing but this last holds, and the output is as it was.
+-- The words are not taken. They ask for help, which is on the output, with status 0, and nothing is on the errors; or
+-- the errors say what is wrong with them, with status 2, and nothing is on the output; or the machine failed. What is
+-- said is not fixed. Of words that are taken nothing but this last holds, and the output is as it was.
 pub record IsNotTaken (words : List Text) (untouched : Type 0) (status : ℕ) (s : Streams) : Type 0 where
   pub refused : status ≤ 2 → takes oer words ≡ true → ⊥
   pub help : status ≡ 0 → AsksForHelp words × Keeps s.errors s.errors'

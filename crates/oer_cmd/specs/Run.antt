@@ -57,11 +57,13 @@ verdict_text false n = codes "basic " ++ decimal n
 
 -- the line of `check` for octets b, which are all of one encoding: how many they are, and whether they are canonical
 abbrev pub IsCheckLine : AsnType → ℕ → Text → List ℕ → Type 0
-IsCheckLine T limit line b = IsEncoding T b × (length b ≤ limit) × ((canonical : Bool) × (line ≡ verdict_text canonical (length b)) × ((canonical ≡ true) ↔ AreCanonical T b))
+IsCheckLine T limit line b = IsEncoding T b × (length b ≤ limit)
+    × ((canonical : Bool) × (line ≡ verdict_text canonical (length b)) × ((canonical ≡ true) ↔ AreCanonical T b))
 
 -- the canonical octets, in lower hexadecimal digits, of a value that fits, for which the text of JSON stands, in UTF-8
 abbrev pub Makes : AsnType → Text → List ℕ → Type 0
-Makes T line text = IsUtf8 text × ((j : Data) × (read text ≡ Some j) × ((v : AsnValue) × Takes T v j × ((c : List ℕ) × IsCanonical T v c × (line ≡ encode_lower c))))
+Makes T line text = IsUtf8 text
+    × ((j : Data) × (read text ≡ Some j) × ((v : AsnValue) × Takes T v j × ((c : List ℕ) × IsCanonical T v c × (line ≡ encode_lower c))))
 
 -- the line of `make` for a text of JSON, of no more octets than the limit
 abbrev pub IsMakeLine : AsnType → ℕ → Text → List ℕ → Type 0
@@ -125,11 +127,16 @@ texts_in words = record { one = given words (codes "type"); types = given words 
 
 -- the line of the task that the words ask for, by their options
 pub data IsLine (words : List Text) (told : Option (List ℕ)) (T : AsnType) (limit : ℕ) (line : Text) : Type 0 where
-  show : asked words ≡ Some (codes "show") → OfOctets (given words (codes "hex")) told (IsShowLine T limit line) → IsLine words told T limit line
-  canon : asked words ≡ Some (codes "canon") → OfOctets (given words (codes "hex")) told (IsCanonLine T limit line) → IsLine words told T limit line
-  check : asked words ≡ Some (codes "check") → OfOctets (given words (codes "hex")) told (IsCheckLine T limit line) → IsLine words told T limit line
-  make : asked words ≡ Some (codes "make") → OfText (given words (codes "json")) told (IsMakeLine T limit line) → IsLine words told T limit line
-  part : asked words ≡ Some (codes "part") → OfOctets (given words (codes "hex")) told (IsPartLine T limit (given words (codes "path")) line) → IsLine words told T limit line
+  show : asked words ≡ Some (codes "show") → OfOctets (given words (codes "hex")) told (IsShowLine T limit line)
+      → IsLine words told T limit line
+  canon : asked words ≡ Some (codes "canon") → OfOctets (given words (codes "hex")) told (IsCanonLine T limit line)
+      → IsLine words told T limit line
+  check : asked words ≡ Some (codes "check") → OfOctets (given words (codes "hex")) told (IsCheckLine T limit line)
+      → IsLine words told T limit line
+  make : asked words ≡ Some (codes "make") → OfText (given words (codes "json")) told (IsMakeLine T limit line)
+      → IsLine words told T limit line
+  part : asked words ≡ Some (codes "part")
+      → OfOctets (given words (codes "hex")) told (IsPartLine T limit (given words (codes "path")) line) → IsLine words told T limit line
 
 -- the line that the words ask for, where the input had these octets left
 pub record AnswersWords (words : List Text) (told : Option (List ℕ)) (line : Text) : Type 0 where
