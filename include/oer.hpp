@@ -4,6 +4,11 @@
  * read. By the types in it octets are checked, rewritten as canonical octets, taken apart, shown as
  * JSON, and made from JSON. A program that includes this header is linked with liboer, as from C.
  *
+ *     oer::types types = oer::types::of("Flags ::= SEQUENCE OF BOOLEAN").value();
+ *     auto made = types.canon("Flags", octets);
+ *     if (made) send(made.value().data(), made.value().size());
+ *     else log(made.error().name(), made.error().place);
+ *
  * Results
  *
  * A call returns an oer::result by value: the answer, or an oer::error with the status, the reason and
