@@ -3,7 +3,8 @@
 // FOLDER is examples/ieee1609dot2, STRINGS is how many random strings of octets are tried, and TABLE is
 // what bindings/table printed. The vectors are those of the tests in C. It says what differs, and then
 // its status is 1. Octets that are read and buffers that are written end where a page ends that may be
-// used, so that a call that goes past them ends the program.
+// used, so that a call that goes past them ends the program. With REFUSE_MEMORY defined, and linked with
+// --wrap for malloc and realloc, allocations of the library are refused in turn as well.
 #include "oer.hpp"
 #include "vectors.h"
 
@@ -29,7 +30,8 @@ static bool differs;
 #define EXPECT(condition, what)                                                                          \
     do {                                                                                                 \
         if (!(condition)) {                                                                              \
-            std::printf("bindings/cpp/test.cc:%d: %s: %.200s\n", __LINE__, #condition, std::string(what).c_str()); \
+            std::printf("bindings/cpp/test.cc:%d: %s: %.200s\n", __LINE__, #condition,                   \
+                        std::string(what).c_str());                                                      \
             differs = true;                                                                              \
         }                                                                                                \
     } while (0)
@@ -46,6 +48,29 @@ static_assert(!std::is_convertible<const bytes &, oer::octets_out>::value, "what
 static_assert(std::is_convertible<std::span<const std::uint8_t>, oer::octets_in>::value, "a span");
 static_assert(std::is_convertible<std::span<std::uint8_t>, oer::octets_out>::value, "a span");
 static_assert(std::is_convertible<const oer::octets &, std::span<const std::uint8_t>>::value, "a span");
+#endif
+
+// ---- memory that is refused
+
+// Whether the header's allocations are refused.
+static bool refuse_new;
+
+void *operator new[](std::size_t size, const std::nothrow_t &) noexcept {
+    return refuse_new ? nullptr : ::operator new[](size);
+}
+
+#ifdef REFUSE_MEMORY
+// The allocation number `refuse_at` of the library is refused.
+static long allocations, refuse_at;
+
+extern "C" {
+void *__real_malloc(std::size_t size);
+void *__real_realloc(void *old, std::size_t size);
+void *__wrap_malloc(std::size_t size) { return ++allocations == refuse_at ? nullptr : __real_malloc(size); }
+void *__wrap_realloc(void *old, std::size_t size) {
+    return ++allocations == refuse_at ? nullptr : __real_realloc(old, size);
+}
+}
 #endif
 
 // ---- memory before a page that may not be touched
@@ -183,6 +208,11 @@ static oer::types types_of(const std::string &type) {
     return types;
 }
 
+// What the calls of the row read.
+static oer::subject subject_of(const vector &row) {
+    return row.task == FROM_JSON ? oer::subject::json : oer::subject::octets;
+}
+
 static bool is_only(const oer::error &error, std::uint32_t status) {
     return error.status == status && error.why == 0 && error.place == 0 && error.needed == 0;
 }
@@ -210,7 +240,10 @@ static void test_rooms(oer::types &types, const vector &row) {
     std::fill(out, out + room, static_cast<std::uint8_t>(0xcc));
     oer::result<oer::written> made = call_into(types, row, oer::octets_out(out, room));
     EXPECT(made.error().status == row.status && made.error().why == row.why, row.given);
-    EXPECT(made.value().size == want.size() && made.value().read == (row.status ? 0 : row.octets), row.given);
+    EXPECT(made.error().place == (row.status ? row.octets : 0) && made.error().needed == 0, row.given);
+    EXPECT(made.ok() || made.error().of == subject_of(row), row.given);
+    if (!made) return;
+    EXPECT(made.value().size == want.size() && made.value().read == row.octets, row.given);
     EXPECT(std::equal(want.begin(), want.end(), out), row.given);
 }
 
@@ -221,13 +254,8 @@ static void test_vector(const vector &row) {
     EXPECT(made.error.place == (row.status ? row.octets : 0), row.given);
     EXPECT(made.read == (row.status ? 0 : row.octets) && made.size == row.written, row.given);
     EXPECT(made.made == wanted(row), row.given);
-    if (row.task != CHECK) {
-#ifdef OER_EXCEPTIONS
-        if (row.status == OER_OK) test_rooms(types, row);
-#else
-        test_rooms(types, row);
-#endif
-    }
+    EXPECT(!made.error.status || made.error.of == subject_of(row), row.given);
+    if (row.task != CHECK) test_rooms(types, row);
     EXPECT(is_only(call(types, "B", row).error, OER_UNNAMED), row.given);
     EXPECT(is_only(call(types, "", row).error, OER_UNNAMED), row.given);
     EXPECT(is_only(call(types, "\377", row).error, OER_UNNAMED), row.given);
@@ -240,6 +268,30 @@ static void test_vector(const vector &row) {
     EXPECT(is_only(call(moved, "A", row).error, OER_NO_TYPES), "freed twice");
     oer::types none;
     EXPECT(is_only(call(none, "A", row).error, OER_NO_TYPES), "before types are read");
+}
+
+// Where memory is refused, the header and the library say so, and the types are as before.
+static void test_memory(const vector &row) {
+    oer::types types = types_of(row.type);
+    refuse_new = true;
+    oer::error error = call(types, "A", row).error;
+    refuse_new = false;
+    EXPECT(is_only(error, OER_MEMORY) || row.task == CHECK, row.given);
+#ifdef REFUSE_MEMORY
+    for (long nth = 1; nth <= 1000; nth++) {
+        allocations = 0;
+        refuse_at = nth;
+        error = call(types, "A", row).error;
+        refuse_at = 0;
+        if (allocations < nth) break;
+        EXPECT(is_only(error, OER_MEMORY), row.given);
+    }
+    allocations = 0;
+    refuse_at = 1;
+    EXPECT(is_only(types.read("A ::= NULL").error(), OER_MEMORY), row.given);
+    refuse_at = 0;
+#endif
+    EXPECT(call(types, "A", row).error.status == row.status, row.given);
 }
 
 // A text that is refused leaves the types from before.
@@ -284,6 +336,7 @@ static void test_arguments() {
     EXPECT(types.check("A", bytes()).error().why == OER_END, "no octets");
     EXPECT(types.check("A", oer::octets_in()).error().why == OER_END, "no octets");
     EXPECT(types.check("A", oer::octets_in(nullptr, 0)).error().why == OER_END, "no octets");
+    EXPECT(oer::octets_in().data() && oer::text_in(nullptr, 0).data() && oer::text_out(nullptr, 0).data(), "null");
     EXPECT(types.canon_into("A", array, out).value().size == 2 && out[1] == 5, "std::array");
     EXPECT(types.canon_into("A", array, oer::octets_out()).error().needed == 2, "no buffer");
     oer::octets made = types.canon("A", array).value(), moved = std::move(made);
@@ -360,16 +413,19 @@ static void test_numbers(const std::string &file) {
         EXPECT(name.compare(0, 4, "OER_") == 0, name);
         name = name.substr(4);
         bool status = statuses <= OER_NO_JSON;
-        if (status) EXPECT(name_of(number, 0, oer::subject::octets) == name || number == OER_REFUSED, name);
-        else if (name.compare(0, 5, "TEXT_") == 0) EXPECT(name_of(OER_REFUSED, number, oer::subject::definitions) == name.substr(5), name);
-        else if (name.compare(0, 5, "JSON_") == 0) EXPECT(name_of(OER_REFUSED, number, oer::subject::json) == name.substr(5), name);
-        else EXPECT(name_of(OER_REFUSED, number, oer::subject::octets) == name, name);
+        oer::subject of = oer::subject::octets;
+        if (name.compare(0, 5, "TEXT_") == 0) of = oer::subject::definitions;
+        if (name.compare(0, 5, "JSON_") == 0) of = oer::subject::json;
+        if (of != oer::subject::octets) name = name.substr(5);
+        if (status) EXPECT(name == "REFUSED" || name_of(number, 0, of) == name, name);
+        else EXPECT(name_of(OER_REFUSED, number, of) == name, name);
         statuses += status;
         tested++;
     }
     EXPECT(tested == 50, std::to_string(tested) + " numbers");
     EXPECT(name_of(OER_REFUSED, 0, oer::subject::octets) == "UNKNOWN", "no reason");
-    EXPECT(name_of(OER_REFUSED, 99, oer::subject::json) == "UNKNOWN" && name_of(99, 0, oer::subject::json) == "UNKNOWN", "no status");
+    EXPECT(name_of(OER_REFUSED, 99, oer::subject::json) == "UNKNOWN", "no reason");
+    EXPECT(name_of(99, 0, oer::subject::json) == "UNKNOWN", "no status");
     EXPECT(oer::version() == OER_VERSION_NUMBER, "the version");
 }
 
@@ -444,6 +500,7 @@ int main(int count, char **words) {
         return 2;
     }
     for (const vector &row : vectors) test_vector(row);
+    for (const vector &row : vectors) test_memory(row);
     for (const refused_text &row : refused_texts) test_refused_text(row);
     test_kept_types();
     test_arguments();

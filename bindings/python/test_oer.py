@@ -14,6 +14,7 @@ import threading
 import unittest
 import warnings
 from typing import Any, Callable, List, NamedTuple, Optional, Tuple
+from unittest import mock
 
 import oer
 
@@ -161,6 +162,32 @@ class Calls(unittest.TestCase):
         self.assertEqual(self.raised(lambda: types.canon("A", b"\x01\x05", 1)), (oer.OctetsRefused, 4, 1))
         self.assertEqual(types.canon("A", b"\x01\x05", 2**70).read, 2)
         self.assertRaises(ValueError, types.to_json, "A", b"\x01\x05", -1)
+
+    def test_types_are_freed(self) -> None:
+        with mock.patch.object(oer, "_library", wraps=oer._library) as library:
+            def freed() -> int:
+                return library.oer_types_free.call_count
+
+            with types_of(b"NULL"):
+                self.assertEqual(freed(), 0)
+            self.assertEqual(freed(), 2)
+            types = types_of(b"NULL")
+            types.close()
+            self.assertEqual(freed(), 3)
+            del types
+            self.assertEqual(freed(), 4)
+
+    def test_other_statuses(self) -> None:
+        types = types_of(b"NULL")
+        for status, wanted in ((4, oer.OutOfMemory), (42, oer.Error)):
+            with mock.patch.object(oer, "_library") as library:
+                library.oer_types_read.return_value = oer._Parsed(status, 0, 0)
+                library.oer_check.return_value = oer._Checked(status, 0, 0, 0)
+                library.oer_canon.return_value = oer._Written(status, 0, 0, 0)
+                for call in (lambda: types.read("A ::= NULL"), lambda: types.check("A", b""),
+                             lambda: types.canon("A", b"")):
+                    self.assertEqual(self.raised(call), (wanted, None, None))
+        self.assertEqual(types.check("A", b""), (0, True))
 
     def test_exceptions(self) -> None:
         types = types_of(b"OCTET STRING")
@@ -311,7 +338,8 @@ class Random(unittest.TestCase):
             while tried < strings * (place + 1) // len(kinds):
                 drawn = numbers.getrandbits(400).to_bytes(50, "little")[:2 * numbers.randrange(25)]
                 # Small octets, so that many strings are encodings; or an octet of any kind.
-                octets = bytes(common[some % 10] if choice % 4 else some for choice, some in zip(drawn[::2], drawn[1::2]))
+                pairs = zip(drawn[::2], drawn[1::2])
+                octets = bytes(common[octet % 10] if choice % 4 else octet for choice, octet in pairs)
                 found = self.compare(types, octets)
                 tried += 1
                 if found:

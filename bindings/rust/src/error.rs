@@ -138,3 +138,30 @@ impl fmt::Display for Error {
 }
 
 impl std::error::Error for Error {}
+
+#[cfg(test)]
+mod tests {
+    use super::*;
+    use crate::table;
+
+    /// Each status of the header but OK and REFUSED has the error with its name.
+    #[test]
+    fn statuses_are_those_of_the_header() {
+        for row in &table::rows("number")[2..10] {
+            let wanted = row[0].strip_prefix("OER_").unwrap().replace('_', "").to_lowercase();
+            let status = row[1].parse().unwrap();
+            for error in [
+                Error::of_octets(status, 3, 5, 7),
+                Error::of_definitions(status, 3, 5),
+                Error::of_json(status, 3, 7),
+            ] {
+                let found = format!("{error:?}").to_lowercase();
+                assert_eq!(found.split(' ').next(), Some(&wanted[..]));
+                assert_eq!((error.reason(), error.place()), (None, None));
+            }
+        }
+        assert_eq!(Error::of_octets(sys::ROOM, 0, 0, 7), Error::Room { needed: 7 });
+        assert_eq!(Error::of_json(sys::REFUSED, 99, 0), Error::Unknown { status: 1, why: 99 });
+        assert_eq!(Error::of_octets(99, 3, 0, 0), Error::Unknown { status: 99, why: 3 });
+    }
+}

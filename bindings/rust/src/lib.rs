@@ -39,6 +39,9 @@
 mod error;
 mod reason;
 mod sys;
+#[cfg(test)]
+#[path = "../tests/table/mod.rs"]
+mod table;
 
 pub use error::Error;
 pub use reason::{JsonReason, Reason, TextReason};
@@ -506,4 +509,18 @@ fn zeros(size: usize) -> Result<Vec<u8>, Error> {
     octets.try_reserve_exact(size).map_err(|_| Error::Memory)?;
     octets.resize(size, 0);
     Ok(octets)
+}
+
+#[cfg(test)]
+mod tests {
+    use super::*;
+
+    #[test]
+    fn an_allocation_that_fails_is_said() {
+        let none = |_: &mut [u8]| Ok(Written { read: 0, size: 0 });
+        assert_eq!(gather(usize::MAX, none), Err(Error::Memory));
+        let more = |_: &mut [u8]| Err(Error::Room { needed: u64::MAX });
+        assert_eq!(gather(0, more), Err(Error::Memory));
+        assert_eq!(gather(3, none), Ok((Vec::new(), 0)));
+    }
 }

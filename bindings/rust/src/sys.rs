@@ -96,10 +96,6 @@ extern "C" {
 }
 
 #[cfg(test)]
-#[path = "../tests/table/mod.rs"]
-mod table;
-
-#[cfg(test)]
 mod tests {
     use super::*;
     use std::mem::{align_of, size_of};
@@ -123,7 +119,7 @@ mod tests {
             ("oer_checked", layout!(OerChecked, status, why, octets, canonical)),
             ("oer_written", layout!(OerWritten, status, why, octets, written)),
         ];
-        let wanted = super::table::rows("layout");
+        let wanted = crate::table::rows("layout");
         assert_eq!(found.len(), wanted.len());
         for ((name, numbers), row) in found.iter().zip(wanted) {
             let numbers: Vec<String> = numbers.iter().map(usize::to_string).collect();
