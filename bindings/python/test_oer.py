@@ -286,6 +286,7 @@ class Threads(unittest.TestCase):
         self.assertEqual(self.in_thread(lambda: types_of(b"BOOLEAN").check("A", b"\xff")), (1, True))
 
     def test_collected_in_another_thread(self) -> None:
+        gc.collect()
         kept = [types_of(b"BOOLEAN")]
         with warnings.catch_warnings(record=True) as caught:
             warnings.simplefilter("always")
