@@ -3,7 +3,7 @@
  * there is `-`.
  *
  *   version NUMBER
- *   layout STRUCT SIZE OFFSET..
+ *   layout STRUCT SIZE OFFSET+SIZE..     of the struct, and of each field
  *   vector TASK TYPE GIVEN PATH LIMIT STATUS WHY OCTETS WRITTEN ANSWER
  *   refused TEXT WHY PLACE */
 #include "vectors.h"
@@ -41,18 +41,35 @@ static void put_vector(const struct vector *vector) {
     putchar('\n');
 }
 
-#define AT(type, field) (unsigned)offsetof(type, field)
+/* Where a field begins in its struct, and how many octets it has. */
+#define PLACE(type, field) \
+    printf("\t%u+%u", (unsigned)offsetof(type, field), (unsigned)sizeof(((type *)0)->field))
+
+static void put_layouts(void) {
+    printf("layout\toer_types\t%u", (unsigned)sizeof(oer_types));
+    PLACE(oer_types, at_);
+    PLACE(oer_types, full_);
+    printf("\nlayout\toer_parsed\t%u", (unsigned)sizeof(oer_parsed));
+    PLACE(oer_parsed, status);
+    PLACE(oer_parsed, why);
+    PLACE(oer_parsed, place);
+    printf("\nlayout\toer_checked\t%u", (unsigned)sizeof(oer_checked));
+    PLACE(oer_checked, status);
+    PLACE(oer_checked, why);
+    PLACE(oer_checked, octets);
+    PLACE(oer_checked, canonical);
+    printf("\nlayout\toer_written\t%u", (unsigned)sizeof(oer_written));
+    PLACE(oer_written, status);
+    PLACE(oer_written, why);
+    PLACE(oer_written, octets);
+    PLACE(oer_written, written);
+    putchar('\n');
+}
 
 int main(void) {
     size_t i;
     printf("version\t%d\n", OER_VERSION_NUMBER);
-    printf("layout\toer_types\t%u\t%u\t%u\n", (unsigned)sizeof(oer_types), AT(oer_types, at_), AT(oer_types, full_));
-    printf("layout\toer_parsed\t%u\t%u\t%u\t%u\n", (unsigned)sizeof(oer_parsed), AT(oer_parsed, status),
-           AT(oer_parsed, why), AT(oer_parsed, place));
-    printf("layout\toer_checked\t%u\t%u\t%u\t%u\t%u\n", (unsigned)sizeof(oer_checked), AT(oer_checked, status),
-           AT(oer_checked, why), AT(oer_checked, octets), AT(oer_checked, canonical));
-    printf("layout\toer_written\t%u\t%u\t%u\t%u\t%u\n", (unsigned)sizeof(oer_written), AT(oer_written, status),
-           AT(oer_written, why), AT(oer_written, octets), AT(oer_written, written));
+    put_layouts();
     for (i = 0; i < sizeof vectors / sizeof *vectors; i++) put_vector(&vectors[i]);
     for (i = 0; i < sizeof refused_texts / sizeof *refused_texts; i++) {
         printf("refused");

@@ -100,14 +100,22 @@ mod tests {
     use super::*;
     use std::mem::{align_of, size_of};
 
-    /// The size of a struct and the offsets of its fields, in the order of the header.
+    fn size_at<T>(_: *const T) -> usize {
+        size_of::<T>()
+    }
+
+    /// The size of a struct, and the offset and size of each field, in the order of the header.
     macro_rules! layout {
         ($struct:ident, $($field:ident),*) => {{
             let at = std::mem::MaybeUninit::<$struct>::uninit();
             let start = at.as_ptr();
-            // SAFETY: the places are only compared, and nothing is read.
-            let offsets = [$(unsafe { std::ptr::addr_of!((*start).$field) as usize - start as usize }),*];
-            [&[size_of::<$struct>()][..], &offsets].concat()
+            let mut found = vec![size_of::<$struct>().to_string()];
+            $(
+                // SAFETY: the place is only compared, and nothing is read.
+                let field = unsafe { std::ptr::addr_of!((*start).$field) };
+                found.push(format!("{}+{}", field as usize - start as usize, size_at(field)));
+            )*
+            found
         }};
     }
 
@@ -122,7 +130,6 @@ mod tests {
         let wanted = crate::table::rows("layout");
         assert_eq!(found.len(), wanted.len());
         for ((name, numbers), row) in found.iter().zip(wanted) {
-            let numbers: Vec<String> = numbers.iter().map(usize::to_string).collect();
             assert_eq!((*name, &numbers[..]), (row[0].as_str(), &row[1..]));
         }
         assert_eq!(align_of::<OerWritten>(), 8);

@@ -194,6 +194,8 @@ fn errors_are_errors() {
     assert_eq!(refused.to_string(), "octets refused: End, 2 octets looked at");
     assert_eq!(types.check("A", &[3]).unwrap_err().place(), Some(1));
     assert_eq!((Error::Absent.reason(), Error::Absent.place()), (None, None));
+    let refused = types.from_json("A", "true").unwrap_err();
+    assert_eq!((refused.reason(), refused.place()), (Some("Kind"), None));
 }
 
 #[test]
