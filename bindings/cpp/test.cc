@@ -234,6 +234,7 @@ static void test_rooms(oer::types &types, const vector &row) {
         std::fill(out, out + room, static_cast<std::uint8_t>(0xbb));
         oer::result<oer::written> small = call_into(types, row, oer::octets_out(room ? out : nullptr, room));
         EXPECT(small.error().status == OER_ROOM && small.error().needed == want.size(), row.given);
+        EXPECT(small.error().why == 0 && small.error().place == 0, row.given);
         EXPECT(std::count(out, out + room, 0xbb) == static_cast<std::ptrdiff_t>(room), row.given);
     }
     std::uint8_t *out = memory.end_with(room);

@@ -21,8 +21,8 @@
 //!
 //! # The library
 //!
-//! The crate is linked with `liboer.a`. It is looked for in the folder that the variable `OER_LIB_DIR`
-//! of the environment names, or else in the one that `pkg-config` says.
+//! The crate is linked with `liboer.a`. It is looked for in the folder whose whole path `OER_LIB_DIR`
+//! of the environment is, or else in the one that `pkg-config` says.
 //!
 //! # Threads
 //!
