@@ -343,7 +343,7 @@ static void test_arguments() {
     oer::octets made = types.canon("A", array).value(), moved = std::move(made);
     EXPECT(made.empty() && made.read() == 0 && moved.size() == 2 && moved[1] == 5 && moved.read() == 2, "moved");
     made = std::move(moved);
-    EXPECT(moved.empty() && copy(made) == bytes(array, array + 2), "moved");
+    EXPECT(moved.empty() && copy(made) == bytes(array, array + 2) && made.read() == 2, "moved");
     EXPECT(types.check("A", made).value().octets == 2, "oer::octets");
     EXPECT(copy(types.from_json("A", types.to_json("A", made).value()).value()) == copy(made), "oer::text");
     EXPECT(oer::octets().size() == 0 && oer::octets().begin() == oer::octets().end(), "no octets");

@@ -5,6 +5,7 @@ OER_TABLE names, or else what bindings/table prints."""
 import collections
 import copy
 import ctypes
+import ctypes.util
 import gc
 import os
 import pickle
@@ -209,6 +210,25 @@ class Calls(unittest.TestCase):
             json = types.to_json("A", octets)
             self.assertEqual((len(json.text), json.read), (count * 35 + 1, len(octets)))
             self.assertEqual(types.from_json("A", json.text)[-count:], b"\xff" * count)
+            self.assertLessEqual(len(types._room or b""), oer._KEPT)
+
+    def test_call_within_a_call(self) -> None:
+        types = types_of(b"OCTET STRING")
+        types.canon("A", b"\x01\x05")
+        within: List[bytes] = []
+        canon = oer._library.oer_canon
+
+        def call(*given: Any) -> Any:
+            answer = canon(*given)
+            if not within:
+                within.append(b"")
+                within[0] = types.canon("A", b"\x01\x06").octets
+            return answer
+
+        with mock.patch.object(oer, "_library", wraps=oer._library) as library:
+            library.oer_canon.side_effect = call
+            self.assertEqual(types.canon("A", b"\x01\x05").octets, b"\x01\x05")
+        self.assertEqual(within, [b"\x01\x06"])
 
     def test_certificate(self) -> None:
         with open(os.path.join(EXAMPLE, "types.asn"), encoding="utf-8") as file:
@@ -252,7 +272,7 @@ class Header(unittest.TestCase):
         self.assertEqual(oer.VERSION_NUMBER, oer.version())
 
     def test_no_library(self) -> None:
-        for file in (os.path.join(HERE, "none.so"), __file__):
+        for file in (os.path.join(HERE, "none.so"), __file__, ctypes.util.find_library("c") or __file__):
             run = subprocess.run([sys.executable, "-c", "import oer"], cwd=HERE, stderr=subprocess.PIPE,
                                  env={**os.environ, "OER_LIB": file})
             self.assertEqual(run.returncode, 1)
