@@ -44,11 +44,10 @@ fn put_place_bit<W: Sink>(
     requires { IsReady packer.old }
     ensures { Packs (place_bit (need_of field.now.need) (kept_place (need_of field.now.need) (type_of field.now.shape) (option_map value_of place.now))) packer.old packer.new done (W.contents w.old) (W.failed w.old) result (W.contents w.new) (W.failed w.new) }
 {
-    let is_kept = kept(field, place).is_some();
-    match field.need {
+    match &field.need {
         Need::Must => Ok(done),
-        Need::May => packer.put(is_kept, done, w),
-        Need::Default(_) => packer.put(is_kept, done, w),
+        Need::May => packer.put(kept(field, place).is_some(), done, w),
+        Need::Default(_) => packer.put(kept(field, place).is_some(), done, w),
     }
 }
 
