@@ -22,7 +22,8 @@ IsFilled c old new false = new ≡ old
 
 -- The octets c are at the front of the buffer, and the rest is as before; or it has too little room for them, and all is as before.
 abbrev pub IsPut : List ℕ → ℕ → List ℕ → List ℕ → Written → Type 0
-IsPut c taken old new a = ((a ≡ wrote 0 taken (length c)) × (length c ≤ length old) × (new ≡ c ++ drop (length c) old)) ⊎ ((a ≡ wrote 5 taken (length c)) × (length old < length c) × (new ≡ old))
+IsPut c taken old new a = ((a ≡ wrote 0 taken (length c)) × (length c ≤ length old) × (new ≡ c ++ drop (length c) old))
+    ⊎ ((a ≡ wrote 5 taken (length c)) × (length old < length c) × (new ≡ old))
 
 -- nothing but this status is answered, and the buffer is as before
 abbrev pub IsUndone : List ℕ → List ℕ → Written → ℕ → Type 0

@@ -18,7 +18,8 @@ numbers (Err e) = record { status = 1; why = why_number e.why; octets = e.taken;
 
 -- They are an answer of which all holds that `check` promises.
 abbrev pub IsChecked : AsnType → List ℕ → Checked → Type 0
-IsChecked T octets a = (r : Result Verdict ReadFault) × (a ≡ numbers r) × Tells T octets r × Finds T octets r × Answers T octets r × IsOfOctets r
+IsChecked T octets a = (r : Result Verdict ReadFault) × (a ≡ numbers r) × Tells T octets r × Finds T octets r × Answers T octets r
+    × IsOfOctets r
 
 -- a status and nothing else
 abbrev pub only : ℕ → Checked

@@ -22,7 +22,8 @@ IsFault fault p = (p ≡ answer 4 0 0) ⊎ ((p ≡ answer 1 (text_number fault.w
 abbrev pub IsRefused : List ℕ → Parsed → Type 0
 IsRefused text p = (p ≡ answer 4 0 0)
     ⊎ (((IsUtf8 text → ⊥) × (p ≡ answer 1 0 0))
-    ⊎ ((fault : TextFault) × (p ≡ answer 1 (text_number fault.why) fault.at) × (parse_all text ≡ Err fault) × ((definitions : List Known) → SpellsAll definitions text → AreWellFormed definitions → ⊥)))
+    ⊎ ((fault : TextFault) × (p ≡ answer 1 (text_number fault.why) fault.at) × (parse_all text ≡ Err fault)
+    × ((definitions : List Known) → SpellsAll definitions text → AreWellFormed definitions → ⊥)))
 
 -- There are types that the text spells; or the text is refused, and there are those from before.
 abbrev pub IsRead : List ℕ → Option Types → Option Types → Parsed → Type 0

@@ -27,7 +27,8 @@ IsUnread text a = (a ≡ only_written 4) ⊎ ((a ≡ only_written 9) × (IsUtf8 
 
 -- The JSON stands for no value, and this is its first fault; or an allocation failed.
 abbrev pub IsUntaken : AsnType → Data → Written → Type 0
-IsUntaken T j a = (a ≡ only_written 4) ⊎ ((fault : JsonFault) × (a ≡ json_refusal fault) × (taken T j ≡ Err fault) × ((v : AsnValue) → Takes T v j → ⊥))
+IsUntaken T j a = (a ≡ only_written 4)
+    ⊎ ((fault : JsonFault) × (a ≡ json_refusal fault) × (taken T j ≡ Err fault) × ((v : AsnValue) → Takes T v j → ⊥))
 
 -- The text is not JSON, or its JSON stands for no value, or an allocation failed.
 abbrev pub IsUnmade : AsnType → List ℕ → Written → Type 0

@@ -25,5 +25,7 @@ IsUncopied T octets path a = (a ≡ only_written 4)
 
 -- The part to which the path leads in the encoding at the front is put into the buffer; or the buffer is as before.
 abbrev pub IsCopied : AsnType → List ℕ → List ℕ → List ℕ → List ℕ → Written → Type 0
-IsCopied T octets path old new a = ((steps : List Step) × (s : List ℕ) × SpellsPath path steps × Begins T octets (λ b. (U : Option AsnType) × Within (Some T) b steps U s) × IsPut s 0 old new a)
+IsCopied T octets path old new a =
+    ((steps : List Step) × (s : List ℕ) × SpellsPath path steps
+    × Begins T octets (λ b. (U : Option AsnType) × Within (Some T) b steps U s) × IsPut s 0 old new a)
     ⊎ ((new ≡ old) × IsUncopied T octets path a)

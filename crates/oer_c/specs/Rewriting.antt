@@ -12,7 +12,8 @@ use Rattle.oer_c.specs.declared.buffer.Written.{Written}
 
 -- the first m of the octets, at most as many as the limit, are an encoding of a value whose canonical octets are c
 abbrev pub IsMade : AsnType → ℕ → List ℕ → ℕ → List ℕ → Type 0
-IsMade T limit octets m c = (v : AsnValue) × (b : List ℕ) × (rest : List ℕ) × (octets ≡ b ++ rest) × (m ≡ length b) × (length b ≤ limit) × Encodes T v b × IsCanonical T v c
+IsMade T limit octets m c = (v : AsnValue) × (b : List ℕ) × (rest : List ℕ) × (octets ≡ b ++ rest) × (m ≡ length b)
+    × (length b ≤ limit) × Encodes T v b × IsCanonical T v c
 
 -- no encoding of at most so many octets is at the front
 abbrev pub IsNone : AsnType → ℕ → List ℕ → Type 0
@@ -21,7 +22,9 @@ IsNone T limit octets = (v : AsnValue) (b rest : List ℕ) → octets ≡ b ++ r
 -- No encoding is at the front; t was looked at when it was refused, and the reason means of t what it means where a value is read. Or
 -- an allocation failed.
 abbrev pub IsRefused : AsnType → ℕ → List ℕ → Written → Type 0
-IsRefused T limit octets a = ((e : ReadFault) × (t : List ℕ) × (rest : List ℕ) × (a ≡ refusal e) × (octets ≡ t ++ rest) × (e.taken ≡ length t) × Means e.why T limit t rest × IsNone T limit octets)
+IsRefused T limit octets a =
+    ((e : ReadFault) × (t : List ℕ) × (rest : List ℕ) × (a ≡ refusal e) × (octets ≡ t ++ rest) × (e.taken ≡ length t)
+    × Means e.why T limit t rest × IsNone T limit octets)
     ⊎ (a ≡ only_written 4)
 
 -- The canonical octets are put into the buffer; or it is as before, and the octets are refused.

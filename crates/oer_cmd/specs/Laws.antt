@@ -24,17 +24,17 @@ named t n = record { one = None; types = Some t; name = Some n }
 abbrev pub WithEqualSigns : Type 0
 WithEqualSigns = (t h : Text)
     → AsksFor (codes "oer" ∷ codes "canon" ∷ (codes "--type=" ++ t) ∷ (codes "--hex=" ++ h) ∷ []) (codes "canon") (one t) (Some h)
-        (Some (codes "1048576"))
+    (Some (codes "1048576"))
 
 abbrev pub WithName : Type 0
 WithName = (t n h : Text)
     → AsksFor (codes "oer" ∷ codes "canon" ∷ (codes "--types=" ++ t) ∷ (codes "--name=" ++ n) ∷ (codes "--hex=" ++ h) ∷ [])
-        (codes "canon") (named t n) (Some h) (Some (codes "1048576"))
+    (codes "canon") (named t n) (Some h) (Some (codes "1048576"))
 
 abbrev pub WithoutDigits : Type 0
 WithoutDigits = (t : Text)
     → AsksFor (codes "oer" ∷ codes "canon" ∷ (codes "--type=" ++ t) ∷ codes "--limit" ∷ codes "7" ∷ []) (codes "canon")
-        (one t) None (Some (codes "7"))
+    (one t) None (Some (codes "7"))
 
 abbrev pub StoredRun : Type 0
 StoredRun = AsksFor (codes "oer" ∷ codes "canon" ∷ codes "--type" ∷ codes "INTEGER (0..MAX)" ∷ codes "--hex" ∷ codes "020005"
@@ -44,12 +44,12 @@ StoredRun = AsksFor (codes "oer" ∷ codes "canon" ∷ codes "--type" ∷ codes 
 abbrev pub ShowHex : Type 0
 ShowHex = (t h : Text)
     → AsksFor (codes "oer" ∷ codes "show" ∷ (codes "--hex=" ++ h) ∷ (codes "--type=" ++ t) ∷ codes "--limit=9" ∷ [])
-        (codes "show") (one t) (Some h) (Some (codes "9"))
+    (codes "show") (one t) (Some h) (Some (codes "9"))
 
 abbrev pub CheckHex : Type 0
 CheckHex = (t h : Text)
     → AsksFor (codes "oer" ∷ codes "check" ∷ (codes "--hex=" ++ h) ∷ (codes "--type=" ++ t) ∷ []) (codes "check") (one t) (Some h)
-        (Some (codes "1048576"))
+    (Some (codes "1048576"))
 
 abbrev pub MakeJson : Type 0
 MakeJson = (t j : Text) → let words = codes "oer" ∷ codes "make" ∷ (codes "--json=" ++ j) ∷ (codes "--type=" ++ t) ∷ [] in

@@ -198,7 +198,7 @@ abbrev mutual
       (take_fields fs ms >>= λ root. Ok (seq root no_places [])) else Err Name
   take (extensible_sequence fs more) j = members_in j >>= λ ms. if all_pass (is_key (field_names fs) (addition_names more)) (keys_of ms)
       then (take_fields fs ms >>= λ root. take_additions more ms >>= λ added. take_unknown (addition_count more) ms
-          >>= λ us. Ok (seq root added us)) else Err Name
+      >>= λ us. Ok (seq root added us)) else Err Name
   take (sequence_of size T) j = items_in j >>= λ js. take_items (take T) js >>= sized size
   take (choice extensible more) j =
       one_member j >>= λ m. take_alternative (take_foreign (choice extensible more) extensible m.0 m.1) more m.0 m.1

@@ -53,7 +53,7 @@ is_numeral w = nat_lt 0 (length w) && all_ascii_digits w
 unfoldable pub integer_of : List ℕ → Option ℤ
 integer_of w =
     if is_numeral (without_leading_sign w) && (int_le (negsuc 170141183460469231731687303715884105727)
-        (signed_digits_value 10 w) && int_le (signed_digits_value 10 w) (pos 170141183460469231731687303715884105727))
+    (signed_digits_value 10 w) && int_le (signed_digits_value 10 w) (pos 170141183460469231731687303715884105727))
     then Some (signed_digits_value 10 w) else None
 
 -- the number that the digits stand for, where it is below the limit

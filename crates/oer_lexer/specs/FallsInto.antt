@@ -54,17 +54,20 @@ pub data IsToken : Token → List ℕ → Type 0 where
   text_token : {w : List ℕ} → IsQuoted w → IsToken (text (double_quote ∷ w)) (double_quote ∷ w)
   sign_token : (s : Sign) → IsToken (sign s) (sign_text s)
 
--- what follows the two hyphens of a comment that goes on to the text's end or up to a line's end or two hyphens; the second list is what follows it
+-- what follows the two hyphens of a comment that goes on to the text's end or up to a line's end or two hyphens; the
+-- second list is what follows it
 pub data IsLine : List ℕ → List ℕ → Type 0 where
   text_ends : IsLine [] []
   line_ends : {c : ℕ} {rest : List ℕ} → is_line_end c ≡ true → IsLine (c ∷ []) rest
   hyphens_end : {rest : List ℕ} → IsLine (hyphen ∷ hyphen ∷ []) rest
-  line_char : {c : ℕ} {cs rest : List ℕ} → is_line_end c ≡ false → starts_with_two hyphen hyphen (c ∷ (cs ++ rest)) ≡ false → IsLine cs rest → IsLine (c ∷ cs) rest
+  line_char : {c : ℕ} {cs rest : List ℕ} → is_line_end c ≡ false → starts_with_two hyphen hyphen (c ∷ (cs ++ rest)) ≡ false
+      → IsLine cs rest → IsLine (c ∷ cs) rest
 
 -- what follows the opening of a comment between slashes and stars, with its end; such comments nest
 pub data IsBlock : List ℕ → Type 0 where
   block_end : IsBlock (star ∷ slash ∷ [])
-  block_char : {c : ℕ} {cs : List ℕ} → starts_with_two star slash (c ∷ cs) ≡ false → starts_with_two slash star (c ∷ cs) ≡ false → IsBlock cs → IsBlock (c ∷ cs)
+  block_char : {c : ℕ} {cs : List ℕ} → starts_with_two star slash (c ∷ cs) ≡ false → starts_with_two slash star (c ∷ cs) ≡ false
+      → IsBlock cs → IsBlock (c ∷ cs)
   block_inside : {inner outer : List ℕ} → IsBlock inner → IsBlock outer → IsBlock (slash ∷ star ∷ (inner ++ outer))
 
 -- no longer front of the text is a token
@@ -86,4 +89,5 @@ pub data FallsInto : List ℕ → List Token → Type 0 where
   line_comment : {w rest : List ℕ} {ts : List Token} → IsLine w rest → FallsInto rest ts → FallsInto (hyphen ∷ hyphen ∷ (w ++ rest)) ts
   block_comment : {w rest : List ℕ} {ts : List Token} → IsBlock w → FallsInto rest ts → FallsInto (slash ∷ star ∷ (w ++ rest)) ts
   -- a number isn't followed at once by a letter or digit
-  token : {t : Token} {w rest : List ℕ} {ts : List Token} → IsToken t w → IsLongest w rest → is_number t && starts is_letter_or_digit rest ≡ false → FallsInto rest ts → FallsInto (w ++ rest) (t ∷ ts)
+  token : {t : Token} {w rest : List ℕ} {ts : List Token} → IsToken t w → IsLongest w rest
+      → is_number t && starts is_letter_or_digit rest ≡ false → FallsInto rest ts → FallsInto (w ++ rest) (t ∷ ts)

@@ -55,7 +55,8 @@ abbrev pub close : (ℕ → Option ℕ) → ℕ → Option ℕ
 close more zero = Some 2
 close more (suc d) = plus 2 (more d)
 
--- How long a comment between slashes and stars is behind its opening, with its end, if it has one. The number counts the comments around it.
+-- How long a comment between slashes and stars is behind its opening, with its end, if it has one. The number counts
+-- the comments around it.
 unfoldable pub block_len : List ℕ → ℕ → Option ℕ
 block_len [] d = None
 block_len (c ∷ []) d = None

@@ -23,9 +23,12 @@ use Rattle.oer_notation.specs.Reading.{Known}
 -- the words that are no Names
 abbrev pub reserved : List (List ℕ)
 reserved =
-    codes "BOOLEAN" ∷ codes "INTEGER" ∷ codes "ENUMERATED" ∷ codes "NULL" ∷ codes "OCTET" ∷ codes "BIT" ∷ codes "STRING" ∷ codes "OBJECT" ∷ codes "IDENTIFIER" ∷ codes "IA5String"
-    ∷ codes "VisibleString" ∷ codes "NumericString" ∷ codes "PrintableString" ∷ codes "UTF8String" ∷ codes "SEQUENCE" ∷ codes "OF" ∷ codes "CHOICE" ∷ codes "OPTIONAL" ∷ codes "DEFAULT"
-    ∷ codes "SIZE" ∷ codes "MIN" ∷ codes "MAX" ∷ codes "TRUE" ∷ codes "FALSE" ∷ codes "UNIVERSAL" ∷ codes "APPLICATION" ∷ codes "PRIVATE" ∷ codes "REAL" ∷ codes "SET" ∷ []
+    codes "BOOLEAN" ∷ codes "INTEGER" ∷ codes "ENUMERATED" ∷ codes "NULL" ∷ codes "OCTET" ∷ codes "BIT" ∷ codes "STRING"
+    ∷ codes "OBJECT" ∷ codes "IDENTIFIER" ∷ codes "IA5String"
+    ∷ codes "VisibleString" ∷ codes "NumericString" ∷ codes "PrintableString" ∷ codes "UTF8String" ∷ codes "SEQUENCE" ∷ codes "OF"
+    ∷ codes "CHOICE" ∷ codes "OPTIONAL" ∷ codes "DEFAULT"
+    ∷ codes "SIZE" ∷ codes "MIN" ∷ codes "MAX" ∷ codes "TRUE" ∷ codes "FALSE" ∷ codes "UNIVERSAL" ∷ codes "APPLICATION"
+    ∷ codes "PRIVATE" ∷ codes "REAL" ∷ codes "SET" ∷ []
 
 -- a word that begins with a small letter
 pub data IsId : List ℕ → Type 0 where
@@ -37,11 +40,13 @@ pub data IsName : List ℕ → Type 0 where
 
 -- decimal digits, with a sign or without, that stand for a number of the width
 pub data IsInteger (width : Width) : ℤ → Token → Type 0 where
-  an_integer : {z : ℤ} {w : List ℕ} → IsNumeral 10 (without_leading_sign w) → signed_digits_value 10 w ≡ z → FitsSigned width z → IsInteger width z (number w)
+  an_integer : {z : ℤ} {w : List ℕ} → IsNumeral 10 (without_leading_sign w) → signed_digits_value 10 w ≡ z → FitsSigned width z
+      → IsInteger width z (number w)
 
 -- decimal digits that stand for a number below the limit
 pub data IsNatural (limit : ℕ) : ℕ → Token → Type 0 where
-  a_natural : {n : ℕ} {w : List ℕ} → IsNumeral 10 (without_leading_plus w) → digits_value 10 (without_leading_plus w) ≡ n → n < limit → IsNatural limit n (number w)
+  a_natural : {n : ℕ} {w : List ℕ} → IsNumeral 10 (without_leading_plus w) → digits_value 10 (without_leading_plus w) ≡ n
+      → n < limit → IsNatural limit n (number w)
 
 -- ---- bounds and sizes
 
@@ -53,8 +58,10 @@ pub data IsBound (unbounded : List ℕ) : Option ℤ → Token → Type 0 where
 -- bounds in brackets, or nothing
 pub data AreBounds : Option ℤ → Option ℤ → List Token → Type 0 where
   no_bounds : AreBounds None None []
-  one_number : {z : ℤ} {t : Token} → IsInteger w128 z t → AreBounds (Some z) (Some z) (sign OpenParenthesis ∷ t ∷ sign CloseParenthesis ∷ [])
-  range : {low high : Option ℤ} {s t : Token} → IsBound (codes "MIN") low s → IsBound (codes "MAX") high t → AreBounds low high (sign OpenParenthesis ∷ s ∷ sign Range ∷ t ∷ sign CloseParenthesis ∷ [])
+  one_number : {z : ℤ} {t : Token} → IsInteger w128 z t
+      → AreBounds (Some z) (Some z) (sign OpenParenthesis ∷ t ∷ sign CloseParenthesis ∷ [])
+  range : {low high : Option ℤ} {s t : Token} → IsBound (codes "MIN") low s → IsBound (codes "MAX") high t
+      → AreBounds low high (sign OpenParenthesis ∷ s ∷ sign Range ∷ t ∷ sign CloseParenthesis ∷ [])
 
 -- the upper end of a size
 pub data IsSizeEnd : Option ℕ → Token → Type 0 where
@@ -62,14 +69,17 @@ pub data IsSizeEnd : Option ℕ → Token → Type 0 where
   an_end : {n : ℕ} {t : Token} → IsNatural (2 ^ 64) n t → IsSizeEnd (Some n) t
 
 pub data IsSize : Size → List Token → Type 0 where
-  one_size : {n : ℕ} {t : Token} → IsNatural (2 ^ 64) n t → IsSize (record { low = n; high = Some n }) (word (codes "SIZE") ∷ sign OpenParenthesis ∷ t ∷ sign CloseParenthesis ∷ [])
+  one_size : {n : ℕ} {t : Token} → IsNatural (2 ^ 64) n t
+      → IsSize (record { low = n; high = Some n }) (word (codes "SIZE") ∷ sign OpenParenthesis ∷ t ∷ sign CloseParenthesis ∷ [])
   sizes : {low : ℕ} {high : Option ℕ} {s t : Token} → IsNatural (2 ^ 64) low s → IsSizeEnd high t
-      → IsSize (record { low = low; high = high }) (word (codes "SIZE") ∷ sign OpenParenthesis ∷ s ∷ sign Range ∷ t ∷ sign CloseParenthesis ∷ [])
+      → IsSize (record { low = low; high = high })
+      (word (codes "SIZE") ∷ sign OpenParenthesis ∷ s ∷ sign Range ∷ t ∷ sign CloseParenthesis ∷ [])
 
 -- a size in brackets, or nothing
 pub data IsBracketedSize : Size → List Token → Type 0 where
   any_size : IsBracketedSize (record { low = 0; high = None }) []
-  bracketed : {size : Size} {ts : List Token} → IsSize size ts → IsBracketedSize size (sign OpenParenthesis ∷ (ts ++ sign CloseParenthesis ∷ []))
+  bracketed : {size : Size} {ts : List Token} → IsSize size ts
+      → IsBracketedSize size (sign OpenParenthesis ∷ (ts ++ sign CloseParenthesis ∷ []))
 
 -- the size of a SEQUENCE OF, in brackets or not
 pub data IsListSize : Size → List Token → Type 0 where
@@ -80,15 +90,18 @@ pub data IsListSize : Size → List Token → Type 0 where
 
 -- the number of the item at a place: where items are numbered its own in brackets, else its place
 pub data IsItemNumber : Bool → ℕ → ℤ → List Token → Type 0 where
-  own_number : {place : ℕ} {z : ℤ} {t : Token} → IsInteger w64 z t → IsItemNumber true place z (sign OpenParenthesis ∷ t ∷ sign CloseParenthesis ∷ [])
+  own_number : {place : ℕ} {z : ℤ} {t : Token} → IsInteger w64 z t
+      → IsItemNumber true place z (sign OpenParenthesis ∷ t ∷ sign CloseParenthesis ∷ [])
   number_by_place : {place : ℕ} → IsItemNumber false place (pos place) []
 
 -- Items from a place on, each behind a comma, and whether there is a marker behind one of them or in front.
 pub data AreItems (numbered : Bool) : ℕ → List NamedNumber → Bool → List Token → Type 0 where
   no_items : {place : ℕ} → AreItems numbered place [] false []
-  item : {place : ℕ} {w : List ℕ} {z : ℤ} {items : List NamedNumber} {marker : Bool} {ts us : List Token} → IsId w → IsItemNumber numbered place z ts → AreItems numbered (place + 1) items marker us
+  item : {place : ℕ} {w : List ℕ} {z : ℤ} {items : List NamedNumber} {marker : Bool} {ts us : List Token} → IsId w
+      → IsItemNumber numbered place z ts → AreItems numbered (place + 1) items marker us
       → AreItems numbered place (record { name = w; number = z } ∷ items) marker (sign Comma ∷ word w ∷ (ts ++ us))
-  items_marker : {place : ℕ} {items : List NamedNumber} {us : List Token} → AreItems numbered place items false us → AreItems numbered place items true (sign Comma ∷ sign Ellipsis ∷ us)
+  items_marker : {place : ℕ} {items : List NamedNumber} {us : List Token} → AreItems numbered place items false us
+      → AreItems numbered place items true (sign Comma ∷ sign Ellipsis ∷ us)
 
 -- ---- tags
 
@@ -101,7 +114,8 @@ pub data IsClass : Class → List Token → Type 0 where
 
 -- the tag of the alternative at a place: where alternatives are tagged its own in brackets, else its place
 pub data IsTag : Bool → ℕ → Tag → List Token → Type 0 where
-  own_tag : {place n : ℕ} {class : Class} {ts : List Token} {t : Token} → IsClass class ts → IsNatural (2 ^ 32) n t → IsTag true place (record { class = class; number = n }) (sign OpenBracket ∷ (ts ++ t ∷ sign CloseBracket ∷ []))
+  own_tag : {place n : ℕ} {class : Class} {ts : List Token} {t : Token} → IsClass class ts → IsNatural (2 ^ 32) n t
+      → IsTag true place (record { class = class; number = n }) (sign OpenBracket ∷ (ts ++ t ∷ sign CloseBracket ∷ []))
   tag_by_place : {place : ℕ} → IsTag false place (record { class = Context; number = place }) []
 
 -- ---- values after DEFAULT
@@ -118,12 +132,14 @@ between_quotes w = take (length w - 3) (drop 1 w)
 -- hexadecimal digits, two for each octet
 pub data AreOctets : List ℕ → List ℕ → Type 0 where
   no_octets : AreOctets [] []
-  an_octet : {c d high low : ℕ} {cs xs : List ℕ} → hex_digit_value c ≡ Some high → hex_digit_value d ≡ Some low → AreOctets cs xs → AreOctets (c ∷ d ∷ cs) ((high * 16 + low) ∷ xs)
+  an_octet : {c d high low : ℕ} {cs xs : List ℕ} → hex_digit_value c ≡ Some high → hex_digit_value d ≡ Some low → AreOctets cs xs
+      → AreOctets (c ∷ d ∷ cs) ((high * 16 + low) ∷ xs)
 
 -- hexadecimal digits, each for four bits
 pub data AreBits : List ℕ → List Bool → Type 0 where
   no_bits : AreBits [] []
-  four_bits : {c n : ℕ} {cs : List ℕ} {s : List Bool} → hex_digit_value c ≡ Some n → AreBits cs s → AreBits (c ∷ cs) (bit n 3 ∷ bit n 2 ∷ bit n 1 ∷ bit n 0 ∷ s)
+  four_bits : {c n : ℕ} {cs : List ℕ} {s : List Bool} → hex_digit_value c ≡ Some n → AreBits cs s
+      → AreBits (c ∷ cs) (bit n 3 ∷ bit n 2 ∷ bit n 1 ∷ bit n 0 ∷ s)
 
 -- the digit 1
 abbrev pub is_one : ℕ → Bool
@@ -150,13 +166,16 @@ pub data IsValue : AsnType → AsnValue → List Token → Type 0 where
   false_value : IsValue boolean (bool false) (word (codes "FALSE") ∷ [])
   null_value : IsValue null nothing (word (codes "NULL") ∷ [])
   number_value : {low high : Option ℤ} {z : ℤ} {t : Token} → IsInteger w128 z t → IsValue (integer low high) (int z) (t ∷ [])
-  item_value : {items : List NamedNumber} {marker : Bool} {w : List ℕ} {z : ℤ} → IsId w → IsItemNamed w z items → IsValue (enumerated items marker) (enum z) (word w ∷ [])
+  item_value : {items : List NamedNumber} {marker : Bool} {w : List ℕ} {z : ℤ} → IsId w → IsItemNamed w z items
+      → IsValue (enumerated items marker) (enum z) (word w ∷ [])
   octets_value : {size : Size} {w xs : List ℕ} → AreOctets (between_quotes w) xs → IsValue (octet_string size) (octets xs) (digits w ∷ [])
-  digit_bits_value : {size : Size} {w : List ℕ} {s : List Bool} → AreBits (between_quotes w) s → IsValue (bit_string size) (bit_list s) (digits w ∷ [])
+  digit_bits_value : {size : Size} {w : List ℕ} {s : List Bool} → AreBits (between_quotes w) s
+      → IsValue (bit_string size) (bit_list s) (digits w ∷ [])
   bits_value : {size : Size} {w : List ℕ} → IsValue (bit_string size) (bit_list (map is_one (between_quotes w))) (bits w ∷ [])
   text_value : {letters : Alphabet} {size : Size} {w : List ℕ} → IsValue (restricted_string letters size) (string (text_of w)) (text w ∷ [])
   utf8_value : {size : Size} {w : List ℕ} → IsValue (utf8_string size) (string (text_of w)) (text w ∷ [])
-  arcs_value : {a b : ℕ} {arcs : List ℕ} {ts : List Token} → AreArcs (a ∷ b ∷ arcs) ts → IsValue object_id (oid (a ∷ b ∷ arcs)) (sign OpenBrace ∷ (ts ++ sign CloseBrace ∷ []))
+  arcs_value : {a b : ℕ} {arcs : List ℕ} {ts : List Token} → AreArcs (a ∷ b ∷ arcs) ts
+      → IsValue object_id (oid (a ∷ b ∷ arcs)) (sign OpenBrace ∷ (ts ++ sign CloseBrace ∷ []))
 
 -- what makes a component of the type optional
 pub data IsNeed (T : AsnType) : Need → List Token → Type 0 where
@@ -190,46 +209,63 @@ mutual
     null_type : IsType known null (word (codes "NULL") ∷ [])
     object_id_type : IsType known object_id (word (codes "OBJECT") ∷ word (codes "IDENTIFIER") ∷ [])
     named_type : {w : List ℕ} {T : AsnType} → IsName w → IsDefined w T known → IsType known T (word w ∷ [])
-    integer_type : {low high : Option ℤ} {ts : List Token} → AreBounds low high ts → IsType known (integer low high) (word (codes "INTEGER") ∷ ts)
-    enumerated_type : {numbered marker : Bool} {items : List NamedNumber} {w : List ℕ} {ts : List Token} → AreItems numbered 0 items marker (sign Comma ∷ word w ∷ ts)
+    integer_type : {low high : Option ℤ} {ts : List Token} → AreBounds low high ts
+        → IsType known (integer low high) (word (codes "INTEGER") ∷ ts)
+    enumerated_type : {numbered marker : Bool} {items : List NamedNumber} {w : List ℕ} {ts : List Token}
+        → AreItems numbered 0 items marker (sign Comma ∷ word w ∷ ts)
         → IsType known (enumerated items marker) (word (codes "ENUMERATED") ∷ sign OpenBrace ∷ word w ∷ (ts ++ sign CloseBrace ∷ []))
-    octet_string_type : {size : Size} {ts : List Token} → IsBracketedSize size ts → IsType known (octet_string size) (word (codes "OCTET") ∷ word (codes "STRING") ∷ ts)
-    bit_string_type : {size : Size} {ts : List Token} → IsBracketedSize size ts → IsType known (bit_string size) (word (codes "BIT") ∷ word (codes "STRING") ∷ ts)
-    restricted_string_type : {letters : Alphabet} {size : Size} {ts : List Token} → IsBracketedSize size ts → IsType known (restricted_string letters size) (word (string_word letters) ∷ ts)
-    utf8_string_type : {size : Size} {ts : List Token} → IsBracketedSize size ts → IsType known (utf8_string size) (word (codes "UTF8String") ∷ ts)
+    octet_string_type : {size : Size} {ts : List Token} → IsBracketedSize size ts
+        → IsType known (octet_string size) (word (codes "OCTET") ∷ word (codes "STRING") ∷ ts)
+    bit_string_type : {size : Size} {ts : List Token} → IsBracketedSize size ts
+        → IsType known (bit_string size) (word (codes "BIT") ∷ word (codes "STRING") ∷ ts)
+    restricted_string_type : {letters : Alphabet} {size : Size} {ts : List Token} → IsBracketedSize size ts
+        → IsType known (restricted_string letters size) (word (string_word letters) ∷ ts)
+    utf8_string_type : {size : Size} {ts : List Token} → IsBracketedSize size ts
+        → IsType known (utf8_string size) (word (codes "UTF8String") ∷ ts)
     empty_sequence_type : IsType known (sequence no_fields) (word (codes "SEQUENCE") ∷ sign OpenBrace ∷ sign CloseBrace ∷ [])
-    sequence_type : {fs : Fields} {ts : List Token} → AreComponents known fs None (sign Comma ∷ ts) → IsType known (sequence fs) (word (codes "SEQUENCE") ∷ sign OpenBrace ∷ (ts ++ sign CloseBrace ∷ []))
+    sequence_type : {fs : Fields} {ts : List Token} → AreComponents known fs None (sign Comma ∷ ts)
+        → IsType known (sequence fs) (word (codes "SEQUENCE") ∷ sign OpenBrace ∷ (ts ++ sign CloseBrace ∷ []))
     extensible_sequence_type : {fs : Fields} {more : Additions} {ts : List Token} → AreComponents known fs (Some more) (sign Comma ∷ ts)
         → IsType known (extensible_sequence fs more) (word (codes "SEQUENCE") ∷ sign OpenBrace ∷ (ts ++ sign CloseBrace ∷ []))
-    sequence_of_type : {size : Size} {T : AsnType} {ts us : List Token} → IsListSize size ts → IsType known T us → IsType known (sequence_of size T) (word (codes "SEQUENCE") ∷ (ts ++ word (codes "OF") ∷ us))
-    choice_type : {tagged marker : Bool} {more : Alternatives} {w : List ℕ} {ts : List Token} → AreAlternatives known tagged 0 more marker (sign Comma ∷ word w ∷ ts)
+    sequence_of_type : {size : Size} {T : AsnType} {ts us : List Token} → IsListSize size ts → IsType known T us
+        → IsType known (sequence_of size T) (word (codes "SEQUENCE") ∷ (ts ++ word (codes "OF") ∷ us))
+    choice_type : {tagged marker : Bool} {more : Alternatives} {w : List ℕ} {ts : List Token}
+        → AreAlternatives known tagged 0 more marker (sign Comma ∷ word w ∷ ts)
         → IsType known (choice marker more) (word (codes "CHOICE") ∷ sign OpenBrace ∷ word w ∷ (ts ++ sign CloseBrace ∷ []))
 
   -- components, each behind a comma; then the marker and additions, if there are some
   pub data AreComponents (known : List Known) : Fields → Option Additions → List Token → Type 0 where
     no_components : AreComponents known no_fields None []
-    component : {w : List ℕ} {T : AsnType} {need : Need} {fs : Fields} {more : Option Additions} {ts us vs : List Token} → IsId w → IsType known T ts → IsNeed T need us → AreComponents known fs more vs
+    component : {w : List ℕ} {T : AsnType} {need : Need} {fs : Fields} {more : Option Additions} {ts us vs : List Token} → IsId w
+        → IsType known T ts → IsNeed T need us → AreComponents known fs more vs
         → AreComponents known (field w need T fs) more (sign Comma ∷ word w ∷ (ts ++ us ++ vs))
-    components_marker : {more : Additions} {us : List Token} → AreAdditions known more us → AreComponents known no_fields (Some more) (sign Comma ∷ sign Ellipsis ∷ us)
+    components_marker : {more : Additions} {us : List Token} → AreAdditions known more us
+        → AreComponents known no_fields (Some more) (sign Comma ∷ sign Ellipsis ∷ us)
 
   -- additions, each behind a comma
   pub data AreAdditions (known : List Known) : Additions → List Token → Type 0 where
     none_added : AreAdditions known no_additions []
-    added : {w : List ℕ} {T : AsnType} {more : Additions} {ts us vs : List Token} → IsId w → IsType known T ts → MayBeOptional us → AreAdditions known more vs
+    added : {w : List ℕ} {T : AsnType} {more : Additions} {ts us vs : List Token} → IsId w → IsType known T ts → MayBeOptional us
+        → AreAdditions known more vs
         → AreAdditions known (addition w T more) (sign Comma ∷ word w ∷ (ts ++ us ++ vs))
 
   -- alternatives from a place on, each behind a comma, and whether the marker and later ones follow
   pub data AreAlternatives (known : List Known) : Bool → ℕ → Alternatives → Bool → List Token → Type 0 where
     none_left : {tagged : Bool} {place : ℕ} → AreAlternatives known tagged place no_alternatives false []
-    an_alternative : {tagged : Bool} {place : ℕ} {w : List ℕ} {t : Tag} {T : AsnType} {more : Alternatives} {marker : Bool} {ts us vs : List Token} → IsId w → IsTag tagged place t ts → IsType known T us
-        → AreAlternatives known tagged (place + 1) more marker vs → AreAlternatives known tagged place (alternative w t T more) marker (sign Comma ∷ word w ∷ (ts ++ us ++ vs))
-    alternatives_marker : {tagged : Bool} {place : ℕ} {more : Alternatives} {us : List Token} → AreLater known tagged place more us → AreAlternatives known tagged place more true (sign Comma ∷ sign Ellipsis ∷ us)
+    an_alternative : {tagged : Bool} {place : ℕ} {w : List ℕ} {t : Tag} {T : AsnType} {more : Alternatives} {marker : Bool} {ts us
+        vs : List Token} → IsId w → IsTag tagged place t ts → IsType known T us
+        → AreAlternatives known tagged (place + 1) more marker vs
+        → AreAlternatives known tagged place (alternative w t T more) marker (sign Comma ∷ word w ∷ (ts ++ us ++ vs))
+    alternatives_marker : {tagged : Bool} {place : ℕ} {more : Alternatives} {us : List Token}
+        → AreLater known tagged place more us → AreAlternatives known tagged place more true (sign Comma ∷ sign Ellipsis ∷ us)
 
   -- alternatives behind the marker, each behind a comma
   pub data AreLater (known : List Known) : Bool → ℕ → Alternatives → List Token → Type 0 where
     none_later : {tagged : Bool} {place : ℕ} → AreLater known tagged place no_alternatives []
-    a_later : {tagged : Bool} {place : ℕ} {w : List ℕ} {t : Tag} {T : AsnType} {more : Alternatives} {ts us vs : List Token} → IsId w → IsTag tagged place t ts → IsType known T us
-        → AreLater known tagged (place + 1) more vs → AreLater known tagged place (later w t T more) (sign Comma ∷ word w ∷ (ts ++ us ++ vs))
+    a_later : {tagged : Bool} {place : ℕ} {w : List ℕ} {t : Tag} {T : AsnType} {more : Alternatives} {ts us vs : List Token}
+        → IsId w → IsTag tagged place t ts → IsType known T us
+        → AreLater known tagged (place + 1) more vs
+        → AreLater known tagged place (later w t T more) (sign Comma ∷ word w ∷ (ts ++ us ++ vs))
 
 -- ---- texts
 
@@ -245,7 +281,8 @@ IsNew w known = AnyOf (λ k. k.name ≡ w) known → ⊥
 pub data AreDefinitions : List Known → List Known → List Token → Type 0 where
   one_definition : {known : List Known} {w : List ℕ} {T : AsnType} {ts : List Token} → IsName w → IsNew w known → IsType known T ts
       → AreDefinitions known (record { name = w; type = T } ∷ []) (word w ∷ sign Assign ∷ ts)
-  more_definitions : {known ks : List Known} {w : List ℕ} {T : AsnType} {ts us : List Token} → IsName w → IsNew w known → IsType known T ts → AreDefinitions (known ++ record { name = w; type = T } ∷ []) ks us
+  more_definitions : {known ks : List Known} {w : List ℕ} {T : AsnType} {ts us : List Token} → IsName w → IsNew w known
+      → IsType known T ts → AreDefinitions (known ++ record { name = w; type = T } ∷ []) ks us
       → AreDefinitions known (record { name = w; type = T } ∷ ks) (word w ∷ sign Assign ∷ (ts ++ us))
 
 -- The text falls into tokens that are definitions.

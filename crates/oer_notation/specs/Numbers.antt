@@ -14,7 +14,8 @@ is_numeral w = nat_lt 0 (length w) && all_ascii_digits w
 -- the number that the text is, where it is one from low to high
 abbrev pub integer_within : ℤ → ℤ → List ℕ → Option ℤ
 integer_within low high w =
-    if is_numeral (without_leading_sign w) && (int_le low (signed_digits_value 10 w) && int_le (signed_digits_value 10 w) high) then Some (signed_digits_value 10 w) else None
+    if is_numeral (without_leading_sign w) && (int_le low (signed_digits_value 10 w) && int_le
+    (signed_digits_value 10 w) high) then Some (signed_digits_value 10 w) else None
 
 -- bounds and defaults of INTEGER
 unfoldable pub bound_of : List ℕ → Option ℤ
@@ -26,7 +27,8 @@ item_number_of w = integer_within (negsuc 9223372036854775807) (pos 922337203685
 
 -- the number that the text is, where it is one below the limit and not negative
 abbrev pub natural_below : ℕ → List ℕ → Option ℕ
-natural_below limit w = if is_numeral (without_leading_plus w) && nat_lt (digits_value 10 (without_leading_plus w)) limit then Some (digits_value 10 (without_leading_plus w)) else None
+natural_below limit w = if is_numeral (without_leading_plus w) && nat_lt (digits_value 10
+    (without_leading_plus w)) limit then Some (digits_value 10 (without_leading_plus w)) else None
 
 -- sizes
 unfoldable pub size_of : List ℕ → Option ℕ
@@ -58,7 +60,8 @@ is_given (Some x) = true
 
 -- the upper bound: behind two points, or the lower one
 unfoldable pub high_at : Option ℤ → State → Read (Option ℤ)
-high_at low s = if is_given low && not (at_sign Range s) then Ok (low, s) else (skip_sign Range s >>= λ r. end_at bound_of (codes "MAX") r.1)
+high_at low s = if is_given low && not (at_sign Range s) then Ok (low, s)
+    else (skip_sign Range s >>= λ r. end_at bound_of (codes "MAX") r.1)
 
 -- bounds in brackets, or none
 unfoldable pub bounds_at : State → Read (Option ℤ × Option ℤ)

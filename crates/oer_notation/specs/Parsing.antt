@@ -64,7 +64,8 @@ is_known (Some T) = true
 
 abbrev pub name_by : List Known → Option Token → State → Read (List ℕ)
 name_by known None s = Err (fault why.Syntax s)
-name_by known (Some (word w)) s = if is_name w then (if is_known (find known w) then Err (fault why.Repeated s) else Ok (w, bump s)) else Err (fault why.Syntax s)
+name_by known (Some (word w)) s =
+    if is_name w then (if is_known (find known w) then Err (fault why.Repeated s) else Ok (w, bump s)) else Err (fault why.Syntax s)
 name_by known (Some (number w)) s = Err (fault why.Syntax s)
 name_by known (Some (bits w)) s = Err (fault why.Syntax s)
 name_by known (Some (digits w)) s = Err (fault why.Syntax s)

@@ -103,7 +103,8 @@ item_at numbered place s = do
 unfoldable pub items_more : Bool → ℕ → ℕ → NamedItems → State → Read NamedItems
 items_more numbered zero place found s = Err s.stop
 items_more numbered (suc n) place found s =
-    item_at numbered place s >>= λ i. go_on (items_more numbered n (place + 1)) (found.0 ++ i.0 ∷ [], (past_marker found.1 i.1).0) (past_marker found.1 i.1).1
+    item_at numbered place s
+    >>= λ i. go_on (items_more numbered n (place + 1)) (found.0 ++ i.0 ∷ [], (past_marker found.1 i.1).0) (past_marker found.1 i.1).1
 
 -- the items of an enumeration, in braces
 unfoldable pub items_at : State → Read NamedItems
@@ -190,10 +191,12 @@ abbrev pub with_choice_marker : Bool → Choices → Choices
 with_choice_marker seen c = record { root = c.root; added = c.added; extensible = seen }
 
 abbrev pub sequence_of_components : Components → AsnType
-sequence_of_components c = if c.extensible then extensible_sequence (fields_from c.root) (additions_from c.added) else sequence (fields_from c.root)
+sequence_of_components c =
+    if c.extensible then extensible_sequence (fields_from c.root) (additions_from c.added) else sequence (fields_from c.root)
 
 abbrev pub choice_of_choices : Choices → AsnType
-choice_of_choices c = if c.extensible then choice true (root_from c.root (later_from c.added)) else choice false (root_from c.root no_alternatives)
+choice_of_choices c = if c.extensible then choice true (root_from c.root (later_from c.added))
+    else choice false (root_from c.root no_alternatives)
 
 abbrev pub no_components : Bool → Components
 no_components seen = record { root = []; added = []; extensible = seen }
@@ -237,12 +240,15 @@ module _ (type : State → Read AsnType) where
   unfoldable pub components_more : ℕ → Components → State → Read Components
   components_more zero found s = Err s.stop
   components_more (suc n) found s =
-      component_at found s >>= λ c. go_on (components_more n) (with_marker (past_marker c.0.extensible c.1).0 c.0) (past_marker c.0.extensible c.1).1
+      component_at found s >>= λ c. go_on (components_more n) (with_marker
+      (past_marker c.0.extensible c.1).0 c.0) (past_marker c.0.extensible c.1).1
 
   unfoldable pub alternatives_more : Bool → ℕ → ℕ → Choices → State → Read Choices
   alternatives_more tagged zero place found s = Err s.stop
   alternatives_more tagged (suc n) place found s =
-      alternative_at tagged place s >>= λ a. go_on (alternatives_more tagged n (place + 1)) (with_choice_marker (past_marker found.extensible a.1).0 (with_alternative a.0 found)) (past_marker found.extensible a.1).1
+      alternative_at tagged place s
+      >>= λ a. go_on (alternatives_more tagged n (place + 1))
+      (with_choice_marker (past_marker found.extensible a.1).0 (with_alternative a.0 found)) (past_marker found.extensible a.1).1
 
   -- what stands in the braces of a sequence: nothing, components, or the marker first
   unfoldable pub body_at : State → Read Components

@@ -99,7 +99,8 @@ one_at w i = if slice_index w i == 49 then 1 else 0
 
 -- the octet of the first eight digits 0 and 1, with zeros for those that are missing
 unfoldable pub octet_of : List ℕ → ℕ
-octet_of w = 128 * one_at w 0 + 64 * one_at w 1 + 32 * one_at w 2 + 16 * one_at w 3 + 8 * one_at w 4 + 4 * one_at w 5 + 2 * one_at w 6 + one_at w 7
+octet_of w = 128 * one_at w 0 + 64 * one_at w 1 + 32 * one_at w 2 + 16 * one_at w 3 + 8 * one_at w 4 + 4 * one_at w 5 + 2 * one_at
+    w 6 + one_at w 7
 
 abbrev pub is_empty : {A : Type 0} → List A → Bool
 is_empty [] = true
@@ -144,7 +145,8 @@ arcs_more (suc n) found s = if is_number (first s) then (number_at arc_of s >>= 
 
 -- two arcs or more and the closing brace
 unfoldable pub arcs_at : State → Read AsnValue
-arcs_at s = arcs_more (suc (length s.left)) [] s >>= λ r. if nat_lt 1 (length r.0) then (skip_sign CloseBrace r.1 >>= λ e. Ok (oid r.0, e.1)) else Err (fault why.Syntax r.1)
+arcs_at s = arcs_more (suc (length s.left)) [] s
+    >>= λ r. if nat_lt 1 (length r.0) then (skip_sign CloseBrace r.1 >>= λ e. Ok (oid r.0, e.1)) else Err (fault why.Syntax r.1)
 
 -- the value, if the type has this kind of notation
 abbrev pub only_for : ValueKind → AsnType → AsnValue → State → Read AsnValue
@@ -175,7 +177,8 @@ unfoldable pub bits_value : AsnType → List ℕ → State → Read AsnValue
 bits_value T w s = if is_kind kind.Bits T then some_value bit_list (bits_in (inside w)) s else Err (fault why.Default s)
 
 unfoldable pub sign_value : AsnType → Bool → State → Read AsnValue
-sign_value T brace s = if not brace then Err (fault why.Syntax s) else if is_kind kind.Arcs T then arcs_at (bump s) else Err (fault why.Default s)
+sign_value T brace s = if not brace then Err (fault why.Syntax s)
+    else if is_kind kind.Arcs T then arcs_at (bump s) else Err (fault why.Default s)
 
 abbrev pub value_by : AsnType → Option Token → State → Read AsnValue
 value_by T None s = Err (fault why.Syntax s)

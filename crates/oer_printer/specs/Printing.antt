@@ -70,7 +70,8 @@ abbrev pub bounds_tokens : Option ℤ → Option ℤ → List Token
 bounds_tokens None None = []
 bounds_tokens None (Some high) = in_brackets (word (codes "MIN") ∷ sign Range ∷ integer_token high ∷ [])
 bounds_tokens (Some low) None = in_brackets (integer_token low ∷ sign Range ∷ word (codes "MAX") ∷ [])
-bounds_tokens (Some low) (Some high) = if int_eq low high then in_brackets (integer_token low ∷ []) else in_brackets (integer_token low ∷ sign Range ∷ integer_token high ∷ [])
+bounds_tokens (Some low) (Some high) =
+    if int_eq low high then in_brackets (integer_token low ∷ []) else in_brackets (integer_token low ∷ sign Range ∷ integer_token high ∷ [])
 
 abbrev pub sized : List Token → List Token
 sized ts = in_brackets (word (codes "SIZE") ∷ in_brackets ts)
@@ -78,7 +79,8 @@ sized ts = in_brackets (word (codes "SIZE") ∷ in_brackets ts)
 -- nothing where every size is allowed
 abbrev pub ends_tokens : ℕ → Option ℕ → List Token
 ends_tokens low None = if low == 0 then [] else sized (natural_token low ∷ sign Range ∷ word (codes "MAX") ∷ [])
-ends_tokens low (Some high) = if low == high then sized (natural_token low ∷ []) else sized (natural_token low ∷ sign Range ∷ natural_token high ∷ [])
+ends_tokens low (Some high) =
+    if low == high then sized (natural_token low ∷ []) else sized (natural_token low ∷ sign Range ∷ natural_token high ∷ [])
 
 abbrev pub size_tokens : Size → List Token
 size_tokens s = ends_tokens s.low s.high

@@ -154,7 +154,11 @@ fn one_octet_a_call(rt: HostRuntime) -> Result<(), Fail> {
     let answer = held(rt.alloc(), 3, true)?;
     is_wanted("octets", answer.as_str(), "010203 0 Ok(())")?;
     let answer = borrowed_held(rt.alloc(), 3, true)?;
-    is_wanted("a writer that is borrowed", answer.as_str(), "010203 0 Ok(())")
+    is_wanted(
+        "a writer that is borrowed",
+        answer.as_str(),
+        "010203 0 Ok(())",
+    )
 }
 
 #[test]

@@ -244,8 +244,8 @@ abbrev mutual
   plain_octets (extensible_sequence fs more) v =
       at_seq (λ root added us. padded ((any_present added || any_unknown us) ∷ root_bits fs root) ++ (plain_field_octets fs root
       ++ extension_octets (any_present added || any_unknown us) (bitmap_octets
-          (addition_bits more added ++ unknown_marks (addition_count more) us)
-          ++ (plain_addition_octets more added ++ unknown_octets us)))) v
+      (addition_bits more added ++ unknown_marks (addition_count more) us)
+      ++ (plain_addition_octets more added ++ unknown_octets us)))) v
   plain_octets (sequence_of size T) v = at_items (λ vs. counted (unsigned_octets (count vs)) ++ all_octets (plain_octets T) vs) v
   plain_octets (choice extensible more) v =
       at_choice (λ t x. tag_octets t ++ plain_alternative_octets more t x) (λ t w. tag_octets t ++ counted w) v

@@ -51,7 +51,7 @@ abbrev pub unsigned_form : Option ℤ → Form
 unsigned_form high =
     if high_to (pos 255) high then unsigned_fixed 1 else if high_to (pos 65535) high then unsigned_fixed 2
     else if high_to (pos 4294967295) high then unsigned_fixed 4
-        else if high_to (pos 18446744073709551615) high then unsigned_fixed 8 else unsigned_counted
+    else if high_to (pos 18446744073709551615) high then unsigned_fixed 8 else unsigned_counted
 
 -- of numbers that may be negative
 abbrev pub signed_form : Option ℤ → Option ℤ → Form

@@ -175,7 +175,7 @@ nested = sequence (field unnamed (default (seq (absent no_places) no_places []))
 abbrev pub Sequences : Type 0
 Sequences = Gives with_default (0x40 ∷ 0xff ∷ 0x07 ∷ []) (0x00 ∷ 0xff ∷ [])
     × Reads with_default (0x60 ∷ 0xff ∷ 0x08 ∷ [])
-        (seq (present (bool true) (present (int (pos 8)) (present nothing no_places))) no_places [])
+    (seq (present (bool true) (present (int (pos 8)) (present nothing no_places))) no_places [])
     × Stays with_default (0x60 ∷ 0xff ∷ 0x08 ∷ [])
     × Refuses with_default (0x01 ∷ 0xff ∷ []) PreamblePadding 1
     × Gives without_marker (0x80 ∷ 0xff ∷ 0x07 ∷ []) (0x00 ∷ 0xff ∷ [])
@@ -202,7 +202,7 @@ octets_added = extensible_sequence no_fields (addition unnamed (octet_string any
 abbrev pub Extensions : Type 0
 Extensions = Stays extended (0x80 ∷ 0xff ∷ 0x02 ∷ 0x06 ∷ 0x80 ∷ 0x01 ∷ 0x09 ∷ [])
     × Reads extended (0x80 ∷ 0xff ∷ 0x02 ∷ 0x06 ∷ 0x80 ∷ 0x01 ∷ 0x09 ∷ [])
-        (seq (present (bool true) no_places) (present (int (pos 9)) (absent no_places)) [])
+    (seq (present (bool true) no_places) (present (int (pos 9)) (absent no_places)) [])
     × Gives extended (0x80 ∷ 0xff ∷ 0x02 ∷ 0x07 ∷ 0x80 ∷ 0x01 ∷ 0x09 ∷ []) (0x80 ∷ 0xff ∷ 0x02 ∷ 0x06 ∷ 0x80 ∷ 0x01 ∷ 0x09 ∷ [])
     × Gives extended (0x80 ∷ 0xff ∷ 0x02 ∷ 0x06 ∷ 0x00 ∷ []) (0x00 ∷ 0xff ∷ [])
     × Gives extended (0x80 ∷ 0xff ∷ 0x01 ∷ 0x00 ∷ []) (0x00 ∷ 0xff ∷ [])
@@ -220,10 +220,10 @@ Extensions = Stays extended (0x80 ∷ 0xff ∷ 0x02 ∷ 0x06 ∷ 0x80 ∷ 0x01 �
 abbrev pub UnknownAdditions : Type 0
 UnknownAdditions = Stays extended (0x80 ∷ 0xff ∷ 0x02 ∷ 0x05 ∷ 0x20 ∷ 0x01 ∷ 0x09 ∷ [])
     × Reads extended (0x80 ∷ 0xff ∷ 0x02 ∷ 0x05 ∷ 0x20 ∷ 0x01 ∷ 0x09 ∷ [])
-        (seq (present (bool true) no_places) (absent (absent no_places)) (unknown 2 (0x09 ∷ []) ∷ []))
+    (seq (present (bool true) no_places) (absent (absent no_places)) (unknown 2 (0x09 ∷ []) ∷ []))
     × Stays extended (0x80 ∷ 0xff ∷ 0x02 ∷ 0x04 ∷ 0x30 ∷ 0x01 ∷ 0x09 ∷ 0x00 ∷ [])
     × Reads extended (0x80 ∷ 0xff ∷ 0x02 ∷ 0x04 ∷ 0x30 ∷ 0x01 ∷ 0x09 ∷ 0x00 ∷ [])
-        (seq (present (bool true) no_places) (absent (absent no_places)) (unknown 2 (0x09 ∷ []) ∷ unknown 3 [] ∷ []))
+    (seq (present (bool true) no_places) (absent (absent no_places)) (unknown 2 (0x09 ∷ []) ∷ unknown 3 [] ∷ []))
     × Gives extended (0x80 ∷ 0xff ∷ 0x02 ∷ 0x00 ∷ 0x20 ∷ 0x81 ∷ 0x01 ∷ 0x09 ∷ []) (0x80 ∷ 0xff ∷ 0x02 ∷ 0x05 ∷ 0x20 ∷ 0x01 ∷ 0x09 ∷ [])
     × Gives older (0x80 ∷ 0xff ∷ 0x02 ∷ 0x06 ∷ 0x80 ∷ 0x01 ∷ 0x09 ∷ []) (0x80 ∷ 0xff ∷ 0x02 ∷ 0x07 ∷ 0x80 ∷ 0x01 ∷ 0x09 ∷ [])
     × Stays older (0x80 ∷ 0xff ∷ 0x02 ∷ 0x07 ∷ 0x80 ∷ 0x01 ∷ 0x09 ∷ [])
@@ -291,9 +291,9 @@ Farthest = (read_value (extensible_sequence no_fields no_additions)
     (at (0x80 ∷ 0x82 ∷ 0x20 ∷ 0x01 ∷ 0x00 ∷ (zeros 8191 ++ (0x01 ∷ 0x00 ∷ []))) 10000)
     ≡ got (seq no_places no_places (unknown 65535 [] ∷ [])) (at [] 1802))
     × (canonical_octets (extensible_sequence no_fields no_additions) (seq no_places no_places (unknown 65535 [] ∷ []))
-        ≡ 0x80 ∷ 0x82 ∷ 0x20 ∷ 0x01 ∷ 0x00 ∷ (zeros 8191 ++ (0x01 ∷ 0x00 ∷ [])))
+    ≡ 0x80 ∷ 0x82 ∷ 0x20 ∷ 0x01 ∷ 0x00 ∷ (zeros 8191 ++ (0x01 ∷ 0x00 ∷ [])))
     × RefusesWithin 10000 (extensible_sequence no_fields no_additions)
-        (0x80 ∷ 0x82 ∷ 0x20 ∷ 0x02 ∷ 0x07 ∷ (zeros 8192 ++ (0x80 ∷ []))) UnknownAddition 8198
+    (0x80 ∷ 0x82 ∷ 0x20 ∷ 0x02 ∷ 0x07 ∷ (zeros 8192 ++ (0x80 ∷ []))) UnknownAddition 8198
 
 -- what is found by a path
 abbrev pub Finds : AsnType → List ℕ → List Step → Answer → Type 0
@@ -302,7 +302,7 @@ Finds T b path answer = find_part (Some T) b path ≡ answer
 abbrev pub PathsFollowed : Type 0
 PathsFollowed =
     Finds extended (0x80 ∷ 0xff ∷ 0x02 ∷ 0x06 ∷ 0x80 ∷ 0x01 ∷ 0x09 ∷ []) []
-        (found (Some extended) (0x80 ∷ 0xff ∷ 0x02 ∷ 0x06 ∷ 0x80 ∷ 0x01 ∷ 0x09 ∷ []))
+    (found (Some extended) (0x80 ∷ 0xff ∷ 0x02 ∷ 0x06 ∷ 0x80 ∷ 0x01 ∷ 0x09 ∷ []))
     × Finds extended (0x80 ∷ 0xff ∷ 0x02 ∷ 0x06 ∷ 0x80 ∷ 0x01 ∷ 0x09 ∷ []) (to_component 0 ∷ []) (found (Some boolean) (0xff ∷ []))
     × Finds extended (0x80 ∷ 0xff ∷ 0x02 ∷ 0x06 ∷ 0x80 ∷ 0x01 ∷ 0x09 ∷ []) (to_addition 0 ∷ []) (found (Some (up_to 255)) (0x09 ∷ []))
     × Finds extended (0x80 ∷ 0xff ∷ 0x02 ∷ 0x06 ∷ 0x80 ∷ 0x01 ∷ 0x09 ∷ []) (to_addition 1 ∷ []) absent_part
@@ -314,7 +314,7 @@ PathsFollowed =
     × Finds (sequence_of any_size boolean) (0x01 ∷ 0x02 ∷ 0xff ∷ 0x00 ∷ []) (to_item 1 ∷ []) (found (Some boolean) (0x00 ∷ []))
     × Finds (sequence_of any_size boolean) (0x01 ∷ 0x02 ∷ 0xff ∷ 0x00 ∷ []) (to_item 2 ∷ []) no_such_step
     × Finds open_choice (0x81 ∷ 0x03 ∷ 0x02 ∷ 0x61 ∷ 0x62 ∷ []) (to_chosen ∷ [])
-        (found (Some (octet_string any_size)) (0x02 ∷ 0x61 ∷ 0x62 ∷ []))
+    (found (Some (octet_string any_size)) (0x02 ∷ 0x61 ∷ 0x62 ∷ []))
     × Finds open_choice (0x85 ∷ 0x02 ∷ 0x01 ∷ 0x02 ∷ []) (to_chosen ∷ []) (found None (0x01 ∷ 0x02 ∷ []))
 
 -- ENUMERATED {a(0), ...}
@@ -334,8 +334,8 @@ Boundaries = Reads open_numbers (0x88 ∷ 0x80 ∷ zeros 7) (enum (negsuc 922337
     × Refuses (restricted_string numeric any_size) (0x01 ∷ 0x2f ∷ []) Character 2
     × Refuses (restricted_string numeric any_size) (0x01 ∷ 0x3a ∷ []) Character 2
     × Stays (restricted_string printable any_size)
-        (0x12 ∷ 0x41 ∷ 0x5a ∷ 0x61 ∷ 0x7a ∷ 0x30 ∷ 0x39 ∷ 0x20 ∷ 0x27 ∷ 0x28 ∷ 0x29
-        ∷ 0x2b ∷ 0x2c ∷ 0x2d ∷ 0x2e ∷ 0x2f ∷ 0x3a ∷ 0x3d ∷ 0x3f ∷ [])
+    (0x12 ∷ 0x41 ∷ 0x5a ∷ 0x61 ∷ 0x7a ∷ 0x30 ∷ 0x39 ∷ 0x20 ∷ 0x27 ∷ 0x28 ∷ 0x29
+    ∷ 0x2b ∷ 0x2c ∷ 0x2d ∷ 0x2e ∷ 0x2f ∷ 0x3a ∷ 0x3d ∷ 0x3f ∷ [])
     × Refuses (restricted_string printable any_size) (0x01 ∷ 0x5b ∷ []) Character 2
     × Refuses (restricted_string printable any_size) (0x01 ∷ 0x60 ∷ []) Character 2
     × Refuses (restricted_string printable any_size) (0x01 ∷ 0x7b ∷ []) Character 2

@@ -128,13 +128,21 @@ was_inside outer = outer.is_inside
 
 -- an open type of n octets begins
 abbrev pub entered : ℕ → State → State
-entered n s = record { name = s.name; known = s.known; failed = s.failed;
-    bound = record { taken = s.bound.taken; end = s.bound.taken + n; limit = s.bound.limit; inside = true } }
+entered n s = record {
+  name = s.name;
+  known = s.known;
+  failed = s.failed;
+  bound = record { taken = s.bound.taken; end = s.bound.taken + n; limit = s.bound.limit; inside = true };
+}
 
 -- the bound is put back
 abbrev pub returned : ℕ → Bool → State → State
-returned end inside s = record { name = s.name; known = s.known; failed = s.failed;
-    bound = record { taken = s.bound.taken; end = end; limit = s.bound.limit; inside = inside } }
+returned end inside s = record {
+  name = s.name;
+  known = s.known;
+  failed = s.failed;
+  bound = record { taken = s.bound.taken; end = end; limit = s.bound.limit; inside = inside };
+}
 
 -- a window that was just made
 abbrev pub start : GName → Option (List ℕ) → ℕ → ℕ → State

@@ -8,7 +8,8 @@ use Rattle.oer_writer.specs.Wrote.{Ahead, Stopped}
 -- the octets of bits, where an octet is begun, and what its next bit is worth
 abbrev pub packed_from : ℕ → ℕ → List Bool → List ℕ
 packed_from weight octet [] = if eqb weight 128 then [] else octet ∷ []
-packed_from weight octet (b ∷ s) = if eqb weight 1 then (octet + bit_value b) ∷ packed_from 128 0 s else packed_from (weight / 2) (octet + weight * bit_value b) s
+packed_from weight octet (b ∷ s) =
+    if eqb weight 1 then (octet + bit_value b) ∷ packed_from 128 0 s else packed_from (weight / 2) (octet + weight * bit_value b) s
 
 -- the octets that are still to be written, with further bits
 abbrev pub pending : Packer → List Bool → List ℕ
@@ -24,4 +25,6 @@ IsReady p = HasRoom p × (p.full < 32)
 
 -- The bits were taken: of the octets with any bits after them all but those still pending were written.
 abbrev pub Packs : List Bool → Packer → Packer → ℕ → Option (List ℕ) → ℕ → Result ℕ SinkFault → Option (List ℕ) → ℕ → Type 0
-Packs s p p' done old failed result new failed' = (t : List Bool) → MatchResult result (λ n. IsReady p' × Ahead done (pending p (s ++ t)) old failed n new failed' (pending p' t)) (λ e. Stopped done (pending p (s ++ t)) old failed e new failed')
+Packs s p p' done old failed result new failed' = (t : List Bool)
+    → MatchResult result (λ n. IsReady p' × Ahead done (pending p (s ++ t)) old failed n new failed' (pending p' t))
+    (λ e. Stopped done (pending p (s ++ t)) old failed e new failed')

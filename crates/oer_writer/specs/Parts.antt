@@ -79,7 +79,8 @@ values_octets T vs = all_octets (plain_octets T) (map_values (trimmed T) vs)
 
 -- those after the root, where an addition is there: the bitmap, the known additions, the unknown ones
 abbrev pub addition_octets : Additions → Places → List Unknown → List ℕ
-addition_octets more added us = bitmap_octets (known_bits more added ++ unknown_marks (addition_count more) us) ++ (known_octets more added ++ unknown_octets us)
+addition_octets more added us =
+    bitmap_octets (known_bits more added ++ unknown_marks (addition_count more) us) ++ (known_octets more added ++ unknown_octets us)
 
 -- the preamble and the components of a root
 abbrev pub root_octets : Option Bool → Fields → Places → List ℕ
