@@ -26,4 +26,3 @@ pub mod Complete
 pub mod MadeLeaves
 pub mod MadeDenotes
 pub mod Promised
-pub mod Floats
