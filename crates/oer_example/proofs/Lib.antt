@@ -1,0 +1,4 @@
+mod Components
+mod Parts
+mod Renewing
+mod Values
