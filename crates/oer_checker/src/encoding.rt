@@ -54,6 +54,8 @@ impl<'s, 'a> Encoding<'s, 'a> {
     ///
     /// - `Absent`: the step names a component of the root or a known addition, which is absent;
     /// - `NoSuchStep`: any other step that leads nowhere.
+    ///
+    /// It never returns `Read`, since the octets were checked.
     pub fn part(&self, path: &[Step]) -> Result<&'a [u8], PartFault>
         ensures told { Hands (λ s. s.now) (type_of_encoding self.now) (octets_in self.now) (path_of path.now) result }
         ensures comes { Follows (λ s. s.now) (type_of_encoding self.now) (octets_in self.now) (path_of path.now) result }

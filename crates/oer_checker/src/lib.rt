@@ -1,5 +1,5 @@
 //! Encodings (X.696, Basic-OER) checked without making their values: how long they are, whether they
-//! are canonical, and where their parts stand. Nothing here allocates.
+//! are canonical, and where their parts stand. Only `read_path` allocates.
 #![tactic(auto)]
 
 mod bit_strings;
