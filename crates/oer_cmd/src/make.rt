@@ -27,7 +27,7 @@ use serde_json::Value as Json;
 use std::alloc::Global;
 use std::io::Read;
 
-// The JSON of a text; refused as `NotJson`, or as `Memory`.
+// The JSON of a text; fails with `NotJson`, or with `Memory`.
 fn json_of<'a>(alloc: Global, text: &str) -> Result<Json, Fault<'a>>
     ensures exact { Meets view (json_read (read text.now)) result }
     ensures json { IfOk result (λ json. read text.now ≡ Some (view json)) }
@@ -45,7 +45,7 @@ fn json_of<'a>(alloc: Global, text: &str) -> Result<Json, Fault<'a>>
     }
 }
 
-// The value that the JSON stands for; refused as `Json`, or as `Memory`.
+// The value that the JSON stands for; fails with `Json`, or with `Memory`.
 fn value_in<'a>(alloc: Global, schema: &Schema, json: &Json) -> Result<Value, Fault<'a>>
     ensures takes { IfOk result (λ value. Takes (the_type schema.now) (value_of value) (view json.now)) }
     ensures fits { IfOk result (λ value. Fits (the_type schema.now) (value_of value)) }
@@ -59,7 +59,7 @@ fn value_in<'a>(alloc: Global, schema: &Schema, json: &Json) -> Result<Value, Fa
     }
 }
 
-// The canonical octets of a value; refused as `Memory`, or as `Output` where they are too many.
+// The canonical octets of a value; fails with `Memory`, or with `Output` where they are too many.
 fn written<'a>(alloc: Global, schema: &Schema, value: &Value) -> Result<Vec<u8>, Fault<'a>>
     requires { Fits (the_type schema.now) (value_of value.now) }
     ensures exact { Meets octets_of (expected (canonical_octets (the_type schema.now) (value_of value.now))) result }

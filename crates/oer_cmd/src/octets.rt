@@ -13,7 +13,7 @@ use oer_units::Metered;
 use std::alloc::Global;
 use std::io::Read;
 
-/// The octets that the digits spell; refused as `Hex`, or as `Memory`.
+/// The octets that the digits spell; fails with `Hex`, or with `Memory`.
 pub fn decoded<'a>(alloc: Global, digits: &str) -> Result<Vec<u8>, Fault<'a>>
     ensures exact { Meets octets_of (digits_octets digits.now) result }
     ensures octets { IfOk result (λ b. decode_of digits.now ≡ Ok b.items) }
@@ -26,7 +26,7 @@ pub fn decoded<'a>(alloc: Global, digits: &str) -> Result<Vec<u8>, Fault<'a>>
     }
 }
 
-/// The octets of `--hex`, if it is there; refused as `Hex`, or as `Memory`.
+/// The octets of `--hex`, if it is there; fails with `Hex`, or with `Memory`.
 pub fn spelt<'a>(alloc: Global, hex: Option<&str>) -> Result<Option<Vec<u8>>, Fault<'a>>
     ensures exact { Meets (option_map octets_of) (hex_octets (behind hex.entry)) result }
     ensures octets { IfOk result (λ octets. AreSpelt (behind hex.entry) (option_map octets_of octets)) }

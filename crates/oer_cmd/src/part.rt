@@ -18,7 +18,7 @@ use oer_types::Schema;
 use std::alloc::Global;
 use std::io::Read;
 
-// The path of `--path`; refused as `Path`, or as `Memory`.
+// The path of `--path`; fails with `Path`, or with `Memory`.
 fn path_of<'a>(alloc: Global, text: Option<&str>) -> Result<Vec<Step>, Fault<'a>>
     ensures exact { (path : Expected (List PlainStep)) → IsPathOf (behind text.entry) path → Meets (λ v. steps_of v.items) path result }
     ensures path { IfOk result (λ path. IsPath (behind text.entry) (steps_of path.items)) }

@@ -52,7 +52,7 @@ pub fn type_text(options: Options<'_>) -> Result<TypeText<'_>, Fault<'_>>
     Ok(TypeText::Named { types, name })
 }
 
-/// The one well-formed type that the text spells; refused as `Type`, or as `Memory`.
+/// The one well-formed type that the text spells; fails with `Type`, or with `Memory`.
 pub fn one_type(alloc: Global, text: &str) -> Result<Schema, Fault<'_>>
     ensures exact { Meets the_type (parsed (parse text.now)) result }
     ensures spells { IfOk result (λ schema. IsOnly (IsTypeIn text.now) (the_type schema)) }
@@ -66,7 +66,7 @@ pub fn one_type(alloc: Global, text: &str) -> Result<Schema, Fault<'_>>
     }
 }
 
-/// The definitions of well-formed types that the text spells; refused as `Type`, or as `Memory`.
+/// The definitions of well-formed types that the text spells; fails with `Type`, or with `Memory`.
 pub fn definitions(alloc: Global, text: &str) -> Result<Types, Fault<'_>>
     ensures exact { Meets knowns (parsed (parse_all text.now)) result }
     ensures spells { IfOk result (λ types. IsOnly (AreDefinedIn text.now) (knowns types)) }
@@ -80,7 +80,7 @@ pub fn definitions(alloc: Global, text: &str) -> Result<Types, Fault<'_>>
     }
 }
 
-/// The type that the Name has among the definitions; refused as `Unnamed` where none has it.
+/// The type that the Name has among the definitions; fails with `Unnamed` if none has it.
 pub fn named_type<'t, 'a>(types: &'t Types, name: &'a str) -> Result<&'t Schema, Fault<'a>>
     ensures exact { Meets (λ schema. the_type schema.now) (named_as name.now (find (knowns types.now) name.now)) result }
     ensures defined { MatchResult result (λ schema. IsDefined name.now (the_type schema.now) (knowns types.now))

@@ -12,7 +12,7 @@ use thiserror::Error;
 /// name.
 #[derive(Clone, Copy, Debug, PartialEq, Eq)]
 pub enum TextWhy {
-    /// A growth of memory was refused.
+    /// An allocation failed.
     Memory,
     /// No token begins here, or it has no end.
     Token,

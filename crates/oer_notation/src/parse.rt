@@ -52,7 +52,7 @@ pub struct Body {
     pub extensible: bool,
 }
 
-/// The alternatives of a CHOICE, before the extension marker and behind it, and whether there is one.
+/// The alternatives of a CHOICE, before the extension marker and after it, and whether there is one.
 #[derive(Drop)]
 pub struct Alternatives {
     pub root: Vec<Alt>,
@@ -86,7 +86,7 @@ fn is_at_start(cursor: &Cursor<'_, '_>) -> bool
     }
 }
 
-/// Whether the extension marker was seen before or stands behind a comma here; then it is taken.
+/// Whether the extension marker was seen before or stands after a comma here; then it is taken.
 fn past_marker(cursor: &mut Cursor<'_, '_>, seen: bool) -> bool
     ensures { past_marker seen (state_of cursor.old) ≡ (result, state_of cursor.new) }
 {
@@ -199,7 +199,7 @@ fn read_class(cursor: &mut Cursor<'_, '_>) -> Class
     Class::Context
 }
 
-/// A tag, behind its opening bracket.
+/// A tag, after its opening bracket.
 #[tactic(auto, unfolding(crate::specs::Reading::tag_at))]
 fn read_tag(cursor: &mut Cursor<'_, '_>) -> Result<Tag, TextFault>
     ensures { Gives (λ t. (t, state_of cursor.new)) result (tag_at (state_of cursor.old)) }
@@ -497,7 +497,7 @@ fn read_components(
     Err(cursor.stop)
 }
 
-/// A component, or behind the extension marker an addition, beside those before it.
+/// A component, or after the extension marker an addition, beside those before it.
 #[cycle(types)]
 #[tactic(auto, unfolding(crate::specs::Reading::component_at))]
 fn read_component(

@@ -344,7 +344,7 @@ pub enum TextPlace {
     Quoted,
 }
 
-/// The place behind a character, which is put out unless it is a quote that is left out.
+/// The place after a character, which is put out unless it is a quote that is left out.
 fn put_character(out: &mut String, place: TextPlace, c: char) -> Result<TextPlace, AllocError>
     ensures { IfOk result (λ p. (p, string_bytes out.new) ≡ text_step (place, string_bytes out.old) c) }
 {

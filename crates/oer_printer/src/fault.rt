@@ -8,7 +8,7 @@ use thiserror::Error;
 /// Why a type has no text.
 #[derive(Clone, Copy, Debug, PartialEq, Eq, Error)]
 pub enum PrintFault {
-    /// A growth of memory was refused.
+    /// An allocation failed.
     #[error("Memory")]
     Memory,
     /// A default is of constructed type, is an enumeration number that no item has, or is a text

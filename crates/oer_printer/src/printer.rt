@@ -13,7 +13,7 @@ use std::alloc::{AllocError, Global};
 /// What a token is, as far as the spaces beside it depend on it.
 #[derive(Clone, Copy)]
 pub enum Edge {
-    /// A word that is joined to a parenthesis behind it.
+    /// A word that is joined to a parenthesis after it.
     Tight,
     /// Any other word.
     Word,
@@ -64,7 +64,7 @@ fn starts_small(text: &str) -> bool
     }
 }
 
-/// Whether the word is joined to a parenthesis behind it: an item's id, and SIZE.
+/// Whether the word is joined to a parenthesis after it: an item's id, and SIZE.
 fn is_tight(text: &str) -> bool
     ensures { result ≡ is_tight (word text.now) }
 {
@@ -185,7 +185,7 @@ impl Printer {
         self.out.push(' ')
     }
 
-    /// One token more, behind a space where it needs one.
+    /// One token more, after a space where it needs one.
     pub fn put(&mut self, token: Token<'_>) -> Result<(), AllocError>
         ensures { IfOk result (λ x. written self.new ≡ step (written self.old) (token_of token.entry)) }
     {

@@ -19,10 +19,10 @@ use oer_lexer::Sign;
 use oer_types::{Addition, Alt, Field, Item, Need, Schema, Shape, Size};
 use std::alloc::{AllocError, Global};
 
-/// The text of a type in the notation, on one line: every number of an item and every tag is in it,
-/// and no Name. `NoNotation` where a default is of constructed type, is an enumeration number that
-/// no item has, or is a text with a character below U+0020; this is found before any memory is
-/// taken. `Memory` where a growth was refused.
+/// The text of a type in the notation, on one line: every number of an item and every tag is in it, and
+/// no Name. It fails with `NoNotation` if a default is of constructed type, is an enumeration number that
+/// no item has, or is a text with a character below U+0020; nothing was allocated then. It fails with
+/// `Memory` if an allocation fails.
 pub fn print_type(alloc: Global, schema: &Schema) -> Result<String, PrintFault>
     ensures text { IfOk result (λ s. printed (the_type schema.now) ≡ Some (string_bytes s)) }
     ensures none { result ≡ Err NoNotation ↔ printed (the_type schema.now) ≡ None }
@@ -117,7 +117,7 @@ fn open(printer: &mut Printer, name: &str) -> Result<(), AllocError>
     printer.sign(Sign::OpenBrace)
 }
 
-/// The extension marker, behind a comma unless it stands first.
+/// The extension marker, after a comma unless it stands first.
 fn put_marker(printer: &mut Printer, first: bool) -> Result<(), AllocError>
     ensures { Puts (marker_behind first) printer.old result printer.new }
 {
@@ -143,7 +143,7 @@ fn put_enumerated(
     printer.sign(Sign::CloseBrace)
 }
 
-/// A comma, unless the part behind it is the first.
+/// A comma, unless the part after it is the first.
 fn put_comma(printer: &mut Printer, first: bool) -> Result<(), AllocError>
     ensures { Puts (comma_unless first) printer.old result printer.new }
 {
@@ -264,7 +264,7 @@ fn put_need(
     }
 }
 
-/// Additions, each behind a comma.
+/// Additions, each after a comma.
 #[cycle(put)]
 #[tactic(auto, using(crate::proofs::Printed::run_append))]
 fn put_additions(

@@ -10,10 +10,10 @@ use oer_printer::PrintFault;
 use oer_types::Schema;
 use std::alloc::Global;
 
-/// The text of a type in the notation, on one line: every number of an item and every tag is in it,
-/// and no Name. `NoNotation` where a default is of constructed type, is an enumeration number that
-/// no item has, or is a text with a character below U+0020; this is found before any memory is
-/// taken. `Memory` where a growth was refused. `parse_type` reads what was printed as the same type.
+/// The text of a type in the notation, on one line: every number of an item and every tag is in it, and
+/// no Name. It fails with `NoNotation` if a default is of constructed type, is an enumeration number that
+/// no item has, or is a text with a character below U+0020; nothing was allocated then. It fails with
+/// `Memory` if an allocation fails. `parse_type` reads what was printed as the same type.
 pub fn print_type(alloc: Global, schema: &Schema) -> Result<String, PrintFault>
     ensures text { IfOk result (λ s. printed (the_type schema.now) ≡ Some (string_bytes s)) }
     ensures again { IfOk result (λ s. parse (string_bytes s) ≡ Ok (the_type schema.now)) }

@@ -13,7 +13,7 @@ use oer_types::{Schema, Value, laws};
 use oer_units::Sink;
 
 /// How many canonical octets (X.696, Canonical-OER) a value that fits the type has. None exactly
-/// where there are none of fewer than 2^64. It takes no memory.
+/// where there are none of fewer than 2^64. It allocates nothing.
 pub fn length(schema: &Schema, value: &Value) -> Option<u64>
     requires { Fits (the_type schema.now) (value_of value.now) }
     ensures computed { Counts (canonical_octets (the_type schema.now) (value_of value.now)) result }
@@ -24,10 +24,10 @@ pub fn length(schema: &Schema, value: &Value) -> Option<u64>
     count(schema.shape(), value)
 }
 
-/// Writes the canonical octets (X.696, Canonical-OER) of a value that fits the type, straight to
-/// the sink, and answers how many they are. It takes no memory, writes nothing of a value that is
-/// too long, and flushes nothing. A value of at most 512 octets goes to the sink in one push, if the
-/// sink takes all of them; a longer one part by part.
+/// Writes the canonical octets (X.696, Canonical-OER) of a value that fits the type, straight to the
+/// sink, and returns how many they are. It allocates nothing, writes nothing of a value that is too long,
+/// and flushes nothing. A value of at most 512 octets goes to the sink in one push, if the sink takes
+/// all of them; a longer one part by part.
 ///
 /// `TooLong` comes exactly where `length` is None: nothing is written then. `Device` comes where a
 /// call of the sink fails, and elsewhere only where the sink's count of failures stands at
