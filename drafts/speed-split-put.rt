@@ -1,0 +1,243 @@
+//! The canonical octets of a value, to a sink.
+ghost use Rattle.std.specs.Prelude.{◌≡◌, List, map, option_map};
+ghost use Rattle.oer_types.specs.AsnType.{no_alternatives};
+ghost use Rattle.oer_types.specs.Canonical.{canonical_octets};
+ghost use Rattle.oer_types.specs.ShapeView.{additions_of, fields_of, later_of, need_of, root_of, type_of};
+ghost use Rattle.oer_types.specs.ValueView.{places_of, unknown_of, value_of, values_of};
+ghost use Rattle.oer_writer.specs.Parts.{addition_octets, chosen_octets, counted_place, field_octets, kept_place, known_octets, place_octets_of, root_octets, values_octets};
+ghost use Rattle.oer_writer.specs.Wrote.{Wrote, WroteHead};
+
+use crate::leaf::{put_leaf, put_quantity, put_tag_octets};
+use crate::measure::measured;
+use crate::presence::{is_extended, kept, put_bitmap, put_preamble, put_unknown};
+use crate::slice::put_count;
+use oer_types::{Addition, Alt, Field, Shape, Unknown, Value, contains_tag, is_same_tag};
+use oer_units::{Sink, SinkFault, Tag};
+
+// Writes the length of a value in an open type.
+fn put_open_head<W: Sink>(
+    shape: &Shape,
+    value: &Value,
+    done: u64,
+    w: &mut W,
+) -> Result<u64, SinkFault>
+    ensures { WroteHead done (canonical_octets (type_of shape.now) (value_of value.now)) (W.contents w.old) (W.failed w.old) result (W.contents w.new) (W.failed w.new) }
+{
+    let Some(length) = measured(shape, value, 0) else {
+        return Err(SinkFault { written: done });
+    };
+    put_count(length, done, w)
+}
+
+// Writes the canonical octets of a value.
+#[cycle(put)]
+#[tactic(auto, using(crate::proofs::Views::views))]
+pub(crate) fn put<W: Sink>(
+    shape: &Shape,
+    value: &Value,
+    done: u64,
+    w: &mut W,
+) -> Result<u64, SinkFault>
+    ensures { Wrote done (canonical_octets (type_of shape.now) (value_of value.now)) (W.contents w.old) (W.failed w.old) result (W.contents w.new) (W.failed w.new) }
+{
+    match (shape, value) {
+        (
+            Shape::Sequence { root, additions },
+            Value::Seq {
+                root: places,
+                added,
+                unknown,
+            },
+        ) => {
+            let Some(additions) = additions else {
+                return put_root(None, root, places, done, w);
+            };
+            let added: &[Option<Value>] = added;
+            let unknown: &[Unknown] = unknown;
+            let extended = is_extended(added, unknown);
+            let done = put_root(Some(extended), root, places, done, w)?;
+            if !extended {
+                return Ok(done);
+            }
+            put_extension(additions, added, unknown, done, w)
+        }
+        (Shape::SequenceOf { item, .. }, Value::List(values)) => {
+            let done = put_quantity(values.len(), done, w)?;
+            put_values(item, values, done, w)
+        }
+        (Shape::Choice { root, additions }, Value::Chosen { tag, value }) => {
+            let done = put_tag_octets(*tag, done, w)?;
+            if contains_tag(root, *tag) {
+                return put_alternative(root, *tag, value, done, w);
+            }
+            match additions {
+                None => Ok(done),
+                Some(additions) => put_later(additions, *tag, value, done, w),
+            }
+        }
+        _ => put_leaf(shape, value, done, w),
+    }
+}
+
+// Writes the preamble of a SEQUENCE, and the components of its root.
+#[cycle(put)]
+fn put_root<W: Sink>(
+    extended: Option<bool>,
+    fields: &[Field],
+    places: &[Option<Value>],
+    done: u64,
+    w: &mut W,
+) -> Result<u64, SinkFault>
+    ensures { Wrote done (root_octets extended (fields_of fields.now) (places_of places.now)) (W.contents w.old) (W.failed w.old) result (W.contents w.new) (W.failed w.new) }
+{
+    let done = put_preamble(extended, fields, places, done, w)?;
+    put_fields(fields, places, done, w)
+}
+
+// Writes what stands after the root, where an addition is there.
+#[cycle(put)]
+fn put_extension<W: Sink>(
+    additions: &[Addition],
+    added: &[Option<Value>],
+    unknown: &[Unknown],
+    done: u64,
+    w: &mut W,
+) -> Result<u64, SinkFault>
+    ensures { Wrote done (addition_octets (additions_of additions.now) (places_of added.now) (map unknown_of unknown.now)) (W.contents w.old) (W.failed w.old) result (W.contents w.new) (W.failed w.new) }
+{
+    let done = put_bitmap(additions, added, unknown, done, w)?;
+    let done = put_additions(additions, added, done, w)?;
+    put_unknown(unknown, done, w)
+}
+
+// Writes the components of a root that are kept.
+#[cycle(put)]
+fn put_fields<W: Sink>(
+    fields: &[Field],
+    places: &[Option<Value>],
+    done: u64,
+    w: &mut W,
+) -> Result<u64, SinkFault>
+    ensures { Wrote done (field_octets (fields_of fields.now) (places_of places.now)) (W.contents w.old) (W.failed w.old) result (W.contents w.new) (W.failed w.new) }
+{
+    let mut done = done;
+    let mut rest = places;
+    for field in fields {
+        let Some((place, more)) = rest.split_first() else {
+            return Ok(done);
+        };
+        done = put_field(field, place, done, w)?;
+        rest = more;
+    }
+    Ok(done)
+}
+
+#[cycle(put)]
+fn put_field<W: Sink>(
+    field: &Field,
+    place: &Option<Value>,
+    done: u64,
+    w: &mut W,
+) -> Result<u64, SinkFault>
+    ensures { Wrote done (place_octets_of (type_of field.now.shape) (kept_place (need_of field.now.need) (type_of field.now.shape) (option_map value_of place.now))) (W.contents w.old) (W.failed w.old) result (W.contents w.new) (W.failed w.new) }
+{
+    match kept(field, place) {
+        None => Ok(done),
+        Some(value) => put(&field.shape, value, done, w),
+    }
+}
+
+// Writes the additions that the type knows, as open types.
+#[cycle(put)]
+fn put_additions<W: Sink>(
+    additions: &[Addition],
+    places: &[Option<Value>],
+    done: u64,
+    w: &mut W,
+) -> Result<u64, SinkFault>
+    ensures { Wrote done (known_octets (additions_of additions.now) (places_of places.now)) (W.contents w.old) (W.failed w.old) result (W.contents w.new) (W.failed w.new) }
+{
+    let mut done = done;
+    let mut rest = places;
+    for addition in additions {
+        let Some((place, more)) = rest.split_first() else {
+            return Ok(done);
+        };
+        done = put_addition(addition, place, done, w)?;
+        rest = more;
+    }
+    Ok(done)
+}
+
+#[cycle(put)]
+fn put_addition<W: Sink>(
+    addition: &Addition,
+    place: &Option<Value>,
+    done: u64,
+    w: &mut W,
+) -> Result<u64, SinkFault>
+    ensures { Wrote done (counted_place (type_of addition.now.shape) (option_map value_of place.now)) (W.contents w.old) (W.failed w.old) result (W.contents w.new) (W.failed w.new) }
+{
+    match place {
+        None => Ok(done),
+        Some(value) => {
+            let done = put_open_head(&addition.shape, value, done, w)?;
+            put(&addition.shape, value, done, w)
+        }
+    }
+}
+
+#[cycle(put)]
+fn put_values<W: Sink>(
+    item: &Shape,
+    values: &[Value],
+    done: u64,
+    w: &mut W,
+) -> Result<u64, SinkFault>
+    ensures { Wrote done (values_octets (type_of item.now) (values_of values.now)) (W.contents w.old) (W.failed w.old) result (W.contents w.new) (W.failed w.new) }
+{
+    let mut done = done;
+    for value in values {
+        done = put(item, value, done, w)?;
+    }
+    Ok(done)
+}
+
+// Writes the value by the first alternative with the tag.
+#[cycle(put)]
+fn put_alternative<W: Sink>(
+    alternatives: &[Alt],
+    tag: Tag,
+    value: &Value,
+    done: u64,
+    w: &mut W,
+) -> Result<u64, SinkFault>
+    ensures { Wrote done (chosen_octets (root_of alternatives.now no_alternatives) tag (value_of value.now)) (W.contents w.old) (W.failed w.old) result (W.contents w.new) (W.failed w.new) }
+{
+    for alternative in alternatives {
+        if is_same_tag(alternative.tag, tag) {
+            return put(&alternative.shape, value, done, w);
+        }
+    }
+    Ok(done)
+}
+
+// The same after the extension marker, as an open type (X.696, 20).
+#[cycle(put)]
+fn put_later<W: Sink>(
+    alternatives: &[Alt],
+    tag: Tag,
+    value: &Value,
+    done: u64,
+    w: &mut W,
+) -> Result<u64, SinkFault>
+    ensures { Wrote done (chosen_octets (later_of alternatives.now) tag (value_of value.now)) (W.contents w.old) (W.failed w.old) result (W.contents w.new) (W.failed w.new) }
+{
+    for alternative in alternatives {
+        if is_same_tag(alternative.tag, tag) {
+            let done = put_open_head(&alternative.shape, value, done, w)?;
+            return put(&alternative.shape, value, done, w);
+        }
+    }
+    Ok(done)
+}
