@@ -142,12 +142,7 @@ fn whole(at: Global, text: &str) -> Result<String, Fail> {
     }
 }
 
-/// That the text spells a well-formed type, and that this is its whole text.
-fn is_whole(rt: &HostRuntime, text: &str, want: &str) -> Result<(), Fail> {
-    assert_eq!(rt; whole(rt.alloc(), text)?.as_str(), want, "{text}");
-    Ok(())
-}
-
+/// Texts that spell a well-formed type, and its whole text.
 #[test]
 fn takes(rt: HostRuntime) -> Result<(), Fail> {
     for (text, want) in [
@@ -173,7 +168,7 @@ fn takes(rt: HostRuntime) -> Result<(), Fail> {
             "ENUMERATED {a(5), b(128), c(-1)}",
         ),
     ] {
-        is_whole(&rt, text, want)?;
+        assert_eq!(rt; whole(rt.alloc(), text)?.as_str(), want, "{text}");
     }
     Ok(())
 }
@@ -198,7 +193,7 @@ fn takes_defaults(rt: HostRuntime) -> Result<(), Fail> {
             "SEQUENCE {a IA5String (SIZE(3)) DEFAULT \"a\"\"b\", b OBJECT IDENTIFIER DEFAULT {1 2 840}}",
         ),
     ] {
-        is_whole(&rt, text, want)?;
+        assert_eq!(rt; whole(rt.alloc(), text)?.as_str(), want, "{text}");
     }
     Ok(())
 }
