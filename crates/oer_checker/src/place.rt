@@ -14,7 +14,7 @@ pub(crate) struct Place<'a> {
 }
 
 impl<'a> Place<'a> {
-    /// The place after `taken` octets with what was read from them, or the refusal there.
+    /// The place after `taken` octets with what was read from them, or the error there.
     pub(crate) fn after<T>(
         self,
         answer: Result<T, ReadFault>,

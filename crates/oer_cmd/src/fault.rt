@@ -31,7 +31,7 @@ pub enum Fault<'a> {
     NoName,
     /// `--name` without `--types`.
     NoTypes,
-    /// The text of the type, or of the definitions, is refused.
+    /// The text of the type, or of the definitions, is rejected.
     Type(TextFault),
     /// No definition has this Name.
     Unnamed(&'a str),
@@ -52,7 +52,7 @@ pub enum Fault<'a> {
 }
 
 impl<'a> Fault<'a> {
-    /// The fault for a refusal of the notation.
+    /// The fault for an error of the notation.
     pub fn of_text(fault: TextFault) -> Self
         ensures { IsOfText fault result }
     {
@@ -62,7 +62,7 @@ impl<'a> Fault<'a> {
         }
     }
 
-    /// The fault for a refusal of the reader.
+    /// The fault for an error of the reader.
     pub fn of_read(fault: ReadFault) -> Self
         ensures { IsOfRead fault result }
     {
@@ -73,7 +73,7 @@ impl<'a> Fault<'a> {
         }
     }
 
-    /// The fault for a refusal to rewrite octets into memory.
+    /// The fault for an error in rewriting octets into memory.
     pub fn of_rewrite(fault: RewriteFault) -> Self
         ensures { IsOfRewrite fault result }
     {
@@ -84,7 +84,7 @@ impl<'a> Fault<'a> {
         }
     }
 
-    /// The status of the program: 1 where the octets are refused, 2 where the arguments are, 3 where
+    /// The status of the program: 1 where the octets are rejected, 2 where the arguments are, 3 where
     /// the machine fails.
     pub fn status(self) -> u8
         ensures status { result ≡ status_of self.entry }

@@ -202,7 +202,7 @@ fn refused<W: Write, E: Write>(
 }
 
 #[tactic(auto, using(crate::proofs::Lines::answers_words))]
-/// Runs the command: `words` begin with the program's name. The status of the program.
+/// Runs the command: `words` are the arguments, the program's name first. Returns the status of the program.
 pub fn run<R: Read, W: Write, E: Write>(
     alloc: Global,
     words: &[String],

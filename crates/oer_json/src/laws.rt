@@ -17,7 +17,7 @@ pub fn sound()
 {}
 
 /// JSON that stands for a value of a well-formed type, one that fits, is taken as this value. So it
-/// stands for no other one, and what is refused stands for none.
+/// stands for no other one, and what is rejected stands for none.
 pub fn complete()
     ensures taken { TakenComplete }
     ensures one { OneTaken }

@@ -33,7 +33,7 @@ pub enum Step {
 
 /// The tokens of a text, each the longest that fits. White space is space, tab, line feed and
 /// carriage return. A comment begins with `--` and ends with the next `--` or the line's end, or it
-/// begins with `/*` and ends with its `*/`, and such comments nest. The error is want of memory.
+/// begins with `/*` and ends with its `*/`, and such comments nest. The error is that an allocation failed.
 pub fn lex<'t>(alloc: Global, text: &'t str) -> Result<Tokens<'t>, AllocError>
     ensures spots { IfOk result (λ r. spots_of r.spots.items ≡ (lex text.now).spots) }
     ensures end { IfOk result (λ r. r.end ≡ (lex text.now).end) }

@@ -8,7 +8,7 @@ use std::alloc::{AllocError, AllocFailed};
 use std::fmt;
 use thiserror::Error;
 
-/// Why a text is refused. The reasons are numbered from 1 in this order. It displays as its
+/// Why a text is rejected. The reasons are numbered from 1 in this order. It displays as its
 /// name.
 #[derive(Clone, Copy, Debug, PartialEq, Eq)]
 pub enum TextWhy {

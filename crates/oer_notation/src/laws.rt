@@ -16,7 +16,7 @@ pub fn sound()
 }
 
 /// A well-formed type that a text spells is read of it, and so are definitions whose types are
-/// well-formed: what is refused spells none. A text spells at most one well-formed type.
+/// well-formed: what is rejected spells none. A text spells at most one well-formed type.
 pub fn complete()
     ensures one { ParseComplete }
     ensures all { ParseAllComplete }

@@ -43,7 +43,7 @@ impl Types {
 }
 
 /// The type that the text spells (NOTATION.md): one type, in which no Name may stand. Of a text that
-/// is refused the fault is the first one from the left, with the byte where it stands; or Memory.
+/// is rejected the error is the first one from the left, with the byte where it stands; or Memory.
 pub fn parse_type(alloc: Global, text: &str) -> Result<Schema, TextFault>
     ensures exact { Gives the_type result (parse text.now) }
     ensures spells { IfOk result (λ schema. Spells (the_type schema) text.now) }

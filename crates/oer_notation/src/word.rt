@@ -5,7 +5,7 @@ ghost use Rattle.std.specs.List.{list_any};
 ghost use Rattle.std.specs.Str.{bytes_eq};
 ghost use Rattle.oer_notation.specs.Words.{begins, is_id, is_name, is_reserved, type_word};
 
-/// The words that are no Names.
+/// The reserved words, which are no Names.
 const RESERVED: [&str; 29] = [
     "BOOLEAN",
     "INTEGER",

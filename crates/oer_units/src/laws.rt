@@ -53,7 +53,7 @@ pub fn a_number_has_one_shortest_list()
         (FitsSignedWidth width) (λ z. fixed_signed_octets (octets_of_width width) z) }
 {}
 
-/// What a reader of a unit reads is a spelling, a spelling that comes next is read, and a refusal
+/// What a reader of a unit reads is a spelling, a spelling that comes next is read, and an error
 /// says that there is none.
 pub fn readers_read_the_spellings()
     ensures octet { Lawful octet IsOctet }
