@@ -1,12 +1,13 @@
 # make: proves and builds the program, as bin/oer
 # make quick: proves and tests all but the must-fail edits, over what earlier runs kept, for use before a commit
 # make test: the whole gate, then the commands that the documents show, what a release has, and memory refused in turn
-# make lib: proves and builds the library for C and C++, in lib/; make test-lib: tests it
+# make lib: proves and builds the library for C and C++, in lib/
+# make test_lib: tests it from C, C++, Rust and Python; OER_STRINGS=1000000 tries so many random strings of octets, else 100,000
 # make install PREFIX=.. DESTDIR=..: program, library, manual, completions, documents and examples, under PREFIX; make uninstall: takes them away
 # make dist: the archive of a release, in out/
 PREFIX ?= /usr/local
 
-.PHONY: all quick test lib test-lib install uninstall dist clean
+.PHONY: all quick test documents lib test_lib install uninstall dist clean
 
 all: bin/oer
 
@@ -27,15 +28,18 @@ test:
 	@mkdir -p bin
 	@cp crates/oer/out/oer bin/oer
 	@tools/lib
-	@examples/check
-	@tools/test_lib
+	@$(MAKE) --no-print-directory -j 2 -o bin/oer -o lib/liboer.a documents test_lib
 	@tools/test_release
 	@examples/refusals
 
+documents: bin/oer
+	@examples/check
+
 lib: lib/liboer.a
 
-test-lib: lib/liboer.a
+test_lib: lib/liboer.a
 	@tools/test_lib
+	@tools/test_bindings lib
 
 install: bin/oer lib/liboer.a
 	@rm -rf out/layout

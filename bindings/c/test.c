@@ -55,7 +55,7 @@ void __wrap_free(void *old) {
 /* ---- octets */
 
 struct octets {
-    uint8_t at[8192];
+    uint8_t at[LONGEST];
     size_t length;
 };
 
@@ -152,7 +152,7 @@ static struct octets wanted(const struct vector *vector) {
 static void test_vector(const struct vector *vector) {
     oer_types types = types_of(vector->type);
     struct octets want = wanted(vector);
-    uint8_t out[64];
+    uint8_t out[LONGEST];
     size_t room;
     oer_written answer;
     memset(out, 0xaa, sizeof out);
@@ -161,8 +161,9 @@ static void test_vector(const struct vector *vector) {
     EXPECT(answer.octets == vector->octets && answer.written == vector->written, vector->given);
     EXPECT(memcmp(out, want.at, want.length) == 0, vector->given);
     EXPECT(are_all(out, want.length, sizeof out, 0xaa), vector->given);
-    /* Each size below what is needed is too small, and leaves the buffer as it was. */
-    for (room = 0; room < want.length; room++) {
+    /* Each size below what is needed is too small, and leaves the buffer as it was; of long answers
+     * some sizes are tried. */
+    for (room = 0; room < want.length; room += 1 + room / 64) {
         memset(out, 0xbb, sizeof out);
         answer = call(&types, "A", vector, out, room);
         EXPECT(answer.status == OER_ROOM && answer.why == 0, vector->given);
@@ -248,7 +249,7 @@ static void test_certificate(const char *folder) {
 static void refuse_in_turn(const struct vector *vector) {
     oer_types types = types_of(vector->type);
     long before = blocks, nth;
-    uint8_t out[64];
+    uint8_t out[LONGEST];
     oer_written answer;
     for (nth = 1;; nth++) {
         memset(out, 0xdd, sizeof out);

@@ -1,6 +1,6 @@
 /* Calls and what they have to answer. The octets and answers are those of docs/COMMAND.md,
  * docs/NOTATION.md and docs/JSON.md, and of the tables of tests in Rattle, whose octets follow from
- * the standard. */
+ * the standard. worked.h has the rows of those tables: bindings/worked prints it. */
 #ifndef VECTORS_H
 #define VECTORS_H
 
@@ -33,7 +33,17 @@ struct vector {
 #define HIGH_TAGS "CHOICE {a [62] NULL, b [63] NULL, c [200] NULL}"
 #define ALL OER_NO_LIMIT
 
+/* The longest octets of the table, and room for more. */
+#define LONGEST 16384
+
+/* Some octets are long. */
+#ifdef __GNUC__
+#pragma GCC diagnostic ignored "-Woverlength-strings"
+#endif
+
 static const struct vector vectors[] = {
+#include "worked.h"
+
     { CHECK, BOOLEANS, "0102ff00", 0, ALL, OER_OK, 0, 4, 1, 0 },
     { CHECK, BOOLEANS, "0200020107", 0, ALL, OER_OK, 0, 5, 0, 0 },
     { CHECK, BOOLEANS, "0102ff00ffff", 0, ALL, OER_OK, 0, 4, 1, 0 },

@@ -353,7 +353,7 @@ class Random(unittest.TestCase):
         return found
 
     def test_check_and_canon_agree(self) -> None:
-        strings = int(os.environ.get("OER_STRINGS", 1000000))
+        strings = int(os.environ.get("OER_STRINGS", 100000))
         kinds = sorted({row.kind for row in VECTORS})
         numbers = random.Random(20260101)
         common = self.COMMON
