@@ -5,7 +5,7 @@
  *   version NUMBER
  *   layout STRUCT SIZE OFFSET+SIZE..     of the struct, and of each field
  *   vector TASK TYPE GIVEN PATH LIMIT STATUS WHY OCTETS WRITTEN ANSWER
- *   refused TEXT WHY PLACE */
+ *   rejected TEXT WHY PLACE */
 #include "vectors.h"
 
 #include <inttypes.h>
@@ -71,11 +71,11 @@ int main(void) {
     printf("version\t%d\n", OER_VERSION_NUMBER);
     put_layouts();
     for (i = 0; i < sizeof vectors / sizeof *vectors; i++) put_vector(&vectors[i]);
-    for (i = 0; i < sizeof refused_texts / sizeof *refused_texts; i++) {
-        printf("refused");
-        put_text(refused_texts[i].text);
-        put_number(refused_texts[i].why);
-        put_number(refused_texts[i].place);
+    for (i = 0; i < sizeof rejected_texts / sizeof *rejected_texts; i++) {
+        printf("rejected");
+        put_text(rejected_texts[i].text);
+        put_number(rejected_texts[i].why);
+        put_number(rejected_texts[i].place);
         putchar('\n');
     }
     return fflush(stdout) != 0;

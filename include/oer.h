@@ -49,7 +49,7 @@ uint32_t oer_version(void);
 /* What a call answers in `status`. */
 enum oer_status {
     OER_OK = 0,       /* the call did what it is for */
-    OER_REFUSED = 1,  /* the octets are no encoding, the text spells no types, or the JSON is no value
+    OER_REJECTED = 1, /* the octets are no encoding, the text spells no types, or the JSON is no value
                          of the type; `why` has the reason */
     OER_NO_TYPES = 2, /* the oer_types has no types */
     OER_UNNAMED = 3,  /* no definition has the name */
@@ -63,7 +63,7 @@ enum oer_status {
     OER_NO_JSON = 9   /* the text is not JSON, or not UTF-8 */
 };
 
-/* Why octets are refused: `why` of oer_checked and of oer_written at OER_REFUSED, except in
+/* Why octets are rejected: `why` of oer_checked and of oer_written at OER_REJECTED, except in
  * oer_from_json. docs/ENCODING.md says in which order the reasons are looked for. */
 enum oer_reason {
     OER_END = 3,                  /* they end within the value */
@@ -85,7 +85,7 @@ enum oer_reason {
     OER_UNKNOWN_ADDITION = 18     /* a bit set for an addition past place 65,535 */
 };
 
-/* Why definitions are refused: `why` of oer_parsed at OER_REFUSED (docs/NOTATION.md). */
+/* Why definitions are rejected: `why` of oer_parsed at OER_REJECTED (docs/NOTATION.md). */
 enum oer_text_reason {
     OER_TEXT_NOT_UTF8 = 0,         /* the text is not UTF-8 */
     OER_TEXT_TOKEN = 2,            /* no token begins here, or it has no end */
@@ -108,7 +108,7 @@ enum oer_text_reason {
     OER_TEXT_EMPTY_ELEMENT = 19    /* a SEQUENCE OF whose elements may take no octets */
 };
 
-/* Why JSON is refused: `why` of oer_written at OER_REFUSED, in oer_from_json (docs/JSON.md). */
+/* Why JSON is rejected: `why` of oer_written at OER_REJECTED, in oer_from_json (docs/JSON.md). */
 enum oer_json_reason {
     OER_JSON_KIND = 2,    /* JSON of another kind than the type's values have, or of another form */
     OER_JSON_NAME = 3,    /* a key that the type doesn't have, or a text that is no item's name */
@@ -128,18 +128,18 @@ typedef struct oer_types {
 
 /* What reading definitions answers. */
 typedef struct oer_parsed {
-    uint32_t status; /* OER_OK, OER_REFUSED or OER_MEMORY */
-    uint32_t why;    /* at OER_REFUSED the reason, an enum oer_text_reason; else 0 */
-    uint64_t place;  /* at OER_REFUSED the octet of the text at which the token or type begins that
+    uint32_t status; /* OER_OK, OER_REJECTED or OER_MEMORY */
+    uint32_t why;    /* at OER_REJECTED the reason, an enum oer_text_reason; else 0 */
+    uint64_t place;  /* at OER_REJECTED the octet of the text at which the token or type begins that
                         shows the fault; at OER_OK the length of the text; else 0 */
 } oer_parsed;
 
 /* What a check answers. */
 typedef struct oer_checked {
-    uint32_t status;    /* OER_OK, OER_REFUSED, OER_NO_TYPES or OER_UNNAMED */
-    uint32_t why;       /* at OER_REFUSED the reason, an enum oer_reason; else 0 */
-    uint64_t octets;    /* at OER_OK how many octets the encoding has; at OER_REFUSED how many had
-                           been looked at when it was refused; else 0 */
+    uint32_t status;    /* OER_OK, OER_REJECTED, OER_NO_TYPES or OER_UNNAMED */
+    uint32_t why;       /* at OER_REJECTED the reason, an enum oer_reason; else 0 */
+    uint64_t octets;    /* at OER_OK how many octets the encoding has; at OER_REJECTED how many had
+                           been looked at when it was rejected; else 0 */
     uint32_t canonical; /* at OER_OK 1 where the encoding is canonical, 0 where it is another one;
                            else 0 */
 } oer_checked;
@@ -147,19 +147,19 @@ typedef struct oer_checked {
 /* What a call answers that writes into a buffer. */
 typedef struct oer_written {
     uint32_t status;  /* each call says which */
-    uint32_t why;     /* at OER_REFUSED the reason; else 0 */
+    uint32_t why;     /* at OER_REJECTED the reason; else 0 */
     uint64_t octets;  /* at OER_OK and OER_ROOM how many octets the encoding has that was read; at
-                         OER_REFUSED how many had been looked at; else 0. oer_part and oer_from_json
-                         answer 0 at OER_OK and OER_ROOM, oer_from_json at OER_REFUSED too */
+                         OER_REJECTED how many had been looked at; else 0. oer_part and oer_from_json
+                         answer 0 at OER_OK and OER_ROOM, oer_from_json at OER_REJECTED too */
     uint64_t written; /* at OER_OK how many octets were written; at OER_ROOM how many are needed; else
                          0 */
 } oer_written;
 
-/* A limit that refuses nothing. */
+/* A limit that rejects nothing. */
 #define OER_NO_LIMIT ((uint64_t)-1)
 
 /* Reads definitions `Name ::= type` (docs/NOTATION.md), in place of the types that were there. At
- * OER_REFUSED and OER_MEMORY the types are those from before. */
+ * OER_REJECTED and OER_MEMORY the types are those from before. */
 oer_parsed oer_types_read(oer_types *types, const char *text, size_t text_length);
 
 /* Frees the types. */
@@ -173,7 +173,7 @@ oer_checked oer_check(oer_types *types, const char *name, size_t name_length,
 
 /* Writes the canonical octets (Canonical-OER) of the value whose encoding, of at most `limit` octets,
  * is at the front of the octets. What follows it is not looked at.
- * OER_OK, OER_REFUSED, OER_NO_TYPES, OER_UNNAMED, OER_MEMORY, OER_ROOM. */
+ * OER_OK, OER_REJECTED, OER_NO_TYPES, OER_UNNAMED, OER_MEMORY, OER_ROOM. */
 oer_written oer_canon(oer_types *types, const char *name, size_t name_length,
                       const uint8_t *octets, size_t octets_length, uint64_t limit,
                       uint8_t *out, size_t room);
@@ -181,7 +181,7 @@ oer_written oer_canon(oer_types *types, const char *name, size_t name_length,
 /* Writes the part of the encoding at the front of the octets to which the path leads, as it stands in
  * them. A path is steps joined by dots (docs/COMMAND.md): c0 a component, a0 an addition, i0 an
  * element, v the alternative chosen. What follows the encoding is not looked at.
- * OER_OK, OER_REFUSED, OER_NO_TYPES, OER_UNNAMED, OER_MEMORY, OER_ROOM, OER_NO_PATH, OER_NO_STEP,
+ * OER_OK, OER_REJECTED, OER_NO_TYPES, OER_UNNAMED, OER_MEMORY, OER_ROOM, OER_NO_PATH, OER_NO_STEP,
  * OER_ABSENT. */
 oer_written oer_part(oer_types *types, const char *name, size_t name_length,
                      const uint8_t *octets, size_t octets_length,
@@ -190,13 +190,13 @@ oer_written oer_part(oer_types *types, const char *name, size_t name_length,
 
 /* Writes the JSON (docs/JSON.md) of the value whose encoding, of at most `limit` octets, is at the
  * front of the octets. What follows it is not looked at.
- * OER_OK, OER_REFUSED, OER_NO_TYPES, OER_UNNAMED, OER_MEMORY, OER_ROOM. */
+ * OER_OK, OER_REJECTED, OER_NO_TYPES, OER_UNNAMED, OER_MEMORY, OER_ROOM. */
 oer_written oer_to_json(oer_types *types, const char *name, size_t name_length,
                         const uint8_t *octets, size_t octets_length, uint64_t limit,
                         char *out, size_t room);
 
 /* Writes the canonical octets of the value that the JSON stands for.
- * OER_OK, OER_REFUSED, OER_NO_TYPES, OER_UNNAMED, OER_MEMORY, OER_ROOM, OER_NO_JSON. */
+ * OER_OK, OER_REJECTED, OER_NO_TYPES, OER_UNNAMED, OER_MEMORY, OER_ROOM, OER_NO_JSON. */
 oer_written oer_from_json(oer_types *types, const char *name, size_t name_length,
                           const char *text, size_t text_length,
                           uint8_t *out, size_t room);

@@ -74,7 +74,7 @@ inline namespace OER_HPP_NAMESPACE {
  * the header. */
 inline std::uint32_t version() noexcept { return oer_version(); }
 
-/* What a call was reading when it was refused. It says of which enumeration `why` of an error is. */
+/* What a call was reading when it was rejected. It says of which enumeration `why` of an error is. */
 enum class subject {
     octets,      /* octets: an oer_reason */
     definitions, /* definitions: an oer_text_reason */
@@ -85,9 +85,9 @@ enum class subject {
 struct error {
     /* An oer_status. OER_OK stands for no error. */
     std::uint32_t status;
-    /* At OER_REFUSED the reason, of the enumeration that `of` names. Else 0. */
+    /* At OER_REJECTED the reason, of the enumeration that `of` names. Else 0. */
     std::uint32_t why;
-    /* At OER_REFUSED the place. Of octets: how many had been looked at. Of definitions: the octet of
+    /* At OER_REJECTED the place. Of octets: how many had been looked at. Of definitions: the octet of
      * the text at which the token or type begins that shows the fault. Of JSON: 0. With any other
      * status 0. */
     std::uint64_t place;
@@ -96,7 +96,7 @@ struct error {
     /* What the call was reading. */
     subject of;
 
-    /* The name of the status, and at OER_REFUSED that of the reason, as the documents have them:
+    /* The name of the status, and at OER_REJECTED that of the reason, as the documents have them:
      * "Memory", "End", "LengthForm". It is kept for as long as the program runs. */
     const char *name() const noexcept;
 };
@@ -336,7 +336,7 @@ public:
     }
 
     /* Reads definitions, in place of the types that were there. The answer is the length of the text.
-     *   OER_REFUSED  the text spells no types: `why` is an oer_text_reason, `place` the octet of the
+     *   OER_REJECTED  the text spells no types: `why` is an oer_text_reason, `place` the octet of the
      *                text at which the token or type begins that shows the fault
      *   OER_MEMORY   an allocation failed
      * After an error the types are those from before. */
@@ -352,7 +352,7 @@ public:
     /* Whether the octets begin with an encoding of a value of the type with the name, in any spelling
      * that the rules allow (Basic-OER): how long it is, and whether it is the canonical one. What
      * follows it is not looked at: compare `octets` of the answer with the size. It takes no memory.
-     *   OER_REFUSED  they don't: `why` is an oer_reason, `place` how many had been looked at */
+     *   OER_REJECTED  they don't: `why` is an oer_reason, `place` how many had been looked at */
     result<checked> check(text_in name, octets_in given) noexcept {
         oer_checked answer = oer_check(&held_, name.data(), name.size(), given.data(), given.size());
         if (answer.status == OER_OK) {
@@ -364,7 +364,7 @@ public:
 
     /* The canonical octets (Canonical-OER) of the value whose encoding, of at most `limit` octets, is at
      * the front of the octets. What follows it is not looked at.
-     *   OER_REFUSED  there is no such encoding: `why` is an oer_reason, `place` how many octets had been
+     *   OER_REJECTED  there is no such encoding: `why` is an oer_reason, `place` how many octets had been
      *                looked at
      *   OER_MEMORY   an allocation failed, here or in the library */
     result<octets> canon(text_in name, octets_in given, std::uint64_t limit = OER_NO_LIMIT) noexcept {
@@ -385,7 +385,7 @@ public:
     /* The part of the encoding at the front of the octets to which the path leads, as it stands in them.
      * A path is steps joined by dots (docs/COMMAND.md): c0 a component, a0 an addition, i0 an element,
      * v the alternative chosen. What follows the encoding is not looked at.
-     *   OER_REFUSED  the octets don't begin with an encoding: `why` is an oer_reason, `place` how many
+     *   OER_REJECTED  the octets don't begin with an encoding: `why` is an oer_reason, `place` how many
      *                octets had been looked at
      *   OER_NO_PATH  the text is not a path
      *   OER_NO_STEP  the path has a step that the type doesn't have, one past the last element, or one
@@ -410,7 +410,7 @@ public:
 
     /* The JSON (docs/JSON.md) of the value whose encoding, of at most `limit` octets, is at the front of
      * the octets, as UTF-8. What follows the encoding is not looked at.
-     *   OER_REFUSED  there is no such encoding: `why` is an oer_reason, `place` how many octets had been
+     *   OER_REJECTED  there is no such encoding: `why` is an oer_reason, `place` how many octets had been
      *                looked at
      *   OER_MEMORY   an allocation failed, here or in the library */
     result<text> to_json(text_in name, octets_in given, std::uint64_t limit = OER_NO_LIMIT) noexcept {
@@ -431,7 +431,7 @@ public:
 
     /* The canonical octets of the value that the JSON stands for.
      *   OER_NO_JSON  the text is not JSON, or not UTF-8
-     *   OER_REFUSED  the JSON is no value of the type: `why` is an oer_json_reason, `place` is 0
+     *   OER_REJECTED  the JSON is no value of the type: `why` is an oer_json_reason, `place` is 0
      *   OER_MEMORY   an allocation failed, here or in the library */
     result<octets> from_json(text_in name, text_in json) noexcept {
         return gather<std::uint8_t>(json.size(), subject::json, [&](std::uint8_t *out, std::size_t room) {
@@ -458,7 +458,7 @@ private:
 
     /* The error of an answer that is not OER_OK. */
     static error fault(const oer_written &answer, subject of) noexcept {
-        return fault(answer.status, answer.why, answer.status == OER_REFUSED ? answer.octets : 0, answer.written, of);
+        return fault(answer.status, answer.why, answer.status == OER_REJECTED ? answer.octets : 0, answer.written, of);
     }
 
     static result<written> told(const oer_written &answer, subject of) noexcept {
@@ -502,7 +502,7 @@ const char *at(const char *const (&table)[N], std::uint32_t number) noexcept {
 }
 
 inline const char *status(std::uint32_t number) noexcept {
-    static const char *const table[] = { "Ok",   "Refused", "NoTypes",    "Unnamed", "Memory",
+    static const char *const table[] = { "Ok",   "Rejected", "NoTypes",    "Unnamed", "Memory",
                                          "Room", "NoPath",  "NoStep", "Absent",  "NoJson" };
     return at(table, number);
 }
@@ -533,7 +533,7 @@ inline const char *json_reason(std::uint32_t number) noexcept {
 } // namespace names
 
 inline const char *error::name() const noexcept {
-    if (status != OER_REFUSED) return names::status(status);
+    if (status != OER_REJECTED) return names::status(status);
     if (of == subject::octets) return names::reason(why);
     return of == subject::definitions ? names::text_reason(why) : names::json_reason(why);
 }

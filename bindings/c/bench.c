@@ -52,7 +52,7 @@ int main(int count, char **words) {
     shown = oer_to_json(&types, "Certificate", 11, octets, length, OER_NO_LIMIT, json, sizeof json);
     if (shown.status != OER_OK) return 1;
     for (turn = 0; turn < turns; turn++) {
-        uint32_t status = OER_REFUSED;
+        uint32_t status = OER_REJECTED;
         switch (words[2][0]) {
         case 'r': status = oer_types_read(&types, text, text_length).status; break;
         case 'p': status = oer_part(&types, "Certificate", 11, octets, length, "c3", 2, out, sizeof out).status; break;

@@ -1,7 +1,7 @@
 /* Tests of the library from C: test FOLDER STRINGS
  *
  * FOLDER is examples/ieee1609dot2, and STRINGS is how many random strings of octets are tried. With
- * REFUSE_MEMORY defined, and linked with --wrap for malloc, realloc and free, allocations are refused
+ * FAIL_MEMORY defined, and linked with --wrap for malloc, realloc and free, allocations fail
  * in turn, and blocks that are left are found. It says what differs, and then its status is 1. */
 #include "vectors.h"
 
@@ -21,10 +21,10 @@ static int differs;
 
 #define COUNT(array) (sizeof(array) / sizeof((array)[0]))
 
-/* ---- the allocator: the growth number `refuse_at` is refused, and blocks are counted */
+/* ---- the allocator: the growth number `fail_at` fails, and blocks are counted */
 
-#ifdef REFUSE_MEMORY
-static long growths, refuse_at, blocks;
+#ifdef FAIL_MEMORY
+static long growths, fail_at, blocks;
 
 void *__real_malloc(size_t size);
 void *__real_realloc(void *old, size_t size);
@@ -32,7 +32,7 @@ void __real_free(void *old);
 
 void *__wrap_malloc(size_t size) {
     void *made;
-    if (++growths == refuse_at) return NULL;
+    if (++growths == fail_at) return NULL;
     made = __real_malloc(size);
     blocks += made != NULL;
     return made;
@@ -40,7 +40,7 @@ void *__wrap_malloc(size_t size) {
 
 void *__wrap_realloc(void *old, size_t size) {
     void *made;
-    if (++growths == refuse_at) return NULL;
+    if (++growths == fail_at) return NULL;
     made = __real_realloc(old, size);
     blocks += made != NULL && old == NULL;
     return made;
@@ -181,17 +181,17 @@ static void test_vector(const struct vector *vector) {
     EXPECT(are_all(out, 0, sizeof out, 0xcc), vector->given);
 }
 
-/* A text that is refused leaves the types from before. */
-static void test_refused_text(const struct refused_text *row) {
+/* A text that is rejected leaves the types from before. */
+static void test_rejected_text(const struct rejected_text *row) {
     oer_types types = OER_TYPES_NONE;
     struct vector check = { CHECK, 0, "ff", 0, OER_NO_LIMIT, 0, 0, 0, 0, 0 };
     oer_parsed parsed = oer_types_read(&types, row->text, strlen(row->text));
-    EXPECT(parsed.status == OER_REFUSED && parsed.why == row->why && parsed.place == row->place, row->text);
+    EXPECT(parsed.status == OER_REJECTED && parsed.why == row->why && parsed.place == row->place, row->text);
     EXPECT(is_only(call(&types, "A", &check, 0, 0), OER_NO_TYPES), row->text);
     oer_types_free(&types);
     types = types_of("BOOLEAN");
     parsed = oer_types_read(&types, row->text, strlen(row->text));
-    EXPECT(parsed.status == OER_REFUSED && parsed.why == row->why && parsed.place == row->place, row->text);
+    EXPECT(parsed.status == OER_REJECTED && parsed.why == row->why && parsed.place == row->place, row->text);
     EXPECT(call(&types, "A", &check, 0, 0).octets == 1, row->text);
     oer_types_free(&types);
 }
@@ -229,7 +229,7 @@ static void test_certificate(const char *folder) {
     EXPECT(answer.status == OER_OK && answer.octets == 236 && answer.written == 230, "canon");
     EXPECT(memcmp(out.at, certificate.at, 230) == 0, "canon");
     answer = oer_canon(&types, "Certificate", 11, basic.at, basic.length, 235, out.at, 230);
-    EXPECT(answer.status == OER_REFUSED && answer.why == OER_LIMIT && answer.written == 0, "limit");
+    EXPECT(answer.status == OER_REJECTED && answer.why == OER_LIMIT && answer.written == 0, "limit");
     answer = oer_part(&types, "Certificate", 11, certificate.at, 230, "c3", 2, out.at, sizeof out.at);
     EXPECT(answer.status == OER_OK && answer.written == 152, "toBeSigned");
     EXPECT(memcmp(out.at, certificate.at + 12, 152) == 0, "toBeSigned");
@@ -243,10 +243,10 @@ static void test_certificate(const char *folder) {
 
 /* ---- memory */
 
-#ifdef REFUSE_MEMORY
-/* The call with each of its growths refused in turn, up to the run that meets no refusal: that one
+#ifdef FAIL_MEMORY
+/* The call where each of its growths fails in turn, up to the run where none fails: that one
  * gives the answer of the vector, and each before it says that memory ran out. */
-static void refuse_in_turn(const struct vector *vector) {
+static void fail_in_turn(const struct vector *vector) {
     oer_types types = types_of(vector->type);
     long before = blocks, nth;
     uint8_t out[LONGEST];
@@ -254,9 +254,9 @@ static void refuse_in_turn(const struct vector *vector) {
     for (nth = 1;; nth++) {
         memset(out, 0xdd, sizeof out);
         growths = 0;
-        refuse_at = nth;
+        fail_at = nth;
         answer = call(&types, "A", vector, out, sizeof out);
-        refuse_at = 0;
+        fail_at = 0;
         EXPECT(blocks == before, vector->given);
         if (growths < nth) break;
         EXPECT(is_only(answer, OER_MEMORY), vector->given);
@@ -268,17 +268,17 @@ static void refuse_in_turn(const struct vector *vector) {
     oer_types_free(&types);
 }
 
-/* Reading the text with each growth refused in turn: the types are those from before. */
-static long refuse_text_in_turn(const char *text) {
+/* Reading the text where each growth fails in turn: the types are those from before. */
+static long fail_text_in_turn(const char *text) {
     oer_types types = types_of("BOOLEAN");
     struct vector check = { CHECK, 0, "ff", 0, OER_NO_LIMIT, 0, 0, 0, 0, 0 };
     long before = blocks, nth;
     oer_parsed parsed;
     for (nth = 1;; nth++) {
         growths = 0;
-        refuse_at = nth;
+        fail_at = nth;
         parsed = oer_types_read(&types, text, strlen(text));
-        refuse_at = 0;
+        fail_at = 0;
         if (growths < nth) break;
         EXPECT(parsed.status == OER_MEMORY && parsed.why == 0 && parsed.place == 0, text);
         EXPECT(blocks == before, text);
@@ -291,15 +291,15 @@ static long refuse_text_in_turn(const char *text) {
 
 static void test_memory(const char *folder) {
     size_t i;
-    long refused = 0;
-    for (i = 0; i < COUNT(vectors); i++) refuse_in_turn(&vectors[i]);
+    long failed = 0;
+    for (i = 0; i < COUNT(vectors); i++) fail_in_turn(&vectors[i]);
     for (i = 0; i < COUNT(vectors); i++) {
         char text[1024];
         snprintf(text, sizeof text, "A ::= %s", vectors[i].type);
-        refused += refuse_text_in_turn(text);
+        failed += fail_text_in_turn(text);
     }
-    refused += refuse_text_in_turn(contents(folder, "types.asn"));
-    EXPECT(refused > 100, "growths are refused");
+    failed += fail_text_in_turn(contents(folder, "types.asn"));
+    EXPECT(failed > 100, "growths fail");
     EXPECT(blocks == 0, "all blocks are given back");
 }
 #endif
@@ -336,7 +336,7 @@ static void compare(oer_types *types, const uint8_t *octets, size_t length) {
     EXPECT(canon.why == checked.why && shown.why == checked.why, "why");
     EXPECT(canon.octets == checked.octets && shown.octets == checked.octets, "octets");
     if (checked.status != OER_OK) {
-        EXPECT(checked.status == OER_REFUSED && checked.why >= OER_END && checked.why <= OER_UNKNOWN_ADDITION, "a reason");
+        EXPECT(checked.status == OER_REJECTED && checked.why >= OER_END && checked.why <= OER_UNKNOWN_ADDITION, "a reason");
         EXPECT(checked.octets <= length && canon.written == 0, "octets");
         return;
     }
@@ -393,11 +393,11 @@ int main(int count, char **words) {
     }
     test_layout();
     for (i = 0; i < COUNT(vectors); i++) test_vector(&vectors[i]);
-    for (i = 0; i < COUNT(refused_texts); i++) test_refused_text(&refused_texts[i]);
+    for (i = 0; i < COUNT(rejected_texts); i++) test_rejected_text(&rejected_texts[i]);
     test_kept_types();
     test_certificate(words[1]);
     test_random(atol(words[2]));
-#ifdef REFUSE_MEMORY
+#ifdef FAIL_MEMORY
     test_memory(words[1]);
 #endif
     if (!differs) printf("%d vectors, %ld encodings of %s strings, %ld of them canonical\n", (int)COUNT(vectors), encodings, words[2], canonicals);

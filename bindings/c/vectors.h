@@ -49,9 +49,9 @@ static const struct vector vectors[] = {
     { CHECK, BOOLEANS, "0102ff00ffff", 0, ALL, OER_OK, 0, 4, 1, 0 },
     { CHECK, "BOOLEAN", "0102", 0, ALL, OER_OK, 0, 1, 0, 0 },
     { CHECK, ADDITIONS, "80ff020020810109", 0, ALL, OER_OK, 0, 8, 0, 0 },
-    { CHECK, "OCTET STRING", "0361", 0, ALL, OER_REFUSED, OER_END, 2, 0, 0 },
+    { CHECK, "OCTET STRING", "0361", 0, ALL, OER_REJECTED, OER_END, 2, 0, 0 },
     { CHECK, "NULL", "", 0, ALL, OER_OK, 0, 0, 1, 0 },
-    { CHECK, "BOOLEAN", "", 0, ALL, OER_REFUSED, OER_END, 0, 0, 0 },
+    { CHECK, "BOOLEAN", "", 0, ALL, OER_REJECTED, OER_END, 0, 0, 0 },
 
     { CANON, BOOLEANS, "0200020107", 0, ALL, OER_OK, 0, 5, 4, "0102ffff" },
     { CANON, "BOOLEAN", "01", 0, ALL, OER_OK, 0, 1, 1, "ff" },
@@ -61,22 +61,22 @@ static const struct vector vectors[] = {
     { CANON, CHOSEN, "85810101", 0, ALL, OER_OK, 0, 4, 3, "850101" },
     { CANON, "NULL", "ff", 0, ALL, OER_OK, 0, 0, 0, "" },
 
-    { CANON, "OCTET STRING", "0361", 0, 2, OER_REFUSED, OER_LIMIT, 1, 0, 0 },
-    { CANON, "OCTET STRING", "0361", 0, 4, OER_REFUSED, OER_END, 2, 0, 0 },
-    { CANON, "INTEGER (0..65535)", "0001", 0, 1, OER_REFUSED, OER_LIMIT, 0, 0, 0 },
-    { CANON, ADDITIONS, "80ff020680020900", 0, ALL, OER_REFUSED, OER_WINDOW, 7, 0, 0 },
-    { CANON, "INTEGER (0..MAX)", "80", 0, ALL, OER_REFUSED, OER_LENGTH_FORM, 1, 0, 0 },
-    { CANON, "INTEGER (0..MAX)", "00", 0, ALL, OER_REFUSED, OER_EMPTY_NUMBER, 1, 0, 0 },
-    { CANON, "INTEGER (0..5)", "06", 0, ALL, OER_REFUSED, OER_INTEGER_RANGE, 1, 0, 0 },
-    { CANON, LISTED, "80", 0, ALL, OER_REFUSED, OER_ENUM_FORM, 1, 0, 0 },
-    { CANON, LISTED, "06", 0, ALL, OER_REFUSED, OER_UNKNOWN_ENUM, 1, 0, 0 },
-    { CANON, "SEQUENCE (SIZE(1..2)) OF BOOLEAN", "0100", 0, ALL, OER_REFUSED, OER_SIZE, 2, 0, 0 },
-    { CANON, "VisibleString", "017f", 0, ALL, OER_REFUSED, OER_CHARACTER, 2, 0, 0 },
-    { CANON, "BIT STRING", "00", 0, ALL, OER_REFUSED, OER_BIT_UNUSED, 1, 0, 0 },
-    { CANON, "OBJECT IDENTIFIER", "0180", 0, ALL, OER_REFUSED, OER_OBJECT_ID, 2, 0, 0 },
-    { CANON, PLAIN, "20ff", 0, ALL, OER_REFUSED, OER_PREAMBLE_PADDING, 1, 0, 0 },
-    { CANON, HIGH_TAGS, "bf05", 0, ALL, OER_REFUSED, OER_TAG_FORM, 2, 0, 0 },
-    { CANON, HIGH_TAGS, "80", 0, ALL, OER_REFUSED, OER_UNKNOWN_ALTERNATIVE, 1, 0, 0 },
+    { CANON, "OCTET STRING", "0361", 0, 2, OER_REJECTED, OER_LIMIT, 1, 0, 0 },
+    { CANON, "OCTET STRING", "0361", 0, 4, OER_REJECTED, OER_END, 2, 0, 0 },
+    { CANON, "INTEGER (0..65535)", "0001", 0, 1, OER_REJECTED, OER_LIMIT, 0, 0, 0 },
+    { CANON, ADDITIONS, "80ff020680020900", 0, ALL, OER_REJECTED, OER_WINDOW, 7, 0, 0 },
+    { CANON, "INTEGER (0..MAX)", "80", 0, ALL, OER_REJECTED, OER_LENGTH_FORM, 1, 0, 0 },
+    { CANON, "INTEGER (0..MAX)", "00", 0, ALL, OER_REJECTED, OER_EMPTY_NUMBER, 1, 0, 0 },
+    { CANON, "INTEGER (0..5)", "06", 0, ALL, OER_REJECTED, OER_INTEGER_RANGE, 1, 0, 0 },
+    { CANON, LISTED, "80", 0, ALL, OER_REJECTED, OER_ENUM_FORM, 1, 0, 0 },
+    { CANON, LISTED, "06", 0, ALL, OER_REJECTED, OER_UNKNOWN_ENUM, 1, 0, 0 },
+    { CANON, "SEQUENCE (SIZE(1..2)) OF BOOLEAN", "0100", 0, ALL, OER_REJECTED, OER_SIZE, 2, 0, 0 },
+    { CANON, "VisibleString", "017f", 0, ALL, OER_REJECTED, OER_CHARACTER, 2, 0, 0 },
+    { CANON, "BIT STRING", "00", 0, ALL, OER_REJECTED, OER_BIT_UNUSED, 1, 0, 0 },
+    { CANON, "OBJECT IDENTIFIER", "0180", 0, ALL, OER_REJECTED, OER_OBJECT_ID, 2, 0, 0 },
+    { CANON, PLAIN, "20ff", 0, ALL, OER_REJECTED, OER_PREAMBLE_PADDING, 1, 0, 0 },
+    { CANON, HIGH_TAGS, "bf05", 0, ALL, OER_REJECTED, OER_TAG_FORM, 2, 0, 0 },
+    { CANON, HIGH_TAGS, "80", 0, ALL, OER_REJECTED, OER_UNKNOWN_ALTERNATIVE, 1, 0, 0 },
 
     { PART, BOOLEANS, "0200020107", "i1", ALL, OER_OK, 0, 0, 1, "07" },
     { PART, ADDITIONS, "80ff0206800109", "a0", ALL, OER_OK, 0, 0, 1, "09" },
@@ -86,33 +86,33 @@ static const struct vector vectors[] = {
     { PART, "BOOLEAN", "ff", "c01", ALL, OER_NO_PATH, 0, 0, 0, 0 },
     { PART, "BOOLEAN", "ff", "", ALL, OER_NO_PATH, 0, 0, 0, 0 },
     { PART, "BOOLEAN", "ff", "\377", ALL, OER_NO_PATH, 0, 0, 0, 0 },
-    { PART, "OCTET STRING", "0361", "c0", ALL, OER_REFUSED, OER_END, 2, 0, 0 },
+    { PART, "OCTET STRING", "0361", "c0", ALL, OER_REJECTED, OER_END, 2, 0, 0 },
 
     { TO_JSON, BYTE, "60ff08", 0, ALL, OER_OK, 0, 3, 25, "{\"a\":true,\"b\":8,\"c\":null}" },
     { TO_JSON, ADDITIONS, "80ff0205200109", 0, ALL, OER_OK, 0, 7, 20, "{\"#2\":\"09\",\"a\":true}" },
     { TO_JSON, CHOSEN, "85020102", 0, ALL, OER_OK, 0, 4, 14, "{\"#c5\":\"0102\"}" },
-    { TO_JSON, "OCTET STRING", "0361", 0, 2, OER_REFUSED, OER_LIMIT, 1, 0, 0 },
-    { TO_JSON, "OCTET STRING", "0361", 0, 4, OER_REFUSED, OER_END, 2, 0, 0 },
+    { TO_JSON, "OCTET STRING", "0361", 0, 2, OER_REJECTED, OER_LIMIT, 1, 0, 0 },
+    { TO_JSON, "OCTET STRING", "0361", 0, 4, OER_REJECTED, OER_END, 2, 0, 0 },
 
     { FROM_JSON, BYTE, "{\"a\":true,\"b\":8,\"c\":null}", 0, ALL, OER_OK, 0, 0, 3, "60ff08" },
     { FROM_JSON, BOOLEANS, "[true, false]", 0, ALL, OER_OK, 0, 0, 4, "0102ff00" },
-    { FROM_JSON, "INTEGER", "true", 0, ALL, OER_REFUSED, OER_JSON_KIND, 0, 0, 0 },
-    { FROM_JSON, BYTE, "{\"a\":true,\"d\":8}", 0, ALL, OER_REFUSED, OER_JSON_NAME, 0, 0, 0 },
-    { FROM_JSON, BYTE, "{\"b\":8}", 0, ALL, OER_REFUSED, OER_JSON_MISSING, 0, 0, 0 },
-    { FROM_JSON, "INTEGER", "\"170141183460469231731687303715884105728\"", 0, ALL, OER_REFUSED, OER_JSON_RANGE, 0, 0, 0 },
-    { FROM_JSON, "INTEGER (0..5)", "6", 0, ALL, OER_REFUSED, OER_JSON_MISFIT, 0, 0, 0 },
+    { FROM_JSON, "INTEGER", "true", 0, ALL, OER_REJECTED, OER_JSON_KIND, 0, 0, 0 },
+    { FROM_JSON, BYTE, "{\"a\":true,\"d\":8}", 0, ALL, OER_REJECTED, OER_JSON_NAME, 0, 0, 0 },
+    { FROM_JSON, BYTE, "{\"b\":8}", 0, ALL, OER_REJECTED, OER_JSON_MISSING, 0, 0, 0 },
+    { FROM_JSON, "INTEGER", "\"170141183460469231731687303715884105728\"", 0, ALL, OER_REJECTED, OER_JSON_RANGE, 0, 0, 0 },
+    { FROM_JSON, "INTEGER (0..5)", "6", 0, ALL, OER_REJECTED, OER_JSON_MISFIT, 0, 0, 0 },
     { FROM_JSON, "INTEGER", "five", 0, ALL, OER_NO_JSON, 0, 0, 0, 0 },
     { FROM_JSON, "INTEGER", "\377", 0, ALL, OER_NO_JSON, 0, 0, 0, 0 }
 };
 
-/* Definitions that are refused: the reason, and the place. */
-struct refused_text {
+/* Definitions that are rejected: the reason, and the place. */
+struct rejected_text {
     const char *text;
     uint32_t why;
     uint64_t place;
 };
 
-static const struct refused_text refused_texts[] = {
+static const struct rejected_text rejected_texts[] = {
     { "A ::= BOOLEAN \377", OER_TEXT_NOT_UTF8, 0 },
     { "A ::= INTEGER (05)", OER_TEXT_TOKEN, 15 },
     { "A ::= INTEGER (170141183460469231731687303715884105728)", OER_TEXT_NUMBER, 15 },

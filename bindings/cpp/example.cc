@@ -7,6 +7,6 @@ int main() {
     auto made = types.canon("Id", octets);
     if (!made) return 1;
     std::printf("read %d octets, wrote %d\n", int(made.value().read()), int(made.value().size()));
-    auto refused = types.check("Id", cut);
-    std::printf("%s, place %d\n", refused.error().name(), int(refused.error().place));
+    auto rejected = types.check("Id", cut);
+    std::printf("%s, place %d\n", rejected.error().name(), int(rejected.error().place));
 }

@@ -3,8 +3,8 @@
 // FOLDER is examples/ieee1609dot2, STRINGS is how many random strings of octets are tried, and TABLE is
 // what bindings/table printed. The vectors are those of the tests in C. It says what differs, and then
 // its status is 1. Octets that are read and buffers that are written end where a page ends that may be
-// used, so that a call that goes past them ends the program. With REFUSE_MEMORY defined, and linked with
-// --wrap for malloc and realloc, allocations of the library are refused in turn as well.
+// used, so that a call that goes past them ends the program. With FAIL_MEMORY defined, and linked with
+// --wrap for malloc and realloc, allocations of the library fail in turn as well.
 #include "oer.hpp"
 #include "vectors.h"
 
@@ -50,25 +50,25 @@ static_assert(std::is_convertible<std::span<std::uint8_t>, oer::octets_out>::val
 static_assert(std::is_convertible<const oer::octets &, std::span<const std::uint8_t>>::value, "a span");
 #endif
 
-// ---- memory that is refused
+// ---- memory that runs out
 
-// Whether the header's allocations are refused.
-static bool refuse_new;
+// Whether the header's allocations fail.
+static bool fail_new;
 
 void *operator new[](std::size_t size, const std::nothrow_t &) noexcept {
-    return refuse_new ? nullptr : ::operator new[](size);
+    return fail_new ? nullptr : ::operator new[](size);
 }
 
-#ifdef REFUSE_MEMORY
-// The allocation number `refuse_at` of the library is refused.
-static long allocations, refuse_at;
+#ifdef FAIL_MEMORY
+// The allocation number `fail_at` of the library fails.
+static long allocations, fail_at;
 
 extern "C" {
 void *__real_malloc(std::size_t size);
 void *__real_realloc(void *old, std::size_t size);
-void *__wrap_malloc(std::size_t size) { return ++allocations == refuse_at ? nullptr : __real_malloc(size); }
+void *__wrap_malloc(std::size_t size) { return ++allocations == fail_at ? nullptr : __real_malloc(size); }
 void *__wrap_realloc(void *old, std::size_t size) {
-    return ++allocations == refuse_at ? nullptr : __real_realloc(old, size);
+    return ++allocations == fail_at ? nullptr : __real_realloc(old, size);
 }
 }
 #endif
@@ -271,40 +271,40 @@ static void test_vector(const vector &row) {
     EXPECT(is_only(call(none, "A", row).error, OER_NO_TYPES), "before types are read");
 }
 
-// Where memory is refused, the header and the library say so, and the types are as before.
+// Where an allocation fails, the header and the library say so, and the types are as before.
 static void test_memory(const vector &row) {
     oer::types types = types_of(row.type);
-    refuse_new = true;
+    fail_new = true;
     oer::error error = call(types, "A", row).error;
-    refuse_new = false;
+    fail_new = false;
     EXPECT(is_only(error, OER_MEMORY) || row.task == CHECK, row.given);
-#ifdef REFUSE_MEMORY
+#ifdef FAIL_MEMORY
     for (long nth = 1; nth <= 1000; nth++) {
         allocations = 0;
-        refuse_at = nth;
+        fail_at = nth;
         error = call(types, "A", row).error;
-        refuse_at = 0;
+        fail_at = 0;
         if (allocations < nth) break;
         EXPECT(is_only(error, OER_MEMORY), row.given);
     }
     allocations = 0;
-    refuse_at = 1;
+    fail_at = 1;
     EXPECT(is_only(types.read("A ::= NULL").error(), OER_MEMORY), row.given);
-    refuse_at = 0;
+    fail_at = 0;
 #endif
     EXPECT(call(types, "A", row).error.status == row.status, row.given);
 }
 
-// A text that is refused leaves the types from before.
-static void test_refused_text(const refused_text &row) {
+// A text that is rejected leaves the types from before.
+static void test_rejected_text(const rejected_text &row) {
     const bytes octets(1, 0xff);
     oer::result<oer::types> none = oer::types::of(row.text);
     test_value(none);
-    EXPECT(none.error().status == OER_REFUSED && none.error().why == row.why, row.text);
+    EXPECT(none.error().status == OER_REJECTED && none.error().why == row.why, row.text);
     EXPECT(none.error().place == row.place && none.error().of == oer::subject::definitions, row.text);
     oer::types types = types_of("BOOLEAN");
     oer::result<std::uint64_t> read = types.read(row.text);
-    EXPECT(read.error().status == OER_REFUSED && read.error().why == row.why, row.text);
+    EXPECT(read.error().status == OER_REJECTED && read.error().why == row.why, row.text);
     EXPECT(read.error().place == row.place, row.text);
     EXPECT(types.check("A", octets).value().octets == 1, row.text);
 }
@@ -418,14 +418,14 @@ static void test_numbers(const std::string &file) {
         if (name.compare(0, 5, "TEXT_") == 0) of = oer::subject::definitions;
         if (name.compare(0, 5, "JSON_") == 0) of = oer::subject::json;
         if (of != oer::subject::octets) name = name.substr(5);
-        if (status) EXPECT(name == "REFUSED" || name_of(number, 0, of) == name, name);
-        else EXPECT(name_of(OER_REFUSED, number, of) == name, name);
+        if (status) EXPECT(name == "REJECTED" || name_of(number, 0, of) == name, name);
+        else EXPECT(name_of(OER_REJECTED, number, of) == name, name);
         statuses += status;
         tested++;
     }
     EXPECT(tested == 50, std::to_string(tested) + " numbers");
-    EXPECT(name_of(OER_REFUSED, 0, oer::subject::octets) == "UNKNOWN", "no reason");
-    EXPECT(name_of(OER_REFUSED, 99, oer::subject::json) == "UNKNOWN", "no reason");
+    EXPECT(name_of(OER_REJECTED, 0, oer::subject::octets) == "UNKNOWN", "no reason");
+    EXPECT(name_of(OER_REJECTED, 99, oer::subject::json) == "UNKNOWN", "no reason");
     EXPECT(name_of(99, 0, oer::subject::json) == "UNKNOWN", "no status");
     EXPECT(oer::version() == OER_VERSION_NUMBER, "the version");
 }
@@ -457,7 +457,7 @@ static void compare(oer::types &types, oer::octets_in given) {
     EXPECT(canon.error().status == checked.error().status && canon.error().why == checked.error().why, "error");
     EXPECT(canon.error().place == checked.error().place && canon.error().place <= given.size(), "place");
     if (!checked) {
-        EXPECT(checked.error().status == OER_REFUSED && checked.error().name() != std::string("Unknown"), "a reason");
+        EXPECT(checked.error().status == OER_REJECTED && checked.error().name() != std::string("Unknown"), "a reason");
         return;
     }
     const oer::octets &made = canon.value();
@@ -502,7 +502,7 @@ int main(int count, char **words) {
     }
     for (const vector &row : vectors) test_vector(row);
     for (const vector &row : vectors) test_memory(row);
-    for (const refused_text &row : refused_texts) test_refused_text(row);
+    for (const rejected_text &row : rejected_texts) test_rejected_text(row);
     test_kept_types();
     test_arguments();
     test_growth();

@@ -5,5 +5,5 @@ with oer.Types("Id ::= OCTET STRING") as types:
     print("read", made.read, "octets, wrote", len(made.octets))
     try:
         types.check("Id", bytes.fromhex("0361"))
-    except oer.Refused as refused:
-        print(refused.reason.name, "place", refused.place)
+    except oer.Rejected as rejected:
+        print(rejected.reason.name, "place", rejected.place)

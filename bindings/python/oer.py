@@ -32,7 +32,7 @@ from typing import Any, Callable, Dict, NamedTuple, Optional, Tuple, Type, Union
 
 __all__ = [
     "VERSION_NUMBER", "version", "Types", "Checked", "Canonical", "Json", "Reason", "TextReason", "JsonReason",
-    "Error", "Refused", "OctetsRefused", "DefinitionsRefused", "JsonRefused", "NoTypes", "Unnamed",
+    "Error", "Rejected", "OctetsRejected", "DefinitionsRejected", "JsonRejected", "NoTypes", "Unnamed",
     "OutOfMemory", "NoPath", "NoStep", "Absent", "NotJson", "WrongThread",
 ]
 
@@ -45,7 +45,7 @@ Text = Union[str, bytes]
 
 
 class Reason(enum.IntEnum):
-    """Why octets are refused. ENCODING.md says in which order the reasons are looked for."""
+    """Why octets are rejected. ENCODING.md says in which order the reasons are looked for."""
 
     END = 3  # they end within the value
     LIMIT = 4  # they would pass the limit
@@ -66,7 +66,7 @@ class Reason(enum.IntEnum):
 
 
 class TextReason(enum.IntEnum):
-    """Why definitions are refused (NOTATION.md)."""
+    """Why definitions are rejected (NOTATION.md)."""
 
     NOT_UTF8 = 0  # the text is not UTF-8
     TOKEN = 2  # no token begins here, or it has no end
@@ -90,7 +90,7 @@ class TextReason(enum.IntEnum):
 
 
 class JsonReason(enum.IntEnum):
-    """Why JSON is refused (JSON.md)."""
+    """Why JSON is rejected (JSON.md)."""
 
     KIND = 2  # JSON of another kind than the type's values have, or of another form
     NAME = 3  # a key that the type doesn't have, or a text that is no item's name
@@ -106,14 +106,14 @@ class Error(Exception):
     """A call has no answer. The types are as before."""
 
 
-class Refused(Error):
-    """Octets, definitions or JSON are refused."""
+class Rejected(Error):
+    """Octets, definitions or JSON are rejected."""
 
     what = "input"
 
     def __init__(self, reason: AnyReason, place: Optional[int]) -> None:
         at = "" if place is None else f", place {place}"
-        super().__init__(f"{self.what} refused: {reason.name}{at}")
+        super().__init__(f"{self.what} rejected: {reason.name}{at}")
         self.reason = reason
         """What is wrong."""
         self.place = place
@@ -123,21 +123,21 @@ class Refused(Error):
         return (type(self), (self.reason, self.place))
 
 
-class OctetsRefused(Refused):
+class OctetsRejected(Rejected):
     """The octets don't begin with an encoding of a value of the type. `reason` is a Reason, `place` how
     many octets had been looked at."""
 
     what = "octets"
 
 
-class DefinitionsRefused(Refused):
+class DefinitionsRejected(Rejected):
     """The text spells no types. `reason` is a TextReason, `place` the octet of the text, counted from 0, at
     which the token or type begins that shows the fault."""
 
     what = "definitions"
 
 
-class JsonRefused(Refused):
+class JsonRejected(Rejected):
     """The JSON is no value of the type. `reason` is a JsonReason, and `place` is None."""
 
     what = "JSON"
@@ -205,7 +205,7 @@ class Json(NamedTuple):
 
 # ---- the calls, as oer.h has them
 
-_OK, _REFUSED, _NO_TYPES, _UNNAMED, _MEMORY, _ROOM, _NO_PATH, _NO_STEP, _ABSENT, _NO_JSON = range(10)
+_OK, _REJECTED, _NO_TYPES, _UNNAMED, _MEMORY, _ROOM, _NO_PATH, _NO_STEP, _ABSENT, _NO_JSON = range(10)
 _NO_LIMIT = 2**64 - 1
 _KEPT = 65536  # a buffer of more octets is not kept for the next call
 
@@ -282,7 +282,7 @@ _ERRORS: Dict[int, Type[Error]] = {
 
 
 def _error(status: int) -> Error:
-    """The exception of a status other than OK and REFUSED."""
+    """The exception of a status other than OK and REJECTED."""
     kind = _ERRORS.get(status)
     if kind is None:
         return Error(f"status {status}")
@@ -300,7 +300,7 @@ def _text(text: Text) -> bytes:
 
 
 def _limited(limit: Optional[int]) -> int:
-    """A limit as the library takes it. None, and what it has no number for, refuses nothing."""
+    """A limit as the library takes it. None, and what it has no number for, rejects nothing."""
     if limit is None:
         return _NO_LIMIT
     if limit < 0:
@@ -331,13 +331,13 @@ class Types:
     def read(self, definitions: Text) -> None:
         """Reads definitions, each `Name ::= type`, in place of the types that were there.
 
-        Raises DefinitionsRefused if the text spells no types.
+        Raises DefinitionsRejected if the text spells no types.
         """
         self._own()
         text = _text(definitions)
         parsed = _library.oer_types_read(self._at, text, len(text))
-        if parsed.status == _REFUSED:
-            raise DefinitionsRefused(TextReason(parsed.why), parsed.place)
+        if parsed.status == _REJECTED:
+            raise DefinitionsRejected(TextReason(parsed.why), parsed.place)
         if parsed.status != _OK:
             raise _error(parsed.status)
 
@@ -351,20 +351,20 @@ class Types:
         that the rules allow (Basic-OER): how long it is, and whether it is the canonical one. What follows
         it is not looked at.
 
-        Raises OctetsRefused if they don't.
+        Raises OctetsRejected if they don't.
         """
         self._own()
         named, given = _text(name), _octets(octets)
         answer = _library.oer_check(self._at, named, len(named), given, len(given))
         if answer.status == _OK:
             return Checked(answer.octets, bool(answer.canonical))
-        raise self._refusal(answer, answer.octets)
+        raise self._rejection(answer, answer.octets)
 
     def canon(self, name: Text, octets: Octets, limit: Optional[int] = None) -> Canonical:
         """The canonical octets (Canonical-OER) of the value whose encoding, of at most `limit` octets, is at
         the front of the octets. What follows it is not looked at.
 
-        Raises OctetsRefused if there is no such encoding.
+        Raises OctetsRejected if there is no such encoding.
         """
         named, given = _text(name), _octets(octets)
         made, read = self._gather(
@@ -376,7 +376,7 @@ class Types:
         A path is steps joined by dots: c0 a component, a0 an addition, i0 an element, v the alternative
         chosen. What follows the encoding is not looked at.
 
-        Raises OctetsRefused if the octets don't begin with an encoding; NoPath, NoStep, Absent.
+        Raises OctetsRejected if the octets don't begin with an encoding; NoPath, NoStep, Absent.
         """
         named, given, steps = _text(name), _octets(octets), _text(path)
         made, _ = self._gather(
@@ -387,7 +387,7 @@ class Types:
         """The JSON of the value whose encoding, of at most `limit` octets, is at the front of the octets.
         What follows it is not looked at.
 
-        Raises OctetsRefused if there is no such encoding.
+        Raises OctetsRejected if there is no such encoding.
         """
         named, given = _text(name), _octets(octets)
         made, read = self._gather(
@@ -397,7 +397,7 @@ class Types:
     def from_json(self, name: Text, json: Text) -> bytes:
         """The canonical octets of the value that the JSON stands for.
 
-        Raises NotJson if the text is not JSON, and JsonRefused if the JSON is no value of the type.
+        Raises NotJson if the text is not JSON, and JsonRejected if the JSON is no value of the type.
         """
         named, given = _text(name), _text(json)
         made, _ = self._gather(
@@ -427,10 +427,10 @@ class Types:
         if threading.get_ident() != self._thread:
             raise WrongThread("the types belong to another thread")
 
-    def _refusal(self, answer: Any, place: int) -> Error:
+    def _rejection(self, answer: Any, place: int) -> Error:
         """The exception of an answer about octets that is not OK."""
-        if answer.status == _REFUSED:
-            return OctetsRefused(Reason(answer.why), place)
+        if answer.status == _REJECTED:
+            return OctetsRejected(Reason(answer.why), place)
         return _error(answer.status)
 
     def _gather(self, call: Callable[..., Any], given: Tuple[Any, ...], room: int,
@@ -451,6 +451,6 @@ class Types:
             self._room = out
         if answer.status == _OK:
             return made, answer.octets
-        if json and answer.status == _REFUSED:
-            raise JsonRefused(JsonReason(answer.why), None)
-        raise self._refusal(answer, answer.octets)
+        if json and answer.status == _REJECTED:
+            raise JsonRejected(JsonReason(answer.why), None)
+        raise self._rejection(answer, answer.octets)

@@ -86,8 +86,8 @@ class Vector(NamedTuple):
         """Which exception is raised, with its reason and place."""
         if self.status == 1:
             if self.task == "from_json":
-                return (oer.JsonRefused, self.why, None)
-            return (oer.OctetsRefused, self.why, self.octets)
+                return (oer.JsonRejected, self.why, None)
+            return (oer.OctetsRejected, self.why, self.octets)
         return ({6: oer.NoPath, 7: oer.NoStep, 8: oer.Absent, 9: oer.NotJson}[self.status], None, None)
 
 
@@ -137,10 +137,10 @@ class Calls(unittest.TestCase):
                     pass
                 self.assertEqual(self.raised(lambda: row.call(left, "A")), (oer.NoTypes, None, None))
 
-    def test_refused_definitions(self) -> None:
-        for text, why, place in rows("refused"):
+    def test_rejected_definitions(self) -> None:
+        for text, why, place in rows("rejected"):
             with self.subTest(text=from_hex(text)):
-                wanted = (oer.DefinitionsRefused, int(why), int(place))
+                wanted = (oer.DefinitionsRejected, int(why), int(place))
                 self.assertEqual(self.raised(lambda: oer.Types(from_hex(text))), wanted)
                 types = types_of(b"BOOLEAN")
                 self.assertEqual(self.raised(lambda: types.read(from_hex(text))), wanted)
@@ -161,7 +161,7 @@ class Calls(unittest.TestCase):
         for name in (2, None):
             self.assertRaises(TypeError, types.check, name, b"\x01\x05")
         self.assertEqual(self.raised(lambda: types.check("\ud800", b"")), (oer.Unnamed, None, None))
-        self.assertEqual(self.raised(lambda: types.canon("A", b"\x01\x05", 1)), (oer.OctetsRefused, 4, 1))
+        self.assertEqual(self.raised(lambda: types.canon("A", b"\x01\x05", 1)), (oer.OctetsRejected, 4, 1))
         self.assertEqual(types.canon("A", b"\x01\x05", 2**70).read, 2)
         self.assertRaises(ValueError, types.to_json, "A", b"\x01\x05", -1)
 
@@ -193,13 +193,13 @@ class Calls(unittest.TestCase):
 
     def test_exceptions(self) -> None:
         types = types_of(b"OCTET STRING")
-        with self.assertRaises(oer.Refused) as caught:
+        with self.assertRaises(oer.Rejected) as caught:
             types.check("A", b"\x03\x61")
         problem = caught.exception
         self.assertEqual((problem.reason, problem.place), (oer.Reason.END, 2))
-        self.assertEqual(str(problem), "octets refused: END, place 2")
+        self.assertEqual(str(problem), "octets rejected: END, place 2")
         again = pickle.loads(pickle.dumps(problem))
-        self.assertEqual((type(again), again.reason, again.place), (oer.OctetsRefused, oer.Reason.END, 2))
+        self.assertEqual((type(again), again.reason, again.place), (oer.OctetsRejected, oer.Reason.END, 2))
         self.assertRaises(TypeError, copy.copy, types)
         self.assertTrue(issubclass(oer.OutOfMemory, MemoryError))
 
@@ -237,8 +237,8 @@ class Calls(unittest.TestCase):
         self.assertEqual(types.check("Certificate", certificate), (230, True))
         self.assertEqual(types.check("Certificate", basic), (236, False))
         self.assertEqual(types.canon("Certificate", basic, 236), (certificate, 236))
-        refused = self.raised(lambda: types.canon("Certificate", basic, 235))
-        self.assertEqual(refused[:2], (oer.OctetsRefused, oer.Reason.LIMIT))
+        rejected = self.raised(lambda: types.canon("Certificate", basic, 235))
+        self.assertEqual(rejected[:2], (oer.OctetsRejected, oer.Reason.LIMIT))
         self.assertEqual(types.part("Certificate", certificate, "c3"), hex_file("tbs-rsu.hex"))
         json = types.to_json("Certificate", basic)
         self.assertEqual(types.from_json("Certificate", json.text), certificate)
@@ -251,7 +251,7 @@ class Header(unittest.TestCase):
         found = {"OER_" + reason.name: reason.value for reason in oer.Reason}
         found.update({"OER_TEXT_" + reason.name: reason.value for reason in oer.TextReason})
         found.update({"OER_JSON_" + reason.name: reason.value for reason in oer.JsonReason})
-        statuses = "OK REFUSED NO_TYPES UNNAMED MEMORY ROOM NO_PATH NO_STEP ABSENT NO_JSON".split()
+        statuses = "OK REJECTED NO_TYPES UNNAMED MEMORY ROOM NO_PATH NO_STEP ABSENT NO_JSON".split()
         found.update({"OER_" + name: getattr(oer, "_" + name) for name in statuses})
         self.assertEqual(found, {name: int(number) for name, number in rows("number")})
 
@@ -340,11 +340,11 @@ class Random(unittest.TestCase):
         encoding."""
         try:
             found = types.check("A", octets)
-        except oer.OctetsRefused as refused:
-            with self.assertRaises(oer.OctetsRefused) as caught:
+        except oer.OctetsRejected as rejected:
+            with self.assertRaises(oer.OctetsRejected) as caught:
                 types.canon("A", octets)
-            self.assertEqual((caught.exception.reason, caught.exception.place), (refused.reason, refused.place))
-            self.assertLessEqual(refused.place or 0, len(octets))
+            self.assertEqual((caught.exception.reason, caught.exception.place), (rejected.reason, rejected.place))
+            self.assertLessEqual(rejected.place or 0, len(octets))
             return None
         made = types.canon("A", octets)
         self.assertEqual(made.read, found.octets)

@@ -59,7 +59,7 @@ pub enum Error {
 }
 
 impl Error {
-    /// The name of the reason, where octets, definitions or JSON are refused.
+    /// The name of the reason, where octets, definitions or JSON are rejected.
     pub fn reason(&self) -> Option<&'static str> {
         match self {
             Error::Octets { reason, .. } => Some(reason.name()),
@@ -69,7 +69,7 @@ impl Error {
         }
     }
 
-    /// The place, where octets or definitions are refused: how many octets had been looked at, or the
+    /// The place, where octets or definitions are rejected: how many octets had been looked at, or the
     /// octet of the text at which the token or type begins that shows the fault.
     pub fn place(&self) -> Option<u64> {
         match self {
@@ -78,7 +78,7 @@ impl Error {
         }
     }
 
-    /// The error of a status that is neither OK nor REFUSED. `needed` is of ROOM.
+    /// The error of a status that is neither OK nor REJECTED. `needed` is of ROOM.
     fn of_status(status: u32, why: u32, needed: u64) -> Error {
         match status {
             sys::NO_TYPES => Error::NoTypes,
@@ -96,7 +96,7 @@ impl Error {
     /// The error of a call that reads octets.
     pub(crate) fn of_octets(status: u32, why: u32, place: u64, needed: u64) -> Error {
         match Reason::from_number(why) {
-            Some(reason) if status == sys::REFUSED => Error::Octets { reason, place },
+            Some(reason) if status == sys::REJECTED => Error::Octets { reason, place },
             _ => Error::of_status(status, why, needed),
         }
     }
@@ -104,7 +104,7 @@ impl Error {
     /// The error of a call that reads definitions.
     pub(crate) fn of_definitions(status: u32, why: u32, place: u64) -> Error {
         match TextReason::from_number(why) {
-            Some(reason) if status == sys::REFUSED => Error::Definitions { reason, place },
+            Some(reason) if status == sys::REJECTED => Error::Definitions { reason, place },
             _ => Error::of_status(status, why, 0),
         }
     }
@@ -112,7 +112,7 @@ impl Error {
     /// The error of a call that reads JSON.
     pub(crate) fn of_json(status: u32, why: u32, needed: u64) -> Error {
         match JsonReason::from_number(why) {
-            Some(reason) if status == sys::REFUSED => Error::Json { reason },
+            Some(reason) if status == sys::REJECTED => Error::Json { reason },
             _ => Error::of_status(status, why, needed),
         }
     }
@@ -121,9 +121,9 @@ impl Error {
 impl fmt::Display for Error {
     fn fmt(&self, out: &mut fmt::Formatter<'_>) -> fmt::Result {
         match self {
-            Error::Octets { reason, place } => write!(out, "octets refused: {reason}, {place} octets looked at"),
-            Error::Definitions { reason, place } => write!(out, "definitions refused: {reason} at octet {place}"),
-            Error::Json { reason } => write!(out, "JSON refused: {reason}"),
+            Error::Octets { reason, place } => write!(out, "octets rejected: {reason}, {place} octets looked at"),
+            Error::Definitions { reason, place } => write!(out, "definitions rejected: {reason} at octet {place}"),
+            Error::Json { reason } => write!(out, "JSON rejected: {reason}"),
             Error::NoTypes => out.write_str("no types were read"),
             Error::Unnamed => out.write_str("no definition has the name"),
             Error::Memory => out.write_str("an allocation failed"),
@@ -144,7 +144,7 @@ mod tests {
     use super::*;
     use crate::table;
 
-    /// Each status of the header but OK and REFUSED has the error with its name.
+    /// Each status of the header but OK and REJECTED has the error with its name.
     #[test]
     fn statuses_are_those_of_the_header() {
         for row in &table::rows("number")[2..10] {
@@ -161,7 +161,7 @@ mod tests {
             }
         }
         assert_eq!(Error::of_octets(sys::ROOM, 0, 0, 7), Error::Room { needed: 7 });
-        assert_eq!(Error::of_json(sys::REFUSED, 99, 0), Error::Unknown { status: 1, why: 99 });
+        assert_eq!(Error::of_json(sys::REJECTED, 99, 0), Error::Unknown { status: 1, why: 99 });
         assert_eq!(Error::of_octets(99, 3, 0, 0), Error::Unknown { status: 99, why: 3 });
     }
 }

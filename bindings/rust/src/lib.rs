@@ -53,7 +53,7 @@ use std::marker::PhantomData;
 use std::ops::Deref;
 use std::os::raw::c_char;
 
-/// A limit that refuses nothing.
+/// A limit that rejects nothing.
 pub const NO_LIMIT: u64 = u64::MAX;
 
 /// The version of the library: 10,000 times the major number, 100 times the minor number, and the patch.
@@ -160,9 +160,9 @@ impl Types {
     /// Those of [`Types::read`].
     ///
     /// ```
-    /// let refused = oer::Types::parse("A ::= INTEGER (5..4)").unwrap_err();
-    /// assert_eq!(refused, oer::Error::Definitions { reason: oer::TextReason::BoundOrder, place: 6 });
-    /// assert_eq!(refused.to_string(), "definitions refused: BoundOrder at octet 6");
+    /// let rejected = oer::Types::parse("A ::= INTEGER (5..4)").unwrap_err();
+    /// assert_eq!(rejected, oer::Error::Definitions { reason: oer::TextReason::BoundOrder, place: 6 });
+    /// assert_eq!(rejected.to_string(), "definitions rejected: BoundOrder at octet 6");
     /// ```
     pub fn parse(definitions: impl AsRef<[u8]>) -> Result<Types, Error> {
         let mut types = Types::new();
@@ -209,8 +209,8 @@ impl Types {
     ///
     /// ```
     /// let types = oer::Types::parse("A ::= OCTET STRING")?;
-    /// let refused = types.check("A", &[0x03, 0x61]).unwrap_err();
-    /// assert_eq!(refused, oer::Error::Octets { reason: oer::Reason::End, place: 2 });
+    /// let rejected = types.check("A", &[0x03, 0x61]).unwrap_err();
+    /// assert_eq!(rejected, oer::Error::Octets { reason: oer::Reason::End, place: 2 });
     /// # Ok::<(), oer::Error>(())
     /// ```
     pub fn check(&self, name: impl AsRef<[u8]>, octets: &[u8]) -> Result<Checked, Error> {
@@ -241,8 +241,8 @@ impl Types {
     ///
     /// ```
     /// let types = oer::Types::parse("A ::= OCTET STRING")?;
-    /// let refused = types.canon_within("A", &[0x03, 0x61], 2).unwrap_err();
-    /// assert_eq!(refused, oer::Error::Octets { reason: oer::Reason::Limit, place: 1 });
+    /// let rejected = types.canon_within("A", &[0x03, 0x61], 2).unwrap_err();
+    /// assert_eq!(rejected, oer::Error::Octets { reason: oer::Reason::Limit, place: 1 });
     /// # Ok::<(), oer::Error>(())
     /// ```
     pub fn canon_within(&self, name: impl AsRef<[u8]>, octets: &[u8], limit: u64) -> Result<Canonical, Error> {
@@ -262,8 +262,8 @@ impl Types {
     /// let mut out = [0; 1];
     /// let written = types.canon_into("A", &[0x01], oer::NO_LIMIT, &mut out)?;
     /// assert_eq!((written, out), (oer::Written { read: 1, size: 1 }, [0xff]));
-    /// let refused = types.canon_into("A", &[0x01], oer::NO_LIMIT, &mut []).unwrap_err();
-    /// assert_eq!(refused, oer::Error::Room { needed: 1 });
+    /// let rejected = types.canon_into("A", &[0x01], oer::NO_LIMIT, &mut []).unwrap_err();
+    /// assert_eq!(rejected, oer::Error::Room { needed: 1 });
     /// # Ok::<(), oer::Error>(())
     /// ```
     pub fn canon_into(
@@ -410,8 +410,8 @@ impl Types {
     ///
     /// ```
     /// let types = oer::Types::parse("A ::= INTEGER (0..5)")?;
-    /// let refused = types.from_json("A", "6").unwrap_err();
-    /// assert_eq!(refused, oer::Error::Json { reason: oer::JsonReason::Misfit });
+    /// let rejected = types.from_json("A", "6").unwrap_err();
+    /// assert_eq!(rejected, oer::Error::Json { reason: oer::JsonReason::Misfit });
     /// # Ok::<(), oer::Error>(())
     /// ```
     pub fn from_json(&self, name: impl AsRef<[u8]>, json: impl AsRef<[u8]>) -> Result<Vec<u8>, Error> {

@@ -1,4 +1,4 @@
-//! The reasons of refusals, by the numbers that `include/oer.h` gives them.
+//! The reasons of rejections, by the numbers that `include/oer.h` gives them.
 
 use std::fmt;
 
@@ -43,7 +43,7 @@ macro_rules! reasons {
 }
 
 reasons! {
-    /// Why octets are refused. ENCODING.md says in which order the reasons are looked for.
+    /// Why octets are rejected. ENCODING.md says in which order the reasons are looked for.
     Reason {
         /// They end within the value.
         End = 3,
@@ -81,7 +81,7 @@ reasons! {
 }
 
 reasons! {
-    /// Why definitions are refused (NOTATION.md).
+    /// Why definitions are rejected (NOTATION.md).
     TextReason {
         /// The text is not UTF-8.
         NotUtf8 = 0,
@@ -125,7 +125,7 @@ reasons! {
 }
 
 reasons! {
-    /// Why JSON is refused (JSON.md).
+    /// Why JSON is rejected (JSON.md).
     JsonReason {
         /// JSON of another kind than the type's values have, or of another form.
         Kind = 2,

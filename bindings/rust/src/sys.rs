@@ -32,7 +32,7 @@ pub struct OerWritten {
 }
 
 pub const OK: u32 = 0;
-pub const REFUSED: u32 = 1;
+pub const REJECTED: u32 = 1;
 pub const NO_TYPES: u32 = 2;
 pub const UNNAMED: u32 = 3;
 pub const MEMORY: u32 = 4;

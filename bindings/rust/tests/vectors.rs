@@ -134,7 +134,7 @@ fn buffers_are_filled_or_kept() {
 }
 
 #[test]
-fn calls_without_types_are_refused() {
+fn calls_without_types_are_rejected() {
     for row in vectors() {
         assert_eq!(row.call(&Types::new(), b"A"), Err(Error::NoTypes));
         assert_eq!(row.call(&Types::default(), b"A"), Err(Error::NoTypes));
@@ -151,8 +151,8 @@ fn calls_without_types_are_refused() {
 }
 
 #[test]
-fn refused_definitions_leave_the_types() {
-    for row in table::rows("refused") {
+fn rejected_definitions_leave_the_types() {
+    for row in table::rows("rejected") {
         let (text, why) = (from_hex(&row[0]), row[1].parse().unwrap());
         let reason = TextReason::from_number(why).unwrap();
         let wanted = Error::Definitions { reason, place: row[2].parse().unwrap() };
@@ -190,12 +190,12 @@ fn numbers_are_those_of_the_header() {
 #[test]
 fn errors_are_errors() {
     let types = Types::parse("A ::= OCTET STRING").unwrap();
-    let refused: Box<dyn std::error::Error> = Box::new(types.check("A", &[3, 0x61]).unwrap_err());
-    assert_eq!(refused.to_string(), "octets refused: End, 2 octets looked at");
+    let rejected: Box<dyn std::error::Error> = Box::new(types.check("A", &[3, 0x61]).unwrap_err());
+    assert_eq!(rejected.to_string(), "octets rejected: End, 2 octets looked at");
     assert_eq!(types.check("A", &[3]).unwrap_err().place(), Some(1));
     assert_eq!((Error::Absent.reason(), Error::Absent.place()), (None, None));
-    let refused = types.from_json("A", "true").unwrap_err();
-    assert_eq!((refused.reason(), refused.place()), (Some("Kind"), None));
+    let rejected = types.from_json("A", "true").unwrap_err();
+    assert_eq!((rejected.reason(), rejected.place()), (Some("Kind"), None));
 }
 
 #[test]
@@ -216,8 +216,8 @@ fn the_certificate_of_the_example() {
     assert_eq!(types.check("Certificate", &certificate), Ok(Checked { octets: 230, canonical: true }));
     assert_eq!(types.check("Certificate", &basic), Ok(Checked { octets: 236, canonical: false }));
     assert_eq!(types.canon("Certificate", &basic).unwrap().octets, certificate);
-    let refused = types.canon_within("Certificate", &basic, 235).unwrap_err();
-    assert_eq!(refused.reason(), Some("Limit"));
+    let rejected = types.canon_within("Certificate", &basic, 235).unwrap_err();
+    assert_eq!(rejected.reason(), Some("Limit"));
     assert_eq!(*types.part("Certificate", &certificate, "c3").unwrap(), from_hex(&file("tbs-rsu.hex")));
     let json = types.to_json("Certificate", &basic).unwrap();
     assert_eq!(types.from_json("Certificate", json.text), Ok(certificate));

@@ -15,7 +15,7 @@ use Rattle.oer_json.specs.Made.{made}
 use Rattle.oer_json.proofs.Floats.{made_none}
 use Rattle.oer_c.specs.Buffers.{IsPut}
 use Rattle.oer_c.specs.Making.{IsOctetsOf, Makes}
-use Rattle.oer_c.specs.Rewriting.{IsMade, IsRefusal, IsRefused}
+use Rattle.oer_c.specs.Rewriting.{IsMade, IsRejection, IsRejected}
 use Rattle.oer_c.specs.Showing.{IsTextOf}
 use Rattle.oer_c.specs.declared.buffer.Written.{Written}
 
@@ -45,19 +45,19 @@ neither : {P Q : Type 0} → (P → ⊥) → (Q → ⊥) → P ⊎ Q → ⊥
 neither p q (inl x) = p x
 neither p q (inr x) = q x
 
--- a refusal of the reader, of octets that are there
+-- an error of the reader, of octets that are there
 pub unread : (T : AsnType) (limit : ℕ) (xs octets ys : List ℕ) (e : ReadFault) (a : Written) → xs ≡ octets → Told T limit (Some xs) (Some ys) (Err e)
     → ((v : AsnValue) (b rest : List ℕ) → Some xs ≡ Some (b ++ rest) → Encodes T v b → length b ≤ limit → (e.why ≡ Device) ⊎ (e.why ≡ Memory))
-    → IsRefusal e a → IsRefused T limit octets a
+    → IsRejection e a → IsRejected T limit octets a
 unread T limit xs octets ys e a all told comes (inl memory) = inr memory
-unread T limit xs octets ys e a all told comes (inr refused) =
+unread T limit xs octets ys e a all told comes (inr rejected) =
     inl (
       e,
       told.0,
       ys,
-      refused.0,
+      rejected.0,
       sym all ∙ told.1,
       told.3.0,
-      told.3.1 refused.2 refused.1,
-      λ v b rest parts encodes within. neither refused.2 refused.1 (comes v b rest (ap (λ (l : List ℕ). Some l) (all ∙ parts)) encodes within),
+      told.3.1 rejected.2 rejected.1,
+      λ v b rest parts encodes within. neither rejected.2 rejected.1 (comes v b rest (ap (λ (l : List ℕ). Some l) (all ∙ parts)) encodes within),
     )

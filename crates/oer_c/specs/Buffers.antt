@@ -8,9 +8,9 @@ use Rattle.oer_c.specs.declared.buffer.Written.{Written}
 abbrev pub only_written : ℕ → Written
 only_written status = record { status = status; why = 0; octets = 0; written = 0 }
 
--- the octets are refused
-abbrev pub refusal : ReadFault → Written
-refusal e = record { status = 1; why = why_number e.why; octets = e.taken; written = 0 }
+-- the octets are rejected
+abbrev pub rejection : ReadFault → Written
+rejection e = record { status = 1; why = why_number e.why; octets = e.taken; written = 0 }
 
 abbrev pub wrote : ℕ → ℕ → ℕ → Written
 wrote status taken n = record { status = status; why = 0; octets = taken; written = n }

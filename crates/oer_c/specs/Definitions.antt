@@ -19,13 +19,13 @@ abbrev pub IsFault : TextFault → Parsed → Type 0
 IsFault fault p = (p ≡ answer 4 0 0) ⊎ ((p ≡ answer 1 (text_number fault.why) fault.at) × (fault.why ≢ Memory))
 
 -- The text is not UTF-8; or it spells no well-formed types, and this is the first fault from the left; or an allocation failed.
-abbrev pub IsRefused : List ℕ → Parsed → Type 0
-IsRefused text p = (p ≡ answer 4 0 0)
+abbrev pub IsRejected : List ℕ → Parsed → Type 0
+IsRejected text p = (p ≡ answer 4 0 0)
     ⊎ (((IsUtf8 text → ⊥) × (p ≡ answer 1 0 0))
     ⊎ ((fault : TextFault) × (p ≡ answer 1 (text_number fault.why) fault.at) × (parse_all text ≡ Err fault)
     × ((definitions : List Known) → SpellsAll definitions text → AreWellFormed definitions → ⊥)))
 
--- There are types that the text spells; or the text is refused, and there are those from before.
+-- There are types that the text spells; or the text is rejected, and there are those from before.
 abbrev pub IsRead : List ℕ → Option Types → Option Types → Parsed → Type 0
 IsRead text old new p = ((t : Types) × (new ≡ Some t) × SpellsAll (knowns t) text × (p ≡ answer 0 0 (length text)))
-    ⊎ ((new ≡ old) × IsRefused text p)
+    ⊎ ((new ≡ old) × IsRejected text p)

@@ -17,9 +17,9 @@ use Rattle.oer_c.specs.declared.buffer.Written.{Written}
 abbrev pub IsOctetsOf : AsnType → List ℕ → List ℕ → Type 0
 IsOctetsOf T text c = (j : Data) × (v : AsnValue) × (read text ≡ Some j) × Takes T v j × IsCanonical T v c
 
--- the JSON is refused
-abbrev pub json_refusal : JsonFault → Written
-json_refusal fault = record { status = 1; why = json_number fault; octets = 0; written = 0 }
+-- the JSON is rejected
+abbrev pub json_rejection : JsonFault → Written
+json_rejection fault = record { status = 1; why = json_number fault; octets = 0; written = 0 }
 
 -- The text is not JSON, or an allocation failed.
 abbrev pub IsUnread : List ℕ → Written → Type 0
@@ -28,7 +28,7 @@ IsUnread text a = (a ≡ only_written 4) ⊎ ((a ≡ only_written 9) × (IsUtf8 
 -- The JSON stands for no value, and this is its first fault; or an allocation failed.
 abbrev pub IsUntaken : AsnType → Data → Written → Type 0
 IsUntaken T j a = (a ≡ only_written 4)
-    ⊎ ((fault : JsonFault) × (a ≡ json_refusal fault) × (taken T j ≡ Err fault) × ((v : AsnValue) → Takes T v j → ⊥))
+    ⊎ ((fault : JsonFault) × (a ≡ json_rejection fault) × (taken T j ≡ Err fault) × ((v : AsnValue) → Takes T v j → ⊥))
 
 -- The text is not JSON, or its JSON stands for no value, or an allocation failed.
 abbrev pub IsUnmade : AsnType → List ℕ → Written → Type 0

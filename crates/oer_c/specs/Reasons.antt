@@ -1,4 +1,4 @@
--- The numbers of the reasons for which texts and JSON are refused.
+-- The numbers of the reasons for which texts and JSON are rejected.
 use Rattle.std.specs.Prelude.{ℕ}
 use Rattle.oer_types.specs.declared.fault.SchemaFault.{SchemaFault}
 use Rattle.oer_types.specs.declared.fault.SchemaFault.TheVariants.{TooDeep, TooManyParts, BoundOrder, SizeOrder, BadName, RepeatedName, NoItems, RepeatedNumber, RepeatedTag, DefaultMisfit, EmptyElement}

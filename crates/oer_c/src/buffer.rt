@@ -1,8 +1,8 @@
 //! Octets put into a buffer of the caller's.
 ghost use Rattle.std.specs.Prelude.{◌≡◌, leb, length};
-ghost use Rattle.oer_c.specs.Buffers.{IsFilled, IsPut, only_written, refusal};
+ghost use Rattle.oer_c.specs.Buffers.{IsFilled, IsPut, only_written, rejection};
 
-use crate::status::{OK, REFUSED, ROOM};
+use crate::status::{OK, REJECTED, ROOM};
 use oer_units::ReadFault;
 
 /// What a call answers that writes into a buffer. It takes 24 octets: `status` at 0, `why` at 4,
@@ -12,10 +12,10 @@ use oer_units::ReadFault;
 pub struct Written {
     /// One of the statuses.
     pub status: u32,
-    /// At `REFUSED` the number of the reason; else 0.
+    /// At `REJECTED` the number of the reason; else 0.
     pub why: u32,
     /// How many octets the encoding has that was read, or how many were looked at before the
-    /// refusal; else 0.
+    /// error; else 0.
     pub octets: u64,
     /// How many octets were written, or at `ROOM` how many are needed; else 0.
     pub written: u64,
@@ -33,12 +33,12 @@ pub(crate) fn only_status(status: u32) -> Written
     }
 }
 
-/// Octets are refused.
-pub(crate) fn refuse(fault: ReadFault) -> Written
-    ensures { result ≡ refusal fault }
+/// Octets are rejected.
+pub(crate) fn reject(fault: ReadFault) -> Written
+    ensures { result ≡ rejection fault }
 {
     Written {
-        status: REFUSED,
+        status: REJECTED,
         why: u32::from(fault.why.number()),
         octets: fault.taken,
         written: 0,

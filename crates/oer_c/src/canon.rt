@@ -3,9 +3,9 @@ ghost use Rattle.std.specs.Prelude.{◌≡◌, Some};
 ghost use Rattle.oer_types.specs.Schema.{the_type};
 ghost use Rattle.oer_c.specs.Buffers.{IsUndone};
 ghost use Rattle.oer_c.specs.Naming.{ByName};
-ghost use Rattle.oer_c.specs.Rewriting.{IsRefusal, Rewrites, Tries};
+ghost use Rattle.oer_c.specs.Rewriting.{IsRejection, Rewrites, Tries};
 
-use crate::buffer::{Written, only_status, put, refuse};
+use crate::buffer::{Written, only_status, put, reject};
 use crate::handle::Handle;
 use crate::naming::find_type;
 use crate::status::{MEMORY, NO_TYPES, UNNAMED};
@@ -15,13 +15,13 @@ use oer_types::Schema;
 use oer_units::{Metered, ReadFault, Why};
 use std::alloc::Global;
 
-/// What a refusal of the reader comes to.
+/// What an error of the reader comes to.
 pub(crate) fn of_read(fault: ReadFault) -> Written
-    ensures { IsRefusal fault result }
+    ensures { IsRejection fault result }
 {
     match fault.why {
         Why::Memory | Why::Device => only_status(MEMORY),
-        _ => refuse(fault),
+        _ => reject(fault),
     }
 }
 
@@ -48,7 +48,7 @@ fn rewritten(alloc: Global, schema: &Schema, octets: &[u8], limit: u64, out: &mu
 {
     match canonical(alloc, schema, octets, limit) {
         Ok((taken, made)) => put(out, made.as_slice(), taken),
-        Err(refused) => refused,
+        Err(rejected) => rejected,
     }
 }
 
@@ -75,7 +75,7 @@ fn named(
 ///
 /// - `OK`: `written` octets are in the buffer, made of the first `octets` of those that came;
 /// - `ROOM`: the same, but the buffer has room for fewer than `written` octets;
-/// - `REFUSED`: no encoding within the limit is at the front, for the reason `why`, which was
+/// - `REJECTED`: no encoding within the limit is at the front, for the reason `why`, which was
 ///   decided after `octets` of them;
 /// - `NO_TYPES`: the handle has no types;
 /// - `UNNAMED`: no definition has the Name, or it is not UTF-8;

@@ -6,7 +6,7 @@ ghost use Rattle.oer_c.specs.Naming.{ByName};
 
 use crate::handle::Handle;
 use crate::naming::find_type;
-use crate::status::{NO_TYPES, OK, REFUSED, UNNAMED};
+use crate::status::{NO_TYPES, OK, REJECTED, UNNAMED};
 use oer_reader::check;
 use oer_text::Types;
 use oer_types::Schema;
@@ -17,11 +17,11 @@ use std::alloc::Global;
 #[repr(C)]
 #[derive(Clone, Copy)]
 pub struct Checked {
-    /// `OK`, `REFUSED`, `NO_TYPES` or `UNNAMED`.
+    /// `OK`, `REJECTED`, `NO_TYPES` or `UNNAMED`.
     pub status: u32,
-    /// At `REFUSED` the number of the reason; else 0.
+    /// At `REJECTED` the number of the reason; else 0.
     pub why: u32,
-    /// At `OK` how many octets the encoding has, at `REFUSED` how many were looked at; else 0.
+    /// At `OK` how many octets the encoding has, at `REJECTED` how many were looked at; else 0.
     pub octets: u64,
     /// At `OK` 1 where the encoding is canonical, and 0 where it is another one; else 0.
     pub canonical: u32,
@@ -51,7 +51,7 @@ fn judged(schema: &Schema, octets: &[u8]) -> Checked
             canonical: u32::from(verdict.canonical),
         },
         Err(fault) => Checked {
-            status: REFUSED,
+            status: REJECTED,
             why: u32::from(fault.why.number()),
             octets: fault.taken,
             canonical: 0,
@@ -74,7 +74,7 @@ fn named(types: &Types, name: &[u8], octets: &[u8]) -> Checked
 /// memory is taken. The status is
 ///
 /// - `OK`: an encoding is at the front;
-/// - `REFUSED`: none is, for the reason `why`, which was decided after `octets` of them;
+/// - `REJECTED`: none is, for the reason `why`, which was decided after `octets` of them;
 /// - `NO_TYPES`: the handle has no types;
 /// - `UNNAMED`: no definition has the Name, or it is not UTF-8.
 #[unsafe(no_mangle)]

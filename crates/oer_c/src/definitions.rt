@@ -2,11 +2,11 @@
 ghost use Rattle.std.specs.Prelude.{◌≡◌, None, IfErr, IfOk};
 ghost use Rattle.oer_notation.specs.Grammar.{SpellsAll};
 ghost use Rattle.oer_notation.specs.Views.{knowns};
-ghost use Rattle.oer_c.specs.Definitions.{IsFault, IsRead, IsRefused, answer};
+ghost use Rattle.oer_c.specs.Definitions.{IsFault, IsRead, IsRejected, answer};
 
 use crate::handle::Handle;
 use crate::reason;
-use crate::status::{MEMORY, OK, REFUSED};
+use crate::status::{MEMORY, OK, REJECTED};
 use oer_text::{TextFault, TextWhy, Types, parse_types};
 use std::alloc::Global;
 
@@ -14,11 +14,11 @@ use std::alloc::Global;
 #[repr(C)]
 #[derive(Clone, Copy)]
 pub struct Parsed {
-    /// `OK`, `REFUSED` or `MEMORY`.
+    /// `OK`, `REJECTED` or `MEMORY`.
     pub status: u32,
-    /// At `REFUSED` the number of the reason, 0 where the text is not UTF-8; else 0.
+    /// At `REJECTED` the number of the reason, 0 where the text is not UTF-8; else 0.
     pub why: u32,
-    /// At `REFUSED` the byte of the text at which the token or type begins that shows the fault; at
+    /// At `REJECTED` the byte of the text at which the token or type begins that shows the fault; at
     /// `OK` the length of the text; else 0.
     pub place: u64,
 }
@@ -30,29 +30,29 @@ fn answer(status: u32, why: u32, place: u64) -> Parsed
 }
 
 // What a fault of the text comes to.
-fn refuse(fault: TextFault) -> Parsed
+fn reject(fault: TextFault) -> Parsed
     ensures { IsFault fault result }
 {
     match fault.why {
         TextWhy::Memory => answer(MEMORY, 0, 0),
-        why => answer(REFUSED, reason::of_text(why), fault.at as u64),
+        why => answer(REJECTED, reason::of_text(why), fault.at as u64),
     }
 }
 
 // The definitions of the text, on the heap.
 fn read(alloc: Global, text: &[u8]) -> Result<Box<Types>, Parsed>
     ensures spells { IfOk result (λ types. SpellsAll (knowns types.value) text.now) }
-    ensures refused { IfErr result (IsRefused text.now) }
+    ensures rejected { IfErr result (IsRejected text.now) }
 {
     let Ok(text) = std::str::from_utf8(text) else {
-        return Err(answer(REFUSED, 0, 0));
+        return Err(answer(REJECTED, 0, 0));
     };
     match parse_types(alloc, text) {
         Ok(types) => match Box::new(alloc, types) {
             Ok(types) => Ok(types),
             Err(_) => Err(answer(MEMORY, 0, 0)),
         },
-        Err(fault) => Err(refuse(fault)),
+        Err(fault) => Err(reject(fault)),
     }
 }
 
@@ -60,7 +60,7 @@ fn read(alloc: Global, text: &[u8]) -> Result<Box<Types>, Parsed>
 /// types that the handle had, which are freed. The status is
 ///
 /// - `OK`: the handle has the types that the text spells;
-/// - `REFUSED`: the text is not UTF-8, or it spells no well-formed types, for the reason `why` at
+/// - `REJECTED`: the text is not UTF-8, or it spells no well-formed types, for the reason `why` at
 ///   `place`, the first one from the left;
 /// - `MEMORY`: an allocation failed.
 ///
@@ -75,7 +75,7 @@ pub extern "C" fn oer_types_read(alloc: Global, types: &mut Handle, text: &[u8])
             *types = Handle::of(found);
             answer(OK, 0, text.len() as u64)
         }
-        Err(refused) => refused,
+        Err(rejected) => rejected,
     }
 }
 

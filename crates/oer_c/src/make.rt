@@ -8,14 +8,14 @@ ghost use Rattle.oer_types.specs.Strict.{IsCanonical};
 ghost use Rattle.oer_types.specs.ValueView.{value_of};
 ghost use Rattle.oer_json.specs.Denotes.{Takes};
 ghost use Rattle.oer_c.specs.Buffers.{IsUndone, only_written};
-ghost use Rattle.oer_c.specs.Making.{IsOctetsOf, IsUnmade, IsUnread, IsUntaken, Makes, json_refusal};
+ghost use Rattle.oer_c.specs.Making.{IsOctetsOf, IsUnmade, IsUnread, IsUntaken, Makes, json_rejection};
 ghost use Rattle.oer_c.specs.Naming.{ByName};
 
 use crate::buffer::{Written, only_status, put};
 use crate::handle::Handle;
 use crate::naming::find_type;
 use crate::reason;
-use crate::status::{MEMORY, NO_JSON, NO_TYPES, REFUSED, UNNAMED};
+use crate::status::{MEMORY, NO_JSON, NO_TYPES, REJECTED, UNNAMED};
 use oer_text::{JsonFault, Types, from_json};
 use oer_types::{Schema, Value};
 use oer_units::Metered;
@@ -23,12 +23,12 @@ use oer_writer::write;
 use serde_json::Value as Json;
 use std::alloc::Global;
 
-// A refusal of JSON.
-fn refuse(fault: JsonFault) -> Written
-    ensures { result ≡ json_refusal fault }
+// An error of JSON.
+fn reject(fault: JsonFault) -> Written
+    ensures { result ≡ json_rejection fault }
 {
     Written {
-        status: REFUSED,
+        status: REJECTED,
         why: reason::of_json(fault),
         octets: 0,
         written: 0,
@@ -39,12 +39,12 @@ fn refuse(fault: JsonFault) -> Written
 fn value_in(alloc: Global, schema: &Schema, json: &Json) -> Result<Value, Written>
     ensures takes { IfOk result (λ value. Takes (the_type schema.now) (value_of value) (view json.now)) }
     ensures fits { IfOk result (λ value. Fits (the_type schema.now) (value_of value)) }
-    ensures refused { IfErr result (IsUntaken (the_type schema.now) (view json.now)) }
+    ensures rejected { IfErr result (IsUntaken (the_type schema.now) (view json.now)) }
 {
     match from_json(alloc, schema, json) {
         Ok(value) => Ok(value),
         Err(JsonFault::Memory) => Err(only_status(MEMORY)),
-        Err(fault) => Err(refuse(fault)),
+        Err(fault) => Err(reject(fault)),
     }
 }
 
@@ -64,7 +64,7 @@ fn octets_of(alloc: Global, schema: &Schema, value: &Value) -> Result<Vec<u8>, W
 // The JSON that the text is.
 fn json_of(alloc: Global, text: &[u8]) -> Result<Json, Written>
     ensures json { IfOk result (λ json. read text.now ≡ Some (view json)) }
-    ensures refused { IfErr result (IsUnread text.now) }
+    ensures rejected { IfErr result (IsUnread text.now) }
 {
     let Ok(text) = std::str::from_utf8(text) else {
         return Err(only_status(NO_JSON));
@@ -84,7 +84,7 @@ fn json_of(alloc: Global, text: &[u8]) -> Result<Json, Written>
 // The canonical octets of the value for which the text stands.
 fn made(alloc: Global, schema: &Schema, text: &[u8]) -> Result<Vec<u8>, Written>
     ensures octets { IfOk result (λ octets. IsOctetsOf (the_type schema.now) text.now octets.items) }
-    ensures refused { IfErr result (IsUnmade (the_type schema.now) text.now) }
+    ensures rejected { IfErr result (IsUnmade (the_type schema.now) text.now) }
 {
     let json = json_of(alloc, text)?;
     let value = value_in(alloc, schema, &json)?;
@@ -96,7 +96,7 @@ fn make(alloc: Global, schema: &Schema, text: &[u8], out: &mut [u8]) -> Written
 {
     match made(alloc, schema, text) {
         Ok(octets) => put(out, octets.as_slice(), 0),
-        Err(refused) => refused,
+        Err(rejected) => rejected,
     }
 }
 
@@ -115,7 +115,7 @@ fn named(alloc: Global, types: &Types, name: &[u8], text: &[u8], out: &mut [u8])
 ///
 /// - `OK`: `written` octets are in the buffer;
 /// - `ROOM`: the buffer has room for fewer than these `written` octets;
-/// - `REFUSED`: the JSON stands for no value of the type, for the reason `why`, a `JsonFault`;
+/// - `REJECTED`: the JSON stands for no value of the type, for the reason `why`, a `JsonFault`;
 /// - `NO_JSON`: the text is not JSON, or not UTF-8;
 /// - `NO_TYPES`: the handle has no types;
 /// - `UNNAMED`: no definition has the Name, or it is not UTF-8;

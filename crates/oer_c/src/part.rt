@@ -5,7 +5,7 @@ ghost use Rattle.oer_c.specs.Buffers.{IsUndone};
 ghost use Rattle.oer_c.specs.Naming.{ByName};
 ghost use Rattle.oer_c.specs.Parts.{IsCopied};
 
-use crate::buffer::{Written, only_status, put, refuse};
+use crate::buffer::{Written, only_status, put, reject};
 use crate::handle::Handle;
 use crate::naming::find_type;
 use crate::status::{ABSENT, MEMORY, NO_PATH, NO_STEP, NO_TYPES, UNNAMED};
@@ -28,7 +28,7 @@ fn copied(alloc: Global, schema: &Schema, octets: &[u8], path: &[u8], out: &mut 
     };
     match part(schema, octets, steps.as_slice()) {
         Ok(found) => put(out, found, 0),
-        Err(PartFault::Read(fault)) => refuse(fault),
+        Err(PartFault::Read(fault)) => reject(fault),
         Err(PartFault::NoSuchStep) => only_status(NO_STEP),
         Err(PartFault::Absent) => only_status(ABSENT),
     }
@@ -57,7 +57,7 @@ fn named(
 ///
 /// - `OK`: the part, `written` octets, is in the buffer;
 /// - `ROOM`: the buffer has room for fewer than these `written` octets;
-/// - `REFUSED`: no encoding is at the front, for the reason `why`, which was decided after `octets`
+/// - `REJECTED`: no encoding is at the front, for the reason `why`, which was decided after `octets`
 ///   of them;
 /// - `NO_PATH`: the text is no path;
 /// - `NO_STEP`, `ABSENT`: the path leads nowhere, and the first step that does so names no component

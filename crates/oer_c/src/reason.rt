@@ -23,7 +23,7 @@ fn of_schema(fault: SchemaFault) -> u32
     }
 }
 
-/// The number of a reason for which definitions are refused: from 1 on in the order of `TextWhy`,
+/// The number of a reason for which definitions are rejected: from 1 on in the order of `TextWhy`,
 /// and from 9 on in that of `SchemaFault`.
 pub(crate) fn of_text(why: TextWhy) -> u32
     ensures { result ≡ text_number why }
@@ -41,7 +41,7 @@ pub(crate) fn of_text(why: TextWhy) -> u32
     }
 }
 
-/// The number of a reason for which JSON is refused, from 1 on in the order of `JsonFault`.
+/// The number of a reason for which JSON is rejected, from 1 on in the order of `JsonFault`.
 pub(crate) fn of_json(fault: JsonFault) -> u32
     ensures { result ≡ json_number fault }
 {

@@ -3,7 +3,7 @@ ghost use Rattle.std.specs.Prelude.{◌≡◌, Some, IfErr, IfOk, string_bytes};
 ghost use Rattle.oer_types.specs.Schema.{the_type};
 ghost use Rattle.oer_c.specs.Buffers.{IsUndone};
 ghost use Rattle.oer_c.specs.Naming.{ByName};
-ghost use Rattle.oer_c.specs.Rewriting.{IsRefused};
+ghost use Rattle.oer_c.specs.Rewriting.{IsRejected};
 ghost use Rattle.oer_c.specs.Showing.{IsTextOf, Shows};
 
 use crate::buffer::{Written, only_status, put};
@@ -25,7 +25,7 @@ fn shown(
     limit: u64,
 ) -> Result<(u64, String), Written>
     ensures text { IfOk result (λ p. IsTextOf (the_type schema.now) limit octets.now p.0 (string_bytes p.1)) }
-    ensures refused { IfErr result (λ a. IsRefused (the_type schema.now) limit octets.now a) }
+    ensures rejected { IfErr result (λ a. IsRejected (the_type schema.now) limit octets.now a) }
 {
     let mut reader = Metered::new(octets);
     let (value, taken) = match read_with_length(alloc, schema, &mut reader, limit) {
@@ -46,7 +46,7 @@ fn show(alloc: Global, schema: &Schema, octets: &[u8], limit: u64, out: &mut [u8
 {
     match shown(alloc, schema, octets, limit) {
         Ok((taken, text)) => put(out, text.as_bytes(), taken),
-        Err(refused) => refused,
+        Err(rejected) => rejected,
     }
 }
 
@@ -73,7 +73,7 @@ fn named(
 ///
 /// - `OK`: `written` octets of text are in the buffer, made of the first `octets` of those that came;
 /// - `ROOM`: the same, but the buffer has room for fewer than `written` octets;
-/// - `REFUSED`: no encoding within the limit is at the front, for the reason `why`, which was
+/// - `REJECTED`: no encoding within the limit is at the front, for the reason `why`, which was
 ///   decided after `octets` of them;
 /// - `NO_TYPES`: the handle has no types;
 /// - `UNNAMED`: no definition has the Name, or it is not UTF-8;

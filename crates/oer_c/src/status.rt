@@ -4,7 +4,7 @@
 pub const OK: u32 = 0;
 
 /// The octets are no encoding, the text spells no types, or the JSON is no value of the type.
-pub const REFUSED: u32 = 1;
+pub const REJECTED: u32 = 1;
 
 /// The handle has no types.
 pub const NO_TYPES: u32 = 2;

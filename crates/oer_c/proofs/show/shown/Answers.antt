@@ -13,7 +13,7 @@ returns-in-Ok-to_string-clause-text c =
     (view c.in-Ok-to_json.json) (string_bytes c.in-Ok-to_string.text)
     c.in-Ok.ensures.taken (ap (λ (b : Bor (List ℕ)). b.now) c.new-reader.ensures.inner) c.in-Ok-to_json.ensures c.in-Ok-to_string.ensures.text
 
-pub returns-in-Err-clause-refused : goal.returns-in-Err-clause-refused
-returns-in-Err-clause-refused c =
+pub returns-in-Err-clause-rejected : goal.returns-in-Err-clause-rejected
+returns-in-Err-clause-rejected c =
     unread (the_type c.args.schema.now) c.args.limit ((inner_of c.new-reader.result).now) c.args.octets.now ((inner_of c.read_with_length.new.reader).now) c.in-Err.fault c.of_read.result
     (ap (λ (b : Bor (List ℕ)). b.now) c.new-reader.ensures.inner) c.in-Err.ensures.told c.in-Err.ensures.comes c.of_read.ensures
