@@ -121,7 +121,8 @@ fn vectors_are_answered() {
 fn buffers_are_filled_or_kept() {
     for row in vectors().iter().filter(|row| row.task != "check") {
         let types = row.types();
-        for room in 0..row.answer.len() {
+        // Of long answers some sizes are tried.
+        for room in (0..row.answer.len()).filter(|room| *room < 64 || room % 64 == 0) {
             let mut out = vec![0xbb; room];
             assert_eq!(row.call_into(&types, &mut out), Err(Error::Room { needed: row.written }));
             assert_eq!(out, vec![0xbb; room]);
