@@ -1,5 +1,5 @@
 //! Values without parts, from JSON.
-ghost use Rattle.std.specs.Prelude.{◌≡◌, map};
+ghost use Rattle.std.specs.Prelude.{map};
 ghost use Rattle.serde_json.specs.View.{number_view, view};
 ghost use Rattle.oer_types.specs.AsnType.{boolean, null};
 ghost use Rattle.oer_types.specs.AsnValue.{bit_list, enum, int, octets, oid, text};

@@ -1,5 +1,5 @@
 -- Hexadecimal digits in quotes are read.
-use Rattle.std.proofs.Common.{◌≡◌, ℕ, zero, suc, ◌+◌, ◌*◌, ◌/◌, ◌%◌, ◌≤◌, ◌<◌, List, [], ◌∷◌, ◌++◌, length, take, map, Bool, true, false, cond, ◌==◌, ⊎_elim, Some, Ok, refl, sym, ap, subst, ◌∙◌, arith, append-nil, leb}
+use Rattle.std.proofs.Common.{◌≡◌, ℕ, zero, suc, ◌+◌, ◌*◌, ◌/◌, ◌%◌, ◌≤◌, ◌<◌, List, [], ◌∷◌, ◌++◌, length, take, Bool, true, false, cond, ◌==◌, ⊎_elim, Some, Ok, refl, sym, ap, subst, ◌∙◌, arith, append-nil, leb}
 use Rattle.std.proofs.lemmas.Bool.{lt-ltb, leb-true, and_parts, cases_lt}
 use Rattle.std.proofs.lemmas.Bool.Decides.{Decides-eqb}
 use Rattle.hex.specs.Hex.{decode_pairs}

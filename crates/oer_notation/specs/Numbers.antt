@@ -1,5 +1,5 @@
 -- Numbers of the notation, sizes and bounds: what is read and what is left, or the first fault.
-use Rattle.std.specs.Prelude.{ℕ, ℤ, List, length, Bool, true, false, not, ◌&&◌, Option, Some, None, Ok, Err, codes, if◌then◌else◌}
+use Rattle.std.specs.Prelude.{ℕ, ℤ, List, Bool, true, false, not, ◌&&◌, Option, Some, None, Ok, Err, codes, if◌then◌else◌}
 use Rattle.oer_lexer.specs.declared.token.Sign.TheVariants.{OpenParenthesis, CloseParenthesis, Range}
 use Rattle.oer_types.specs.declared.size.Size.{Size}
 use Rattle.oer_literals.specs.Numbers.{integer_of, size_of}

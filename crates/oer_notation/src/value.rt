@@ -1,5 +1,5 @@
 //! Values after DEFAULT.
-ghost use Rattle.std.specs.Prelude.{◌≡◌, ◌≤◌, ◌==◌, [], suc, length, drop, map, option_map, IfOk, Ok, string_bytes};
+ghost use Rattle.std.specs.Prelude.{◌≡◌, ◌==◌, [], suc, length, map, option_map, IfOk, Ok, string_bytes};
 ghost use Rattle.oer_lexer.specs.declared.token.Sign.TheVariants.{OpenBrace};
 ghost use Rattle.oer_literals.specs.Bits.{is_one};
 ghost use Rattle.oer_types.specs.AsnValue.{bit_list, text};

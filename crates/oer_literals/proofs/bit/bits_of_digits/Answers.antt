@@ -1,4 +1,4 @@
-use Rattle.std.proofs.Common.{length, sym, ap, ◌∙◌, arith}
+use Rattle.std.proofs.Common.{length, ap, ◌∙◌, arith}
 use Rattle.oer_literals.proofs.Digits.{bits_whole, octets_count}
 use Rattle.oer_literals.proofs.bit.bits_of_digits.Goals as goal
 
