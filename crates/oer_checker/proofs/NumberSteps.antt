@@ -1,6 +1,5 @@
 -- Numbers, compared with bounds and with their least forms.
-use Rattle.std.specs.Int.{w128}
-use Rattle.std.proofs.Common.{SFits, negsuc, ◌<◌, ◌-◌, ◌≡◌, ℕ, ℤ, pos, ◌^◌, ◌-ℤ◌, ◌≤ℤ◌, neg_ℤ, Bool, true, false, ◌&&◌, ◌||◌, leb, ltb, eqb, int_le, List, length, Option, inl, inr, refl, sym, ap, ◌∙◌, subst, arith, unsigned_abs}
+use Rattle.std.proofs.Common.{◌-◌, ◌≡◌, ℕ, ℤ, pos, ◌^◌, ◌≤ℤ◌, Bool, true, false, ◌||◌, leb, ltb, eqb, int_le, List, length, Option, inl, inr, refl, sym, ap, ◌∙◌, subst, arith, unsigned_abs}
 use Rattle.std.proofs.lemmas.Bool.{cases_lt, le-leb, le-ltb, lt-leb, lt-ltb}
 use Rattle.oer_units.specs.declared.fault.Why.{Why}
 use Rattle.oer_units.specs.declared.fault.Why.TheVariants.{EmptyNumber, IntegerRange, UnknownEnum}
@@ -8,7 +7,7 @@ use Rattle.oer_units.specs.declared.fault.Why.TheVariants as reason
 use Rattle.oer_units.specs.declared.width.Width.{Width}
 use Rattle.oer_units.specs.Fixed.{group_as, signed_fixed_at, unsigned_fixed_at}
 use Rattle.oer_units.specs.Least.{counted, enumerated_octets, unsigned_octets}
-use Rattle.oer_units.specs.Numbers.{natural, signed, unsigned}
+use Rattle.oer_units.specs.Numbers.{natural, unsigned}
 use Rattle.oer_units.specs.Reader.{Outcome, Place, Reader, bind, bounded, got, give, group, guard, refuse, refused, then_read, within}
 use Rattle.oer_units.specs.Reading as unit
 use Rattle.oer_units.specs.Reading.{counted_number, determinant, is_int128, number, with_length}
@@ -18,7 +17,7 @@ use Rattle.oer_units.proofs.Ranges.{int_le-true}
 use Rattle.oer_types.specs.AsnType.{NamedNumber, enumerated, integer}
 use Rattle.oer_types.specs.Canonical.{integer_octets}
 use Rattle.oer_types.specs.Checking.{check_enumerated, check_integer, check_value, is_least, judged, quantity_octets}
-use Rattle.oer_types.specs.Constraints.{above, below, Form, form_of, has_number, in_range, signed_counted, signed_fixed, size_fits, unsigned_counted, unsigned_fixed}
+use Rattle.oer_types.specs.Constraints.{Form, form_of, has_number, in_range, signed_counted, signed_fixed, size_fits, unsigned_counted, unsigned_fixed}
 use Rattle.oer_types.specs.Reading.{quantity, read_integer}
 use Rattle.oer_types.specs.SharedSteps.{number_in}
 use Rattle.oer_types.proofs.NumberSteps.{integer_is, naturals_is, tested, wide}

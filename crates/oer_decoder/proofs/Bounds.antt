@@ -1,21 +1,18 @@
 -- Numbers, compared with bounds after they are read.
-use Rattle.std.specs.Int.{w128}
-use Rattle.std.proofs.Common.{SFits, negsuc, ◌<◌, ◌-◌, arith, ◌≡◌, ℕ, ℤ, pos, ◌^◌, Bool, true, false, ◌&&◌, ◌||◌, leb, int_le, neg_ℤ, ◌-ℤ◌, List, Option, Result, Ok, Err, refl, sym, ◌∙◌, ap, subst}
-use Rattle.std.proofs.lemmas.Bool.{le-leb}
-use Rattle.oer_units.specs.declared.fault.Why.TheVariants.{EmptyNumber, IntegerRange, UnknownEnum}
+use Rattle.std.proofs.Common.{◌-◌, ◌≡◌, ℕ, ℤ, pos, Bool, true, false, ◌||◌, List, Option, Result, Ok, Err, subst}
+use Rattle.oer_units.specs.declared.fault.Why.TheVariants.{IntegerRange, UnknownEnum}
 use Rattle.oer_units.specs.declared.fault.ReadFault.{ReadFault}
 use Rattle.oer_units.specs.declared.width.Width.{Width}
 use Rattle.oer_units.specs.Fixed.{group_as, signed_fixed_at, unsigned_fixed_at}
 use Rattle.oer_units.specs.Numbers.{natural, signed, unsigned}
-use Rattle.oer_units.specs.Reader.{bind, bounded, got, give, group, guard, Outcome, Place, Reader, refuse, refused, then_read, within}
+use Rattle.oer_units.specs.Reader.{bind, give, guard, Reader, within}
 use Rattle.oer_units.specs.Reading as unit
-use Rattle.oer_units.specs.Reading.{counted_number, determinant, is_int128, number, with_length}
 use Rattle.oer_units.specs.Reads.{place, Reads, seen, State}
 use Rattle.oer_units.specs.Width.{octets_of_width}
 use Rattle.oer_units.proofs.ReadSteps.{Reads-give, Reads-map, Reads-same, Reads-stop, Reads-then}
 use Rattle.oer_types.specs.AsnType.{NamedNumber, enumerated, integer}
 use Rattle.oer_types.specs.AsnValue.{AsnValue, enum, int}
-use Rattle.oer_types.specs.Constraints.{above, below, Form, form_of, has_number, in_range, signed_counted, signed_fixed, unsigned_counted, unsigned_fixed}
+use Rattle.oer_types.specs.Constraints.{Form, form_of, has_number, in_range}
 use Rattle.oer_types.specs.Reading.{read_integer, read_value}
 use Rattle.oer_types.specs.SharedSteps.{number_in}
 use Rattle.oer_types.proofs.NumberSteps.{integer_is, naturals_is, tested, wide}
