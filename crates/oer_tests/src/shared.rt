@@ -142,17 +142,6 @@ impl Sink for BrokenSink {
 
 // ---- rows of tables
 
-/// A row in which `~` parts pieces: a piece `00*15` stands for `00` fifteen times over.
-pub fn expanded(at: Global, row: &str) -> Result<String, Fail> {
-    let mut all = String::new(at);
-    for piece in row.split('~') {
-        let (run, times) = piece.split_once('*').unwrap_or((piece, "1"));
-        let pieces = run.repeat(at, times.parse::<usize>()?)?;
-        all.push_str(pieces.as_str())?;
-    }
-    Ok(all)
-}
-
 /// That the check passes each row.
 pub fn each<F: Fn(Global, &str) -> Result<(), Fail>>(
     at: Global,
@@ -173,6 +162,11 @@ pub fn octets(at: Global, digits: &str) -> Result<Vec<u8>, Fail> {
         return Ok(Vec::new(at));
     }
     Ok(hex::decode(at, digits)?)
+}
+
+/// A failure that names the row, unless all is well.
+pub fn is_well(row: &str, well: bool) -> Result<(), Fail> {
+    if well { Ok(()) } else { Err(Fail::new(row)) }
 }
 
 /// A failure that names the row, unless the answer is the one that was wanted.
