@@ -152,4 +152,4 @@ CHOICE {a NULL, ..., b OCTET STRING} | 8103036162 | Window at 3
 CHOICE {a NULL, ..., b OCTET STRING} | 82 | End at 1";
 
 /// A row with an addition at the place after the last that there may be.
-pub const PAST_LAST_PLACE: &str = "SEQUENCE {...} | 8082200207~00*8192~80 | UnknownAddition at 8198";
+pub const PAST_LAST_PLACE: &str = "SEQUENCE {...} | 8082200207~00*8192~80 | UnknownAddition at 8198 | 18446744073709551615";
