@@ -188,19 +188,16 @@ fn is_front(taken: &[u8], line: &[u8], stop: StopAt) -> bool {
 
 // That a run fails with the status. Its errors take one octet a call, and stop at one of their calls
 // if at any: what they took is a front of the line.
-fn reports(
-    alloc: Global,
-    words: &str,
-    status: u8,
-    line: &[u8],
-    stop: StopAt,
-) -> Result<(), Fail> {
+fn reports(alloc: Global, words: &str, status: u8, line: &[u8], stop: StopAt) -> Result<(), Fail> {
     let mut on = Devices::new(alloc, &[]);
     on.input = Reader::slow(&[], Some((0, Stop::Fails)));
     on.errors = Writer::slow(alloc, stop);
     let ended = ran(alloc, words, &mut on)?;
     let is_failed = ended == status && on.output.held.is_empty();
-    is_well(words, is_failed && is_front(on.errors.held.as_slice(), line, stop))
+    is_well(
+        words,
+        is_failed && is_front(on.errors.held.as_slice(), line, stop),
+    )
 }
 
 // That a run fails with its line in one write.

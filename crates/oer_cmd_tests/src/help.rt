@@ -72,7 +72,10 @@ fn helps(alloc: Global, task: &str, options: &str) -> Result<(), Fail> {
     let words = format!(in alloc; "{task} | --help")?;
     let text = help(alloc, words.as_str())?;
     let usage = format!(in alloc; "\nUsage: oer {task} --type <TYPE> [OPTIONS]\n")?;
-    is_well(task, lists(text.as_str(), options) && text.contains(usage.as_str()))?;
+    is_well(
+        task,
+        lists(text.as_str(), options) && text.contains(usage.as_str()),
+    )?;
     let words = format!(in alloc; "{task} | -h")?;
     is_well(task, help(alloc, words.as_str())? == text)?;
     let words = format!(in alloc; "help | {task}")?;

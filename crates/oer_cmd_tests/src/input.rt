@@ -52,7 +52,10 @@ fn reader_stops(rt: HostRuntime) -> Result<(), Fail> {
     for call in 0..=20u8 {
         let call = usize::from(call);
         is_well("fails", fails_at(rt.alloc(), call, Stop::Fails))?;
-        is_well("interrupted", fails_at(rt.alloc(), call, Stop::IsInterrupted))?;
+        is_well(
+            "interrupted",
+            fails_at(rt.alloc(), call, Stop::IsInterrupted),
+        )?;
         is_well("ends", ends_at(rt.alloc(), call))?;
     }
     Ok(())

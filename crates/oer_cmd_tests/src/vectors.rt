@@ -209,7 +209,13 @@ fn is_refused(alloc: Global, row: &str) -> Result<(), Fail> {
         return all_say(alloc, kind.as_str(), octets.as_slice(), line.as_str());
     }
     for task in ["canon", "show"] {
-        says(alloc, task, kind.as_str(), octets.as_slice(), (1, line.as_str()))?;
+        says(
+            alloc,
+            task,
+            kind.as_str(),
+            octets.as_slice(),
+            (1, line.as_str()),
+        )?;
     }
     Ok(())
 }
@@ -230,11 +236,23 @@ fn leads(alloc: Global, row: &str) -> Result<(), Fail> {
     if columns.third != "-" {
         kind = format!(in alloc; "{} | --path={}", columns.first, columns.third)?;
     }
-    if columns.rest.starts_with(char::is_uppercase) {
+    if columns.rest.starts_with(['A', 'E', 'N']) {
         let line = format!(in alloc; "oer: {}", columns.rest)?;
-        return says(alloc, "part", kind.as_str(), octets.as_slice(), (1, line.as_str()));
+        return says(
+            alloc,
+            "part",
+            kind.as_str(),
+            octets.as_slice(),
+            (1, line.as_str()),
+        );
     }
-    says(alloc, "part", kind.as_str(), octets.as_slice(), (0, digits_of(columns.rest)))
+    says(
+        alloc,
+        "part",
+        kind.as_str(),
+        octets.as_slice(),
+        (0, digits_of(columns.rest)),
+    )
 }
 
 #[test]
@@ -256,7 +274,12 @@ fn refuses_json(alloc: Global, row: &str) -> Result<(), Fail> {
 fn json(rt: HostRuntime) -> Result<(), Fail> {
     for row in TAKEN_JSON.lines() {
         let columns = row_of(row);
-        makes(rt.alloc(), columns.first, columns.second, (0, digits_of(columns.rest)))?;
+        makes(
+            rt.alloc(),
+            columns.first,
+            columns.second,
+            (0, digits_of(columns.rest)),
+        )?;
     }
     for row in REFUSED_JSON.lines() {
         refuses_json(rt.alloc(), row)?;

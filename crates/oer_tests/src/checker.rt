@@ -38,7 +38,7 @@ fn steps_of(at: Global, path: &str) -> Result<Vec<Step>, Fail> {
 // The octets of a part, or why there are none.
 fn shown(at: Global, found: Result<&[u8], PartFault>) -> Result<String, Fail> {
     match found {
-        Ok(&[]) => Ok(String::from_str(at, "-")?),
+        Ok(octets) if octets.is_empty() => Ok(String::from_str(at, "-")?),
         Ok(octets) => Ok(hex::encode(at, octets)?),
         Err(fault) => Ok(format!(in at; "{fault}")?),
     }

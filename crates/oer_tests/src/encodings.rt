@@ -27,9 +27,11 @@ fn is_rewritten(at: Global, case: &Case) -> Result<bool, Fail> {
         taken: case.octets.len(),
         asked: case.octets.len(),
     };
-    Ok(comes(at, &case.schema, &case.octets, count, want)
-        && comes(at, &case.schema, &case.followed, u64::MAX, want)
-        && length_of(at, &case.schema, &case.followed) == Some(count))
+    Ok(
+        comes(at, &case.schema, &case.octets, count, want)
+            && comes(at, &case.schema, &case.followed, u64::MAX, want)
+            && length_of(at, &case.schema, &case.followed) == Some(count),
+    )
 }
 
 #[test]

@@ -30,7 +30,11 @@ fn stops(
         done: Err(RewriteFault::Read(fault)),
         written: &[],
         taken,
-        asked: if fault.why == Why::End { limit as usize } else { taken },
+        asked: if fault.why == Why::End {
+            limit as usize
+        } else {
+            taken
+        },
     };
     is_well(row, comes(at, schema, octets, limit, want))?;
     is_well(row, are_needed(at, schema, octets, taken, want.asked))

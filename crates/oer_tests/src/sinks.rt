@@ -76,9 +76,11 @@ fn breaks(at: Global, case: &Case) -> Result<bool, Fail> {
     let done = write(&case.schema, &case.value, &mut BrokenSink);
     let mut reader = Metered::new(case.octets.as_slice());
     let redone = rewrite(at, &case.schema, &mut reader, u64::MAX, &mut BrokenSink);
-    Ok(done == Err(fault)
-        && redone == Err(RewriteFault::Write(fault))
-        && reader.into_inner().is_empty())
+    Ok(
+        done == Err(fault)
+            && redone == Err(RewriteFault::Write(fault))
+            && reader.into_inner().is_empty(),
+    )
 }
 
 #[test]

@@ -61,7 +61,11 @@ pub fn each_case<F: Fn(Global, &Case) -> Result<bool, Fail>>(
 ) -> Result<(), Fail>
     requires { F.IsAlwaysCallable check }
 {
-    for row in KINDS.lines().chain(VALUES.lines()).chain(NESTED_VALUES.lines()) {
+    for row in KINDS
+        .lines()
+        .chain(VALUES.lines())
+        .chain(NESTED_VALUES.lines())
+    {
         each_encoding(at, row, &check)?;
     }
     Ok(())
@@ -108,10 +112,12 @@ fn is_told(at: Global, case: &Case) -> Result<bool, Fail> {
     let shape = case.schema.shape();
     let is_canonical = case.octets == case.canonical;
     let mut changed = Vec::from_slice(at, &case.canonical)?;
-    Ok(equals(shape, &case.value, &case.octets) == is_canonical
-        && equals(shape, &case.value, &case.canonical)
-        && !equals(shape, &case.value, &case.followed)
-        && are_others(case, &mut changed))
+    Ok(
+        equals(shape, &case.value, &case.octets) == is_canonical
+            && equals(shape, &case.value, &case.canonical)
+            && !equals(shape, &case.value, &case.followed)
+            && are_others(case, &mut changed),
+    )
 }
 
 #[test]

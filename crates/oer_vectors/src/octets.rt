@@ -90,7 +90,8 @@ CHOICE {a NULL, ..., b OCTET STRING} | {"#c5":"01"} | 850101 | = 85810101
 CHOICE {a NULL, ..., b OCTET STRING} | {"#u0":""} | 0000 | ="##;
 
 /// The same of a type that no text spells.
-pub const NESTED_VALUES: &str = r#"SEQUENCE {s SEQUENCE {b BOOLEAN DEFAULT TRUE} DEFAULT {}} | {} | 00 | =
+pub const NESTED_VALUES: &str =
+    r#"SEQUENCE {s SEQUENCE {b BOOLEAN DEFAULT TRUE} DEFAULT {}} | {} | 00 | =
 SEQUENCE {s SEQUENCE {b BOOLEAN DEFAULT TRUE} DEFAULT {}} | {"s":{}} | 00 | 8000
 SEQUENCE {s SEQUENCE {b BOOLEAN DEFAULT TRUE} DEFAULT {}} | {"s":{"b":true}} | 00 | 8080ff
 SEQUENCE {s SEQUENCE {b BOOLEAN DEFAULT TRUE} DEFAULT {}} | {"s":{"b":false}} | 808000 | ="#;
@@ -152,4 +153,5 @@ CHOICE {a NULL, ..., b OCTET STRING} | 8103036162 | Window at 3
 CHOICE {a NULL, ..., b OCTET STRING} | 82 | End at 1";
 
 /// A row with an addition at the place after the last that there may be.
-pub const PAST_LAST_PLACE: &str = "SEQUENCE {...} | 8082200207~00*8192~80 | UnknownAddition at 8198 | 18446744073709551615";
+pub const PAST_LAST_PLACE: &str =
+    "SEQUENCE {...} | 8082200207~00*8192~80 | UnknownAddition at 8198 | 18446744073709551615";

@@ -2,7 +2,8 @@
 
 /// A type; octets; a path, of which `-` is the empty one; the octets of the part to which it leads, or
 /// the error.
-pub const PARTS: &str = "SEQUENCE {a BOOLEAN, ..., x INTEGER (0..255), y BOOLEAN} | 80ff0206800109 | - | 80ff0206800109
+pub const PARTS: &str =
+    "SEQUENCE {a BOOLEAN, ..., x INTEGER (0..255), y BOOLEAN} | 80ff0206800109 | - | 80ff0206800109
 SEQUENCE {a BOOLEAN, ..., x INTEGER (0..255), y BOOLEAN} | 80ff0206800109 | c0 | ff
 SEQUENCE {a BOOLEAN, ..., x INTEGER (0..255), y BOOLEAN} | 80ff0206800109 | a0 | 09
 SEQUENCE {a BOOLEAN, ..., x INTEGER (0..255), y BOOLEAN} | 80ff0206800109 | a1 | Absent

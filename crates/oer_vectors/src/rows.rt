@@ -29,10 +29,11 @@ pub fn expanded(at: Global, row: &str) -> Result<String, Fail> {
     let mut all = String::new(at);
     let mut is_repeated = false;
     for piece in row.split('~') {
-        let (run, times) = piece
-            .rsplit_once('*')
-            .filter(|_| is_repeated)
-            .unwrap_or((piece, "1"));
+        let (run, times) = if is_repeated {
+            piece.rsplit_once('*').ok_or("how often a piece comes")?
+        } else {
+            (piece, "1")
+        };
         let pieces = run.repeat(at, times.parse::<usize>()?)?;
         all.push_str(pieces.as_str())?;
         is_repeated = !is_repeated;
