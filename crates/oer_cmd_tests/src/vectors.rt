@@ -112,8 +112,10 @@ fn runs_row(alloc: Global, row: &str) -> Result<(), Fail> {
 
 #[test]
 fn values(rt: HostRuntime) -> Result<(), Fail> {
-    for row in KINDS.lines().chain(VALUES.lines()) {
-        runs_row(rt.alloc(), row)?;
+    for rows in [KINDS, VALUES] {
+        for row in rows.lines() {
+            runs_row(rt.alloc(), row)?;
+        }
     }
     Ok(())
 }
@@ -222,10 +224,10 @@ fn is_refused(alloc: Global, row: &str) -> Result<(), Fail> {
 
 #[test]
 fn refused_octets(rt: HostRuntime) -> Result<(), Fail> {
-    for row in REFUSED.lines().chain(PAST_LAST_PLACE.lines()) {
+    for row in REFUSED.lines() {
         is_refused(rt.alloc(), row)?;
     }
-    Ok(())
+    is_refused(rt.alloc(), PAST_LAST_PLACE)
 }
 
 // That `part` answers so, by a row of the table.
@@ -236,7 +238,10 @@ fn leads(alloc: Global, row: &str) -> Result<(), Fail> {
     if columns.third != "-" {
         kind = format!(in alloc; "{} | --path={}", columns.first, columns.third)?;
     }
-    if columns.rest.starts_with(['A', 'E', 'N']) {
+    let is_error = columns.rest.starts_with('A')
+        || columns.rest.starts_with('E')
+        || columns.rest.starts_with('N');
+    if is_error {
         let line = format!(in alloc; "oer: {}", columns.rest)?;
         return says(
             alloc,

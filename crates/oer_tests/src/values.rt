@@ -61,12 +61,10 @@ pub fn each_case<F: Fn(Global, &Case) -> Result<bool, Fail>>(
 ) -> Result<(), Fail>
     requires { F.IsAlwaysCallable check }
 {
-    for row in KINDS
-        .lines()
-        .chain(VALUES.lines())
-        .chain(NESTED_VALUES.lines())
-    {
-        each_encoding(at, row, &check)?;
+    for rows in [KINDS, VALUES, NESTED_VALUES] {
+        for row in rows.lines() {
+            each_encoding(at, row, &check)?;
+        }
     }
     Ok(())
 }
