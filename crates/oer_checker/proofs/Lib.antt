@@ -23,3 +23,5 @@ mod TagParts
 mod Leading
 mod Digits
 mod Paths
+mod LineSteps
+mod LineLaws

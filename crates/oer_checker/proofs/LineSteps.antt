@@ -1,0 +1,235 @@
+-- Walks, one step after another.
+use Rattle.std.proofs.Common.{◌≡◌, ℕ, zero, suc, ◌+◌, ◌-◌, ◌<◌, ◌≤◌, ◌||◌, Bool, true, false, List, [], ◌∷◌, ◌++◌, length, drop, get_or, map, Result, Ok, Err, arith, refl, sym, ap, ap₂, ◌∙◌, subst, drop-cons, add-one, string_bytes}
+use Rattle.std.proofs.lemmas.List.{drop_all}
+use Rattle.oer_units.specs.declared.fault.Why.{Why}
+use Rattle.oer_units.specs.declared.tagging.Tag.{Tag}
+use Rattle.oer_units.specs.Reader.{Outcome, Place, Reader, at, got, refused}
+use Rattle.oer_types.specs.AsnType.{Alternatives, AsnType, Need, no_alternatives}
+use Rattle.oer_types.specs.Bits.{first_bit, later_bits}
+use Rattle.oer_types.specs.Constraints.{has_tag, same_tag}
+use Rattle.oer_types.specs.Parts.{Step, to_addition, to_component}
+use Rattle.oer_types.specs.ShapeView.{additions_of, fields_of, later_of, need_of, root_of, type_of}
+use Rattle.oer_types.specs.declared.shape.Addition.{Addition}
+use Rattle.oer_types.specs.declared.shape.Alt.{Alt}
+use Rattle.oer_types.specs.declared.shape.Field.{Field}
+use Rattle.oer_checker.specs.Places.{outcome, place_of}
+use Rattle.oer_checker.specs.Rows.{Line, Reaches, Takes, Walk, Walker, Walks, add_line, go_on, halted, inside, leave, leave_at, line_at, path_in, row, stay, stuck, walk_additions, walk_alternative, walk_both, walk_choose, walk_chosen, walk_fields, walk_if, walk_later, walk_open, walk_times, walk_unknown, walk_value, went}
+use Rattle.oer_checker.specs.Steps.{bits_left, is_there}
+use Rattle.oer_checker.specs.declared.place.Place as rust_place
+use Rattle.oer_checker.specs.declared.row.Halt.{Halt}
+use Rattle.oer_checker.specs.declared.row.Halt.TheVariants.{Refused, Memory}
+use Rattle.oer_checker.specs.declared.row.Role.{Role}
+use Rattle.oer_checker.specs.declared.spot.Spot.{Spot}
+use Rattle.oer_checker.specs.declared.stop.Stop.{Stop}
+use Rattle.oer_checker.proofs.TagSteps.{here, in_root, not_in_root}
+
+pub by_walk : (result : Result rust_place.Place Halt) (new : List Line) (w v : Walk) → w ≡ v → Walks result new w → Walks result new v
+by_walk result new w v e h = subst (λ (x : Walk). Walks result new x) e h
+
+-- ---- a unit and its line
+
+pub taken_then : {A B : Type 0} (f : A → B) (spot : Spot) (role : Role) (ls new : List Line) (p : rust_place.Place) (answer : Result (A × rust_place.Place) Stop) (y : A × rust_place.Place) (r : Reader B) (k : B → Walker)
+    → outcome f answer ≡ r (place_of p) → Takes spot role ls p answer new (Ok y) → k (f y.0) new (place_of y.1) ≡ row spot.total (path_in spot) role r k ls (place_of p)
+unfolding row
+taken_then f spot role ls new p answer y r k e h =
+    ap (λ (l : List Line). k (f y.0) l (place_of y.1)) h.1
+    ∙ ap (add_line spot.total (path_in spot) role k ls (place_of p)) (sym (ap (outcome f) h.0) ∙ e)
+
+pub taken_stop : {A B : Type 0} (f : A → B) (spot : Spot) (role : Role) (ls new : List Line) (p : rust_place.Place) (answer : Result (A × rust_place.Place) Stop) (h : Halt) (r : Reader B) (k : B → Walker)
+    → outcome f answer ≡ r (place_of p) → Takes spot role ls p answer new (Err h) → Walks (Err h) new (row spot.total (path_in spot) role r k ls (place_of p))
+unfolding row
+taken_stop f spot role ls new p answer Refused r k e h =
+    sym (ap (add_line spot.total (path_in spot) role k ls (place_of p)) (sym (ap (outcome f) h.0.1) ∙ e)) ∙ ap (λ (l : List Line). halted l) (sym h.1)
+taken_stop f spot role ls new p answer Memory r k e h = tt
+
+-- ---- one after another
+
+pub both_then : (c d : Walker) (ls new : List Line) (p : Place) (q : rust_place.Place) → Walks (Ok q) new (c ls p) → d new (place_of q) ≡ walk_both c d ls p
+unfolding walk_both
+both_then c d ls new p q e = sym (ap (go_on d) e)
+
+pub both_stop : (c d : Walker) (ls new : List Line) (p : Place) (h : Halt) → Walks (Err h) new (c ls p) → Walks (Err h) new (walk_both c d ls p)
+unfolding walk_both
+both_stop c d ls new p Refused e = ap (go_on d) e
+both_stop c d ls new p Memory e = tt
+
+pub no_inner : (spot : Spot) (step : Step) (h : Halt) (new : List Line) (w : Walk) → Reaches spot step (Err h) → Walks (Err h) new w
+no_inner spot step Refused new w e = absurd e
+no_inner spot step Memory new w e = tt
+
+-- at the part to which a step leads
+pub at_inner : (c : ℕ → List Step → Walker) (spot inner : Spot) (step : Step) (result : Result rust_place.Place Halt) (ls new : List Line) (p : Place) → Reaches spot step (Ok inner) → Walks result new (c inner.total (path_in inner) ls p) → Walks result new (c spot.total (path_in spot ++ (step ∷ [])) ls p)
+at_inner c spot inner step result ls new p h e = by_walk result new _ _ (ap₂ (λ (n : ℕ) (path : List Step). c n path ls p) h.0 h.1) e
+
+pub stays : (ls : List Line) (q : rust_place.Place) → Walks (Ok q) ls (stay ls (place_of q))
+unfolding stay
+stays ls q = refl
+
+pub sticks : (ls : List Line) (p : Place) → Walks (Err Refused) ls (stuck ls p)
+unfolding stuck
+sticks ls p = refl
+
+pub if_not : (b : Bool) (c : Walker) (ls : List Line) (q : rust_place.Place) → b ≡ false → Walks (Ok q) ls (walk_if b c ls (place_of q))
+if_not b c ls q is = by_walk (Ok q) ls _ _ (ap (λ (x : Bool). walk_if x c ls (place_of q)) (sym is)) (stays ls q)
+
+pub if_so : (b : Bool) (c : Walker) (ls new : List Line) (p : Place) (result : Result rust_place.Place Halt) → b ≡ true → Walks result new (c ls p) → Walks result new (walk_if b c ls p)
+if_so b c ls new p result is e = by_walk result new _ _ (ap (λ (x : Bool). walk_if x c ls p) (sym is)) e
+
+-- ---- open types
+
+left_none : (rest : List ℕ) (outer left : ℕ) (ls : List Line) → left ≤ 0 → leave_at ls rest outer left ≡ went ls (at rest outer)
+left_none rest outer zero ls e = refl
+left_none rest outer (suc k) ls e = absurd (omega arith)
+
+left_some : (rest : List ℕ) (outer left : ℕ) (ls : List Line) → 0 < left → leave_at ls rest outer left ≡ halted ls
+left_some rest outer zero ls e = absurd (omega arith)
+left_some rest outer (suc k) ls e = refl
+
+pub inside_ends : (n : ℕ) (c : Walker) (ls new : List Line) (p : Place) (q : rust_place.Place) → Walks (Ok q) new (c ls (at p.input n)) → q.left ≤ 0 → inside n c ls p ≡ went new (at q.rest.now (p.left - n))
+unfolding inside
+inside_ends n c ls new p q e none = ap (leave (p.left - n)) e ∙ left_none q.rest.now (p.left - n) q.left new none
+
+pub inside_left : (n : ℕ) (c : Walker) (ls new : List Line) (p : Place) (q : rust_place.Place) → Walks (Ok q) new (c ls (at p.input n)) → 0 < q.left → inside n c ls p ≡ halted new
+unfolding inside
+inside_left n c ls new p q e some = ap (leave (p.left - n)) e ∙ left_some q.rest.now (p.left - n) q.left new some
+
+pub inside_stop : (n : ℕ) (c : Walker) (ls new : List Line) (p : Place) (h : Halt) → Walks (Err h) new (c ls (at p.input n)) → Walks (Err h) new (inside n c ls p)
+unfolding inside
+inside_stop n c ls new p Refused e = ap (leave (p.left - n)) e
+inside_stop n c ls new p Memory e = tt
+
+-- ---- in a loop
+
+field_here : (xs : List Field) (i : ℕ) (f : Field) → i < length xs → f ≡ get_or xs i f → drop i xs ≡ f ∷ drop (i + 1) xs
+field_here xs i f less is = drop-cons xs i f less ∙ ap (λ (x : Field). x ∷ drop (suc i) xs) (sym is) ∙ ap (λ (k : ℕ). f ∷ drop k xs) (sym (add-one i))
+
+addition_here : (xs : List Addition) (i : ℕ) (a : Addition) → i < length xs → a ≡ get_or xs i a → drop i xs ≡ a ∷ drop (i + 1) xs
+addition_here xs i a less is = drop-cons xs i a less ∙ ap (λ (x : Addition). x ∷ drop (suc i) xs) (sym is) ∙ ap (λ (k : ℕ). a ∷ drop k xs) (sym (add-one i))
+
+-- the components from this one on
+abbrev fields_from : List Field → ℕ → List Step → ℕ → List Bool → Walker
+fields_from xs total path i s = walk_fields (fields_of (drop i xs)) total path i s
+
+abbrev a_field : Field → ℕ → List Step → ℕ → Bool → Walker
+a_field f total path i there = walk_if there (walk_value (type_of f.shape) total (path ++ (to_component i ∷ [])))
+
+fields_at : (xs : List Field) (i : ℕ) (f : Field) (total : ℕ) (path : List Step) (s s' : List Bool) (there : Bool) (ls : List Line) (p : Place) → i < length xs → f ≡ get_or xs i f → there ≡ is_there (need_of f.need) s → s' ≡ bits_left (need_of f.need) s
+    → walk_both (a_field f total path i there) (fields_from xs total path (i + 1) s') ls p ≡ fields_from xs total path i s ls p
+fields_at xs i f total path s s' there ls p less is t b =
+    ap₂ (λ (x : Bool) (r : List Bool). walk_both (a_field f total path i x) (fields_from xs total path (i + 1) r) ls p) t b
+    ∙ ap (λ (k : ℕ). walk_both (a_field f total path i (is_there (need_of f.need) s)) (walk_fields (fields_of (drop (i + 1) xs)) total path k (bits_left (need_of f.need) s)) ls p) (add-one i)
+    ∙ ap (λ (l : List Field). walk_fields (fields_of l) total path i s ls p) (sym (field_here xs i f less is))
+
+pub fields_next : (xs : List Field) (i : ℕ) (f : Field) (total : ℕ) (path : List Step) (s s' : List Bool) (there : Bool) (ls new : List Line) (p : Place) (q : rust_place.Place) (whole : Walk) → i < length xs → f ≡ get_or xs i f → there ≡ is_there (need_of f.need) s → s' ≡ bits_left (need_of f.need) s
+    → fields_from xs total path i s ls p ≡ whole → Walks (Ok q) new (a_field f total path i there ls p) → fields_from xs total path (i + 1) s' new (place_of q) ≡ whole
+fields_next xs i f total path s s' there ls new p q whole less is t b inv e =
+    both_then (a_field f total path i there) (fields_from xs total path (i + 1) s') ls new p q e ∙ fields_at xs i f total path s s' there ls p less is t b ∙ inv
+
+pub fields_stop : (xs : List Field) (i : ℕ) (f : Field) (total : ℕ) (path : List Step) (s s' : List Bool) (there : Bool) (ls new : List Line) (p : Place) (h : Halt) (whole : Walk) → i < length xs → f ≡ get_or xs i f → there ≡ is_there (need_of f.need) s → s' ≡ bits_left (need_of f.need) s
+    → fields_from xs total path i s ls p ≡ whole → Walks (Err h) new (a_field f total path i there ls p) → Walks (Err h) new whole
+fields_stop xs i f total path s s' there ls new p h whole less is t b inv e =
+    by_walk (Err h) new _ _ (fields_at xs i f total path s s' there ls p less is t b ∙ inv) (both_stop (a_field f total path i there) (fields_from xs total path (i + 1) s') ls new p h e)
+
+pub fields_end : (xs : List Field) (i : ℕ) (total : ℕ) (path : List Step) (s : List Bool) (ls : List Line) (q : rust_place.Place) (whole : Walk) → length xs ≤ i → fields_from xs total path i s ls (place_of q) ≡ whole → Walks (Ok q) ls whole
+fields_end xs i total path s ls q whole le inv = by_walk (Ok q) ls _ _ (ap (λ (l : List Field). walk_fields (fields_of l) total path i s ls (place_of q)) (sym (drop_all i xs le)) ∙ inv) (stays ls q)
+
+abbrev additions_from : List Addition → ℕ → List Step → ℕ → List Bool → Walker
+additions_from xs total path i s = walk_additions (additions_of (drop i xs)) total path i s
+
+abbrev an_addition : Addition → ℕ → List Step → ℕ → Bool → Walker
+an_addition a total path i there = walk_if there (walk_open total (path ++ (to_addition i ∷ [])) (walk_value (type_of a.shape) total (path ++ (to_addition i ∷ []))))
+
+additions_at : (xs : List Addition) (i : ℕ) (a : Addition) (total : ℕ) (path : List Step) (s s' : List Bool) (there : Bool) (ls : List Line) (p : Place) → i < length xs → a ≡ get_or xs i a → there ≡ first_bit s → s' ≡ later_bits s
+    → walk_both (an_addition a total path i there) (additions_from xs total path (i + 1) s') ls p ≡ additions_from xs total path i s ls p
+additions_at xs i a total path s s' there ls p less is t b =
+    ap₂ (λ (x : Bool) (r : List Bool). walk_both (an_addition a total path i x) (additions_from xs total path (i + 1) r) ls p) t b
+    ∙ ap (λ (k : ℕ). walk_both (an_addition a total path i (first_bit s)) (walk_additions (additions_of (drop (i + 1) xs)) total path k (later_bits s)) ls p) (add-one i)
+    ∙ ap (λ (l : List Addition). walk_additions (additions_of l) total path i s ls p) (sym (addition_here xs i a less is))
+
+pub additions_next : (xs : List Addition) (i : ℕ) (a : Addition) (total : ℕ) (path : List Step) (s s' : List Bool) (there : Bool) (ls new : List Line) (p : Place) (q : rust_place.Place) (whole : Walk) → i < length xs → a ≡ get_or xs i a → there ≡ first_bit s → s' ≡ later_bits s
+    → additions_from xs total path i s ls p ≡ whole → Walks (Ok q) new (an_addition a total path i there ls p) → additions_from xs total path (i + 1) s' new (place_of q) ≡ whole
+additions_next xs i a total path s s' there ls new p q whole less is t b inv e =
+    both_then (an_addition a total path i there) (additions_from xs total path (i + 1) s') ls new p q e ∙ additions_at xs i a total path s s' there ls p less is t b ∙ inv
+
+pub additions_stop : (xs : List Addition) (i : ℕ) (a : Addition) (total : ℕ) (path : List Step) (s s' : List Bool) (there : Bool) (ls new : List Line) (p : Place) (h : Halt) (whole : Walk) → i < length xs → a ≡ get_or xs i a → there ≡ first_bit s → s' ≡ later_bits s
+    → additions_from xs total path i s ls p ≡ whole → Walks (Err h) new (an_addition a total path i there ls p) → Walks (Err h) new whole
+additions_stop xs i a total path s s' there ls new p h whole less is t b inv e =
+    by_walk (Err h) new _ _ (additions_at xs i a total path s s' there ls p less is t b ∙ inv) (both_stop (an_addition a total path i there) (additions_from xs total path (i + 1) s') ls new p h e)
+
+pub additions_end : (xs : List Addition) (i : ℕ) (total : ℕ) (path : List Step) (s : List Bool) (ls : List Line) (q : rust_place.Place) (whole : Walk) → length xs ≤ i → additions_from xs total path i s ls (place_of q) ≡ whole → Walks (Ok q) ls whole
+additions_end xs i total path s ls q whole le inv = by_walk (Ok q) ls _ _ (ap (λ (l : List Addition). walk_additions (additions_of l) total path i s ls (place_of q)) (sym (drop_all i xs le)) ∙ inv) (stays ls q)
+
+-- n elements are left, of which the first has the number i
+pub times_next : (c : ℕ → Walker) (n m i : ℕ) (ls new : List Line) (p : Place) (q : rust_place.Place) (whole : Walk) → n ≡ suc m → walk_times c i n ls p ≡ whole → Walks (Ok q) new (c i ls p) → walk_times c (i + 1) m new (place_of q) ≡ whole
+times_next c n m i ls new p q whole is inv e =
+    ap (λ (k : ℕ). walk_times c k m new (place_of q)) (add-one i) ∙ both_then (c i) (walk_times c (suc i) m) ls new p q e ∙ ap (λ (k : ℕ). walk_times c i k ls p) (sym is) ∙ inv
+
+pub times_stop : (c : ℕ → Walker) (n m i : ℕ) (ls new : List Line) (p : Place) (h : Halt) (whole : Walk) → n ≡ suc m → walk_times c i n ls p ≡ whole → Walks (Err h) new (c i ls p) → Walks (Err h) new whole
+times_stop c n m i ls new p h whole is inv e =
+    by_walk (Err h) new _ _ (ap (λ (k : ℕ). walk_times c i k ls p) (sym is) ∙ inv) (both_stop (c i) (walk_times c (suc i) m) ls new p h e)
+
+pub times_end : (c : ℕ → Walker) (n i : ℕ) (ls : List Line) (q : rust_place.Place) (whole : Walk) → n ≡ 0 → walk_times c i n ls (place_of q) ≡ whole → Walks (Ok q) ls whole
+times_end c n i ls q whole is inv = by_walk (Ok q) ls _ _ (ap (λ (k : ℕ). walk_times c i k ls (place_of q)) (sym is) ∙ inv) (stays ls q)
+
+-- ---- alternatives
+
+value_step : (b x : Bool) (c r s : Walker) → (true ≡ x → r ≡ s) → true ≡ (b || x) → walk_choose b c r ≡ walk_choose b c s
+value_step true x c r s more e = refl
+value_step false x c r s more e = more e
+
+root_value : (xs : List Alt) (after : Alternatives) (total : ℕ) (path : List Step) (t : Tag) → true ≡ has_tag t (root_of xs no_alternatives) → walk_alternative (root_of xs no_alternatives) total path t ≡ walk_alternative (root_of xs after) total path t
+root_value [] after total path t e = absurd (cc)
+root_value (a ∷ xs) after total path t e = value_step (same_tag a.tag t) (has_tag t (root_of xs no_alternatives)) (walk_value (type_of a.shape) total path) (walk_alternative (root_of xs no_alternatives) total path t) (walk_alternative (root_of xs after) total path t) (root_value xs after total path t) e
+
+later_step : (b x : Bool) (c r s : Walker) → (false ≡ x → r ≡ s) → false ≡ (b || x) → r ≡ walk_choose b c s
+later_step true x c r s more e = absurd (cc)
+later_step false x c r s more e = more e
+
+later_value : (xs : List Alt) (after : Alternatives) (total : ℕ) (path : List Step) (t : Tag) → false ≡ has_tag t (root_of xs no_alternatives) → walk_alternative after total path t ≡ walk_alternative (root_of xs after) total path t
+later_value [] after total path t e = refl
+later_value (a ∷ xs) after total path t e = later_step (same_tag a.tag t) (has_tag t (root_of xs no_alternatives)) (walk_value (type_of a.shape) total path) (walk_alternative after total path t) (walk_alternative (root_of xs after) total path t) (later_value xs after total path t) e
+
+-- what follows the tag
+abbrev after_tag : Bool → Alternatives → ℕ → List Step → Tag → Walker
+after_tag extensible more total path t = walk_chosen extensible more (walk_alternative more total path t) (walk_unknown total path) t
+
+pub choice_root : (extensible : Bool) (xs : List Alt) (after : Alternatives) (total : ℕ) (path : List Step) (t : Tag) → true ≡ has_tag t (root_of xs no_alternatives) → walk_alternative (root_of xs no_alternatives) total path t ≡ after_tag extensible (root_of xs after) total path t
+choice_root extensible xs after total path t has =
+    root_value xs after total path t has
+    ∙ ap (λ (b : Bool). walk_choose b (walk_alternative (root_of xs after) total path t) (walk_choose extensible (walk_unknown total path) stuck)) (sym (in_root xs after t has))
+
+pub choice_later : (xs more : List Alt) (total : ℕ) (path : List Step) (t : Tag) → false ≡ has_tag t (root_of xs no_alternatives) → walk_later (later_of more) total path t ≡ after_tag true (root_of xs (later_of more)) total path t
+choice_later xs more total path t none =
+    ap₂ (λ (b : Bool) (c : Walker). walk_choose b c (walk_unknown total path)) (sym (not_in_root xs (later_of more) t none)) (later_value xs (later_of more) total path t none)
+
+none_is : (b : Bool) (c d : Walker) → false ≡ b → stuck ≡ walk_choose b c (walk_choose false d stuck)
+none_is b c d e = ap (λ (x : Bool). walk_choose x c stuck) e
+
+pub choice_none : (xs : List Alt) (total : ℕ) (path : List Step) (t : Tag) → false ≡ has_tag t (root_of xs no_alternatives) → stuck ≡ after_tag false (root_of xs no_alternatives) total path t
+choice_none xs total path t none = none_is (has_tag t (root_of xs no_alternatives)) (walk_alternative (root_of xs no_alternatives) total path t) (walk_unknown total path) none
+
+pub root_here : (xs : List Alt) (i : ℕ) (a : Alt) (total : ℕ) (path : List Step) (t : Tag) (whole : Walker) → i < length xs → a ≡ get_or xs i a → true ≡ same_tag a.tag t → walk_alternative (root_of (drop i xs) no_alternatives) total path t ≡ whole → walk_value (type_of a.shape) total path ≡ whole
+root_here xs i a total path t whole less is same e =
+    ap (λ (b : Bool). walk_choose b (walk_value (type_of a.shape) total path) (walk_alternative (root_of (drop (i + 1) xs) no_alternatives) total path t)) same
+    ∙ ap (λ (l : List Alt). walk_alternative (root_of l no_alternatives) total path t) (sym (here xs i a less is)) ∙ e
+
+pub root_next : (xs : List Alt) (i : ℕ) (a : Alt) (total : ℕ) (path : List Step) (t : Tag) (whole : Walker) → i < length xs → a ≡ get_or xs i a → false ≡ same_tag a.tag t → walk_alternative (root_of (drop i xs) no_alternatives) total path t ≡ whole → walk_alternative (root_of (drop (i + 1) xs) no_alternatives) total path t ≡ whole
+root_next xs i a total path t whole less is other e =
+    ap (λ (b : Bool). walk_choose b (walk_value (type_of a.shape) total path) (walk_alternative (root_of (drop (i + 1) xs) no_alternatives) total path t)) other
+    ∙ ap (λ (l : List Alt). walk_alternative (root_of l no_alternatives) total path t) (sym (here xs i a less is)) ∙ e
+
+pub root_end : (xs : List Alt) (i : ℕ) (total : ℕ) (path : List Step) (t : Tag) (whole : Walker) (ls : List Line) (p : Place) → length xs ≤ i → walk_alternative (root_of (drop i xs) no_alternatives) total path t ≡ whole → Walks (Err Refused) ls (whole ls p)
+root_end xs i total path t whole ls p le e = by_walk (Err Refused) ls _ _ (ap (λ (c : Walker). c ls p) (ap (λ (l : List Alt). walk_alternative (root_of l no_alternatives) total path t) (sym (drop_all i xs le)) ∙ e)) (sticks ls p)
+
+pub later_here : (xs : List Alt) (i : ℕ) (a : Alt) (total : ℕ) (path : List Step) (t : Tag) (whole : Walker) → i < length xs → a ≡ get_or xs i a → true ≡ same_tag a.tag t → walk_later (later_of (drop i xs)) total path t ≡ whole → walk_open total path (walk_value (type_of a.shape) total path) ≡ whole
+later_here xs i a total path t whole less is same e =
+    ap (λ (b : Bool). walk_choose (b || has_tag t (later_of (drop (i + 1) xs))) (walk_choose b (walk_open total path (walk_value (type_of a.shape) total path)) (walk_alternative (later_of (drop (i + 1) xs)) total path t)) (walk_unknown total path)) same
+    ∙ ap (λ (l : List Alt). walk_later (later_of l) total path t) (sym (here xs i a less is)) ∙ e
+
+pub later_next : (xs : List Alt) (i : ℕ) (a : Alt) (total : ℕ) (path : List Step) (t : Tag) (whole : Walker) → i < length xs → a ≡ get_or xs i a → false ≡ same_tag a.tag t → walk_later (later_of (drop i xs)) total path t ≡ whole → walk_later (later_of (drop (i + 1) xs)) total path t ≡ whole
+later_next xs i a total path t whole less is other e =
+    ap (λ (b : Bool). walk_choose (b || has_tag t (later_of (drop (i + 1) xs))) (walk_choose b (walk_open total path (walk_value (type_of a.shape) total path)) (walk_alternative (later_of (drop (i + 1) xs)) total path t)) (walk_unknown total path)) other
+    ∙ ap (λ (l : List Alt). walk_later (later_of l) total path t) (sym (here xs i a less is)) ∙ e
+
+pub later_end : (xs : List Alt) (i : ℕ) (total : ℕ) (path : List Step) (t : Tag) (whole : Walker) → length xs ≤ i → walk_later (later_of (drop i xs)) total path t ≡ whole → walk_unknown total path ≡ whole
+later_end xs i total path t whole le e = ap (λ (l : List Alt). walk_later (later_of l) total path t) (sym (drop_all i xs le)) ∙ e
