@@ -25,3 +25,4 @@ mod Digits
 mod Paths
 mod LineSteps
 mod LineLaws
+mod ListingSteps

@@ -1,5 +1,5 @@
 -- What the caller of `rows` learns.
-use Rattle.std.specs.Prelude.{◌≡◌, ℕ, ◌-◌, ◌≤◌, List, [], ◌∷◌, ◌++◌, length, Result, Ok, Err}
+use Rattle.std.specs.Prelude.{◌≡◌, ℕ, ◌-◌, List, [], ◌∷◌, ◌++◌, length, drop, Result, Ok, Err}
 use Rattle.oer_units.specs.Reader.{Place, at}
 use Rattle.oer_units.specs.declared.fault.ReadFault.{ReadFault}
 use Rattle.oer_types.specs.AsnType.{AsnType}
@@ -23,7 +23,7 @@ Cover total octets [] rest = octets ≡ rest
 Cover total octets (line offset path role b ∷ ls) rest = (more : List ℕ) × (octets ≡ b ++ more) × (offset ≡ total - length octets)
     × Cover total more ls rest
 
--- The lines are those of the encoding at the front, as long as the verdict says; or of octets in front of where the refusal shows.
+-- The lines are those of the encoding at the front, which is as long as the verdict says; or of octets in front of what is rejected.
 abbrev pub Covers : List ℕ → List Line → Result Verdict ReadFault → Type 0
-Covers octets ls (Ok verdict) = (rest : List ℕ) × Cover (length octets) octets ls rest × (length octets - length rest ≡ verdict.octets)
-Covers octets ls (Err e) = (rest : List ℕ) × Cover (length octets) octets ls rest × (length octets - length rest ≤ e.taken)
+Covers octets ls (Ok verdict) = Cover (length octets) octets ls (drop verdict.octets octets)
+Covers octets ls (Err e) = (rest : List ℕ) × Cover (length octets) octets ls rest

@@ -26,6 +26,8 @@ pub fn rows<'a>(
     ensures comes { IfOk result (λ l. Finds (the_type schema.now) octets.now l.verdict) }
     ensures exact { IfOk result (λ l. Answers (the_type schema.now) octets.now l.verdict) }
     ensures plain { IfOk result (λ l. IsOfOctets l.verdict) }
+    // The rows cover the encoding, or octets in front of what is rejected, in order.
+    ensures covers { IfOk result (λ l. Covers octets.now (lines_of l.rows.items) l.verdict) }
     // Which rows there are.
     ensures rows { IfOk result (λ l. lines_of l.rows.items ≡ rows_of (the_type schema.now) octets.now) }
 {
