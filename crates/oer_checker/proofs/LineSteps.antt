@@ -13,7 +13,7 @@ use Rattle.oer_types.specs.declared.shape.Addition.{Addition}
 use Rattle.oer_types.specs.declared.shape.Alt.{Alt}
 use Rattle.oer_types.specs.declared.shape.Field.{Field}
 use Rattle.oer_checker.specs.Places.{outcome, place_of}
-use Rattle.oer_checker.specs.Rows.{Line, Reaches, Takes, Walk, Walker, Walks, add_line, go_on, halted, inside, leave, leave_at, line_at, path_in, row, stay, stuck, walk_additions, walk_alternative, walk_both, walk_choose, walk_chosen, walk_fields, walk_if, walk_later, walk_open, walk_times, walk_unknown, walk_value, went}
+use Rattle.oer_checker.specs.Rows.{Line, Reaches, Takes, Walk, Walker, Walks, add_line, go_on, halted, inside, leave, leave_at, line_at, path_in, row, stay, stuck, walk_additions, walk_alternative, walk_both, walk_choose, walk_chosen, walk_fields, walk_if, walk_later, walk_open, walk_rest, walk_times, walk_unknown, walk_value, went}
 use Rattle.oer_checker.specs.Steps.{bits_left, is_there}
 use Rattle.oer_checker.specs.declared.place.Place as rust_place
 use Rattle.oer_checker.specs.declared.row.Halt.{Halt}
@@ -21,6 +21,7 @@ use Rattle.oer_checker.specs.declared.row.Halt.TheVariants.{Refused, Memory}
 use Rattle.oer_checker.specs.declared.row.Role.{Role}
 use Rattle.oer_checker.specs.declared.spot.Spot.{Spot}
 use Rattle.oer_checker.specs.declared.stop.Stop.{Stop}
+use Rattle.oer_checker.proofs.BitLists.{drop_next, drop_past}
 use Rattle.oer_checker.proofs.TagSteps.{here, in_root, not_in_root}
 
 pub by_walk : (result : Result rust_place.Place Halt) (new : List Line) (w v : Walk) → w ≡ v → Walks result new w → Walks result new v
@@ -233,3 +234,38 @@ later_next xs i a total path t whole less is other e =
 
 pub later_end : (xs : List Alt) (i : ℕ) (total : ℕ) (path : List Step) (t : Tag) (whole : Walker) → length xs ≤ i → walk_later (later_of (drop i xs)) total path t ≡ whole → walk_unknown total path ≡ whole
 later_end xs i total path t whole le e = ap (λ (l : List Alt). walk_later (later_of l) total path t) (sym (drop_all i xs le)) ∙ e
+
+-- ---- additions that the type doesn't know
+
+rest_unmarked : (total : ℕ) (path : List Step) (i : ℕ) (s : List Bool) (ls : List Line) (p : Place) → first_bit s ≡ false → walk_rest total path (suc i) (later_bits s) ls p ≡ walk_rest total path i s ls p
+unfolding walk_both stay
+rest_unmarked total path i [] ls p e = refl
+rest_unmarked total path i (true ∷ s) ls p e = absurd (cc)
+rest_unmarked total path i (false ∷ s) ls p e = refl
+
+rest_marked : (total : ℕ) (path : List Step) (i : ℕ) (s : List Bool) (ls : List Line) (p : Place) → first_bit s ≡ true → walk_both (walk_unknown total (path ++ (to_addition i ∷ []))) (walk_rest total path (suc i) (later_bits s)) ls p ≡ walk_rest total path i s ls p
+rest_marked total path i [] ls p e = absurd (cc)
+rest_marked total path i (true ∷ s) ls p e = refl
+rest_marked total path i (false ∷ s) ls p e = absurd (cc)
+
+abbrev rest_from : ℕ → List Step → ℕ → List Bool → Walker
+rest_from total path i s = walk_rest total path i (drop i s)
+
+one_more : (total : ℕ) (path : List Step) (i : ℕ) (s : List Bool) (ls : List Line) (p : Place) → walk_rest total path (i + 1) (drop (i + 1) s) ls p ≡ walk_rest total path (suc i) (later_bits (drop i s)) ls p
+one_more total path i s ls p = ap₂ (λ (k : ℕ) (r : List Bool). walk_rest total path k r ls p) (add-one i) (drop_next i s)
+
+pub unmarked_next : (total : ℕ) (path : List Step) (i : ℕ) (s : List Bool) (ls : List Line) (p : Place) (whole : Walk) → first_bit (drop i s) ≡ false → rest_from total path i s ls p ≡ whole → rest_from total path (i + 1) s ls p ≡ whole
+unmarked_next total path i s ls p whole e inv = one_more total path i s ls p ∙ rest_unmarked total path i (drop i s) ls p e ∙ inv
+
+pub marked_next : (total : ℕ) (path : List Step) (i : ℕ) (s : List Bool) (ls new : List Line) (p : Place) (q : rust_place.Place) (whole : Walk) → first_bit (drop i s) ≡ true → rest_from total path i s ls p ≡ whole → Walks (Ok q) new (walk_unknown total (path ++ (to_addition i ∷ [])) ls p) → rest_from total path (i + 1) s new (place_of q) ≡ whole
+marked_next total path i s ls new p q whole e inv h =
+    one_more total path i s new (place_of q)
+    ∙ both_then (walk_unknown total (path ++ (to_addition i ∷ []))) (walk_rest total path (suc i) (later_bits (drop i s))) ls new p q h
+    ∙ rest_marked total path i (drop i s) ls p e ∙ inv
+
+pub marked_stop : (total : ℕ) (path : List Step) (i : ℕ) (s : List Bool) (ls new : List Line) (p : Place) (h : Halt) (whole : Walk) → first_bit (drop i s) ≡ true → rest_from total path i s ls p ≡ whole → Walks (Err h) new (walk_unknown total (path ++ (to_addition i ∷ [])) ls p) → Walks (Err h) new whole
+marked_stop total path i s ls new p h whole e inv k =
+    by_walk (Err h) new _ _ (rest_marked total path i (drop i s) ls p e ∙ inv) (both_stop (walk_unknown total (path ++ (to_addition i ∷ []))) (walk_rest total path (suc i) (later_bits (drop i s))) ls new p h k)
+
+pub marked_end : (total : ℕ) (path : List Step) (i : ℕ) (s : List Bool) (ls : List Line) (q : rust_place.Place) (whole : Walk) → length s ≤ i → rest_from total path i s ls (place_of q) ≡ whole → Walks (Ok q) ls whole
+marked_end total path i s ls q whole le inv = by_walk (Ok q) ls _ _ (ap (λ (r : List Bool). walk_rest total path i r ls (place_of q)) (sym (drop_past i s le)) ∙ inv) (stays ls q)
