@@ -24,5 +24,7 @@ mod Leading
 mod Digits
 mod Paths
 mod LineSteps
+mod LineUnits
 mod LineLaws
+mod LineForms
 mod ListingSteps

@@ -1,7 +1,5 @@
 -- A walk goes as far as the check of the same octets, and its lines cover them.
 use Rattle.std.proofs.Common.{◌≡◌, ℕ, zero, suc, ◌-◌, Bool, true, false, ◌&&◌, leb, List, [], ◌∷◌, ◌++◌, length, drop, take, arith, refl, sym, ap, ap₂, ◌∙◌, subst, append_assoc, append-nil, length-append, take_at, not}
-use Rattle.oer_units.specs.Lawful.{Lawful}
-use Rattle.oer_units.specs.Least.{length_octets}
 use Rattle.oer_units.specs.Reader.{Outcome, Place, Reader, at, bind, bounded, choose, give, got, group, guard, refuse, refused, then_read, within}
 use Rattle.oer_units.specs.Reader as reader
 use Rattle.oer_units.specs.Reading.{determinant, tag}
@@ -9,23 +7,18 @@ use Rattle.oer_units.specs.declared.fault.Why.{Why}
 use Rattle.oer_units.specs.declared.fault.Why.TheVariants as reason
 use Rattle.oer_units.specs.declared.fault.Why.TheVariants.{UnknownAddition, UnknownAlternative}
 use Rattle.oer_units.specs.declared.tagging.Tag.{Tag}
-use Rattle.oer_units.proofs.Closure.{got_place, got_value}
-use Rattle.oer_units.proofs.Lengths.{determinant_lawful}
 use Rattle.oer_units.proofs.TagReaders.{tag_lawful}
 use Rattle.oer_units.proofs.Units.{group_lawful}
 use Rattle.oer_types.specs.AsnType.{Additions, Alternatives, AsnType, Fields, Need, addition, alternative, bit_string, boolean, choice, default, enumerated, extensible_sequence, field, integer, later, may, must, no_additions, no_alternatives, no_fields, null, object_id, octet_string, restricted_string, sequence, sequence_of, utf8_string}
-use Rattle.oer_types.specs.AsnValue.{AsnValue}
 use Rattle.oer_types.specs.Bits.{all_false, first_bit, later_bits}
 use Rattle.oer_types.specs.Canonical.{canonical_octets, same_list}
 use Rattle.oer_types.specs.Checking.{and_also, both, check_additions, check_alternative, check_bit, check_by_tag, check_chosen, check_extension, check_fields, check_group, check_octets, check_open, check_times, check_unknown, check_value, is_bitmap, is_least, judge, judged, quantity_octets, unlike}
 use Rattle.oer_types.specs.Constraints.{AdditionsKeepLimits, AlternativesKeepLimits, FieldsKeepLimits, KeepsLimits, addition_count, has_tag, optional, same_tag, size_fits}
 use Rattle.oer_types.specs.Fits.{AdditionDefaultsFit, AlternativeDefaultsFit, DefaultsFit, FieldDefaultsFit}
 use Rattle.oer_types.specs.Parts.{Step, to_addition, to_chosen, to_component, to_item}
-use Rattle.oer_types.specs.Reading.{bitmap, preamble, quantity, read_value}
+use Rattle.oer_types.specs.Reading.{preamble}
 use Rattle.oer_types.specs.declared.size.Size.{Size}
-use Rattle.oer_types.proofs.CheckedParts.{value_checked}
-use Rattle.oer_types.proofs.Main.{value_lawful}
-use Rattle.oer_types.proofs.Parts.{bitmap_lawful, preamble_lawful, quantity_lawful}
+use Rattle.oer_types.proofs.Parts.{preamble_lawful}
 use Rattle.oer_checker.specs.Listing.{Cover}
 use Rattle.oer_checker.specs.Rows.{Line, Walk, Walker, add_line, go_on, halted, inside, leave, leave_at, line, line_at, row, stay, stuck, walk_additions, walk_alternative, walk_both, walk_choose, walk_chosen, walk_extension, walk_fields, walk_if, walk_open, walk_rest, walk_times, walk_unknown, walk_value, went}
 use Rattle.oer_checker.specs.Steps.{addition_map, and_after, between, bits_left, check_if, check_there, got_both, is_there, left_open, sized_length, sized_quantity}
@@ -33,6 +26,7 @@ use Rattle.oer_checker.specs.declared.row.Role.{Role}
 use Rattle.oer_checker.specs.declared.row.Role.TheVariants.{Bitmap, Contents, Length, Preamble, Quantity, Tag as TagRole, Unknown}
 use Rattle.oer_checker.proofs.FieldSteps.{by_bit, extensible_stop, extensible_then, field_is, items_stop, items_then, map_stop, map_then, sequence_stop, sequence_then}
 use Rattle.oer_checker.proofs.Joins.{and_all, bind_got, bind_stop}
+use Rattle.oer_checker.proofs.LineUnits.{Sound, length_sound, map_sound, quantity_sound, value_sound}
 use Rattle.oer_checker.proofs.LengthSteps.{length_then, octets_stop, open_stop, open_then}
 use Rattle.oer_checker.proofs.TagSteps.{choice_stop, choice_then}
 
@@ -41,64 +35,8 @@ use Rattle.oer_checker.proofs.TagSteps.{choice_stop, choice_then}
 abbrev pub Fronts : {A : Type 0} → Reader A → Type 0
 Fronts {A} r = (p : Place) (x : A) (q : Place) → r p ≡ got x q → (b : List ℕ) × (p.input ≡ b ++ q.input)
 
-lawful_fronts : {A : Type 0} (r : Reader A) (S : A → List ℕ → Type 0) → Lawful r S → Fronts r
-lawful_fronts r S l p x q e = let a = l.sound p x q e in (a.0, a.2)
-
-give_fronts : {A : Type 0} (x : A) → Fronts (give x)
-unfolding give
-give_fronts x p y q e = ([], ap (λ (s : Place). s.input) (got_place x y p q e))
-
-within_fronts : {A : Type 0} (n : ℕ) (r : Reader A) → Fronts r → Fronts (within n r)
-unfolding within
-within_fronts {A} n r f p x q e0 = cases (leb n p.left) e0 where
-  cases : (b : Bool) → bounded b r p ≡ got x q → (b : List ℕ) × (p.input ≡ b ++ q.input)
-  cases true e = f p x q e
-  cases false e = absurd (cc)
-
-guard_fronts : {A : Type 0} (t : Bool) (why : Why) (r : Reader A) → Fronts r → Fronts (guard t why r)
-unfolding refuse
-guard_fronts true why r f p x q e = f p x q e
-guard_fronts false why r f p x q e = absurd (cc)
-
-bind_fronts : {A B : Type 0} (r : Reader A) (k : A → Reader B) → Fronts r → ((x : A) → Fronts (k x)) → Fronts (bind r k)
-unfolding bind
-bind_fronts {A} {B} r k f g p y q e0 = cases (r p) refl e0 where
-  cases : (o : Outcome A) → r p ≡ o → then_read k o ≡ got y q → (b : List ℕ) × (p.input ≡ b ++ q.input)
-  cases (got x s) is e =
-      let one = f p x s is in
-      let two = g x s y q e in
-      (one.0 ++ two.0, one.1 ∙ ap (λ (l : List ℕ). one.0 ++ l) two.1 ∙ sym (append_assoc one.0 two.0 q.input))
-  cases (refused why rest) is e = absurd (cc)
-
-judged_fronts : {A : Type 0} (test : A → List ℕ → Bool) (r : Reader A) → Fronts r → Fronts (judged test r)
-unfolding judged
-judged_fronts {A} test r f p y q e0 = cases (r p) refl e0 where
-  cases : (o : Outcome A) → r p ≡ o → judge test p o ≡ got y q → (b : List ℕ) × (p.input ≡ b ++ q.input)
-  cases (got x s) is e =
-      let one = f p x s is in
-      (one.0, one.1 ∙ ap (λ (t : Place). one.0 ++ t.input) (got_place _ y s q e))
-  cases (refused why rest) is e = absurd (cc)
-
-sized_length_fronts : Fronts sized_length
-unfolding sized_length
-sized_length_fronts = bind_fronts (judged (is_least length_octets) determinant) (λ y. within y.0 (give y)) (judged_fronts (is_least length_octets) determinant (lawful_fronts determinant _ determinant_lawful)) (λ y. within_fronts y.0 (give y) (give_fronts y))
-
-sized_quantity_fronts : (s : Size) → Fronts (sized_quantity s)
-unfolding sized_quantity
-sized_quantity_fronts s = bind_fronts (judged (is_least quantity_octets) quantity) (λ y. within y.0 (guard (size_fits s y.0) reason.Size (give y))) (judged_fronts (is_least quantity_octets) quantity (lawful_fronts quantity _ quantity_lawful)) (λ y. within_fronts y.0 (guard (size_fits s y.0) reason.Size (give y)) (guard_fronts (size_fits s y.0) reason.Size (give y) (give_fronts y)))
-
-map_fronts : (n : ℕ) → Fronts (addition_map n)
-unfolding addition_map
-map_fronts n = bind_fronts (judged (is_bitmap n) bitmap) (λ y. guard (all_false (drop 65536 y.0)) UnknownAddition (give y)) (judged_fronts (is_bitmap n) bitmap (lawful_fronts bitmap _ bitmap_lawful)) (λ y. guard_fronts (all_false (drop 65536 y.0)) UnknownAddition (give y) (give_fronts y))
-
-value_fronts : (T : AsnType) → KeepsLimits T → DefaultsFit T → Fronts (check_value T)
-value_fronts T wf d p f q e = cases (read_value T p) refl where
-  cases : (o : Outcome AsnValue) → read_value T p ≡ o → (b : List ℕ) × (p.input ≡ b ++ q.input)
-  cases (got v s) is =
-      let a = (value_lawful T wf).sound p v s is in
-      let t = (value_checked T wf d).tells p v s is in
-      (a.0, a.2 ∙ ap (λ (r : Place). a.0 ++ r.input) (got_place t.0 f s q (sym t.1 ∙ e)))
-  cases (refused why rest) is = let same : refused why rest ≡ got f q = sym ((value_checked T wf d).refuses p why rest is) ∙ e in absurd (cc)
+sound_fronts : {A : Type 0} (r : Reader A) (S : A → List ℕ → Type 0) → Sound r S → Fronts r
+sound_fronts r S f p x q e = let a = f p x q e in (a.0, a.2)
 
 -- ---- lines
 
@@ -206,7 +144,7 @@ agree_row {A} total path role r k old p whole front goes stops = cases (r p) ref
 
 leaf_agrees : (T : AsnType) → KeepsLimits T → DefaultsFit T → (total : ℕ) (path : List Step) → Agrees total (check_value T) (row total path Contents (check_value T) (λ f. stay))
 unfolding stay
-leaf_agrees T wf d total path old p = agree_row total path Contents (check_value T) (λ f. stay) old p (check_value T p) (value_fronts T wf d)
+leaf_agrees T wf d total path old p = agree_row total path Contents (check_value T) (λ f. stay) old p (check_value T p) (sound_fronts (check_value T) _ (value_sound T wf d))
     (λ f q e. (got true q, (f, and_one f q ∙ e), λ new. (refl, grew_none total new q.input)))
     (λ why rest e. (why, rest, e))
   where
@@ -229,18 +167,18 @@ open_by total ls q outer n (refused why rest) (halted new) h = h
 
 agree_open : (total : ℕ) (path : List Step) (r : Reader Bool) (c : Walker) → Agrees total r c → Agrees total (check_open r) (walk_open total path c)
 unfolding inside
-agree_open total path r c h old p = agree_row total path Length sized_length (λ y. inside y.0 c) old p (check_open r p) sized_length_fronts
+agree_open total path r c h old p = agree_row total path Length sized_length (λ y. inside y.0 c) old p (check_open r p) (sound_fronts sized_length _ length_sound)
     (λ y q e. (reader.leave (q.left - y.0) (r (at q.input y.0)), (y.1, open_then r p q y.0 y.1 e), λ new. open_by total new q (q.left - y.0) y.0 (r (at q.input y.0)) (c new (at q.input y.0)) (h new (at q.input y.0))))
     (λ why rest e. (why, rest, open_stop r p why rest e))
 
 agree_octets : (total : ℕ) (path : List Step) → Agrees total check_octets (walk_unknown total path)
 unfolding check_octets check_group stay
-agree_octets total path old p = agree_row total path Length sized_length (λ y. row total path Unknown (group y.0) (λ w. stay)) old p (check_octets p) sized_length_fronts
+agree_octets total path old p = agree_row total path Length sized_length (λ y. row total path Unknown (group y.0) (λ w. stay)) old p (check_octets p) (sound_fronts sized_length _ length_sound)
     (λ y q e. (check_group y.0 q, (y.1, length_then check_group p q y.0 y.1 e), λ new. content y.0 q new))
     (λ why rest e. (why, rest, octets_stop p why rest e))
   where
     content : (n : ℕ) (q : Place) (new : List Line) → Agree total new q (check_group n q) (row total path Unknown (group n) (λ w. stay) new q)
-    content n q new = agree_row total path Unknown (group n) (λ w. stay) new q (check_group n q) (lawful_fronts (group n) _ (group_lawful n))
+    content n q new = agree_row total path Unknown (group n) (λ w. stay) new q (check_group n q) (sound_fronts (group n) _ (group_lawful n).sound)
         (λ w s e. (got true s, (true, bind_got (group n) (λ x. give true) q s w (got true s) e (give_is true s)), λ later. (refl, grew_none total later s.input)))
         (λ why rest e. (why, rest, bind_stop (group n) (λ x. give true) q why rest e))
       where
@@ -297,7 +235,7 @@ agree_chosen total extensible more r c d t h k = by (has_tag t more) extensible 
 agree_extension : (total : ℕ) (path : List Step) (x : Bool) (more : Additions) (c : List Bool → Walker) → ((s : List Bool) → Agrees total (check_additions more s) (c s)) → Agrees total (check_extension x more (check_additions more)) (walk_extension x more total path c)
 agree_extension total path false more c h = agree_stay total
 agree_extension total path true more c h old p =
-    agree_row total path Bitmap (addition_map n) (λ y. walk_both (c y.0) (walk_rest total path n (drop n y.0))) old p (check_extension true more (check_additions more) p) (map_fronts n)
+    agree_row total path Bitmap (addition_map n) (λ y. walk_both (c y.0) (walk_rest total path n (drop n y.0))) old p (check_extension true more (check_additions more) p) (sound_fronts (addition_map n) _ (map_sound n))
     (λ y q e. (both (check_additions more y.0) (check_unknown (drop n y.0)) q, (y.1, map_then more n p q y.0 y.1 refl e), λ new. agree_both total (check_additions more y.0) (check_unknown (drop n y.0)) (c y.0) (walk_rest total path n (drop n y.0)) (h y.0) (agree_rest total path n (drop n y.0)) new q))
     (λ why rest e. (why, rest, map_stop more n true p why rest refl refl e))
   where
@@ -306,16 +244,16 @@ agree_extension total path true more c h old p =
 
 abbrev mutual
   pub value_agrees : (T : AsnType) → KeepsLimits T → DefaultsFit T → (total : ℕ) (path : List Step) → Agrees total (check_value T) (walk_value T total path)
-  value_agrees (sequence fs) wf d total path old p = agree_row total path Preamble (preamble (optional fs)) (walk_fields fs total path 0) old p (check_value (sequence fs) p) (lawful_fronts (preamble (optional fs)) _ (preamble_lawful (optional fs)))
+  value_agrees (sequence fs) wf d total path old p = agree_row total path Preamble (preamble (optional fs)) (walk_fields fs total path 0) old p (check_value (sequence fs) p) (sound_fronts (preamble (optional fs)) _ (preamble_lawful (optional fs)).sound)
       (λ s q e. (check_fields fs s q, (true, and_all (check_fields fs s q) ∙ sequence_then fs p q s (check_fields fs s q) e refl), λ new. fields_agree fs wf d total path 0 s new q))
       (λ why rest e. (why, rest, sequence_stop fs p why rest e))
-  value_agrees (extensible_sequence fs more) wf d total path old p = agree_row total path Preamble (preamble (suc (optional fs))) (λ s. walk_both (walk_fields fs total path 0 (later_bits s)) (walk_extension (first_bit s) more total path (walk_additions more total path 0))) old p (check_value (extensible_sequence fs more) p) (lawful_fronts (preamble (suc (optional fs))) _ (preamble_lawful (suc (optional fs))))
+  value_agrees (extensible_sequence fs more) wf d total path old p = agree_row total path Preamble (preamble (suc (optional fs))) (λ s. walk_both (walk_fields fs total path 0 (later_bits s)) (walk_extension (first_bit s) more total path (walk_additions more total path 0))) old p (check_value (extensible_sequence fs more) p) (sound_fronts (preamble (suc (optional fs))) _ (preamble_lawful (suc (optional fs))).sound)
       (λ s q e. (both (check_fields fs (later_bits s)) (check_extension (first_bit s) more (check_additions more)) q, (true, and_all _ ∙ extensible_then fs more (suc (optional fs)) p q s _ refl e refl), λ new. agree_both total (check_fields fs (later_bits s)) (check_extension (first_bit s) more (check_additions more)) _ _ (fields_agree fs wf.0 d.0 total path 0 (later_bits s)) (agree_extension total path (first_bit s) more (walk_additions more total path 0) (λ u. additions_agree more wf.1 d.1 total path 0 u)) new q))
       (λ why rest e. (why, rest, extensible_stop fs more (suc (optional fs)) p why rest refl e))
-  value_agrees (sequence_of size T) wf d total path old p = agree_row total path Quantity (sized_quantity size) (λ y. walk_times (λ i. walk_value T total (path ++ (to_item i ∷ []))) 0 y.0) old p (check_value (sequence_of size T) p) (sized_quantity_fronts size)
+  value_agrees (sequence_of size T) wf d total path old p = agree_row total path Quantity (sized_quantity size) (λ y. walk_times (λ i. walk_value T total (path ++ (to_item i ∷ []))) 0 y.0) old p (check_value (sequence_of size T) p) (sound_fronts (sized_quantity size) _ (quantity_sound size))
       (λ y q e. (check_times y.0 (check_value T) q, (y.1, items_then size T p q y.0 y.1 e), λ new. agree_times total (check_value T) (λ i. walk_value T total (path ++ (to_item i ∷ []))) (λ i. value_agrees T wf.1 d total (path ++ (to_item i ∷ []))) 0 y.0 new q))
       (λ why rest e. (why, rest, items_stop size T p why rest e))
-  value_agrees (choice extensible more) wf d total path old p = agree_row total path TagRole tag (λ t. walk_chosen extensible more (walk_alternative more total (path ++ (to_chosen ∷ [])) t) (walk_unknown total (path ++ (to_chosen ∷ []))) t) old p (check_value (choice extensible more) p) (lawful_fronts tag _ tag_lawful)
+  value_agrees (choice extensible more) wf d total path old p = agree_row total path TagRole tag (λ t. walk_chosen extensible more (walk_alternative more total (path ++ (to_chosen ∷ [])) t) (walk_unknown total (path ++ (to_chosen ∷ []))) t) old p (check_value (choice extensible more) p) (sound_fronts tag _ tag_lawful.sound)
       (λ t q e. (check_chosen extensible more (check_alternative more) t q, (true, and_all _ ∙ choice_then extensible more p q t _ e refl), λ new. agree_chosen total extensible more (check_alternative more) _ _ t (alternative_agrees more wf d total (path ++ (to_chosen ∷ [])) t) (agree_octets total (path ++ (to_chosen ∷ []))) new q))
       (λ why rest e. (why, rest, choice_stop extensible more p why rest e))
   value_agrees boolean wf d total path = leaf_agrees boolean wf d total path

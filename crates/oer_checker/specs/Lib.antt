@@ -12,3 +12,4 @@ pub mod Encoding
 pub mod AtMostOne
 pub mod Rows
 pub mod Listing
+pub mod Lines
