@@ -1,5 +1,5 @@
 -- The lines of a walk are those of the encoding that it went through.
-use Rattle.std.proofs.Common.{◌≡◌, ℕ, zero, suc, ◌+◌, ◌-◌, ◌≤◌, Bool, true, false, leb, List, [], ◌∷◌, ◌++◌, length, drop, take, arith, refl, sym, ap, ◌∙◌, subst, append_assoc, append-nil, length-append, take_at}
+use Rattle.std.proofs.Common.{◌≡◌, ℕ, zero, suc, ◌+◌, ◌-◌, ◌≤◌, Bool, true, false, leb, List, [], ◌∷◌, ◌++◌, length, drop, take, arith, refl, sym, ap, ◌∙◌, subst, append_assoc, append-nil, length-append, take_at, leb-true}
 use Rattle.oer_units.specs.Reader.{Outcome, Place, Reader, at, got, group, refused}
 use Rattle.oer_units.specs.Reading.{tag}
 use Rattle.oer_units.specs.Spelling.{IsCounted, IsLength, IsTag, StandsFor}
@@ -25,7 +25,6 @@ use Rattle.oer_checker.specs.declared.row.Role.{Role}
 use Rattle.oer_checker.specs.declared.row.Role.TheVariants.{Bitmap, Contents, Length, Preamble, Quantity, Tag as TagRole, Unknown}
 use Rattle.oer_checker.proofs.LengthSteps.{sized_room}
 use Rattle.oer_checker.proofs.LineUnits.{Sound, length_sound, map_sound, quantity_sound, value_sound}
-use borrow.Author.Tests.{leb-true}
 
 -- from p to q lines were added, and they are those by S of the octets between
 abbrev pub Gives : ℕ → (ℕ → List Line → List ℕ → Type 0) → List Line → Place → List Line → Place → Type 0

@@ -11,5 +11,5 @@ pub mod Path
 pub mod Encoding
 pub mod AtMostOne
 pub mod Rows
-pub mod Listing
 pub mod Lines
+pub mod Listing

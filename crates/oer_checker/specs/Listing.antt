@@ -1,11 +1,11 @@
 -- What the caller of `rows` learns.
-use Rattle.std.specs.Prelude.{◌≡◌, ℕ, ◌-◌, List, [], ◌∷◌, ◌++◌, length, drop, Result, Ok, Err}
+use Rattle.std.specs.Prelude.{◌≡◌, ℕ, ◌-◌, List, [], ◌∷◌, ◌++◌, length, drop, take, Result, Ok, Err}
 use Rattle.oer_units.specs.Reader.{Place, at}
 use Rattle.oer_units.specs.declared.fault.ReadFault.{ReadFault}
 use Rattle.oer_types.specs.AsnType.{AsnType}
 use Rattle.oer_checker.specs.Check.{most}
+use Rattle.oer_checker.specs.Lines.{AreLines}
 use Rattle.oer_checker.specs.Rows.{Line, Walk, halted, line, lines_of, walk_value, went}
-use Rattle.oer_checker.specs.declared.row.Listing.{Listing}
 use Rattle.oer_checker.specs.declared.verdict.Verdict.{Verdict}
 
 -- the lines that were made
@@ -27,3 +27,8 @@ Cover total octets (line offset path role b ∷ ls) rest = (more : List ℕ) × 
 abbrev pub Covers : List ℕ → List Line → Result Verdict ReadFault → Type 0
 Covers octets ls (Ok verdict) = Cover (length octets) octets ls (drop verdict.octets octets)
 Covers octets ls (Err e) = (rest : List ℕ) × Cover (length octets) octets ls rest
+
+-- The lines are the rows of the encoding at the front, which is as long as the verdict says.
+abbrev pub AreListed : AsnType → List ℕ → List Line → Result Verdict ReadFault → Type 0
+AreListed T octets ls (Ok verdict) = AreLines T [] 0 ls (take verdict.octets octets)
+AreListed T octets ls (Err e) = Unit {0}

@@ -2,7 +2,7 @@
 ghost use Rattle.std.specs.Prelude.{◌≡◌, IfOk};
 ghost use Rattle.oer_types.specs.Schema.{the_type};
 ghost use Rattle.oer_checker.specs.Check.{Answers, Finds, IsOfOctets, Tells};
-ghost use Rattle.oer_checker.specs.Listing.{Covers, rows_of};
+ghost use Rattle.oer_checker.specs.Listing.{AreListed, Covers, rows_of};
 ghost use Rattle.oer_checker.specs.Rows.{lines_of};
 
 use crate::front::check;
@@ -26,6 +26,8 @@ pub fn rows<'a>(
     ensures comes { IfOk result (λ l. Finds (the_type schema.now) octets.now l.verdict) }
     ensures exact { IfOk result (λ l. Answers (the_type schema.now) octets.now l.verdict) }
     ensures plain { IfOk result (λ l. IsOfOctets l.verdict) }
+    // The rows are those of the encoding, in the terms of the encoding rules.
+    ensures listed { IfOk result (λ l. AreListed (the_type schema.now) octets.now (lines_of l.rows.items) l.verdict) }
     // The rows cover the encoding, or octets in front of what is rejected, in order.
     ensures covers { IfOk result (λ l. Covers octets.now (lines_of l.rows.items) l.verdict) }
     // Which rows there are.
