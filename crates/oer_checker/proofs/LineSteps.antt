@@ -4,7 +4,7 @@ use Rattle.std.proofs.lemmas.List.{drop_all}
 use Rattle.oer_units.specs.declared.fault.Why.{Why}
 use Rattle.oer_units.specs.declared.tagging.Tag.{Tag}
 use Rattle.oer_units.specs.Reader.{Outcome, Place, Reader, at, got, refused}
-use Rattle.oer_types.specs.AsnType.{Alternatives, AsnType, Need, no_alternatives}
+use Rattle.oer_types.specs.AsnType.{Additions, Alternatives, AsnType, Need, no_alternatives}
 use Rattle.oer_types.specs.Bits.{first_bit, later_bits}
 use Rattle.oer_types.specs.Constraints.{has_tag, same_tag}
 use Rattle.oer_types.specs.Parts.{Step, to_addition, to_component}
@@ -13,8 +13,13 @@ use Rattle.oer_types.specs.declared.shape.Addition.{Addition}
 use Rattle.oer_types.specs.declared.shape.Alt.{Alt}
 use Rattle.oer_types.specs.declared.shape.Field.{Field}
 use Rattle.oer_checker.specs.Places.{outcome, place_of}
-use Rattle.oer_checker.specs.Rows.{Line, Reaches, Takes, Walk, Walker, Walks, add_line, go_on, halted, inside, leave, leave_at, line_at, path_in, row, stay, stuck, walk_additions, walk_alternative, walk_both, walk_choose, walk_chosen, walk_fields, walk_if, walk_later, walk_open, walk_rest, walk_times, walk_unknown, walk_value, went}
-use Rattle.oer_checker.specs.Steps.{bits_left, is_there}
+use Rattle.oer_types.specs.Checking.{check_value}
+use Rattle.oer_checker.specs.declared.row.Role.TheVariants.{Bitmap, Contents}
+use Rattle.oer_checker.specs.Rows.{Line, Lists, Reaches, Takes, Walk, Walker, Walks, add_line, go_on, halted, inside, leave, leave_at, line_at, path_in, row, stay, stuck, walk_additions, walk_alternative, walk_both, walk_choose, walk_chosen, walk_extension, walk_fields, walk_if, walk_later, walk_open, walk_rest, walk_times, walk_unknown, walk_value, went}
+use Rattle.oer_checker.specs.BitView.{bits_in}
+use Rattle.oer_checker.specs.Steps.{addition_map, bits_left, is_there}
+use Rattle.oer_checker.specs.declared.bits.Bits.{Bits}
+use Rattle.oer_checker.proofs.FieldSteps.{count_is}
 use Rattle.oer_checker.specs.declared.place.Place as rust_place
 use Rattle.oer_checker.specs.declared.row.Halt.{Halt}
 use Rattle.oer_checker.specs.declared.row.Halt.TheVariants.{Refused, Memory}
@@ -29,19 +34,37 @@ by_walk result new w v e h = subst (λ (x : Walk). Walks result new x) e h
 
 -- ---- a unit and its line
 
+pub line_then : {A B : Type 0} (f : A → B) (spot : Spot) (role : Role) (ls new : List Line) (p : rust_place.Place) (answer : Result (A × rust_place.Place) Stop) (y : A × rust_place.Place) (k : B → Walker)
+    → Takes spot role ls p answer new (Ok y) → k (f y.0) new (place_of y.1) ≡ add_line spot.total (path_in spot) role k ls (place_of p) (outcome f answer)
+line_then f spot role ls new p answer y k h =
+    ap (λ (l : List Line). k (f y.0) l (place_of y.1)) h.1 ∙ ap (add_line spot.total (path_in spot) role k ls (place_of p)) (sym (ap (outcome f) h.0))
+
+pub line_stop : {A B : Type 0} (f : A → B) (spot : Spot) (role : Role) (ls new : List Line) (p : rust_place.Place) (answer : Result (A × rust_place.Place) Stop) (h : Halt) (k : B → Walker)
+    → Takes spot role ls p answer new (Err h) → Walks (Err h) new (add_line spot.total (path_in spot) role k ls (place_of p) (outcome f answer))
+line_stop f spot role ls new p answer Refused k h =
+    ap (add_line spot.total (path_in spot) role k ls (place_of p)) (ap (outcome f) h.0.1) ∙ ap (λ (l : List Line). halted l) (sym h.1)
+line_stop f spot role ls new p answer Memory k h = tt
+
 pub taken_then : {A B : Type 0} (f : A → B) (spot : Spot) (role : Role) (ls new : List Line) (p : rust_place.Place) (answer : Result (A × rust_place.Place) Stop) (y : A × rust_place.Place) (r : Reader B) (k : B → Walker)
     → outcome f answer ≡ r (place_of p) → Takes spot role ls p answer new (Ok y) → k (f y.0) new (place_of y.1) ≡ row spot.total (path_in spot) role r k ls (place_of p)
 unfolding row
-taken_then f spot role ls new p answer y r k e h =
-    ap (λ (l : List Line). k (f y.0) l (place_of y.1)) h.1
-    ∙ ap (add_line spot.total (path_in spot) role k ls (place_of p)) (sym (ap (outcome f) h.0) ∙ e)
+taken_then f spot role ls new p answer y r k e h = line_then f spot role ls new p answer y k h ∙ ap (add_line spot.total (path_in spot) role k ls (place_of p)) e
 
 pub taken_stop : {A B : Type 0} (f : A → B) (spot : Spot) (role : Role) (ls new : List Line) (p : rust_place.Place) (answer : Result (A × rust_place.Place) Stop) (h : Halt) (r : Reader B) (k : B → Walker)
     → outcome f answer ≡ r (place_of p) → Takes spot role ls p answer new (Err h) → Walks (Err h) new (row spot.total (path_in spot) role r k ls (place_of p))
 unfolding row
-taken_stop f spot role ls new p answer Refused r k e h =
-    sym (ap (add_line spot.total (path_in spot) role k ls (place_of p)) (sym (ap (outcome f) h.0.1) ∙ e)) ∙ ap (λ (l : List Line). halted l) (sym h.1)
-taken_stop f spot role ls new p answer Memory r k e h = tt
+taken_stop f spot role ls new p answer h r k e t =
+    by_walk (Err h) new _ _ (ap (add_line spot.total (path_in spot) role k ls (place_of p)) e) (line_stop f spot role ls new p answer h k t)
+
+-- a value of a type without parts
+pub leaf_arm : (S T : AsnType) (spot : Spot) (result : Result rust_place.Place Halt) (ls new : List Line) (p : rust_place.Place) (o : Outcome Bool) → walk_value T spot.total (path_in spot) ≡ row spot.total (path_in spot) Contents (check_value T) (λ f. stay)
+    → S ≡ T → o ≡ check_value T (place_of p) → Lists spot o p ls new result → Walks result new (walk_value S spot.total (path_in spot) ls (place_of p))
+unfolding row
+leaf_arm S T spot result ls new p o leaf is e h =
+    by_walk result new _ _ (ap (add_line spot.total (path_in spot) Contents (λ f. stay) ls (place_of p)) e ∙ ap (λ (c : Walker). c ls (place_of p)) (sym leaf) ∙ ap (λ (U : AsnType). walk_value U spot.total (path_in spot) ls (place_of p)) (sym is)) h
+
+pub type_arm : (S T : AsnType) (spot : Spot) (result : Result rust_place.Place Halt) (ls new : List Line) (p : Place) → S ≡ T → Walks result new (walk_value T spot.total (path_in spot) ls p) → Walks result new (walk_value S spot.total (path_in spot) ls p)
+type_arm S T spot result ls new p is h = by_walk result new _ _ (ap (λ (U : AsnType). walk_value U spot.total (path_in spot) ls p) (sym is)) h
 
 -- ---- one after another
 
@@ -269,3 +292,32 @@ marked_stop total path i s ls new p h whole e inv k =
 
 pub marked_end : (total : ℕ) (path : List Step) (i : ℕ) (s : List Bool) (ls : List Line) (q : rust_place.Place) (whole : Walk) → length s ≤ i → rest_from total path i s ls (place_of q) ≡ whole → Walks (Ok q) ls whole
 marked_end total path i s ls q whole le inv = by_walk (Ok q) ls _ _ (ap (λ (r : List Bool). walk_rest total path i r ls (place_of q)) (sym (drop_past i s le)) ∙ inv) (stays ls q)
+
+-- ---- the additions of a SEQUENCE
+
+pub extension_none : (more : Additions) (x : Bool) (total : ℕ) (path : List Step) (c : List Bool → Walker) (ls : List Line) (q : rust_place.Place) → x ≡ false → Walks (Ok q) ls (walk_extension x more total path c ls (place_of q))
+extension_none more x total path c ls q is = by_walk (Ok q) ls _ _ (ap (λ (b : Bool). walk_extension b more total path c ls (place_of q)) (sym is)) (stays ls q)
+
+abbrev extended : List Addition → Spot → (List Bool → Walker) → List Bool → Walker
+extended xs spot c s = walk_both (c s) (walk_rest spot.total (path_in spot) (length xs) (drop (length xs) s))
+
+abbrev seen : Bits × Bool → List Bool × Bool
+seen y = (bits_in y.0, y.1)
+
+extension_is : (xs : List Addition) (x : Bool) (spot : Spot) (c : List Bool → Walker) (ls : List Line) (p : Place) → x ≡ true → row spot.total (path_in spot) Bitmap (addition_map (length xs)) (λ y. extended xs spot c y.0) ls p ≡ walk_extension x (additions_of xs) spot.total (path_in spot) c ls p
+extension_is xs x spot c ls p is =
+    ap (λ (n : ℕ). row spot.total (path_in spot) Bitmap (addition_map n) (λ y. walk_both (c y.0) (walk_rest spot.total (path_in spot) n (drop n y.0))) ls p) (sym (count_is xs))
+    ∙ ap (λ (b : Bool). walk_extension b (additions_of xs) spot.total (path_in spot) c ls p) (sym is)
+
+pub extension_then : (xs : List Addition) (x : Bool) (spot : Spot) (c : List Bool → Walker) (ls new : List Line) (p : rust_place.Place) (answer : Result ((Bits × Bool) × rust_place.Place) Stop) (y : (Bits × Bool) × rust_place.Place) → x ≡ true
+    → outcome seen answer ≡ addition_map (length xs) (place_of p) → Takes spot Bitmap ls p answer new (Ok y) → extended xs spot c (bits_in y.0.0) new (place_of y.1) ≡ walk_extension x (additions_of xs) spot.total (path_in spot) c ls (place_of p)
+extension_then xs x spot c ls new p answer y is e h =
+    taken_then seen spot Bitmap ls new p answer y (addition_map (length xs)) (λ z. extended xs spot c z.0) e h ∙ extension_is xs x spot c ls (place_of p) is
+
+pub extension_stop : (xs : List Addition) (x : Bool) (spot : Spot) (c : List Bool → Walker) (ls new : List Line) (p : rust_place.Place) (answer : Result ((Bits × Bool) × rust_place.Place) Stop) (h : Halt) → x ≡ true
+    → outcome seen answer ≡ addition_map (length xs) (place_of p) → Takes spot Bitmap ls p answer new (Err h) → Walks (Err h) new (walk_extension x (additions_of xs) spot.total (path_in spot) c ls (place_of p))
+extension_stop xs x spot c ls new p answer h is e k =
+    by_walk (Err h) new _ _ (extension_is xs x spot c ls (place_of p) is) (taken_stop seen spot Bitmap ls new p answer h (addition_map (length xs)) (λ z. extended xs spot c z.0) e k)
+
+pub times_start : (c : ℕ → Walker) (n : ℕ) (ls : List Line) (p : Place) → walk_times c 0 (n - 0) ls p ≡ walk_times c 0 n ls p
+times_start c n ls p = let e : n - 0 ≡ n = omega arith in ap (λ (k : ℕ). walk_times c 0 k ls p) e
