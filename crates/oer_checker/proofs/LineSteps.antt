@@ -4,17 +4,19 @@ use Rattle.std.proofs.lemmas.List.{drop_all}
 use Rattle.oer_units.specs.declared.fault.Why.{Why}
 use Rattle.oer_units.specs.declared.tagging.Tag.{Tag}
 use Rattle.oer_units.specs.Reader.{Outcome, Place, Reader, at, got, refused}
-use Rattle.oer_types.specs.AsnType.{Additions, Alternatives, AsnType, Need, no_alternatives}
+use Rattle.oer_types.specs.AsnType.{Additions, Alternatives, AsnType, Fields, Need, choice, extensible_sequence, no_alternatives}
 use Rattle.oer_types.specs.Bits.{first_bit, later_bits}
-use Rattle.oer_types.specs.Constraints.{has_tag, same_tag}
-use Rattle.oer_types.specs.Parts.{Step, to_addition, to_component}
+use Rattle.oer_types.specs.Constraints.{has_tag, optional, same_tag}
+use Rattle.oer_types.specs.Parts.{Step, to_addition, to_chosen, to_component}
+use Rattle.oer_types.specs.Reading.{preamble}
+use Rattle.oer_units.specs.Reading.{tag}
 use Rattle.oer_types.specs.ShapeView.{additions_of, fields_of, later_of, need_of, root_of, type_of}
 use Rattle.oer_types.specs.declared.shape.Addition.{Addition}
 use Rattle.oer_types.specs.declared.shape.Alt.{Alt}
 use Rattle.oer_types.specs.declared.shape.Field.{Field}
 use Rattle.oer_checker.specs.Places.{outcome, place_of}
 use Rattle.oer_types.specs.Checking.{check_value}
-use Rattle.oer_checker.specs.declared.row.Role.TheVariants.{Bitmap, Contents}
+use Rattle.oer_checker.specs.declared.row.Role.TheVariants.{Bitmap, Contents, Preamble, Tag as TagRole}
 use Rattle.oer_checker.specs.Rows.{Line, Lists, Reaches, Takes, Walk, Walker, Walks, add_line, go_on, halted, inside, leave, leave_at, line_at, path_in, row, stay, stuck, walk_additions, walk_alternative, walk_both, walk_choose, walk_chosen, walk_extension, walk_fields, walk_if, walk_later, walk_open, walk_rest, walk_times, walk_unknown, walk_value, went}
 use Rattle.oer_checker.specs.BitView.{bits_in}
 use Rattle.oer_checker.specs.Steps.{addition_map, bits_left, is_there}
@@ -321,3 +323,47 @@ extension_stop xs x spot c ls new p answer h is e k =
 
 pub times_start : (c : ℕ → Walker) (n : ℕ) (ls : List Line) (p : Place) → walk_times c 0 (n - 0) ls p ≡ walk_times c 0 n ls p
 times_start c n ls p = let e : n - 0 ≡ n = omega arith in ap (λ (k : ℕ). walk_times c 0 k ls p) e
+
+-- ---- a SEQUENCE with an extension marker
+
+abbrev after_bits : Fields → Additions → Spot → List Bool → Walker
+after_bits fs more spot s = walk_both (walk_fields fs spot.total (path_in spot) 0 (later_bits s)) (walk_extension (first_bit s) more spot.total (path_in spot) (walk_additions more spot.total (path_in spot) 0))
+
+module _ (fs : Fields) (more : Additions) (spot : Spot) (k : ℕ) (ls mid : List Line) (p : rust_place.Place) (answer : Result (Bits × rust_place.Place) Stop) (many : k ≡ suc (optional fs)) (e : outcome bits_in answer ≡ preamble k (place_of p)) where
+  read : outcome bits_in answer ≡ preamble (suc (optional fs)) (place_of p)
+  read = e ∙ ap (λ (i : ℕ). preamble i (place_of p)) many
+
+  pub bits_stop : (h : Halt) → Takes spot Preamble ls p answer mid (Err h) → Walks (Err h) mid (walk_value (extensible_sequence fs more) spot.total (path_in spot) ls (place_of p))
+  bits_stop h t = taken_stop bits_in spot Preamble ls mid p answer h (preamble (suc (optional fs))) (after_bits fs more spot) read t
+
+  module _ (y : Bits × rust_place.Place) (t : Takes spot Preamble ls p answer mid (Ok y)) (s : List Bool) (later : s ≡ later_bits (bits_in y.0)) where
+    run : after_bits fs more spot (bits_in y.0) mid (place_of y.1) ≡ walk_value (extensible_sequence fs more) spot.total (path_in spot) ls (place_of p)
+    run = taken_then bits_in spot Preamble ls mid p answer y (preamble (suc (optional fs))) (after_bits fs more spot) read t
+
+    pub root_stop : (h : Halt) (new : List Line) → Walks (Err h) new (walk_fields fs spot.total (path_in spot) 0 s mid (place_of y.1)) → Walks (Err h) new (walk_value (extensible_sequence fs more) spot.total (path_in spot) ls (place_of p))
+    root_stop h new w =
+        by_walk (Err h) new _ _ run
+        (both_stop (walk_fields fs spot.total (path_in spot) 0 (later_bits (bits_in y.0))) _ mid new (place_of y.1) h (by_walk (Err h) new _ _ (ap (λ (l : List Bool). walk_fields fs spot.total (path_in spot) 0 l mid (place_of y.1)) later) w))
+
+    pub root_then : (q : rust_place.Place) (new last : List Line) (x : Bool) (result : Result rust_place.Place Halt) → Walks (Ok q) new (walk_fields fs spot.total (path_in spot) 0 s mid (place_of y.1)) → x ≡ first_bit (bits_in y.0)
+        → Walks result last (walk_extension x more spot.total (path_in spot) (walk_additions more spot.total (path_in spot) 0) new (place_of q)) → Walks result last (walk_value (extensible_sequence fs more) spot.total (path_in spot) ls (place_of p))
+    root_then q new last x result w first v =
+        by_walk result last _ _
+        (ap (λ (b : Bool). walk_extension b more spot.total (path_in spot) (walk_additions more spot.total (path_in spot) 0) new (place_of q)) first
+        ∙ both_then (walk_fields fs spot.total (path_in spot) 0 (later_bits (bits_in y.0))) _ mid new (place_of y.1) q (by_walk (Ok q) new _ _ (ap (λ (l : List Bool). walk_fields fs spot.total (path_in spot) 0 l mid (place_of y.1)) later) w)
+        ∙ run)
+        v
+
+-- ---- a CHOICE
+
+module _ (extensible : Bool) (more : Alternatives) (spot : Spot) (ls mid : List Line) (p : rust_place.Place) (answer : Result (Tag × rust_place.Place) Stop) (e : outcome (λ x. x) answer ≡ tag (place_of p)) where
+  pub tag_stop : (h : Halt) → Takes spot TagRole ls p answer mid (Err h) → Walks (Err h) mid (walk_value (choice extensible more) spot.total (path_in spot) ls (place_of p))
+  tag_stop h t = taken_stop (λ x. x) spot TagRole ls mid p answer h tag (after_tag extensible more spot.total (path_in spot ++ (to_chosen ∷ []))) e t
+
+  -- c: what follows the tag, of an alternative
+  pub tag_then : (y : Tag × rust_place.Place) (inner : Spot) (c : ℕ → List Step → Walker) (result : Result rust_place.Place Halt) (new : List Line) → Takes spot TagRole ls p answer mid (Ok y) → Reaches spot to_chosen (Ok inner)
+      → c spot.total (path_in spot ++ (to_chosen ∷ [])) ≡ after_tag extensible more spot.total (path_in spot ++ (to_chosen ∷ [])) y.0 → Walks result new (c inner.total (path_in inner) mid (place_of y.1)) → Walks result new (walk_value (choice extensible more) spot.total (path_in spot) ls (place_of p))
+  tag_then y inner c result new t at_it is w =
+      by_walk result new _ _
+      (ap (λ (d : Walker). d mid (place_of y.1)) is ∙ taken_then (λ x. x) spot TagRole ls mid p answer y tag (after_tag extensible more spot.total (path_in spot ++ (to_chosen ∷ []))) e t)
+      (at_inner c spot inner to_chosen result mid new (place_of y.1) at_it w)

@@ -6,9 +6,10 @@ use Rattle.oer_types.specs.declared.shape.Addition.{Addition}
 use Rattle.oer_types.specs.declared.shape.Shape.{Sequence, Shape}
 use Rattle.oer_checker.specs.BitView.{bits_in}
 use Rattle.oer_checker.specs.Places.{place_of}
-use Rattle.oer_checker.specs.Rows.{Walker, lines_of, path_in, walk_alternative, walk_if, walk_later, walk_open, walk_value}
+use Rattle.oer_checker.specs.Rows.{Walker, lines_of, path_in, stuck, walk_alternative, walk_if, walk_later, walk_open, walk_value}
+use Rattle.oer_checker.specs.declared.row.Halt.TheVariants.{Refused}
 use Rattle.oer_checker.proofs.Exits.{at_stop}
-use Rattle.oer_checker.proofs.LineSteps.{additions_end, additions_next, additions_stop, at_inner, both_stop, both_then, by_walk, choice_later, choice_none, choice_root, extension_none, extension_stop, extension_then, fields_end, fields_next, fields_stop, if_not, if_so, inside_ends, inside_left, inside_stop, later_end, later_here, later_next, leaf_arm, no_inner, root_end, root_here, root_next, stays, sticks, taken_stop, taken_then, times_end, times_next, times_start, times_stop, type_arm}
+use Rattle.oer_checker.proofs.LineSteps.{additions_end, additions_next, additions_stop, at_inner, bits_stop, both_stop, both_then, by_walk, choice_later, choice_none, choice_root, extension_none, extension_stop, extension_then, fields_end, fields_next, fields_stop, if_not, if_so, inside_ends, inside_left, inside_stop, later_end, later_here, later_next, leaf_arm, no_inner, root_end, root_here, root_next, root_stop, root_then, stays, sticks, tag_stop, tag_then, taken_stop, taken_then, times_end, times_next, times_start, times_stop, type_arm}
 use Rattle.oer_checker.proofs.Sizes.{additions_fall, alternatives_fall, fields_fall, later_fall}
 use Rattle.oer_checker.proofs.TypeSteps.{as_choice, as_closed, as_extensible, as_items, as_open, as_sequence}
 use Rattle.oer_checker.proofs.trace.+list.Goals as goal
@@ -136,3 +137,115 @@ list_open-returns t c =
     rw c.saturating_sub.ensures
     (sym (taken_then (λ x. x) c.args.spot.now _ _ _ c.args.place _ _ _ _ c.sized_length_at-answer.ensures c.in_ok-count.ensures)
     ∙ inside_ends c.in_ok-count.count _ _ _ (place_of c.in_ok-count.next) c.in_ok-end.end c.in_ok-end.ensures (omega arith))
+
+-- ---- a SEQUENCE with an extension marker
+
+pub list_extensible-returns-in_err-bits : goal.list_extensible-returns-in_err-bits
+list_extensible-returns-in_err-bits t c =
+    let many = c.optional.ensures.is in
+    let fs = c.args.fields.now in
+    let xs = c.args.additions.now in
+    let h = c.requires.is in
+    let is = as_extensible c.args.shape.now h.0 (Some h.1) h.1 fs xs h.2 refl h.3 h.4 in
+    rw (at_stop c.from_residual.result c.in_err-bits.field-0 c.from_residual.ensures.1)
+    (type_arm _ _ c.args.spot.now (Err c.in_err-bits.field-0) _ _ _ is (bits_stop (fields_of fs) (additions_of xs) c.args.spot.now (c.optional.result + 1) _ _ c.args.place _ (omega arith) c.preamble-answer.ensures c.in_err-bits.field-0 c.in_err-bits.ensures))
+
+pub list_extensible-returns-in_err-end : goal.list_extensible-returns-in_err-end
+list_extensible-returns-in_err-end t c =
+    let many = c.optional.ensures.is in
+    let fs = c.args.fields.now in
+    let xs = c.args.additions.now in
+    let h = c.requires.is in
+    let is = as_extensible c.args.shape.now h.0 (Some h.1) h.1 fs xs h.2 refl h.3 h.4 in
+    rw (at_stop c.from_residual-in_err-end.result c.in_err-end.field-0 c.from_residual-in_err-end.ensures.1)
+    (type_arm _ _ c.args.spot.now (Err c.in_err-end.field-0) _ _ _ is (root_stop (fields_of fs) (additions_of xs) c.args.spot.now (c.optional.result + 1) _ _ c.args.place _ (omega arith) c.preamble-answer.ensures _ c.in_ok-bits.ensures (bits_in c.later.result) c.later.ensures c.in_err-end.field-0 _ c.in_err-end.ensures))
+
+pub list_extensible-returns : goal.list_extensible-returns
+list_extensible-returns t c =
+    let many = c.optional.ensures.is in
+    let fs = c.args.fields.now in
+    let xs = c.args.additions.now in
+    let h = c.requires.is in
+    let is = as_extensible c.args.shape.now h.0 (Some h.1) h.1 fs xs h.2 refl h.3 h.4 in
+    type_arm _ _ c.args.spot.now c.list_extension.result _ _ _ is
+    (root_then (fields_of fs) (additions_of xs) c.args.spot.now (c.optional.result + 1) _ _ c.args.place _ (omega arith) c.preamble-answer.ensures _ c.in_ok-bits.ensures (bits_in c.later.result) c.later.ensures c.in_ok-end.end _ _ c.first.result c.list_extension.result c.in_ok-end.ensures c.first.ensures c.list_extension.ensures)
+
+pub list_extensible-list_fields-requires : goal.list_extensible-list_fields-requires
+list_extensible-list_fields-requires t c =
+    let h = c.requires.is in
+    fields_fall c.args.shape.now h.0 h.1 c.args.fields.now _ _ t h.2 h.3 (omega arith) c.decreases
+
+pub list_extensible-list_extension-requires : goal.list_extensible-list_extension-requires
+list_extensible-list_extension-requires t c =
+    let h = c.requires.is in
+    additions_fall c.args.shape.now h.0 h.1 c.args.additions.now _ _ t h.2 h.4 (omega arith) c.decreases
+
+-- ---- a CHOICE
+
+pub list_choice-returns-in_err-tag : goal.list_choice-returns-in_err-tag
+list_choice-returns-in_err-tag t c =
+    let h = c.requires.is in
+    let xs = c.args.alternatives.now in
+    let o = as_choice c.args.shape.now h.0 c.args.additions.now xs h.1 h.2 in
+    rw (at_stop c.from_residual.result c.in_err-tag.field-0 c.from_residual.ensures.1)
+    (type_arm _ _ c.args.spot.now (Err c.in_err-tag.field-0) _ _ _ o.is (tag_stop o.extensible (root_of xs o.after) c.args.spot.now _ _ c.args.place _ c.tag_at-answer.ensures c.in_err-tag.field-0 c.in_err-tag.ensures))
+
+pub list_choice-returns-in_err-inner : goal.list_choice-returns-in_err-inner
+list_choice-returns-in_err-inner t c = rw (at_stop c.from_residual-in_err-inner.result c.in_err-inner.field-0 c.from_residual-in_err-inner.ensures.1) (no_inner c.args.spot.now to_chosen _ _ _ c.in_err-inner.ensures)
+
+pub list_choice-returns-then-contains_tag : goal.list_choice-returns-then-contains_tag
+list_choice-returns-then-contains_tag t c =
+    let h = c.requires.is in
+    let xs = c.args.alternatives.now in
+    let o = as_choice c.args.shape.now h.0 c.args.additions.now xs h.1 h.2 in
+    type_arm _ _ c.args.spot.now c.list_alternative.result _ _ _ o.is
+    (tag_then o.extensible (root_of xs o.after) c.args.spot.now _ _ c.args.place _ c.tag_at-answer.ensures _ c.in_ok-inner.inner (λ total path. walk_alternative (root_of xs no_alternatives) total path c.in_ok-tag.tag) c.list_alternative.result _ c.in_ok-tag.ensures c.in_ok-inner.ensures
+    (choice_root o.extensible xs o.after c.args.spot.now.total _ c.in_ok-tag.tag (sym c.if-contains_tag.true ∙ c.contains_tag.ensures)) c.list_alternative.ensures)
+
+pub list_choice-returns-in-None : goal.list_choice-returns-in-None
+list_choice-returns-in-None t c =
+    let h = c.requires.is in
+    let xs = c.args.alternatives.now in
+    type_arm _ _ c.args.spot.now (Err Refused) _ _ _ (as_closed c.args.shape.now h.0 c.args.additions.now xs h.1 c.in-None.is h.2)
+    (tag_then false (root_of xs no_alternatives) c.args.spot.now _ _ c.args.place _ c.tag_at-answer.ensures _ c.in_ok-inner.inner (λ total path. stuck) (Err Refused) _ c.in_ok-tag.ensures c.in_ok-inner.ensures
+    (choice_none xs c.args.spot.now.total _ c.in_ok-tag.tag (sym c.if-contains_tag.false ∙ c.contains_tag.ensures)) (sticks _ _))
+
+pub list_choice-returns-in-Some : goal.list_choice-returns-in-Some
+list_choice-returns-in-Some t c =
+    let h = c.requires.is in
+    let xs = c.args.alternatives.now in
+    let ys = c.deref.result.now in
+    let is = as_open c.args.shape.now h.0 c.args.additions.now c.in-Some.additions xs ys h.1 c.in-Some.is h.2 c.deref.ensures.value in
+    type_arm _ _ c.args.spot.now c.list_later.result _ _ _ is
+    (tag_then true (root_of xs (later_of ys)) c.args.spot.now _ _ c.args.place _ c.tag_at-answer.ensures _ c.in_ok-inner.inner (λ total path. walk_later (later_of ys) total path c.in_ok-tag.tag) c.list_later.result _ c.in_ok-tag.ensures c.in_ok-inner.ensures
+    (choice_later xs ys c.args.spot.now.total _ c.in_ok-tag.tag (sym c.if-contains_tag.false ∙ c.contains_tag.ensures)) c.list_later.ensures)
+
+pub list_choice-list_alternative-requires : goal.list_choice-list_alternative-requires
+list_choice-list_alternative-requires t c =
+    let h = c.requires.is in
+    alternatives_fall c.args.shape.now h.0 c.args.additions.now c.args.alternatives.now _ _ t h.1 h.2 (omega arith) c.decreases
+
+pub list_choice-list_later-requires : goal.list_choice-list_later-requires
+list_choice-list_later-requires t c =
+    let h = c.requires.is in
+    later_fall c.args.shape.now h.0 c.args.additions.now c.in-Some.additions c.deref.result.now _ _ t h.1 c.in-Some.is c.deref.ensures.value (omega arith) c.decreases
+
+-- ---- alternatives
+
+pub list_alternative-returns-then-is_same_tag : goal.list_alternative-returns-then-is_same_tag
+list_alternative-returns-then-is_same_tag t c = by_walk c.list_shape.result _ _ _ (ap (λ (w : Walker). w _ (place_of c.args.place)) (root_here c.args.alternatives.now c.loop-alternative.alternative-index c.alternative-item.result c.args.spot.now.total (path_in c.args.spot.now) c.args.tag _ c.loop-alternative-test.true c.alternative-item.is (sym c.if-is_same_tag.true ∙ c.is_same_tag.ensures) c.loop-alternative.invariant)) c.list_shape.ensures
+
+pub list_alternative-loop-alternative-preserved : goal.list_alternative-loop-alternative-preserved
+list_alternative-loop-alternative-preserved t c = root_next c.args.alternatives.now c.loop-alternative.alternative-index c.alternative-item.result c.args.spot.now.total (path_in c.args.spot.now) c.args.tag _ c.loop-alternative-test.true c.alternative-item.is (sym c.if-is_same_tag.false ∙ c.is_same_tag.ensures) c.loop-alternative.invariant
+
+pub list_alternative-returns : goal.list_alternative-returns
+list_alternative-returns t c = root_end c.args.alternatives.now c.loop-alternative.alternative-index c.args.spot.now.total (path_in c.args.spot.now) c.args.tag _ _ (place_of c.args.place) c.loop-alternative-test.false c.loop-alternative.invariant
+
+pub list_later-returns-then-is_same_tag : goal.list_later-returns-then-is_same_tag
+list_later-returns-then-is_same_tag t c = by_walk c.list_open.result _ _ _ (ap (λ (w : Walker). w _ (place_of c.args.place)) (later_here c.args.alternatives.now c.loop-alternative.alternative-index c.alternative-item.result c.args.spot.now.total (path_in c.args.spot.now) c.args.tag _ c.loop-alternative-test.true c.alternative-item.is (sym c.if-is_same_tag.true ∙ c.is_same_tag.ensures) c.loop-alternative.invariant)) c.list_open.ensures
+
+pub list_later-loop-alternative-preserved : goal.list_later-loop-alternative-preserved
+list_later-loop-alternative-preserved t c = later_next c.args.alternatives.now c.loop-alternative.alternative-index c.alternative-item.result c.args.spot.now.total (path_in c.args.spot.now) c.args.tag _ c.loop-alternative-test.true c.alternative-item.is (sym c.if-is_same_tag.false ∙ c.is_same_tag.ensures) c.loop-alternative.invariant
+
+pub list_later-returns : goal.list_later-returns
+list_later-returns t c = by_walk c.list_unknown.result _ _ _ (ap (λ (w : Walker). w _ (place_of c.args.place)) (later_end c.args.alternatives.now c.loop-alternative.alternative-index c.args.spot.now.total (path_in c.args.spot.now) c.args.tag _ c.loop-alternative-test.false c.loop-alternative.invariant)) c.list_unknown.ensures
