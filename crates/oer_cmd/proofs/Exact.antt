@@ -41,7 +41,7 @@ use Rattle.oer_json.specs.Made.{made}
 use Rattle.oer_json.specs.Take.{taken}
 use Rattle.oer_json.specs.declared.fault.JsonFault.{JsonFault}
 use Rattle.oer_options.specs.Words.{behind}
-use Rattle.oer_cmd.specs.Answer.{IsPathOf, canonical_input, canonical_of, check_answer, check_octets, checked, digits_octets, ended, handed, hex_octets, in_digits, in_text, input_octets, json_input, json_of, json_read, json_taken, limited_octets, make_answer, make_text, part_answer, part_octets, value_answer, value_read, value_text, whole, within_limit}
+use Rattle.oer_cmd.specs.Answer.{IsPathOf, canonical_input, check_answer, check_octets, checked, digits_octets, ended, handed, hex_octets, in_digits, in_text, input_octets, json_input, json_read, json_taken, limited_octets, make_answer, make_text, part_answer, part_octets, value_answer, value_read, value_text, whole, within_limit}
 use Rattle.oer_cmd.specs.Canon.{HasMore, IsEmpty}
 use Rattle.oer_cmd.specs.Expected.{Expected, Meets, refusal, stop, unknown, value, ◌>>=◌}
 use Rattle.oer_cmd.specs.Faults.{IsOfRead, IsOfRewrite, status_of}

@@ -110,6 +110,10 @@ pub value_within : (f : Form) (T : AsnType) (limit : ℕ) (line : Text) (b : Lis
 value_within form.Octets T limit line b h = h.1.within
 value_within form.Json T limit line b h = h.1.2
 
+-- the same form
+pub of_form : {X : Type 0} (r : Result X Fault) (told : Option (List ℕ)) (T : AsnType) (limit : ℕ) (f same : Form) → f ≡ same → IfErr r (λ fault. Refuses fault (IfSome told (NoneFor (IsValueLine same T limit)))) → IfErr r (λ fault. Refuses fault (IfSome told (NoneFor (IsValueLine f T limit))))
+of_form r told T limit f same e h = subst (λ g. IfErr r (λ fault. Refuses fault (IfSome told (NoneFor (IsValueLine g T limit))))) (sym e) h
+
 -- ---- all the octets
 
 -- more octets than the limit

@@ -103,6 +103,13 @@ in_digits c = value (encode_lower c)
 abbrev pub in_text : Data → Expected Text
 in_text j = value (compact_text j)
 
+-- the lines of these
+abbrev pub digits_input : AsnType → ℕ → Option (List ℕ) → Expected Text
+digits_input T limit told = canonical_input T limit told >>= in_digits
+
+abbrev pub text_input : AsnType → ℕ → Option (List ℕ) → Expected Text
+text_input T limit told = json_input T limit told >>= in_text
+
 abbrev pub check_octets : AsnType → List ℕ → Expected Text
 check_octets T b = checked T b >>= λ canonical. value (verdict_text canonical (length b))
 

@@ -5,8 +5,8 @@ ghost use Rattle.oer_units.specs.Reading.{octet as octet_read};
 ghost use Rattle.oer_units.specs.Reads.{ReadsFront};
 ghost use Rattle.oer_cmd.specs.Canon.{HasMore, IsEmpty, IsNoEncoding, MakesCanonical};
 ghost use Rattle.oer_cmd.specs.Faults.{Refuses, status_of};
-ghost use Rattle.oer_cmd.specs.Answer.{canonical_input, in_digits};
-ghost use Rattle.oer_cmd.specs.Expected.{Meets, ◌>>=◌};
+ghost use Rattle.oer_cmd.specs.Answer.{canonical_input, digits_input};
+ghost use Rattle.oer_cmd.specs.Expected.{Meets};
 ghost use Rattle.oer_cmd.specs.Octets.{octets_of};
 ghost use Rattle.oer_cmd.specs.Run.{IsCanonLine, NoneFor};
 
@@ -79,7 +79,7 @@ pub fn canonical_digits<'a, R: Source>(
         (IsCanonLine (the_type schema.now) limit (string_bytes line))) }
     ensures refused { IfErr result (λ fault. Refuses fault
         (IfSome (R.remaining reader.old) (NoneFor (IsCanonLine (the_type schema.now) limit)))) }
-    ensures exact { Meets string_bytes (canonical_input (the_type schema.now) limit (R.remaining reader.old) >>= in_digits) result }
+    ensures exact { Meets string_bytes (digits_input (the_type schema.now) limit (R.remaining reader.old)) result }
 {
     let octets = canonical(alloc, schema, reader, limit)?;
     match hex::encode(alloc, octets) {

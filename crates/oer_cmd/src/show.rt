@@ -4,8 +4,8 @@ ghost use Rattle.serde_json.specs.View.{view};
 ghost use Rattle.oer_types.specs.Schema.{the_type};
 ghost use Rattle.oer_cmd.specs.Canon.{IsNoEncoding};
 ghost use Rattle.oer_cmd.specs.Faults.{Refuses};
-ghost use Rattle.oer_cmd.specs.Answer.{in_text, json_input};
-ghost use Rattle.oer_cmd.specs.Expected.{Meets, ◌>>=◌};
+ghost use Rattle.oer_cmd.specs.Answer.{json_input, text_input};
+ghost use Rattle.oer_cmd.specs.Expected.{Meets};
 ghost use Rattle.oer_cmd.specs.Run.{IsShowLine, IsShown, NoneFor};
 
 use crate::canon::check_end;
@@ -54,7 +54,7 @@ pub fn json_text<'a, R: Source>(
         (IsShowLine (the_type schema.now) limit (string_bytes line))) }
     ensures refused { IfErr result (λ fault. Refuses fault
         (IfSome (R.remaining reader.old) (NoneFor (IsShowLine (the_type schema.now) limit)))) }
-    ensures exact { Meets string_bytes (json_input (the_type schema.now) limit (R.remaining reader.old) >>= in_text) result }
+    ensures exact { Meets string_bytes (text_input (the_type schema.now) limit (R.remaining reader.old)) result }
 {
     let json = shown(alloc, schema, reader, limit)?;
     match json.to_string(alloc) {

@@ -7,7 +7,7 @@ pub returns-in-Show-clause-refused : goal.returns-in-Show-clause-refused
 returns-in-Show-clause-refused g c = of_task c.value_line.result _ (the_type c.args.schema.now) c.args.options.limit c.args.options.task _ c.in-Show.is c.value_line.ensures.refused
 
 pub returns-in-Canon-clause-refused : goal.returns-in-Canon-clause-refused
-returns-in-Canon-clause-refused g c = of_task c.value_line-2.result _ (the_type c.args.schema.now) c.args.options.limit c.args.options.task _ c.in-Canon.is c.value_line-2.ensures.refused
+returns-in-Canon-clause-refused g c = of_task c.value_line-in-Canon.result _ (the_type c.args.schema.now) c.args.options.limit c.args.options.task _ c.in-Canon.is c.value_line-in-Canon.ensures.refused
 
 pub returns-in-Check-clause-refused : goal.returns-in-Check-clause-refused
 returns-in-Check-clause-refused g c = of_task c.check_line.result _ (the_type c.args.schema.now) c.args.options.limit c.args.options.task _ c.in-Check.is c.check_line.ensures.refused
@@ -25,10 +25,10 @@ pub returns-in-Show-clause-untouched : goal.returns-in-Show-clause-untouched
 returns-in-Show-clause-untouched g c = keeps_task c.args.options.task _ c.in-Show.is c.value_line.ensures.untouched
 
 pub returns-in-Canon-clause-exact : goal.returns-in-Canon-clause-exact
-returns-in-Canon-clause-exact g c = for_task c.args.options.task _ (the_type c.args.schema.now) c.args.options.limit _ c.value_line-2.result c.in-Canon.is (λ path of. c.value_line-2.ensures.exact)
+returns-in-Canon-clause-exact g c = for_task c.args.options.task _ (the_type c.args.schema.now) c.args.options.limit _ c.value_line-in-Canon.result c.in-Canon.is (λ path of. c.value_line-in-Canon.ensures.exact)
 
 pub returns-in-Canon-clause-untouched : goal.returns-in-Canon-clause-untouched
-returns-in-Canon-clause-untouched g c = keeps_task c.args.options.task _ c.in-Canon.is c.value_line-2.ensures.untouched
+returns-in-Canon-clause-untouched g c = keeps_task c.args.options.task _ c.in-Canon.is c.value_line-in-Canon.ensures.untouched
 
 pub returns-in-Check-clause-exact : goal.returns-in-Check-clause-exact
 returns-in-Check-clause-exact g c = for_task c.args.options.task _ (the_type c.args.schema.now) c.args.options.limit _ c.check_line.result c.in-Check.is (λ path of. c.check_line.ensures.exact)
