@@ -2,8 +2,8 @@ use Rattle.std.proofs.Common.{length, ap, ◌∙◌, arith}
 use Rattle.oer_literals.proofs.Digits.{bits_whole, octets_count}
 use Rattle.oer_literals.proofs.bit.bits_of_digits.Goals as goal
 
-pub returns-in-Ok : goal.returns-in-Ok
-returns-in-Ok c =
+pub returns : goal.returns
+returns c =
     let w = c.args.digits.now in
     let h = rw c.in_ok-octets.ensures at c.in-Ok.ensures in
     h.1 ∙ bits_whole (length w) w (omega arith)
