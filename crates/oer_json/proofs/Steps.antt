@@ -1,5 +1,5 @@
 -- Looking for a key, from the front.
-use Rattle.std.proofs.Common.{◌≡◌, ℕ, true, false, List, ◌∷◌}
+use Rattle.std.proofs.Common.{◌≡◌, ℕ, List, ◌∷◌, true, false, refl}
 use Rattle.std.specs.Str.{bytes_eq}
 use Rattle.oer_json.specs.Keys.{is_among}
 

@@ -1,5 +1,5 @@
 -- Values after DEFAULT, items, tags and Names that are read are spelt so.
-use Rattle.std.proofs.Common.{map, ◌≡◌, ℕ, zero, suc, ◌^◌, ◌<◌, ℤ, List, [], ◌∷◌, ◌++◌, length, Bool, true, false, cond, ◌⊎◌, inl, inr, Option, Some, None, Ok, refl, sym, ap, subst, ◌∙◌, append_assoc, append-nil, nat_lt, arith}
+use Rattle.std.proofs.Common.{◌≡◌, ℕ, zero, suc, ◌^◌, ◌<◌, ℤ, List, [], ◌∷◌, ◌++◌, length, map, Bool, true, false, cond, ◌⊎◌, inl, inr, Option, Some, None, Ok, refl, sym, ap, subst, ◌∙◌, append_assoc, append-nil, nat_lt, arith}
 use Rattle.std.specs.Prelude.{codes}
 use Rattle.std.specs.Int.{w128}
 use Rattle.std.specs.Str.{bytes_eq}
