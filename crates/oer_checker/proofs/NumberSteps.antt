@@ -1,5 +1,5 @@
 -- Numbers, compared with bounds and with their least forms.
-use Rattle.std.proofs.Common.{◌-◌, ◌≡◌, ℕ, ℤ, pos, ◌^◌, ◌≤ℤ◌, Bool, true, false, ◌||◌, leb, ltb, eqb, int_le, List, length, Option, inl, inr, refl, sym, ap, ◌∙◌, subst, arith, unsigned_abs}
+use Rattle.std.proofs.Common.{◌-◌, ◌≡◌, ℕ, ℤ, pos, ◌^◌, ◌≤ℤ◌, Bool, true, false, ◌||◌, leb, ltb, eqb, List, length, Option, inl, inr, refl, sym, ap, ◌∙◌, subst, arith, unsigned_abs}
 use Rattle.std.proofs.lemmas.Bool.{cases_lt, le-leb, le-ltb, lt-leb, lt-ltb}
 use Rattle.oer_units.specs.declared.fault.Why.{Why}
 use Rattle.oer_units.specs.declared.fault.Why.TheVariants.{EmptyNumber, IntegerRange, UnknownEnum}

@@ -5,7 +5,7 @@ use Rattle.oer_units.specs.declared.fault.ReadFault.{ReadFault}
 use Rattle.oer_units.specs.declared.width.Width.{Width}
 use Rattle.oer_units.specs.Fixed.{group_as, signed_fixed_at, unsigned_fixed_at}
 use Rattle.oer_units.specs.Numbers.{natural, signed, unsigned}
-use Rattle.oer_units.specs.Reader.{bind, give, guard, Reader, within}
+use Rattle.oer_units.specs.Reader.{bind, give, guard, Reader}
 use Rattle.oer_units.specs.Reading as unit
 use Rattle.oer_units.specs.Reads.{place, Reads, seen, State}
 use Rattle.oer_units.specs.Width.{octets_of_width}
