@@ -15,7 +15,7 @@ use Rattle.oer_types.specs.AsnValue.{AsnValue, Places, Unknown, Values, absent, 
 use Rattle.oer_types.specs.Constraints.{same_tag}
 use Rattle.oer_json.specs.Keys.{place_key}
 use Rattle.oer_json.specs.Made.{has_64_bits, made, made_alternative, made_item, made_items, made_octets, one_member, put_additions, put_fields, put_unknown}
-use Rattle.oer_json.specs.Texts.{name_of}
+use Rattle.oer_literals.specs.Items.{name_of}
 
 or_none : (a b : Bool) → a ≡ false → b ≡ false → (a || b) ≡ false
 or_none a b e f = rw (e, f) refl
