@@ -32,7 +32,7 @@ measured_sequence-returns-in_err-done t c =
     let a = addition_octets (additions_of xs) (places_of c.args.added.now) (map unknown_of c.args.unknown.now) in
     let is = at_extended c.args.shape.now s.root c.in-Some.additions fs c.args.places.now xs c.args.added.now c.args.unknown.now x (s.is ∙ ap (Sequence s.root) c.in-Some.is) c.deref-fields.ensures.value c.deref-additions.ensures.value c.is_extended-extended.ensures in
     let len = length-two _ r (extension_octets x a) is in
-    measured_none c.from_residual.result _ _ _ c.from_residual.ensures (none_is c.measured_root-done.result _ r c.in_err-done.was c.measured_root-done.ensures) (omega (arith, len))
+    measured_none c.from_residual.result _ _ _ c.from_residual.ensures (none_is c.measured_root-2.result _ r c.in_err-done.was c.measured_root-2.ensures) (omega (arith, len))
 
 pub measured_sequence-returns-then-not-extended : goal.measured_sequence-returns-then-not-extended
 measured_sequence-returns-then-not-extended t c =
@@ -44,7 +44,7 @@ measured_sequence-returns-then-not-extended t c =
     let a = addition_octets (additions_of xs) (places_of c.args.added.now) (map unknown_of c.args.unknown.now) in
     let is = at_extended c.args.shape.now s.root c.in-Some.additions fs c.args.places.now xs c.args.added.now c.args.unknown.now x (s.is ∙ ap (Sequence s.root) c.in-Some.is) c.deref-fields.ensures.value c.deref-additions.ensures.value c.is_extended-extended.ensures in
     let len = ap length (is ∙ ap (λ y. r ++ extension_octets y a) c.if-not-extended.true ∙ append-nil r) in
-    let n = some_is c.measured_root-done.result _ _ r c.in_ok-done.was c.measured_root-done.ensures in
+    let n = some_is c.measured_root-2.result _ _ r c.in_ok-done.was c.measured_root-2.ensures in
     omega (arith, len, n)
 
 pub measured_sequence-returns : goal.measured_sequence-returns
@@ -57,7 +57,7 @@ measured_sequence-returns t c =
     let a = addition_octets (additions_of xs) (places_of c.args.added.now) (map unknown_of c.args.unknown.now) in
     let is = at_extended c.args.shape.now s.root c.in-Some.additions fs c.args.places.now xs c.args.added.now c.args.unknown.now x (s.is ∙ ap (Sequence s.root) c.in-Some.is) c.deref-fields.ensures.value c.deref-additions.ensures.value c.is_extended-extended.ensures in
     let len = length-two _ r a (is ∙ ap (λ y. r ++ extension_octets y a) c.if-not-extended.false) in
-    let n = some_is c.measured_root-done.result _ _ r c.in_ok-done.was c.measured_root-done.ensures in
+    let n = some_is c.measured_root-2.result _ _ r c.in_ok-done.was c.measured_root-2.ensures in
     measured_last c.measured_extension.result _ _ a _ (omega (arith, len, n)) c.measured_extension.ensures
 
 pub measured_root-returns-in_err-done : goal.measured_root-returns-in_err-done
@@ -114,17 +114,17 @@ measured_extension-returns t c =
 pub measured_list-returns-in_err-done : goal.measured_list-returns-in_err-done
 measured_list-returns-in_err-done t c =
     let s = c.in-SequenceOf in
-    let q = counted (unsigned_octets c.len.result) in
-    let is = at_list c.args.shape.now s.size-0 s.item s.item.value c.args.values.now c.len.result s.is refl c.len.ensures in
+    let q = counted (unsigned_octets (length c.args.values.now)) in
+    let is = at_list c.args.shape.now s.size s.item s.item.value c.args.values.now (length c.args.values.now) s.is refl refl in
     let len = length-two _ q (values_octets (type_of s.item.value) (values_of c.args.values.now)) is in
     measured_none c.from_residual.result _ _ _ c.from_residual.ensures (none_is c.ok.result _ q c.in_err-done.was (nowhere c.put_quantity.result c.ok.result _ q None c.ok.ensures.value c.put_quantity.ensures)) (omega (arith, len))
 
 pub measured_list-returns : goal.measured_list-returns
 measured_list-returns t c =
     let s = c.in-SequenceOf in
-    let q = counted (unsigned_octets c.len.result) in
+    let q = counted (unsigned_octets (length c.args.values.now)) in
     let rest = values_octets (type_of c.deref.result.now) (values_of c.args.values.now) in
-    let is = at_list c.args.shape.now s.size-0 s.item c.deref.result.now c.args.values.now c.len.result s.is c.deref.ensures c.len.ensures in
+    let is = at_list c.args.shape.now s.size s.item c.deref.result.now c.args.values.now (length c.args.values.now) s.is c.deref.ensures refl in
     let len = length-two _ q rest is in
     let n = some_is c.ok.result _ _ q c.in_ok-done.was (nowhere c.put_quantity.result c.ok.result _ q None c.ok.ensures.value c.put_quantity.ensures) in
     measured_last c.measured_values.result _ _ rest _ (omega (arith, len, n)) c.measured_values.ensures

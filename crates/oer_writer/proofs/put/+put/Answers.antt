@@ -94,14 +94,14 @@ put_extension-returns g t c =
 pub put_list-returns-in_err-done : goal.put_list-returns-in_err-done
 put_list-returns-in_err-done g t c =
     let s = c.in-SequenceOf in
-    let is = at_list c.args.shape.now s.size-0 s.item s.item.value c.args.values.now c.len.result s.is refl c.len.ensures in
-    passed c.from_residual.result _ c.args.done (counted (unsigned_octets c.len.result)) (values_octets (type_of s.item.value) (values_of c.args.values.now)) _ _ _ _ _ is c.from_residual.ensures.1 c.in_err-done.ensures
+    let is = at_list c.args.shape.now s.size s.item s.item.value c.args.values.now (length c.args.values.now) s.is refl refl in
+    passed c.from_residual.result _ c.args.done (counted (unsigned_octets (length c.args.values.now))) (values_octets (type_of s.item.value) (values_of c.args.values.now)) _ _ _ _ _ is c.from_residual.ensures.1 c.in_err-done.ensures
 
 pub put_list-returns : goal.put_list-returns
 put_list-returns g t c =
     let s = c.in-SequenceOf in
-    let is = at_list c.args.shape.now s.size-0 s.item c.deref.result.now c.args.values.now c.len.result s.is c.deref.ensures c.len.ensures in
-    wrote_then c.put_values.result _ c.in_ok-done.done (counted (unsigned_octets c.len.result)) (values_octets (type_of c.deref.result.now) (values_of c.args.values.now)) _ _ _ _ _ _ _ is c.in_ok-done.ensures c.put_values.ensures
+    let is = at_list c.args.shape.now s.size s.item c.deref.result.now c.args.values.now (length c.args.values.now) s.is c.deref.ensures refl in
+    wrote_then c.put_values.result _ c.in_ok-done.done (counted (unsigned_octets (length c.args.values.now))) (values_octets (type_of c.deref.result.now) (values_of c.args.values.now)) _ _ _ _ _ _ _ is c.in_ok-done.ensures c.put_values.ensures
 
 -- CHOICE
 
@@ -224,6 +224,11 @@ put_addition-returns-in_ok-done-in-Some g t c =
 
 pub put_sequence-put_root-requires : goal.put_sequence-put_root-requires
 put_sequence-put_root-requires g t c κs within =
+    let s = c.in-Sequence in
+    (rw (c.deref-fields.ensures.value) (fields_fall c.args.shape.now s.root s.additions t s.is c.decreases), within)
+
+pub put_sequence-put_root-requires-2 : goal.put_sequence-put_root-requires-2
+put_sequence-put_root-requires-2 g t c κs within =
     let s = c.in-Sequence in
     (rw (c.deref-fields.ensures.value) (fields_fall c.args.shape.now s.root s.additions t s.is c.decreases), within)
 
