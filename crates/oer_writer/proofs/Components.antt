@@ -1,14 +1,14 @@
 -- The canonical octets of components, elements and alternatives, one after another.
-use Rattle.std.proofs.Common.{◌≡◌, ℕ, suc, ◌+◌, ◌<◌, ◌≤◌, List, [], ◌∷◌, ◌++◌, length, drop, get_or, map, Bool, true, false, ◌||◌, if◌then◌else◌, Option, Some, None, option_map, Vec, Box, Global, arith, refl, sym, ap, ap₂, ◌∙◌, append-nil, append_assoc, length-append}
+use Rattle.std.proofs.Common.{◌≡◌, ℕ, suc, ◌+◌, ◌<◌, ◌≤◌, List, [], ◌∷◌, ◌++◌, length, drop, get_or, map, Bool, true, false, ◌||◌, if◌then◌else◌, Option, Some, None, option_map, Vec, Box, Global, refl, sym, ap, ap₂, ◌∙◌, append-nil, append_assoc, length-append}
 use Rattle.std.proofs.lemmas.Bool.{false≢true}
 use Rattle.std.proofs.lemmas.List.{drop_more, drop_all, length-map}
 use Rattle.oer_units.specs.Least.{counted, tag_octets, unsigned_octets}
 use Rattle.oer_units.specs.declared.tagging.Tag.{Tag}
-use Rattle.oer_types.specs.AsnType.{AsnType, Need, must, may, default, Fields, Additions, Alternatives, no_fields, field, no_additions, addition, no_alternatives, sequence, extensible_sequence, sequence_of, choice}
+use Rattle.oer_types.specs.AsnType.{AsnType, Need, must, may, default, Fields, Additions, Alternatives, no_fields, field, no_additions, addition, no_alternatives, extensible_sequence, choice}
 use Rattle.oer_types.specs.AsnValue.{AsnValue, Places, Unknown, no_places, absent, present, seq, items, chosen}
 use Rattle.oer_types.specs.Bits.{padded}
 use Rattle.oer_types.specs.Canonical.{any_present, any_unknown, bitmap_octets, canonical_octets, count, extension_octets, same, trimmed, trimmed_additions, unknown_marks, unknown_octets}
-use Rattle.oer_types.specs.Constraints.{addition_count, has_tag, same_tag}
+use Rattle.oer_types.specs.Constraints.{has_tag, same_tag}
 use Rattle.oer_types.specs.Filling.{filled, map_values}
 use Rattle.oer_types.specs.ShapeView.{additions_of, fields_of, later_of, root_of, choice_with, seen_field, seen_addition, need_of, type_of}
 use Rattle.oer_types.specs.ValueView.{places_of, places_from, unknown_of, value_of, values_of, values_from}

@@ -1,4 +1,4 @@
-use Rattle.std.proofs.Common.{◌+◌, ◌++◌, ◌∙◌, [], map, length, arith, rules, ap, sym, refl, drop, option_map, Some, None, append-nil, append_assoc}
+use Rattle.std.proofs.Common.{◌+◌, ◌++◌, ◌∙◌, [], map, length, rules, ap, sym, refl, drop, option_map, Some, None, append-nil, append_assoc}
 use Rattle.oer_units.specs.Least.{counted, tag_octets, unsigned_octets}
 use Rattle.oer_types.specs.AsnType.{no_alternatives}
 use Rattle.oer_types.specs.Bits.{padded}
