@@ -1,11 +1,12 @@
 # make: proves and builds the program, as bin/oer
 # make quick: proves and tests all but the must-fail edits, over what earlier runs kept, for use before a commit
 # make test: the whole gate, then the commands that the documents show, what a release has, and memory refused in turn
+# make bench: the instructions of our codec and of a plain one, side by side (docs/PERFORMANCE.md)
 # make install PREFIX=.. DESTDIR=..: program, manual, completions, documents and examples, under PREFIX; make uninstall: takes them away
 # make dist: the archive of a release, in out/
 PREFIX ?= /usr/local
 
-.PHONY: all quick test install uninstall dist clean
+.PHONY: all quick test bench install uninstall dist clean
 
 all: bin/oer
 
@@ -23,6 +24,9 @@ test:
 	@examples/check
 	@tools/test_release
 	@examples/refusals
+
+bench:
+	@bench/run
 
 install: bin/oer
 	@rm -rf out/layout
