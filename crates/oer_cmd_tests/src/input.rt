@@ -1,6 +1,5 @@
 //! What is gathered of a source.
 use crate::devices::{Reader, Stop};
-use crate::shared::is_well;
 use oer_cmd::{GatherFault, gather};
 use oer_units::{Metered, Source};
 use std::alloc::Global;
@@ -8,12 +7,20 @@ use std::test::Fail;
 
 const OCTETS: [u8; 5000] = [7u8; 5000];
 
+// A failure that names the limit or the call, unless all is well.
+fn is_well(what: &str, number: u64, well: bool) -> Result<(), Fail> {
+    if well {
+        return Ok(());
+    }
+    Err(Fail::new(format_args!("{what} {number}")))
+}
+
 #[test]
 fn all_octets(rt: HostRuntime) -> Result<(), Fail> {
     for limit in [5000, 5001, u64::MAX] {
         let mut reader = Metered::new(OCTETS.as_slice());
         let all = gather(rt.alloc(), &mut reader, limit)?;
-        is_well("all", all.as_slice() == OCTETS.as_slice())?;
+        is_well("limit", limit, all.as_slice() == OCTETS.as_slice())?;
     }
     Ok(())
 }
@@ -23,7 +30,11 @@ fn too_many_octets(rt: HostRuntime) -> Result<(), Fail> {
     for limit in [0, 4096, 4999] {
         let mut reader = Metered::new(OCTETS.as_slice());
         let answer = gather(rt.alloc(), &mut reader, limit);
-        is_well("longer", matches!(answer, Err(GatherFault::Longer)))?;
+        is_well(
+            "limit",
+            limit,
+            matches!(answer, Err(GatherFault::Longer)),
+        )?;
     }
     Ok(())
 }
@@ -49,14 +60,13 @@ fn ends_at(alloc: Global, call: usize) -> bool {
 
 #[test]
 fn reader_stops(rt: HostRuntime) -> Result<(), Fail> {
-    for call in 0..=20u8 {
-        let call = usize::from(call);
-        is_well("fails", fails_at(rt.alloc(), call, Stop::Fails))?;
-        is_well(
-            "interrupted",
-            fails_at(rt.alloc(), call, Stop::IsInterrupted),
-        )?;
-        is_well("ends", ends_at(rt.alloc(), call))?;
+    for call in 0..=20usize {
+        let number = call as u64;
+        let is_failed = fails_at(rt.alloc(), call, Stop::Fails);
+        is_well("failing call", number, is_failed)?;
+        let is_failed = fails_at(rt.alloc(), call, Stop::IsInterrupted);
+        is_well("interrupted call", number, is_failed)?;
+        is_well("last call", number, ends_at(rt.alloc(), call))?;
     }
     Ok(())
 }
@@ -66,8 +76,9 @@ fn one_octet_past_the_limit(rt: HostRuntime) -> Result<(), Fail> {
     for limit in 0..20usize {
         let mut reader = Metered::new(Reader::slow(&OCTETS[..20], None));
         let answer = gather(rt.alloc(), &mut reader, limit as u64);
-        is_well("longer", matches!(answer, Err(GatherFault::Longer)))?;
-        is_well("calls", reader.into_inner().calls.count == limit + 1)?;
+        let is_longer = matches!(answer, Err(GatherFault::Longer));
+        let calls = reader.into_inner().calls.count;
+        is_well("limit", limit as u64, is_longer && calls == limit + 1)?;
     }
     Ok(())
 }

@@ -32,7 +32,10 @@ fn steps_of(at: Global, path: &str) -> Result<Vec<Step>, Fail> {
     if path == "-" {
         return Ok(Vec::new(at));
     }
-    Ok(read_path(at, path)?)
+    match read_path(at, path) {
+        Ok(steps) => Ok(steps),
+        Err(_) => Err(Fail::new(path)),
+    }
 }
 
 // The octets of a part, or why there are none.

@@ -161,7 +161,10 @@ pub fn octets(at: Global, digits: &str) -> Result<Vec<u8>, Fail> {
     if digits == "-" {
         return Ok(Vec::new(at));
     }
-    Ok(hex::decode(at, digits)?)
+    match hex::decode(at, digits) {
+        Ok(octets) => Ok(octets),
+        Err(_) => Err(Fail::new(digits)),
+    }
 }
 
 /// A failure that names the row, unless all is well.
@@ -187,7 +190,10 @@ pub fn schema_of(at: Global, kind: &str) -> Result<Schema, Fail> {
     if kind == NESTED {
         return nested(at);
     }
-    Ok(parse_type(at, kind)?)
+    match parse_type(at, kind) {
+        Ok(schema) => Ok(schema),
+        Err(_) => Err(Fail::new(kind)),
+    }
 }
 
 fn nested(at: Global) -> Result<Schema, Fail> {
@@ -210,8 +216,11 @@ fn nested(at: Global) -> Result<Schema, Fail> {
 
 /// The value of the type that the JSON stands for.
 pub fn value_of(at: Global, schema: &Schema, json: &str) -> Result<Value, Fail> {
-    let json = Json::from_str(at, json)?;
-    Ok(from_json(at, schema, &json)?)
+    let tree = Json::from_str(at, json)?;
+    match from_json(at, schema, &tree) {
+        Ok(value) => Ok(value),
+        Err(_) => Err(Fail::new(json)),
+    }
 }
 
 // ---- octets that are rewritten

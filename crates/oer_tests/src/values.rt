@@ -127,7 +127,9 @@ fn are_told_from_other_octets(rt: HostRuntime) -> Result<(), Fail> {
 // follows it is left.
 fn is_read(at: Global, case: &Case) -> Result<bool, Fail> {
     let mut reader = Metered::new(case.followed.as_slice());
-    let came = read(at, &case.schema, &mut reader, u64::MAX)?;
+    let Ok(came) = read(at, &case.schema, &mut reader, u64::MAX) else {
+        return Ok(false);
+    };
     let is_same = same_filled(&case.schema, &case.value, &came);
     let is_left = reader.into_inner() == [0x62].as_slice();
     let (came, value) = (drawn_value(at, &came)?, drawn_value(at, &case.value)?);
@@ -164,8 +166,11 @@ fn is_value(at: Global, row: &str) -> Result<(), Fail> {
     let whole = expanded(at, row)?;
     let columns = row_of(whole.as_str());
     let octets = octets(at, columns.second)?;
+    let schema = schema_of(at, columns.first)?;
     let mut reader = Metered::new(octets.as_slice());
-    let came = read(at, &schema_of(at, columns.first)?, &mut reader, u64::MAX)?;
+    let Ok(came) = read(at, &schema, &mut reader, u64::MAX) else {
+        return Err(Fail::new(row));
+    };
     is_wanted(row, drawn_value(at, &came)?.as_str(), columns.third)
 }
 
