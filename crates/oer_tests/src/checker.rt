@@ -63,7 +63,14 @@ fn leads(at: Global, row: &str) -> Result<(), Fail> {
     is_wanted(row, followed.as_str(), columns.rest)
 }
 
+/// Rows as those of `PARTS`, of a type that no text spells.
+const NESTED_PARTS: &str =
+    "SEQUENCE {s SEQUENCE {b BOOLEAN DEFAULT TRUE} DEFAULT {}} | 8080ff | c0 | 80ff
+SEQUENCE {s SEQUENCE {b BOOLEAN DEFAULT TRUE} DEFAULT {}} | 8080ff | c0.c0 | ff
+SEQUENCE {s SEQUENCE {b BOOLEAN DEFAULT TRUE} DEFAULT {}} | 8000 | c0.c0 | Absent";
+
 #[test]
 fn paths_lead_to_parts(rt: HostRuntime) -> Result<(), Fail> {
-    each(rt.alloc(), PARTS, leads)
+    each(rt.alloc(), PARTS, leads)?;
+    each(rt.alloc(), NESTED_PARTS, leads)
 }

@@ -4,7 +4,7 @@ use crate::shared::{each, is_wanted, is_well, octets, schema_of, value_of};
 use oer_reader::read;
 use oer_types::{Schema, Value, fits, same_filled};
 use oer_units::Metered;
-use oer_vectors::{KINDS, NESTED_VALUES, VALUES, expanded, row_of};
+use oer_vectors::{KINDS, LAST_PLACE, NESTED_VALUES, Row, VALUES, expanded, row_of};
 use oer_writer::parts::equals;
 use oer_writer::{length, write};
 use std::alloc::Global;
@@ -21,9 +21,8 @@ pub struct Case {
     pub followed: Vec<u8>,
 }
 
-// What the row says of the encoding. `=` is that of its canonical octets.
-fn case_of(at: Global, row: &str, digits: &str) -> Result<Case, Fail> {
-    let row = row_of(row);
+/// What the row says of the encoding. `=` is that of its canonical octets.
+pub fn case_of(at: Global, row: Row<'_>, digits: &str) -> Result<Case, Fail> {
     let digits = if digits == "=" { row.third } else { digits };
     let schema = schema_of(at, row.first)?;
     let value = value_of(at, &schema, row.second)?;
@@ -47,8 +46,9 @@ pub fn each_encoding<F: Fn(Global, &Case) -> Result<bool, Fail>>(
     requires { F.IsAlwaysCallable check.now }
 {
     let whole = expanded(at, row)?;
-    for digits in row_of(whole.as_str()).rest.split(' ') {
-        let case = case_of(at, whole.as_str(), digits)?;
+    let columns = row_of(whole.as_str());
+    for digits in columns.rest.split(' ') {
+        let case = case_of(at, columns, digits)?;
         is_well(row, check(at, &case)?)?;
     }
     Ok(())
@@ -69,8 +69,8 @@ pub fn each_case<F: Fn(Global, &Case) -> Result<bool, Fail>>(
     Ok(())
 }
 
-// Whether the value is written in its canonical octets, and their number is told.
-fn is_written(at: Global, case: &Case) -> Result<bool, Fail> {
+/// Whether the value is written in its canonical octets, and their number is told.
+pub fn is_written(at: Global, case: &Case) -> Result<bool, Fail> {
     if !fits(&case.schema, &case.value) {
         return Ok(false);
     }
@@ -84,6 +84,7 @@ fn is_written(at: Global, case: &Case) -> Result<bool, Fail> {
 
 #[test]
 fn are_written_in_canonical_octets(rt: HostRuntime) -> Result<(), Fail> {
+    each_encoding(rt.alloc(), LAST_PLACE, &is_written)?;
     each_case(rt.alloc(), is_written)
 }
 
