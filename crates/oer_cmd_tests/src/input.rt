@@ -30,11 +30,7 @@ fn too_many_octets(rt: HostRuntime) -> Result<(), Fail> {
     for limit in [0, 4096, 4999] {
         let mut reader = Metered::new(OCTETS.as_slice());
         let answer = gather(rt.alloc(), &mut reader, limit);
-        is_well(
-            "limit",
-            limit,
-            matches!(answer, Err(GatherFault::Longer)),
-        )?;
+        is_well("limit", limit, matches!(answer, Err(GatherFault::Longer)))?;
     }
     Ok(())
 }
