@@ -21,6 +21,8 @@ pub struct Written {
     pub written: u64,
 }
 
+const _: () = prove!(size_of::<Written>() == 24);
+
 /// A status and nothing else.
 pub(crate) fn only_status(status: u32) -> Written
     ensures { result ≡ only_written status }

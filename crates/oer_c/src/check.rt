@@ -27,6 +27,8 @@ pub struct Checked {
     pub canonical: u32,
 }
 
+const _: () = prove!(size_of::<Checked>() == 24);
+
 // A status and nothing else.
 fn only(status: u32) -> Checked
     ensures { result ≡ only status }

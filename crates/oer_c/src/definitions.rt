@@ -23,6 +23,8 @@ pub struct Parsed {
     pub place: u64,
 }
 
+const _: () = prove!(size_of::<Parsed>() == 16);
+
 fn answer(status: u32, why: u32, place: u64) -> Parsed
     ensures { result ≡ answer status why place }
 {

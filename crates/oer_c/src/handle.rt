@@ -18,6 +18,8 @@ pub struct Handle {
     ghost told: { full ≡ flag held.types },
 }
 
+const _: () = prove!(size_of::<Handle>() == 16);
+
 impl Handle {
     fn none() -> Handle
         ensures { result.held.types ≡ None }

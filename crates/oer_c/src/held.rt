@@ -19,6 +19,8 @@ pub struct Held {
     pub ghost types: { Option PlainTypes } by { coded_option the_row.coded },
 }
 
+const _: () = prove!(size_of::<Held>() == 8);
+
 impl Model for Held {
     ghost also_owns = { λ h. holds h.at h.types };
 }
