@@ -24,3 +24,4 @@ pub mod Complete
 pub mod MadeLeaves
 pub mod MadeDenotes
 pub mod Promised
+pub mod Floats
