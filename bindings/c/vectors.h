@@ -1,6 +1,6 @@
 /* Calls and what they have to answer. The octets and answers are those of docs/COMMAND.md,
  * docs/NOTATION.md and docs/JSON.md, and of the tables of tests in Rattle, whose octets follow from
- * the standard. worked.h has the rows of those tables: bindings/worked prints it. */
+ * the standard. worked.h has the rows of oer_vectors: bindings/worked prints it. */
 #ifndef VECTORS_H
 #define VECTORS_H
 
