@@ -1,5 +1,5 @@
 -- Numbers, compared with bounds after they are read.
-use Rattle.std.proofs.Common.{◌-◌, ◌≡◌, ℕ, ℤ, pos, Bool, true, false, ◌||◌, List, Option, Result, Ok, Err, subst}
+use Rattle.std.proofs.Common.{◌≡◌, ℕ, ℤ, pos, Bool, true, false, ◌||◌, List, Option, Result, Ok, Err, subst}
 use Rattle.oer_units.specs.declared.fault.Why.TheVariants.{IntegerRange, UnknownEnum}
 use Rattle.oer_units.specs.declared.fault.ReadFault.{ReadFault}
 use Rattle.oer_units.specs.declared.width.Width.{Width}

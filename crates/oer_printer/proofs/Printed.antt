@@ -1,5 +1,5 @@
 -- Tokens that a printer puts out, one after the other.
-use Rattle.std.proofs.Common.{◌≡◌, ℕ, ◌+◌, ◌<◌, ◌≤◌, List, [], ◌∷◌, ◌++◌, length, map, Option, Vec, Global, Bool, true, false, ◌==◌, ◌||◌, ◌&&◌, Some, None, Result, Ok, Err, refl, sym, ap, ap₂, ◌∙◌, lt-ltb, append_assoc, append-nil}
+use Rattle.std.proofs.Common.{◌≡◌, ℕ, ◌<◌, ◌≤◌, List, [], ◌∷◌, ◌++◌, length, map, Option, Vec, Global, Bool, true, false, ◌==◌, ◌||◌, ◌&&◌, Some, None, Result, Ok, Err, refl, sym, ap, ap₂, ◌∙◌, lt-ltb, append_assoc, append-nil}
 use Rattle.std.specs.Prelude.{IfOk}
 use Rattle.std.specs.declared.alloc.AllocError.{AllocError}
 use Rattle.std.proofs.lemmas.Bool.{le-ltb}
