@@ -36,7 +36,8 @@ fn too_many_octets(rt: HostRuntime) -> Result<(), Fail> {
 }
 
 // Whether what is gathered of twenty octets, given one a call, is refused where a call fails.
-fn fails_at(alloc: Global, call: usize, stop: Stop) -> bool {
+fn fails_at(alloc: Global, call: u8, stop: Stop) -> bool {
+    let call = usize::from(call);
     let mut reader = Metered::new(Reader::slow(&OCTETS[..20], Some((call, stop))));
     let answer = gather(alloc, &mut reader, 20);
     matches!(answer, Err(GatherFault::Device))
@@ -56,13 +57,13 @@ fn ends_at(alloc: Global, call: usize) -> bool {
 
 #[test]
 fn reader_stops(rt: HostRuntime) -> Result<(), Fail> {
-    for call in 0..=20usize {
-        let number = call as u64;
+    for call in 0..=20u8 {
+        let number = u64::from(call);
         let is_failed = fails_at(rt.alloc(), call, Stop::Fails);
         is_well("failing call", number, is_failed)?;
         let is_failed = fails_at(rt.alloc(), call, Stop::IsInterrupted);
         is_well("interrupted call", number, is_failed)?;
-        is_well("last call", number, ends_at(rt.alloc(), call))?;
+        is_well("last call", number, ends_at(rt.alloc(), usize::from(call)))?;
     }
     Ok(())
 }

@@ -57,15 +57,10 @@ fn is_accepted(alloc: Global, vector: Vector, octets: &[u8]) -> Result<(), Fail>
     let is_canonical = vector.digits == vector.canonical;
     let form = if is_canonical { "canonical" } else { "basic" };
     let verdict = format!(in alloc; "{form} {}", octets.len())?;
-    for (task, line) in [
-        ("canon", vector.canonical),
-        ("show", vector.json),
-        ("check", verdict.as_str()),
-        ("part", vector.digits),
-    ] {
-        says(alloc, task, vector.kind, octets, (0, line))?;
-    }
-    Ok(())
+    says(alloc, "canon", vector.kind, octets, (0, vector.canonical))?;
+    says(alloc, "show", vector.kind, octets, (0, vector.json))?;
+    says(alloc, "check", vector.kind, octets, (0, verdict.as_str()))?;
+    says(alloc, "part", vector.kind, octets, (0, vector.digits))
 }
 
 // That each task on octets refuses them so.
