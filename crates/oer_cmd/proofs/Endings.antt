@@ -15,16 +15,15 @@ use Rattle.oer_notation.specs.Parsing.{parse, parse_all}
 use Rattle.oer_notation.specs.Reading.{Known, find}
 use Rattle.oer_notation.specs.Views.{knowns}
 use Rattle.oer_notation.specs.declared.types.Types.{Types}
-use Rattle.oer_cmd.specs.Answer.{IsPathOf, answer_of, expected_answer, expected_type, named_as, parsed, path_text, source_text, task_answer, type_among}
+use Rattle.oer_options.specs.Words.{Asks, Texts, behind, oer, path_text, source_text, texts_of}
+use Rattle.oer_options.specs.declared.options.Options.{Options}
+use Rattle.oer_options.specs.declared.options.Task.{Task}
+use Rattle.oer_cmd.specs.Answer.{IsPathOf, answer_of, expected_answer, expected_type, named_as, parsed, task_answer, type_among}
 use Rattle.oer_cmd.specs.Ending.{Answers, Breaks, Does, HoldsFront, IsMachineLine, IsNotTaken, IsUnstarted, MayPrint, Streams, refusal_line}
 use Rattle.oer_cmd.specs.Expected.{Expected, Meets, refusal, stop, unknown, value, ◌>>=◌}
 use Rattle.oer_cmd.specs.Faults.{AppendsFront, Printed, Reports, error_line, status_of}
-use Rattle.oer_cmd.specs.Types.{Texts, texts_of}
-use Rattle.oer_cmd.specs.Words.{Asks, behind, oer}
 use Rattle.oer_cmd.specs.declared.fault.Fault.{Fault}
 use Rattle.oer_cmd.specs.declared.fault.Fault.TheVariants.{Absent, Follows, Hex, Input, Json, Longer, Memory, NoName, NoSuchStep, NotJson, NoTypes, OneType, Output, Path, Read, «Type», Unnamed}
-use Rattle.oer_cmd.specs.declared.options.Options.{Options}
-use Rattle.oer_cmd.specs.declared.options.Task.{Task}
 use Rattle.oer_cmd.proofs.Meeting.{bytes, goes, stops}
 
 -- ---- the type, and then the task

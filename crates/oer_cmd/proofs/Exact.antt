@@ -40,16 +40,18 @@ use Rattle.oer_checker.specs.Path.{OnePath}
 use Rattle.oer_json.specs.Made.{made}
 use Rattle.oer_json.specs.Take.{taken}
 use Rattle.oer_json.specs.declared.fault.JsonFault.{JsonFault}
-use Rattle.oer_cmd.specs.Answer.{IsPathOf, canon_answer, canonical_input, canonical_of, check_answer, check_octets, checked, digits_octets, ended, handed, hex_octets, in_digits, in_text, input_octets, json_input, json_of, json_read, json_taken, limited_octets, make_answer, make_text, part_answer, part_octets, show_answer, value_read, whole, within_limit}
+use Rattle.oer_options.specs.Words.{behind}
+use Rattle.oer_cmd.specs.Answer.{IsPathOf, canonical_input, check_answer, check_octets, checked, digits_octets, ended, handed, hex_octets, in_digits, in_text, input_octets, json_input, json_read, json_taken, limited_octets, make_answer, make_text, part_answer, part_octets, value_answer, value_read, value_text, whole, within_limit}
 use Rattle.oer_cmd.specs.Canon.{HasMore, IsEmpty}
 use Rattle.oer_cmd.specs.Expected.{Expected, Meets, refusal, stop, unknown, value, ◌>>=◌}
 use Rattle.oer_cmd.specs.Faults.{IsOfRead, IsOfRewrite, status_of}
 use Rattle.oer_cmd.specs.Octets.{AreAll, octets_of}
 use Rattle.oer_cmd.specs.Run.{IsPath, verdict_text}
 use Rattle.oer_cmd.specs.declared.fault.Fault.{Fault}
+use Rattle.oer_cmd.specs.declared.value.Form.{Form}
+use Rattle.oer_cmd.specs.declared.value.Form.TheVariants as form
 use Rattle.oer_cmd.specs.declared.fault.Fault.TheVariants.{Absent, Follows, Json as Json_fault, Longer, Memory, NoSuchStep, NotJson, Path, Read}
 use Rattle.oer_cmd.proofs.Floats.{made_none}
-use Rattle.oer_cmd.specs.Words.{behind}
 use Rattle.oer_cmd.proofs.Refusals.{not_memory}
 use Rattle.oer_cmd.proofs.Meeting.{bytes, fails, followed, goes, is_read, refusing, stops, unread, wholly}
 
@@ -108,7 +110,7 @@ text_by T (refusal r) json line h text = absurd h
 text_by T (value v) json line h text = text (ap has_float h ∙ made_none T v) ∙ ap compact_text h
 
 pub json_text : (T : AsnType) (limit : ℕ) (known : Option (List ℕ)) (json : Json) (line : String Global)
-    → Meets view (json_input T limit known) (Ok json) → (has_float (view json) ≡ false → bytes line ≡ compact_text (view json)) → Meets bytes (show_answer T limit None known) (Ok line)
+    → Meets view (json_input T limit known) (Ok json) → (has_float (view json) ≡ false → bytes line ≡ compact_text (view json)) → Meets bytes (json_input T limit known >>= in_text) (Ok line)
 json_text T limit None json line h text = tt
 json_text T limit (Some xs) json line h text = text_by T (value_read T limit xs) json line h text
 
@@ -231,29 +233,27 @@ utf8_read T text utf8 = ap (λ (b : Bool). json_read (if b then read text else N
 pub not_utf8 : (T : AsnType) (text : Text) → is_utf8 text ≡ false → make_text T text ≡ stop NotJson
 not_utf8 T text broken = ap (λ (b : Bool). json_read (if b then read text else None) >>= λ j. json_taken (taken T j) >>= λ v. in_digits (canonical_octets T v)) broken
 
--- ---- the lines of canon and show
+-- ---- the line of a value
 
-pub canon_digits : (T : AsnType) (limit : ℕ) (digits : Text) (octets : Vec ℕ Global) (told : Option (List ℕ)) (result : Result (String Global) Fault)
-    → Meets octets_of (digits_octets digits) (Ok octets) → told ≡ Some octets.items → Meets bytes (canon_answer T limit None told) result → Meets bytes (canon_answer T limit (Some digits) None) result
-canon_digits T limit digits octets told result h same made = by_digits (λ o. o >>= canonical_of T limit >>= in_digits) (digits_octets digits) octets told result refl h same made
+pub octets_of_value : (f : Form) (T : AsnType) (limit : ℕ) (told : Option (List ℕ)) (result : Result (String Global) Fault) → f ≡ form.Octets → Meets bytes (canonical_input T limit told >>= in_digits) result → Meets bytes (value_answer f T limit None told) result
+octets_of_value form.Octets T limit None result is h = h
+octets_of_value form.Octets T limit (Some b) result is h = h
+octets_of_value form.Json T limit told result is h = absurd (cc)
 
-pub canon_undecoded : (T : AsnType) (limit : ℕ) (digits : Text) (fault : Fault) → Meets octets_of (digits_octets digits) (Err fault) → Meets bytes (canon_answer T limit (Some digits) None) (Err fault)
-canon_undecoded T limit digits fault h =
-    stops octets_of bytes (digits_octets digits >>= canonical_of T limit) in_digits fault (stops octets_of octets_of (digits_octets digits) (canonical_of T limit) fault h)
+pub json_of_value : (f : Form) (T : AsnType) (limit : ℕ) (told : Option (List ℕ)) (result : Result (String Global) Fault) → f ≡ form.Json → Meets bytes (json_input T limit told >>= in_text) result → Meets bytes (value_answer f T limit None told) result
+json_of_value form.Json T limit None result is h = h
+json_of_value form.Json T limit (Some b) result is h = h
+json_of_value form.Octets T limit told result is h = absurd (cc)
 
-pub canon_by : (T : AsnType) (limit : ℕ) (hex : Option (Bor Text)) (given : Option (Bor Text)) (told : Option (List ℕ)) (result : Result (String Global) Fault) → hex ≡ given → Meets bytes (canon_answer T limit (behind given) told) result → Meets bytes (canon_answer T limit (behind hex) told) result
-canon_by T limit hex given told result is h = subst (λ o. Meets bytes (canon_answer T limit (behind o) told) result) (sym is) h
+pub value_digits : (f : Form) (T : AsnType) (limit : ℕ) (digits : Text) (octets : Vec ℕ Global) (told : Option (List ℕ)) (result : Result (String Global) Fault)
+    → Meets octets_of (digits_octets digits) (Ok octets) → told ≡ Some octets.items → Meets bytes (value_answer f T limit None told) result → Meets bytes (value_answer f T limit (Some digits) None) result
+value_digits f T limit digits octets told result h same made = by_digits (λ o. o >>= value_text f T limit) (digits_octets digits) octets told result refl h same made
 
-pub show_digits : (T : AsnType) (limit : ℕ) (digits : Text) (octets : Vec ℕ Global) (told : Option (List ℕ)) (result : Result (String Global) Fault)
-    → Meets octets_of (digits_octets digits) (Ok octets) → told ≡ Some octets.items → Meets bytes (show_answer T limit None told) result → Meets bytes (show_answer T limit (Some digits) None) result
-show_digits T limit digits octets told result h same made = by_digits (λ o. o >>= json_of T limit >>= in_text) (digits_octets digits) octets told result refl h same made
+pub value_undecoded : (f : Form) (T : AsnType) (limit : ℕ) (digits : Text) (fault : Fault) → Meets octets_of (digits_octets digits) (Err fault) → Meets bytes (value_answer f T limit (Some digits) None) (Err fault)
+value_undecoded f T limit digits fault h = stops octets_of bytes (digits_octets digits) (value_text f T limit) fault h
 
-pub show_undecoded : (T : AsnType) (limit : ℕ) (digits : Text) (fault : Fault) → Meets octets_of (digits_octets digits) (Err fault) → Meets bytes (show_answer T limit (Some digits) None) (Err fault)
-show_undecoded T limit digits fault h =
-    stops view bytes (digits_octets digits >>= json_of T limit) in_text fault (stops octets_of view (digits_octets digits) (json_of T limit) fault h)
-
-pub show_by : (T : AsnType) (limit : ℕ) (hex : Option (Bor Text)) (given : Option (Bor Text)) (told : Option (List ℕ)) (result : Result (String Global) Fault) → hex ≡ given → Meets bytes (show_answer T limit (behind given) told) result → Meets bytes (show_answer T limit (behind hex) told) result
-show_by T limit hex given told result is h = subst (λ o. Meets bytes (show_answer T limit (behind o) told) result) (sym is) h
+pub value_by : (f : Form) (T : AsnType) (limit : ℕ) (hex : Option (Bor Text)) (given : Option (Bor Text)) (told : Option (List ℕ)) (result : Result (String Global) Fault) → hex ≡ given → Meets bytes (value_answer f T limit (behind given) told) result → Meets bytes (value_answer f T limit (behind hex) told) result
+value_by f T limit hex given told result is h = subst (λ o. Meets bytes (value_answer f T limit (behind o) told) result) (sym is) h
 
 -- what is given is not missing
 pub is_given : {A : Type 0} (hex : Option (Bor Text)) → hex ≡ None → (behind hex ≢ None → A)

@@ -1,64 +1,52 @@
 -- From the line of a task to that of the words.
-use Rattle.std.proofs.Common.{◌≡◌, ◌∙◌, ℕ, List, [], ◌∷◌, ◌++◌, length, Option, Some, None, false, refl, sym, ap, subst, codes, arith, length-append, append-nil}
+use Rattle.std.proofs.Common.{◌≡◌, ◌∙◌, ℕ, List, [], ◌∷◌, ◌++◌, length, Option, Some, None, refl, sym, ap, subst, arith, length-append, append-nil}
 use Rattle.std.specs.Str.Parse.{digits_value, without_leading_plus}
-use Rattle.std.specs.Prelude.{eqb, get_or}
-use Rattle.std.proofs.lemmas.Bool.{eqb-false}
+use Rattle.std.specs.Prelude.{eqb, get_or, if◌then◌else◌}
 use Rattle.clap.specs.Words.{Text}
 use Rattle.hex.specs.Hex.{encode_lower}
 use Rattle.oer_types.specs.AsnType.{AsnType}
 use Rattle.oer_types.specs.Parts.{Step, Within}
 use Rattle.oer_checker.specs.Handing.{Begins}
+use Rattle.oer_options.specs.Words.{Asks, IsTask, Kind, asked, canon, check, given, kind, make, name_of, part, path_among, show, source_option, source_text, texts_in, texts_of}
+use Rattle.oer_options.specs.declared.options.Options.{Options}
+use Rattle.oer_options.specs.declared.options.Task.{Task}
 use Rattle.oer_cmd.specs.Octets.{AreAll, AreSpelt}
-use Rattle.oer_cmd.specs.Run.{Answers, AnswersWords, IsCanonLine, IsCheckLine, IsEncoding, IsLine, IsLineOf, IsMakeLine, IsNoFront, IsPart, IsPartLine, IsShowLine, MayBe, NoLine, NoneAnswers, OfOctets, OfText, canon, check, make, part, show, texts_in}
-use Rattle.oer_cmd.specs.Types.{SpelledBy, texts_of}
-use Rattle.oer_cmd.specs.Words.{Asks, IsTask, asked, behind, given}
-use Rattle.oer_cmd.specs.declared.options.Options.{Options}
-use Rattle.oer_cmd.specs.declared.options.Task.{Task}
-use Rattle.oer_cmd.specs.declared.options.Task.TheVariants.{Canon, Check, Make, Part, Show}
+use Rattle.oer_cmd.specs.Run.{Answers, AnswersWords, IsEncoding, IsLine, IsLineBy, IsLineOf, IsNoFront, IsPart, MayBe, NoLine, NoneAnswers, OfOctets, OfText}
+use Rattle.oer_cmd.specs.Types.{SpelledBy}
 
 line_of_words : (words : List Text) (task : Task) (told : Option (List ℕ)) (T : AsnType) (limit : ℕ) (line : Text) → IsTask (asked words) (given words) task → IsLineOf task told T limit line → IsLine words told T limit line
-line_of_words words (Show hex) told T limit line is h = show is.0 (subst (λ o. OfOctets o told (IsShowLine T limit line)) (sym is.1) h)
-line_of_words words (Canon hex) told T limit line is h = canon is.0 (subst (λ o. OfOctets o told (IsCanonLine T limit line)) (sym is.1) h)
-line_of_words words (Check hex) told T limit line is h = check is.0 (subst (λ o. OfOctets o told (IsCheckLine T limit line)) (sym is.1) h)
-line_of_words words (Make json) told T limit line is h = make is.0 (subst (λ o. OfText o told (IsMakeLine T limit line)) (sym is.1) h)
-line_of_words words (Part hex path) told T limit line is h =
-    part is.0 (subst (λ o. OfOctets o told (IsPartLine T limit (given words (codes "path")) line)) (sym is.1) (subst (λ p. OfOctets (behind hex) told (IsPartLine T limit p line)) (sym is.2) h))
+line_of_words words task told T limit line is h = (
+  kind task,
+  is.0,
+  subst (λ o. IsLineBy (kind task) o (path_among (kind task) (given words)) told T limit line) (sym is.1)
+      (subst (λ p. IsLineBy (kind task) (source_text task) p told T limit line) (sym is.2) h),
+)
 
--- the third letters of the names of tasks differ
-abbrev letter : Option Text → ℕ
-letter None = 0
-letter (Some t) = get_or t 2 0
+-- The third letters of the names of tasks differ.
+abbrev by_letter : ℕ → Kind
+by_letter n = if eqb n 111 then show else if eqb n 110 then canon else if eqb n 101 then check else if eqb n 107 then make else part
 
-clash : (o : Option Text) (a b : Text) → o ≡ Some a → o ≡ Some b → eqb (letter (Some a)) (letter (Some b)) ≡ false → ⊥
-clash o a b p q e = eqb-false _ _ e (ap letter (sym p ∙ q))
+abbrev named : Option Text → Kind
+named None = show
+named (Some t) = by_letter (get_or t 2 0)
+
+named_is : (k : Kind) → named (Some (name_of k)) ≡ k
+named_is show = refl
+named_is canon = refl
+named_is check = refl
+named_is make = refl
+named_is part = refl
+
+one_kind : (o : Option Text) (j k : Kind) → o ≡ Some (name_of j) → o ≡ Some (name_of k) → j ≡ k
+one_kind o j k p q = sym (named_is j) ∙ ap named (sym p ∙ q) ∙ named_is k
 
 -- and back
 task_line : (words : List Text) (task : Task) (told : Option (List ℕ)) (T : AsnType) (limit : ℕ) (line : Text) → IsTask (asked words) (given words) task → IsLine words told T limit line → IsLineOf task told T limit line
-task_line words (Show hex) told T limit line is (show n h) = subst (λ o. OfOctets o told (IsShowLine T limit line)) is.1 h
-task_line words (Show hex) told T limit line is (canon n h) = absurd (clash (asked words) _ _ is.0 n refl)
-task_line words (Show hex) told T limit line is (check n h) = absurd (clash (asked words) _ _ is.0 n refl)
-task_line words (Show hex) told T limit line is (make n h) = absurd (clash (asked words) _ _ is.0 n refl)
-task_line words (Show hex) told T limit line is (part n h) = absurd (clash (asked words) _ _ is.0 n refl)
-task_line words (Canon hex) told T limit line is (show n h) = absurd (clash (asked words) _ _ is.0 n refl)
-task_line words (Canon hex) told T limit line is (canon n h) = subst (λ o. OfOctets o told (IsCanonLine T limit line)) is.1 h
-task_line words (Canon hex) told T limit line is (check n h) = absurd (clash (asked words) _ _ is.0 n refl)
-task_line words (Canon hex) told T limit line is (make n h) = absurd (clash (asked words) _ _ is.0 n refl)
-task_line words (Canon hex) told T limit line is (part n h) = absurd (clash (asked words) _ _ is.0 n refl)
-task_line words (Check hex) told T limit line is (show n h) = absurd (clash (asked words) _ _ is.0 n refl)
-task_line words (Check hex) told T limit line is (canon n h) = absurd (clash (asked words) _ _ is.0 n refl)
-task_line words (Check hex) told T limit line is (check n h) = subst (λ o. OfOctets o told (IsCheckLine T limit line)) is.1 h
-task_line words (Check hex) told T limit line is (make n h) = absurd (clash (asked words) _ _ is.0 n refl)
-task_line words (Check hex) told T limit line is (part n h) = absurd (clash (asked words) _ _ is.0 n refl)
-task_line words (Make json) told T limit line is (show n h) = absurd (clash (asked words) _ _ is.0 n refl)
-task_line words (Make json) told T limit line is (canon n h) = absurd (clash (asked words) _ _ is.0 n refl)
-task_line words (Make json) told T limit line is (check n h) = absurd (clash (asked words) _ _ is.0 n refl)
-task_line words (Make json) told T limit line is (make n h) = subst (λ o. OfText o told (IsMakeLine T limit line)) is.1 h
-task_line words (Make json) told T limit line is (part n h) = absurd (clash (asked words) _ _ is.0 n refl)
-task_line words (Part hex path) told T limit line is (show n h) = absurd (clash (asked words) _ _ is.0 n refl)
-task_line words (Part hex path) told T limit line is (canon n h) = absurd (clash (asked words) _ _ is.0 n refl)
-task_line words (Part hex path) told T limit line is (check n h) = absurd (clash (asked words) _ _ is.0 n refl)
-task_line words (Part hex path) told T limit line is (make n h) = absurd (clash (asked words) _ _ is.0 n refl)
-task_line words (Part hex path) told T limit line is (part n h) = subst (λ p. OfOctets (behind hex) told (IsPartLine T limit p line)) is.2 (subst (λ o. OfOctets o told (IsPartLine T limit (given words (codes "path")) line)) is.1 h)
+task_line words task told T limit line is h =
+    let same : h.0 ≡ kind task = one_kind (asked words) h.0 (kind task) h.1 is.0 in
+    let there : IsLineBy (kind task) (given words (source_option (kind task))) (path_among (kind task) (given words)) told T limit line = subst (λ k. IsLineBy k (given words (source_option k)) (path_among k (given words)) told T limit line) same h.2 in
+    subst (λ p. IsLineBy (kind task) (source_text task) p told T limit line) is.2
+    (subst (λ o. IsLineBy (kind task) o (path_among (kind task) (given words)) told T limit line) is.1 there)
 
 texts_are : (words : List Text) (o : Options) → Asks words o → texts_of o ≡ texts_in words
 texts_are words o asks = rw (← asks.type_text, ← asks.types, ← asks.name) refl

@@ -7,11 +7,12 @@ use Rattle.oer_notation.specs.Grammar.{IsDefined, IsNew, later_definition, this_
 use Rattle.oer_notation.specs.Laws.{OneType, ParseAllComplete, ParseAllSound, ParseSound}
 use Rattle.oer_notation.specs.Parsing.{parse, parse_all}
 use Rattle.oer_notation.specs.Reading.{Known}
+use Rattle.oer_options.specs.Words.{Texts}
+use Rattle.oer_options.specs.declared.options.Task.{Task}
 use Rattle.oer_cmd.specs.Faults.{Refuses}
 use Rattle.oer_cmd.specs.Run.{Answers, IsLineOf, MayBe, NoLine, NoLineOf}
-use Rattle.oer_cmd.specs.Types.{AreDefinedIn, Defines, IsOnly, IsTypeIn, NamesNone, SpelledBy, Texts}
+use Rattle.oer_cmd.specs.Types.{AreDefinedIn, Defines, IsOnly, IsTypeIn, NamesNone, SpelledBy}
 use Rattle.oer_cmd.specs.declared.fault.Fault.{Fault}
-use Rattle.oer_cmd.specs.declared.options.Task.{Task}
 
 -- What was read of a text is the one type in it.
 pub only_type : ParseSound → OneType → (text : Text) (T : AsnType) → parse text ≡ Ok T → IsOnly (IsTypeIn text) T

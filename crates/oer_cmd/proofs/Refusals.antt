@@ -25,12 +25,14 @@ use Rattle.oer_decoder.specs.Front.{ReadsWhatComes}
 use Rattle.oer_decoder.specs.Rewriting.{RewritesWhatComes}
 use Rattle.oer_decoder.specs.declared.fault.RewriteFault.{RewriteFault}
 use Rattle.oer_decoder.specs.declared.fault.RewriteFault.TheVariants as rewrite
+use Rattle.oer_options.specs.Words.{behind}
 use Rattle.oer_cmd.specs.Canon.{HasMore, IsNoEncoding}
 use Rattle.oer_cmd.specs.Faults.{IsOfRead, IsOfRewrite, Refuses, status_of}
 use Rattle.oer_cmd.specs.Octets.{AreAll, AreMore, AreSpelt, IsTooLong}
-use Rattle.oer_cmd.specs.Run.{HasNoPart, IsCanonLine, IsCheckLine, IsEncoding, IsMakeLine, IsPart, IsPartLine, IsPath, IsShowLine, Makes, NoLine, NoneFor, OfOctets, OfText}
-use Rattle.oer_cmd.specs.Words.{behind}
+use Rattle.oer_cmd.specs.Run.{HasNoPart, IsCanonLine, IsCheckLine, IsEncoding, IsMakeLine, IsPart, IsPartLine, IsPath, IsShowLine, IsValueLine, Makes, NoLine, NoneFor, OfOctets, OfText}
 use Rattle.oer_cmd.specs.declared.fault.Fault.{Fault}
+use Rattle.oer_cmd.specs.declared.value.Form.{Form}
+use Rattle.oer_cmd.specs.declared.value.Form.TheVariants as form
 use Rattle.oer_cmd.specs.declared.fault.Fault.TheVariants.{Input, Longer, Memory, Output}
 use Rattle.oer_cmd.proofs.Naming.{may_be}
 
@@ -102,6 +104,15 @@ no_canon_line T limit (Some b) none = λ line h. none h.1.value h.1.encodes h.1.
 pub no_show_line : (T : AsnType) (limit : ℕ) (known : Option (List ℕ)) → IfSome known (IsNoEncoding T limit) → IfSome known (NoneFor (IsShowLine T limit))
 no_show_line T limit None none = tt
 no_show_line T limit (Some b) none = λ line h. none h.1.0 h.1.1 h.1.2
+
+-- The line of a value is that of octets within the limit.
+pub value_within : (f : Form) (T : AsnType) (limit : ℕ) (line : Text) (b : List ℕ) → IsValueLine f T limit line b → length b ≤ limit
+value_within form.Octets T limit line b h = h.1.within
+value_within form.Json T limit line b h = h.1.2
+
+-- the same form
+pub of_form : {X : Type 0} (r : Result X Fault) (told : Option (List ℕ)) (T : AsnType) (limit : ℕ) (f same : Form) → f ≡ same → IfErr r (λ fault. Refuses fault (IfSome told (NoneFor (IsValueLine same T limit)))) → IfErr r (λ fault. Refuses fault (IfSome told (NoneFor (IsValueLine f T limit))))
+of_form r told T limit f same e h = subst (λ g. IfErr r (λ fault. Refuses fault (IfSome told (NoneFor (IsValueLine g T limit))))) (sym e) h
 
 -- ---- all the octets
 

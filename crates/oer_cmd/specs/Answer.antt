@@ -22,14 +22,16 @@ use Rattle.oer_json.specs.declared.fault.JsonFault.{JsonFault}
 use Rattle.oer_notation.specs.Parsing.{parse, parse_all}
 use Rattle.oer_notation.specs.Reading.{find}
 use Rattle.oer_notation.specs.declared.fault.TextFault.{TextFault}
+use Rattle.oer_options.specs.Words.{Texts, behind, texts_of}
+use Rattle.oer_options.specs.declared.options.Options.{Options}
+use Rattle.oer_options.specs.declared.options.Task.{Task}
+use Rattle.oer_options.specs.declared.options.Task.TheVariants.{Canon, Check, Make, Part, Show}
 use Rattle.oer_cmd.specs.Expected.{Expected, refusal, stop, unknown, value, ◌>>=◌}
 use Rattle.oer_cmd.specs.Run.{IsPath, verdict_text}
-use Rattle.oer_cmd.specs.Types.{Texts, lack_in, texts_of}
-use Rattle.oer_cmd.specs.Words.{behind}
+use Rattle.oer_cmd.specs.Types.{lack_in}
 use Rattle.oer_cmd.specs.declared.fault.Fault.TheVariants.{Absent, Follows, Hex, Json, Longer, NoSuchStep, NotJson, Path, Read, «Type»}
-use Rattle.oer_cmd.specs.declared.options.Options.{Options}
-use Rattle.oer_cmd.specs.declared.options.Task.{Task}
-use Rattle.oer_cmd.specs.declared.options.Task.TheVariants.{Canon, Check, Make, Part, Show}
+use Rattle.oer_cmd.specs.declared.value.Form.{Form}
+use Rattle.oer_cmd.specs.declared.value.Form.TheVariants as form
 
 -- the octets that the digits spell
 abbrev pub decoded_as : Result (List ℕ) FromHexError → Expected (List ℕ)
@@ -101,6 +103,13 @@ in_digits c = value (encode_lower c)
 abbrev pub in_text : Data → Expected Text
 in_text j = value (compact_text j)
 
+-- the lines of these
+abbrev pub digits_input : AsnType → ℕ → Option (List ℕ) → Expected Text
+digits_input T limit told = canonical_input T limit told >>= in_digits
+
+abbrev pub text_input : AsnType → ℕ → Option (List ℕ) → Expected Text
+text_input T limit told = json_input T limit told >>= in_text
+
 abbrev pub check_octets : AsnType → List ℕ → Expected Text
 check_octets T b = checked T b >>= λ canonical. value (verdict_text canonical (length b))
 
@@ -129,11 +138,13 @@ abbrev pub make_text : AsnType → Text → Expected Text
 make_text T text = json_read (if is_utf8 text then read text else None) >>= λ j. json_taken (taken T j)
     >>= λ v. in_digits (canonical_octets T v)
 
-abbrev pub canon_answer : AsnType → ℕ → Option Text → Option (List ℕ) → Expected Text
-canon_answer T limit hex told = given_octets hex told >>= canonical_of T limit >>= in_digits
+-- the line of the value that the octets encode
+abbrev pub value_text : Form → AsnType → ℕ → List ℕ → Expected Text
+value_text form.Octets T limit b = canonical_of T limit b >>= in_digits
+value_text form.Json T limit b = json_of T limit b >>= in_text
 
-abbrev pub show_answer : AsnType → ℕ → Option Text → Option (List ℕ) → Expected Text
-show_answer T limit hex told = given_octets hex told >>= json_of T limit >>= in_text
+abbrev pub value_answer : Form → AsnType → ℕ → Option Text → Option (List ℕ) → Expected Text
+value_answer f T limit hex told = given_octets hex told >>= value_text f T limit
 
 abbrev pub check_answer : AsnType → ℕ → Option Text → Option (List ℕ) → Expected Text
 check_answer T limit hex told = hex_octets hex >>= λ spelt. limited_octets limit spelt told >>= check_octets T
@@ -146,24 +157,11 @@ abbrev pub make_answer : AsnType → ℕ → Option Text → Option (List ℕ) �
 make_answer T limit json told = given_text json told >>= within_limit limit >>= make_text T
 
 abbrev pub task_answer : Task → AsnType → ℕ → Expected (List Step) → Option (List ℕ) → Expected Text
-task_answer (Show hex) T limit path told = show_answer T limit (behind hex) told
-task_answer (Canon hex) T limit path told = canon_answer T limit (behind hex) told
+task_answer (Show hex) T limit path told = value_answer form.Json T limit (behind hex) told
+task_answer (Canon hex) T limit path told = value_answer form.Octets T limit (behind hex) told
 task_answer (Check hex) T limit path told = check_answer T limit (behind hex) told
 task_answer (Make json) T limit path told = make_answer T limit (behind json) told
 task_answer (Part hex text) T limit path told = part_answer T limit (behind hex) path told
-
--- the text of a path that the task has
-abbrev pub path_text : Task → Option Text
-path_text (Part hex text) = behind text
-path_text _ = None
-
--- the text of octets or of JSON that the task has
-abbrev pub source_text : Task → Option Text
-source_text (Show hex) = behind hex
-source_text (Canon hex) = behind hex
-source_text (Check hex) = behind hex
-source_text (Make json) = behind json
-source_text (Part hex text) = behind hex
 
 -- what is expected of a text of `--path`: the path that it spells, or a refusal where it spells none
 abbrev pub IsPathOf : Option Text → Expected (List Step) → Type 0

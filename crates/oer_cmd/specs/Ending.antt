@@ -4,12 +4,12 @@ use Rattle.std.specs.Io.KnownBytes.{Appends, Keeps}
 use Rattle.clap.specs.Words.{IsAmong, Text, fault_of, takes}
 use Rattle.clap.specs.declared.error.kind.ErrorKind.TheVariants.{DisplayHelp, DisplayVersion}
 use Rattle.oer_types.specs.Parts.{Step}
-use Rattle.oer_cmd.specs.Answer.{IsPathOf, expected_answer, path_text, source_text}
+use Rattle.oer_options.specs.Words.{Asks, oer, path_text, source_text}
+use Rattle.oer_options.specs.declared.options.Options.{Options}
+use Rattle.oer_cmd.specs.Answer.{IsPathOf, expected_answer}
 use Rattle.oer_cmd.specs.Expected.{Expected, refusal, unknown, value}
 use Rattle.oer_cmd.specs.Faults.{AppendsFront, error_line}
-use Rattle.oer_cmd.specs.Words.{Asks, oer}
 use Rattle.oer_cmd.specs.declared.fault.Fault.TheVariants.{Input, Memory, Output}
-use Rattle.oer_cmd.specs.declared.options.Options.{Options}
 
 -- what the output and the errors hold before and after, where it is known
 pub record Streams : Type 0 where

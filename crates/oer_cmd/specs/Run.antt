@@ -16,11 +16,12 @@ use Rattle.oer_types.specs.Strict.{IsCanonical}
 use Rattle.oer_checker.specs.Path.{SpellsPath}
 use Rattle.oer_json.specs.Denotes.{Takes}
 use Rattle.oer_json.specs.Made.{made}
+use Rattle.oer_options.specs.Words.{Kind, NumberOf, Texts, asked, canon, check, given, given_number, kind, make, name_of, part, path_among, path_text, show, source_option, source_text, texts_in}
+use Rattle.oer_options.specs.declared.options.Task.{Task}
 use Rattle.oer_cmd.specs.Canon.{MakesCanonical}
-use Rattle.oer_cmd.specs.Types.{SpelledBy, Texts}
-use Rattle.oer_cmd.specs.Words.{NumberOf, asked, behind, given, given_number}
-use Rattle.oer_cmd.specs.declared.options.Task.{Task}
-use Rattle.oer_cmd.specs.declared.options.Task.TheVariants.{Canon, Check, Make, Part, Show}
+use Rattle.oer_cmd.specs.Types.{SpelledBy}
+use Rattle.oer_cmd.specs.declared.value.Form.{Form}
+use Rattle.oer_cmd.specs.declared.value.Form.TheVariants as form
 
 -- P holds of the octets: those that `--hex` spells, and without it all that the input had left, where that is known
 abbrev pub OfOctets : Option Text → Option (List ℕ) → (List ℕ → Type 0) → Type 0
@@ -38,6 +39,11 @@ IsShown T limit j b = (v : AsnValue) × Encodes T v b × (length b ≤ limit) ×
 -- the line of `show` for octets b: the text of that JSON, without a space
 abbrev pub IsShowLine : AsnType → ℕ → Text → List ℕ → Type 0
 IsShowLine T limit line b = (j : Data) × IsShown T limit j b × (line ≡ compact_text j)
+
+-- the line of the value that octets b encode, in this form
+abbrev pub IsValueLine : Form → AsnType → ℕ → Text → List ℕ → Type 0
+IsValueLine form.Octets T limit line b = IsCanonLine T limit line b
+IsValueLine form.Json T limit line b = IsShowLine T limit line b
 
 -- b is all of one encoding
 abbrev pub IsEncoding : AsnType → List ℕ → Type 0
@@ -91,13 +97,17 @@ HasNoPart T path b = (line : Text) → IsEncoding T b → IsPart T path line b �
 abbrev pub IsPartLine : AsnType → ℕ → Option Text → Text → List ℕ → Type 0
 IsPartLine T limit text line b = IsEncoding T b × (length b ≤ limit) × ((path : List Step) × IsPath text path × IsPart T path line b)
 
--- the line of a task for values of the type, where the input had these octets left
+-- the line of a kind of task, with this text of octets or of JSON and this one of a path, where the input had these octets left
+abbrev pub IsLineBy : Kind → Option Text → Option Text → Option (List ℕ) → AsnType → ℕ → Text → Type 0
+IsLineBy show source path told T limit line = OfOctets source told (IsShowLine T limit line)
+IsLineBy canon source path told T limit line = OfOctets source told (IsCanonLine T limit line)
+IsLineBy check source path told T limit line = OfOctets source told (IsCheckLine T limit line)
+IsLineBy make source path told T limit line = OfText source told (IsMakeLine T limit line)
+IsLineBy part source path told T limit line = OfOctets source told (IsPartLine T limit path line)
+
+-- the line of a task for values of the type
 abbrev pub IsLineOf : Task → Option (List ℕ) → AsnType → ℕ → Text → Type 0
-IsLineOf (Show hex) told T limit line = OfOctets (behind hex) told (IsShowLine T limit line)
-IsLineOf (Canon hex) told T limit line = OfOctets (behind hex) told (IsCanonLine T limit line)
-IsLineOf (Check hex) told T limit line = OfOctets (behind hex) told (IsCheckLine T limit line)
-IsLineOf (Make json) told T limit line = OfText (behind json) told (IsMakeLine T limit line)
-IsLineOf (Part hex path) told T limit line = OfOctets (behind hex) told (IsPartLine T limit (behind path) line)
+IsLineOf task told T limit line = IsLineBy (kind task) (source_text task) (path_text task) told T limit line
 
 -- P holds of no line for octets b
 abbrev pub NoneFor : (Text → List ℕ → Type 0) → List ℕ → Type 0
@@ -121,22 +131,10 @@ pub record Answers (texts : Texts) (task : Task) (limit : ℕ) (told : Option (L
   pub spelled : SpelledBy texts type
   pub line_is : IsLineOf task told type limit line
 
--- the texts that the words give to `--type`, `--types` and `--name`
-abbrev pub texts_in : List Text → Texts
-texts_in words = record { one = given words (codes "type"); types = given words (codes "types"); name = given words (codes "name") }
-
 -- the line of the task that the words ask for, by their options
-pub data IsLine (words : List Text) (told : Option (List ℕ)) (T : AsnType) (limit : ℕ) (line : Text) : Type 0 where
-  show : asked words ≡ Some (codes "show") → OfOctets (given words (codes "hex")) told (IsShowLine T limit line)
-      → IsLine words told T limit line
-  canon : asked words ≡ Some (codes "canon") → OfOctets (given words (codes "hex")) told (IsCanonLine T limit line)
-      → IsLine words told T limit line
-  check : asked words ≡ Some (codes "check") → OfOctets (given words (codes "hex")) told (IsCheckLine T limit line)
-      → IsLine words told T limit line
-  make : asked words ≡ Some (codes "make") → OfText (given words (codes "json")) told (IsMakeLine T limit line)
-      → IsLine words told T limit line
-  part : asked words ≡ Some (codes "part")
-      → OfOctets (given words (codes "hex")) told (IsPartLine T limit (given words (codes "path")) line) → IsLine words told T limit line
+abbrev pub IsLine : List Text → Option (List ℕ) → AsnType → ℕ → Text → Type 0
+IsLine words told T limit line = (k : Kind) × (asked words ≡ Some (name_of k))
+    × IsLineBy k (given words (source_option k)) (path_among k (given words)) told T limit line
 
 -- the line that the words ask for, where the input had these octets left
 pub record AnswersWords (words : List Text) (told : Option (List ℕ)) (line : Text) : Type 0 where

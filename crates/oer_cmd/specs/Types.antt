@@ -5,12 +5,11 @@ use Rattle.oer_types.specs.AsnType.{AsnType}
 use Rattle.oer_types.specs.WellFormed.{IsWellFormed}
 use Rattle.oer_notation.specs.Grammar.{AreWellFormed, IsDefined, Spells, SpellsAll}
 use Rattle.oer_notation.specs.Reading.{Known}
+use Rattle.oer_options.specs.Words.{Texts}
 use Rattle.oer_cmd.specs.declared.fault.Fault.{Fault}
 use Rattle.oer_cmd.specs.declared.fault.Fault.TheVariants.{Memory, NoName, NoTypes, OneType}
-use Rattle.oer_cmd.specs.declared.options.Options.{Options}
 use Rattle.oer_cmd.specs.declared.type_text.TypeText.{TypeText}
 use Rattle.oer_cmd.specs.declared.type_text.TypeText.TheVariants.{One, Named}
-use Rattle.oer_cmd.specs.Words.{behind}
 
 -- the text spells the type, which is well-formed
 abbrev pub IsTypeIn : Text → AsnType → Type 0
@@ -27,12 +26,6 @@ Defines text name T = (definitions : List Known) × AreDefinedIn text definition
 -- P holds of x, and of nothing else
 abbrev pub IsOnly : {A : Type 0} → (A → Type 0) → A → Type 0
 IsOnly {A} P x = P x × ((y : A) → P y → y ≡ x)
-
--- the texts of `--type`, `--types` and `--name`
-pub record Texts : Type 0 where
-  pub one : Option Text
-  pub types : Option Text
-  pub name : Option Text
 
 abbrev pub IsNamed : Option Text → Option Text → Option Text → AsnType → Type 0
 IsNamed (Some text) None None T = IsTypeIn text T
@@ -64,9 +57,6 @@ SpellsNone fault text = fault ≢ Memory → (T : AsnType) → IsTypeIn text T �
 -- Unless memory ran out, the text spells no definitions whose types are all well-formed.
 abbrev pub DefinesNone : Fault → Text → Type 0
 DefinesNone fault text = fault ≢ Memory → (definitions : List Known) → AreDefinedIn text definitions → ⊥
-
-abbrev pub texts_of : Options → Texts
-texts_of o = record { one = behind o.type_text; types = behind o.types; name = behind o.name }
 
 abbrev pub texts_at : TypeText → Texts
 texts_at (One text) = record { one = Some text.now; types = None; name = None }

@@ -1,24 +1,20 @@
 //! The canonical octets of a value.
-ghost use Rattle.std.specs.Prelude.{◌≡◌, ◌≢◌, ◌≤◌, ℕ, List, None, Some, IfErr, IfOk, IfSome, OnOk, string_bytes};
-ghost use Rattle.hex.specs.Hex.{decode_of};
+ghost use Rattle.std.specs.Prelude.{◌≡◌, ◌≤◌, IfErr, IfOk, IfSome, OnOk, string_bytes};
 ghost use Rattle.oer_types.specs.Schema.{the_type};
 ghost use Rattle.oer_units.specs.Reading.{octet as octet_read};
 ghost use Rattle.oer_units.specs.Reads.{ReadsFront};
 ghost use Rattle.oer_cmd.specs.Canon.{HasMore, IsEmpty, IsNoEncoding, MakesCanonical};
 ghost use Rattle.oer_cmd.specs.Faults.{Refuses, status_of};
-ghost use Rattle.oer_cmd.specs.Answer.{canon_answer, canonical_input};
+ghost use Rattle.oer_cmd.specs.Answer.{canonical_input, digits_input};
 ghost use Rattle.oer_cmd.specs.Expected.{Meets};
 ghost use Rattle.oer_cmd.specs.Octets.{octets_of};
-ghost use Rattle.oer_cmd.specs.Run.{IsCanonLine, NoLine, NoneFor, OfOctets};
-ghost use Rattle.oer_cmd.specs.Words.{behind};
+ghost use Rattle.oer_cmd.specs.Run.{IsCanonLine, NoneFor};
 
 use crate::fault::Fault;
-use crate::octets::decoded;
 use oer_reader::rewrite;
 use oer_types::Schema;
 use oer_units::{Metered, ReadFault, Source, Why, Window, octet};
 use std::alloc::Global;
-use std::io::Read;
 
 // The next octet.
 fn octet_at_front<R: Source>(reader: &mut R) -> Result<u8, ReadFault>
@@ -71,8 +67,9 @@ fn canonical<'a, R: Source>(
     Ok(sink.into_inner())
 }
 
-// The line for the octets that the reader has left.
-fn read_line<'a, R: Source>(
+/// The canonical octets, in lower hexadecimal digits, of the one value of the type that the reader has
+/// left, which takes no more octets than the limit. Refused as `canonical` is.
+pub fn canonical_digits<'a, R: Source>(
     alloc: Global,
     schema: &Schema,
     reader: &mut R,
@@ -82,50 +79,11 @@ fn read_line<'a, R: Source>(
         (IsCanonLine (the_type schema.now) limit (string_bytes line))) }
     ensures refused { IfErr result (λ fault. Refuses fault
         (IfSome (R.remaining reader.old) (NoneFor (IsCanonLine (the_type schema.now) limit)))) }
-    ensures exact { Meets string_bytes (canon_answer (the_type schema.now) limit None (R.remaining reader.old)) result }
+    ensures exact { Meets string_bytes (digits_input (the_type schema.now) limit (R.remaining reader.old)) result }
 {
     let octets = canonical(alloc, schema, reader, limit)?;
     match hex::encode(alloc, octets) {
         Ok(line) => Ok(line),
         Err(_) => Err(Fault::Memory),
-    }
-}
-
-// The line for the octets that the digits spell.
-fn hex_line<'a>(
-    alloc: Global,
-    schema: &Schema,
-    digits: &str,
-    limit: u64,
-) -> Result<String, Fault<'a>>
-    ensures line { IfOk result (λ line. (b : List ℕ) × (decode_of digits.now ≡ Ok b)
-        × IsCanonLine (the_type schema.now) limit (string_bytes line) b) }
-    ensures refused { IfErr result (λ fault. Refuses fault
-        ((b : List ℕ) → decode_of digits.now ≡ Ok b → NoneFor (IsCanonLine (the_type schema.now) limit) b)) }
-    ensures exact { Meets string_bytes (canon_answer (the_type schema.now) limit (Some digits.now) None) result }
-{
-    let octets = decoded(alloc, digits)?;
-    let mut reader = Metered::new(octets.as_slice());
-    read_line(alloc, schema, &mut reader, limit)
-}
-
-/// The line of `canon` for the octets that the options or the input give.
-pub fn canon_line<'a, R: Read>(
-    alloc: Global,
-    schema: &Schema,
-    hex: Option<&str>,
-    limit: u64,
-    input: &mut R,
-) -> Result<String, Fault<'a>>
-    ensures line { IfOk result (λ line. OfOctets (behind hex.entry) (R.remaining input.old)
-        (IsCanonLine (the_type schema.now) limit (string_bytes line))) }
-    ensures refused { IfErr result (λ fault. Refuses fault (NoLine (R.remaining input.old)
-        (λ told line. OfOctets (behind hex.entry) told (IsCanonLine (the_type schema.now) limit line)))) }
-    ensures exact { Meets string_bytes (canon_answer (the_type schema.now) limit (behind hex.entry) (R.remaining input.old)) result }
-    ensures untouched { behind hex.entry ≢ None → input.new ≡ input.old }
-{
-    match hex {
-        Some(digits) => hex_line(alloc, schema, digits, limit),
-        None => read_line(alloc, schema, &mut Metered::new(input), limit),
     }
 }

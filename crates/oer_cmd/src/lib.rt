@@ -5,15 +5,13 @@ mod canon;
 mod check;
 mod fault;
 mod gathering;
-mod help;
-pub mod laws;
 mod make;
 mod octets;
-mod options;
 mod part;
 mod program;
 mod show;
 mod type_text;
+mod value;
 
 pub use gathering::{GatherFault, gather};
 pub use program::{put_all, run};

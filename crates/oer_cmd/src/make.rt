@@ -10,12 +10,12 @@ ghost use Rattle.oer_types.specs.Strict.{IsCanonical};
 ghost use Rattle.oer_types.specs.ValueView.{value_of};
 ghost use Rattle.oer_json.specs.Denotes.{Takes};
 ghost use Rattle.oer_json.specs.Take.{taken};
+ghost use Rattle.oer_options.specs.Words.{behind};
 ghost use Rattle.oer_cmd.specs.Answer.{json_read, json_taken, make_answer, make_text};
 ghost use Rattle.oer_cmd.specs.Expected.{Meets, value as expected};
 ghost use Rattle.oer_cmd.specs.Faults.{Refuses, status_of};
 ghost use Rattle.oer_cmd.specs.Octets.{octets_of};
 ghost use Rattle.oer_cmd.specs.Run.{IsMakeLine, Makes, NoLine, NoneFor, OfText};
-ghost use Rattle.oer_cmd.specs.Words.{behind};
 
 use crate::fault::Fault;
 use crate::octets::all_octets;

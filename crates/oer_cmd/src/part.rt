@@ -3,11 +3,11 @@ ghost use Rattle.std.specs.Prelude.{◌≡◌, ◌≢◌, List, None, IfErr, IfO
 ghost use Rattle.oer_types.specs.Parts.{Step as PlainStep};
 ghost use Rattle.oer_types.specs.Schema.{the_type};
 ghost use Rattle.oer_checker.specs.Walk.{path_of as steps_of};
+ghost use Rattle.oer_options.specs.Words.{behind};
 ghost use Rattle.oer_cmd.specs.Answer.{IsPathOf, part_answer, part_octets};
 ghost use Rattle.oer_cmd.specs.Expected.{Expected, Meets};
 ghost use Rattle.oer_cmd.specs.Faults.{Refuses};
 ghost use Rattle.oer_cmd.specs.Run.{HasNoPart, IsEncoding, IsPart, IsPartLine, IsPath, NoLine, OfOctets};
-ghost use Rattle.oer_cmd.specs.Words.{behind};
 
 use crate::check::judged;
 use crate::fault::Fault;

@@ -5,24 +5,23 @@ ghost use Rattle.clap.specs.Words.{kind_of, takes};
 ghost use Rattle.clap.specs.declared.error.kind.ErrorKind.TheVariants.{DisplayHelp, DisplayVersion, OutOfMemory};
 ghost use Rattle.oer_types.specs.Parts.{Step};
 ghost use Rattle.oer_types.specs.Schema.{the_type};
-ghost use Rattle.oer_cmd.specs.Answer.{IsPathOf, answer_of, expected_answer, path_text, source_text, task_answer};
+ghost use Rattle.oer_options.specs.Words.{oer, path_text, source_text, texts_of};
+ghost use Rattle.oer_cmd.specs.Answer.{IsPathOf, answer_of, expected_answer, task_answer};
 ghost use Rattle.oer_cmd.specs.Ending.{Ends};
 ghost use Rattle.oer_cmd.specs.Expected.{Expected, Meets};
 ghost use Rattle.oer_cmd.specs.Faults.{AppendsFront, Printed, Refuses, Reports, status_of};
 ghost use Rattle.oer_cmd.specs.Run.{Answers, IsLineOf, NoLine, NoLineOf, NoneAnswers, Prints};
-ghost use Rattle.oer_cmd.specs.Types.{texts_at, texts_of};
-ghost use Rattle.oer_cmd.specs.Words.{oer};
+ghost use Rattle.oer_cmd.specs.Types.{texts_at};
 ghost use Rattle.oer_cmd.specs.declared.type_text.TypeText.TheVariants.{Named, One};
 
-use crate::canon::canon_line;
 use crate::check::check_line;
 use crate::fault::{Fault, error_line};
 use crate::make::make_line;
-use crate::options::{Options, Task, parsed};
 use crate::part::part_line;
-use crate::show::show_line;
 use crate::type_text::{TypeText, definitions, named_type, one_type, type_text};
+use crate::value::{Form, value_line};
 use clap::error::ErrorKind;
+use oer_options::{Options, Task, parsed};
 use oer_types::Schema;
 use oer_units::Metered;
 use std::alloc::Global;
@@ -45,8 +44,8 @@ fn line_of<'a, R: Read>(
 {
     let limit = options.limit;
     match options.task {
-        Task::Show { hex } => show_line(alloc, schema, hex, limit, input),
-        Task::Canon { hex } => canon_line(alloc, schema, hex, limit, input),
+        Task::Show { hex } => value_line(alloc, schema, Form::Json, hex, limit, input),
+        Task::Canon { hex } => value_line(alloc, schema, Form::Octets, hex, limit, input),
         Task::Check { hex } => check_line(alloc, schema, hex, limit, input),
         Task::Make { json } => make_line(alloc, schema, json, limit, input),
         Task::Part { hex, path } => part_line(alloc, schema, hex, path, limit, input),

@@ -5,12 +5,13 @@ ghost use Rattle.oer_notation.specs.Grammar.{IsDefined, IsNew};
 ghost use Rattle.oer_notation.specs.Parsing.{parse, parse_all};
 ghost use Rattle.oer_notation.specs.Reading.{find};
 ghost use Rattle.oer_notation.specs.Views.{knowns};
+ghost use Rattle.oer_options.specs.Words.{texts_of};
 ghost use Rattle.oer_cmd.specs.Answer.{expected_type, named_as, parsed};
 ghost use Rattle.oer_cmd.specs.Expected.{Meets, stop};
-ghost use Rattle.oer_cmd.specs.Types.{AreDefinedIn, DefinesNone, IsOnly, IsTypeIn, NamesNone, SpellsNone, lack_of, texts_at, texts_of};
+ghost use Rattle.oer_cmd.specs.Types.{AreDefinedIn, DefinesNone, IsOnly, IsTypeIn, NamesNone, SpellsNone, lack_of, texts_at};
 
 use crate::fault::Fault;
-use crate::options::Options;
+use oer_options::Options;
 use oer_text::laws::{complete, sound};
 use oer_text::{Types, parse_type, parse_types};
 use oer_types::Schema;

@@ -1,8 +1,8 @@
 use Rattle.std.proofs.Common.{Bool, rules}
 use Rattle.std.proofs.lemmas.Result.{IfErr-weaker, IfOk-weaker, err_from_is_err_and}
 use Rattle.oer_types.specs.Schema.{the_type}
+use Rattle.oer_options.specs.Words.{behind}
 use Rattle.oer_cmd.proofs.Lines.{of_all}
-use Rattle.oer_cmd.specs.Words.{behind}
 use Rattle.oer_cmd.specs.Run.{IsCheckLine}
 use Rattle.oer_cmd.proofs.Refusals.{no_check_line, not_memory, too_high, too_long, unspelt}
 use Rattle.oer_cmd.proofs.Exact.{check_all, check_longer, check_unjudged, check_unspelt, judged_line}

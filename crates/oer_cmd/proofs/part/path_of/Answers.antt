@@ -1,5 +1,5 @@
-use Rattle.oer_cmd.specs.Words.{behind}
 use Rattle.std.proofs.Common.{refl, subst, sym}
+use Rattle.oer_options.specs.Words.{behind}
 use Rattle.oer_cmd.specs.declared.fault.Fault.TheVariants.{Path}
 use Rattle.oer_checker.specs.Walk.{path_of as steps_of}
 use Rattle.oer_cmd.specs.Run.{IsPath}

@@ -1,6 +1,7 @@
 use Rattle.std.proofs.Common.{◌∙◌, ap, sym}
 use Rattle.std.proofs.lemmas.Result.{err_from_is_err_and}
-use Rattle.oer_cmd.specs.Types.{texts_at, texts_of}
+use Rattle.oer_options.specs.Words.{texts_of}
+use Rattle.oer_cmd.specs.Types.{texts_at}
 use Rattle.oer_cmd.proofs.Naming.{of_texts, unnamed}
 use Rattle.oer_cmd.proofs.Endings.{for_texts, lacking}
 use Rattle.oer_cmd.proofs.program.answer.Goals as goal

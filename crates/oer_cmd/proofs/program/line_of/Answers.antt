@@ -4,10 +4,10 @@ use Rattle.oer_cmd.proofs.Endings.{for_task, keeps_task}
 use Rattle.oer_cmd.proofs.program.line_of.Goals as goal
 
 pub returns-in-Show-clause-refused : goal.returns-in-Show-clause-refused
-returns-in-Show-clause-refused g c = of_task c.show_line.result _ (the_type c.args.schema.now) c.args.options.limit c.args.options.task _ c.in-Show.is c.show_line.ensures.refused
+returns-in-Show-clause-refused g c = of_task c.value_line.result _ (the_type c.args.schema.now) c.args.options.limit c.args.options.task _ c.in-Show.is c.value_line.ensures.refused
 
 pub returns-in-Canon-clause-refused : goal.returns-in-Canon-clause-refused
-returns-in-Canon-clause-refused g c = of_task c.canon_line.result _ (the_type c.args.schema.now) c.args.options.limit c.args.options.task _ c.in-Canon.is c.canon_line.ensures.refused
+returns-in-Canon-clause-refused g c = of_task c.value_line-in-Canon.result _ (the_type c.args.schema.now) c.args.options.limit c.args.options.task _ c.in-Canon.is c.value_line-in-Canon.ensures.refused
 
 pub returns-in-Check-clause-refused : goal.returns-in-Check-clause-refused
 returns-in-Check-clause-refused g c = of_task c.check_line.result _ (the_type c.args.schema.now) c.args.options.limit c.args.options.task _ c.in-Check.is c.check_line.ensures.refused
@@ -19,16 +19,16 @@ pub returns-in-Part-clause-refused : goal.returns-in-Part-clause-refused
 returns-in-Part-clause-refused g c = of_task c.part_line.result _ (the_type c.args.schema.now) c.args.options.limit c.args.options.task _ c.in-Part.is c.part_line.ensures.refused
 
 pub returns-in-Show-clause-exact : goal.returns-in-Show-clause-exact
-returns-in-Show-clause-exact g c = for_task c.args.options.task _ (the_type c.args.schema.now) c.args.options.limit _ c.show_line.result c.in-Show.is (λ path of. c.show_line.ensures.exact)
+returns-in-Show-clause-exact g c = for_task c.args.options.task _ (the_type c.args.schema.now) c.args.options.limit _ c.value_line.result c.in-Show.is (λ path of. c.value_line.ensures.exact)
 
 pub returns-in-Show-clause-untouched : goal.returns-in-Show-clause-untouched
-returns-in-Show-clause-untouched g c = keeps_task c.args.options.task _ c.in-Show.is c.show_line.ensures.untouched
+returns-in-Show-clause-untouched g c = keeps_task c.args.options.task _ c.in-Show.is c.value_line.ensures.untouched
 
 pub returns-in-Canon-clause-exact : goal.returns-in-Canon-clause-exact
-returns-in-Canon-clause-exact g c = for_task c.args.options.task _ (the_type c.args.schema.now) c.args.options.limit _ c.canon_line.result c.in-Canon.is (λ path of. c.canon_line.ensures.exact)
+returns-in-Canon-clause-exact g c = for_task c.args.options.task _ (the_type c.args.schema.now) c.args.options.limit _ c.value_line-in-Canon.result c.in-Canon.is (λ path of. c.value_line-in-Canon.ensures.exact)
 
 pub returns-in-Canon-clause-untouched : goal.returns-in-Canon-clause-untouched
-returns-in-Canon-clause-untouched g c = keeps_task c.args.options.task _ c.in-Canon.is c.canon_line.ensures.untouched
+returns-in-Canon-clause-untouched g c = keeps_task c.args.options.task _ c.in-Canon.is c.value_line-in-Canon.ensures.untouched
 
 pub returns-in-Check-clause-exact : goal.returns-in-Check-clause-exact
 returns-in-Check-clause-exact g c = for_task c.args.options.task _ (the_type c.args.schema.now) c.args.options.limit _ c.check_line.result c.in-Check.is (λ path of. c.check_line.ensures.exact)

@@ -1,7 +1,0 @@
-use Rattle.std.proofs.Common.{refl}
-use Rattle.clap.proofs.OnLiterals.{clap_on_literals}
-use Rattle.oer_cmd.proofs.laws.part_with_path.Goals as goal
-
-pub returns : goal.returns
-unfolding clap_on_literals
-returns c = λ t p. (record { takes = refl; task = refl; texts = refl; hex = refl; limit = refl }, refl)

@@ -1,7 +1,0 @@
-use Rattle.std.proofs.Common.{refl}
-use Rattle.clap.proofs.OnLiterals.{clap_on_literals}
-use Rattle.oer_cmd.proofs.laws.with_name.Goals as goal
-
-pub returns : goal.returns
-unfolding clap_on_literals
-returns c = λ t n h. record { takes = refl; task = refl; texts = refl; hex = refl; limit = refl }

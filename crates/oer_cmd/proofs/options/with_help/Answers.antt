@@ -1,5 +1,0 @@
-use Rattle.std.proofs.Common.{rules}
-use Rattle.oer_cmd.proofs.options.with_help.Goals as goal
-
-pub returns : goal.returns
-returns c = record { app = search rules; local = search rules }

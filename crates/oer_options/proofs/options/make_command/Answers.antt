@@ -1,0 +1,6 @@
+use Rattle.std.proofs.lemmas.Result.{IfOk-weaker}
+use Rattle.oer_options.proofs.Asked.{adds}
+use Rattle.oer_options.proofs.options.make_command.Goals as goal
+
+pub returns : goal.returns
+returns c = IfOk-weaker c.arg.result _ _ (λ r h. adds _ _ _ _ _ c.in_ok-task_command.ensures c.option.ensures.rule c.option.ensures.local h) c.arg.ensures

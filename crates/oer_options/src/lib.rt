@@ -1,0 +1,8 @@
+//! What the arguments of the program `oer` ask for, and what it says of them in help.
+#![tactic(auto)]
+
+mod help;
+pub mod laws;
+mod options;
+
+pub use options::{Options, Task, parsed};
