@@ -1,16 +1,24 @@
 # make: proves and builds the program, as bin/oer
 # make quick: proves and tests all but the must-fail edits, over what earlier runs kept, for use before a commit
 # make test: the whole gate, then the commands that the documents show, what a release has, and memory refused in turn
-# make install PREFIX=.. DESTDIR=..: program, manual, completions, documents and examples, under PREFIX; make uninstall: takes them away
+# make lib: proves and builds the library for C and C++, in lib/
+# make test_lib: tests it from C, C++, Rust and Python; OER_STRINGS=1000000 tries so many random strings of octets, else 100,000
+# make bench: the instructions of our codec and of a plain one, side by side (docs/PERFORMANCE.md)
+# make install PREFIX=.. DESTDIR=..: program, library, manual, completions, documents and examples, under PREFIX; make uninstall: takes them away
 # make dist: the archive of a release, in out/
 PREFIX ?= /usr/local
 
-.PHONY: all quick test install uninstall dist clean
+.PHONY: all quick test bench documents lib test_lib install uninstall dist clean
 
 all: bin/oer
 
-bin/oer: crates.txt $(shell find crates -name out -prune -o -type f \( -name '*.rt' -o -name '*.antt' \) -print)
+sources := crates.txt $(shell find crates -name out -prune -o -type f \( -name '*.rt' -o -name '*.antt' \) -print)
+
+bin/oer: $(sources)
 	@tools/build
+
+lib/liboer.a: include/oer.h $(sources)
+	@tools/lib
 
 quick:
 	@tools/quick
@@ -20,11 +28,24 @@ test:
 	RT_JOBS=$${RT_JOBS-$$(tools/jobs)} rt ci
 	@mkdir -p bin
 	@cp crates/oer/out/oer bin/oer
-	@examples/check
+	@tools/lib
+	@$(MAKE) --no-print-directory -j 2 -o bin/oer -o lib/liboer.a documents test_lib
 	@tools/test_release
 	@examples/refusals
 
-install: bin/oer
+documents: bin/oer
+	@examples/check
+
+lib: lib/liboer.a
+
+test_lib: lib/liboer.a
+	@tools/test_lib
+	@tools/test_bindings lib
+
+bench:
+	@bench/run
+
+install: bin/oer lib/liboer.a
 	@rm -rf out/layout
 	@tools/layout out/layout
 	@PREFIX="$(PREFIX)" DESTDIR="$(DESTDIR)" tools/install out/layout
@@ -32,8 +53,8 @@ install: bin/oer
 uninstall:
 	@PREFIX="$(PREFIX)" DESTDIR="$(DESTDIR)" tools/uninstall
 
-dist: bin/oer
+dist: bin/oer lib/liboer.a
 	@tools/dist
 
 clean:
-	rm -rf bin out crates/*/out
+	rm -rf bin lib out crates/*/out

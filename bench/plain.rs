@@ -454,6 +454,177 @@ impl Write for Count {
     fn flush(&mut self) -> std::io::Result<()> { Ok(()) }
 }
 
+// ---------- checking ----------
+
+/// Goes through octets without making a value, and finds out whether they are canonical.
+struct Check<'a> { s: Slice<'a>, canonical: bool }
+
+impl<'a> Check<'a> {
+    fn wants(&mut self, holds: bool) { self.canonical &= holds; }
+
+    fn skip(&mut self, n: u64) -> Answer<&'a [u8]> {
+        if n > self.s.left() { return Err(self.s.taken()); }
+        let octets = self.s.octets;
+        let start = self.s.at;
+        self.s.at += n as usize;
+        Ok(&octets[start..self.s.at])
+    }
+
+    fn length(&mut self) -> Answer<u64> {
+        let start = self.s.at;
+        let n = length(&mut self.s)?;
+        let least = if n < 128 { 1 } else { 1 + (71 - n.leading_zeros() as usize) / 8 };
+        self.wants(self.s.at - start == least);
+        Ok(n)
+    }
+
+    fn counted(&mut self, signed: bool) -> Answer<i128> {
+        let n = self.length()?;
+        let v = number(&mut self.s, n, signed)?;
+        self.wants(n as usize == if signed { signed_octets(v) } else { unsigned_octets(v) });
+        Ok(v)
+    }
+
+    fn open(&mut self, shape: &Shape) -> Answer<()> {
+        let n = self.length()?;
+        let end = self.s.taken() + n;
+        let outer = self.s.set_end(end);
+        self.value(shape)?;
+        if self.s.taken() != end { return Err(self.s.taken()); }
+        self.s.set_end(outer);
+        Ok(())
+    }
+
+    fn enumerated(&mut self, items: &[i64], extensible: bool) -> Answer<()> {
+        let first = self.s.one()?;
+        let v = if first < 128 { first as i128 } else {
+            let n = (first & 127) as u64;
+            let v = number(&mut self.s, n, true)?;
+            self.wants(!(0..128).contains(&v) && n as usize == signed_octets(v));
+            v
+        };
+        let v = i64::try_from(v).map_err(|_| self.s.taken())?;
+        if extensible || items.contains(&v) { Ok(()) } else { Err(self.s.taken()) }
+    }
+
+    fn bits(&mut self, size: Bounds) -> Answer<()> {
+        let (packed, unused) = match fixed(size) {
+            Some(count) => (self.skip((count + 7) / 8)?, (8 - count % 8) % 8),
+            None => {
+                let n = self.length()?;
+                if n == 0 { return Err(self.s.taken()); }
+                let unused = self.s.one()? as u64;
+                let count = (8 * (n - 1)).checked_sub(unused).ok_or(self.s.taken())?;
+                if unused > 7 || !allows(size, count) { return Err(self.s.taken()); }
+                (self.skip(n - 1)?, unused)
+            }
+        };
+        if let Some(last) = packed.last() { self.wants(last & ((1u8 << unused) - 1) == 0); }
+        Ok(())
+    }
+
+    fn later(&mut self, additions: &[Field]) -> Answer<()> {
+        let n = self.length()?;
+        if n == 0 { return Err(self.s.taken()); }
+        let unused = self.s.one()? as usize;
+        let map = self.skip(n - 1)?;
+        let bits = (map.len() * 8).checked_sub(unused).ok_or(self.s.taken())?;
+        self.wants(unused < 8 && (bits..map.len() * 8).all(|i| !bit(map, i)));
+        self.wants((0..bits).any(|i| bit(map, i)) && bits >= additions.len());
+        self.wants(bits <= additions.len() || bit(map, bits - 1));
+        for (i, addition) in additions.iter().enumerate() {
+            if i < bits && bit(map, i) { self.open(&addition.shape)?; }
+        }
+        for i in additions.len()..bits {
+            if bit(map, i) {
+                if i > 65535 { return Err(self.s.taken()); }
+                let n = self.length()?;
+                self.skip(n)?;
+            }
+        }
+        Ok(())
+    }
+
+    /// Where the component has a default, its octets aren't those of the default.
+    fn component(&mut self, field: &Field) -> Answer<()> {
+        let start = self.s.at;
+        self.value(&field.shape)?;
+        if let Need::Default(default) = &field.need {
+            let mut same = Vec::new();
+            write(&field.shape, default, &mut same);
+            self.wants(self.s.octets[start..self.s.at] != same[..]);
+        }
+        Ok(())
+    }
+
+    fn sequence(&mut self, root: &[Field], additions: &Option<Vec<Field>>) -> Answer<()> {
+        let first = additions.is_some() as usize;
+        let count = first + root.iter().filter(|f| !matches!(f.need, Need::Must)).count();
+        let bits = self.skip((count as u64 + 7) / 8)?;
+        for j in count..bits.len() * 8 { if bit(bits, j) { return Err(self.s.taken()); } }
+        let mut j = first;
+        for field in root {
+            let here = match field.need { Need::Must => true, _ => { j += 1; bit(bits, j - 1) } };
+            if here { self.component(field)?; }
+        }
+        match additions {
+            Some(additions) if bit(bits, 0) => self.later(additions),
+            _ => Ok(()),
+        }
+    }
+
+    fn choice(&mut self, root: &[Alt], additions: &Option<Vec<Alt>>) -> Answer<()> {
+        let (class, n) = tag(&mut self.s)?;
+        for alt in root { if class == 2 && alt.tag == n { return self.value(&alt.shape); } }
+        let Some(additions) = additions else { return Err(self.s.taken()) };
+        for alt in additions { if class == 2 && alt.tag == n { return self.open(&alt.shape); } }
+        let count = self.length()?;
+        self.skip(count)?;
+        Ok(())
+    }
+
+    fn value(&mut self, shape: &Shape) -> Answer<()> {
+        match shape {
+            Shape::Boolean => { let octet = self.s.one()?; self.wants(octet == 0 || octet == 255); }
+            Shape::Null => {}
+            Shape::Integer(low, high) => {
+                let v = match form(*low, *high) {
+                    Form::Fixed(n, signed) => number(&mut self.s, n as u64, signed)?,
+                    Form::Counted(signed) => self.counted(signed)?,
+                };
+                if low.map_or(false, |low| v < low) || high.map_or(false, |high| v > high) { return Err(self.s.taken()); }
+            }
+            Shape::Enumerated(items, extensible) => self.enumerated(items, *extensible)?,
+            Shape::BitString(size) => self.bits(*size)?,
+            Shape::OctetString(size) => {
+                let n = match fixed(*size) { Some(n) => n, None => self.length()? };
+                if !allows(*size, n) { return Err(self.s.taken()); }
+                self.skip(n)?;
+            }
+            Shape::Utf8(size) => {
+                let n = self.length()?;
+                let text = std::str::from_utf8(self.skip(n)?).map_err(|_| self.s.taken())?;
+                if !allows(*size, text.chars().count() as u64) { return Err(self.s.taken()); }
+            }
+            Shape::Sequence(root, additions) => self.sequence(root, additions)?,
+            Shape::SequenceOf(size, item) => {
+                let n = self.counted(false)? as u128;
+                if n > self.s.left() as u128 || !allows(*size, n as u64) { return Err(self.s.taken()); }
+                for _ in 0..n { self.value(item)?; }
+            }
+            Shape::Choice(root, additions) => self.choice(root, additions)?,
+        }
+        Ok(())
+    }
+}
+
+/// How many octets the encoding at the front has, and whether it is canonical.
+fn check(shape: &Shape, octets: &[u8]) -> Answer<(u64, bool)> {
+    let mut check = Check { s: Slice { octets, at: 0, end: octets.len() }, canonical: true };
+    check.value(shape)?;
+    Ok((check.s.taken(), check.canonical))
+}
+
 // ---------- the types that are measured ----------
 
 fn must(name: &str, shape: Shape) -> Field { Field { name: name.into(), shape, need: Need::Must } }
@@ -530,12 +701,54 @@ fn to_be_signed() -> Shape {
     Shape::Sequence(root, Some(vec![]))
 }
 
-fn certificate() -> Shape {
-    let issuer = choice_more(vec![("sha256AndDigest", octet_string(8)), ("self", Shape::Enumerated(vec![0, 1], true))], vec![("sha384AndDigest", octet_string(8))]);
+fn signature() -> Shape {
     let p256 = || sequence(vec![must("rSig", curve_point(32)), must("sSig", octet_string(32))]);
     let p384 = sequence(vec![must("rSig", curve_point(48)), must("sSig", octet_string(48))]);
-    let signature = choice_more(vec![("ecdsaNistP256Signature", p256()), ("ecdsaBrainpoolP256r1Signature", p256())], vec![("ecdsaBrainpoolP384r1Signature", p384)]);
-    sequence(vec![must("version", int(3, 3)), must("type", Shape::Enumerated(vec![0, 1], true)), must("issuer", issuer), must("toBeSigned", to_be_signed()), may("signature", signature)])
+    choice_more(vec![("ecdsaNistP256Signature", p256()), ("ecdsaBrainpoolP256r1Signature", p256())], vec![("ecdsaBrainpoolP384r1Signature", p384)])
+}
+
+fn certificate() -> Shape {
+    let issuer = choice_more(vec![("sha256AndDigest", octet_string(8)), ("self", Shape::Enumerated(vec![0, 1], true))], vec![("sha384AndDigest", octet_string(8))]);
+    sequence(vec![must("version", int(3, 3)), must("type", Shape::Enumerated(vec![0, 1], true)), must("issuer", issuer), must("toBeSigned", to_be_signed()), may("signature", signature())])
+}
+
+fn header_info() -> Shape {
+    let whole = |high: u64| int(0, high as i128);
+    let location = sequence(vec![must("latitude", int(-900000000, 900000001)), must("longitude", int(-1799999999, 1800000001)), must("elevation", whole(65535))]);
+    let missing = Shape::Sequence(vec![must("cracaId", octet_string(3)), must("crlSeries", whole(65535))], Some(vec![]));
+    let public = choice_more(vec![("eciesNistP256", curve_point(32)), ("eciesBrainpoolP256r1", curve_point(32))], vec![]);
+    let public = sequence(vec![must("supportedSymmAlg", Shape::Enumerated(vec![0], true)), must("publicKey", public)]);
+    let key = choice(vec![("public", public), ("symmetric", choice_more(vec![("aes128Ccm", octet_string(16))], vec![]))]);
+    let root = vec![
+        must("psid", natural()), may("generationTime", whole(u64::MAX)), may("expiryTime", whole(u64::MAX)), may("generationLocation", location),
+        may("p2pcdLearningRequest", octet_string(3)), may("missingCrlIdentifier", missing), may("encryptionKey", key),
+    ];
+    Shape::Sequence(root, Some(vec![may("inlineP2pcdRequest", list(octet_string(3))), may("requestedCertificate", certificate())]))
+}
+
+fn signed_data() -> Shape {
+    let tagged = |name: &str, tag| Alt { name: name.into(), tag, shape: any_octets() };
+    let content = Shape::Choice(vec![tagged("unsecuredData", 0), tagged("signedCertificateRequest", 3)], Some(vec![]));
+    let inner = sequence(vec![must("protocolVersion", int(3, 3)), must("content", content)]);
+    let hashed = choice_more(vec![("sha256HashedData", octet_string(32))], vec![]);
+    let payload = Shape::Sequence(vec![may("data", inner), may("extDataHash", hashed)], Some(vec![]));
+    let signed = sequence(vec![must("payload", payload), must("headerInfo", header_info())]);
+    let signer = choice_more(vec![("digest", octet_string(8)), ("certificate", list(certificate())), ("self", Shape::Null)], vec![]);
+    sequence(vec![must("hashId", Shape::Enumerated(vec![0, 1], true)), must("tbsData", signed), must("signer", signer), must("signature", signature())])
+}
+
+fn encrypted_data() -> Shape {
+    let cipher = || choice_more(vec![("aes128ccm", sequence(vec![must("nonce", octet_string(12)), must("ccmCiphertext", any_octets())]))], vec![]);
+    let ecies = || sequence(vec![must("v", curve_point(32)), must("c", octet_string(16)), must("t", octet_string(16))]);
+    let key = || choice_more(vec![("eciesNistP256", ecies()), ("eciesBrainpoolP256r1", ecies())], vec![]);
+    let of = |key| sequence(vec![must("recipientId", octet_string(8)), must("encKey", key)]);
+    let recipient = choice(vec![("pskRecipInfo", octet_string(8)), ("symmRecipInfo", of(cipher())), ("certRecipInfo", of(key())), ("signedDataRecipInfo", of(key())), ("rekRecipInfo", of(key()))]);
+    sequence(vec![must("recipients", list(recipient)), must("ciphertext", cipher())])
+}
+
+fn message() -> Shape {
+    let content = choice_more(vec![("unsecuredData", any_octets()), ("signedData", signed_data()), ("encryptedData", encrypted_data()), ("signedCertificateRequest", any_octets())], vec![]);
+    sequence(vec![must("protocolVersion", int(3, 3)), must("content", content)])
 }
 
 fn shape_of(name: &str) -> Shape {
@@ -544,6 +757,7 @@ fn shape_of(name: &str) -> Shape {
         "Octets" => any_octets(),
         "Booleans" => list(Shape::Boolean),
         "Certificate" => certificate(),
+        "Ieee1609Dot2Data" => message(),
         _ => nested(name.trim_start_matches("Nested").parse().expect("a type that is measured")),
     }
 }
@@ -554,6 +768,7 @@ fn save(folder: &str, name: &str, shape: &Shape, value: &Value) {
     let mut octets = Vec::new();
     write(shape, value, &mut octets);
     assert!(read(shape, &mut Slice { octets: &octets, at: 0, end: octets.len() }).as_ref() == Ok(value));
+    assert!(check(shape, &octets) == Ok((octets.len() as u64, true)));
     std::fs::write(format!("{folder}/{name}"), octets).unwrap();
 }
 
@@ -597,6 +812,7 @@ fn turn(task: &str, shape: &Shape, octets: &[u8], value: &Value) -> u64 {
             write(shape, &value, &mut written);
             written.len() as u64
         }
+        "check" => check(shape, octets).map_or(0, |(count, canonical)| 2 * count + canonical as u64),
         _ => panic!("no such task"),
     }
 }

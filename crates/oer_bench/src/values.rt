@@ -1,4 +1,5 @@
 //! Whole values, read and written.
+ghost use Rattle.std.specs.Prelude.{IfSome};
 ghost use Rattle.oer_types.specs.Fits.{Fits};
 ghost use Rattle.oer_types.specs.Schema.{the_type};
 ghost use Rattle.oer_types.specs.ValueView.{value_of};
@@ -75,15 +76,26 @@ fn turns_read(
     Some(sum)
 }
 
-/// The lengths of all turns.
-fn turns_length(schema: &Schema, value: &Value, turns: u32) -> u64
-    requires { Fits (the_type schema.now) (value_of value.now) }
+/// How many octets the value of this turn has, of two that alternate; 0 where it is too long.
+fn length_of(schema: &Schema, one: &Value, other: &Value, turn: u32) -> u64
+    requires one { Fits (the_type schema.now) (value_of one.now) }
+    requires other { Fits (the_type schema.now) (value_of other.now) }
+{
+    if turn.is_multiple_of(2) {
+        return length(schema, one).unwrap_or(0);
+    }
+    length(schema, other).unwrap_or(0)
+}
+
+/// The lengths of all turns. Two values alternate, since a call whose arguments stay the same would be
+/// made only once.
+fn turns_length(schema: &Schema, one: &Value, other: &Value, turns: u32) -> u64
+    requires one { Fits (the_type schema.now) (value_of one.now) }
+    requires other { Fits (the_type schema.now) (value_of other.now) }
 {
     let mut sum = 0u64;
-    for _ in 0..turns {
-        if let Some(count) = length(schema, value) {
-            sum = sum.wrapping_add(count);
-        }
+    for turn in 0..turns {
+        sum = sum.wrapping_add(length_of(schema, one, other, turn));
     }
     sum
 }
@@ -102,6 +114,18 @@ fn turns_write(alloc: Global, schema: &Schema, value: &Value, turns: u32) -> u64
     sum
 }
 
+/// The value that the octets encode, if it fits its type; none where they encode none.
+fn fitting(alloc: Global, schema: &Schema, octets: &[u8]) -> Option<Value>
+    ensures { IfSome result (λ value. Fits (the_type schema.now) (value_of value)) }
+{
+    let mut reader = Metered::new(octets);
+    let value = read(alloc, schema, &mut reader, u64::MAX).ok()?;
+    if !fits(schema, &value) {
+        return None;
+    }
+    Some(value)
+}
+
 /// The turns of a task that writes the value that the octets encode; none where they encode none.
 fn turns_on_value(
     alloc: Global,
@@ -110,15 +134,12 @@ fn turns_on_value(
     octets: &[u8],
     turns: u32,
 ) -> Option<u64> {
-    let mut reader = Metered::new(octets);
-    let value = read(alloc, schema, &mut reader, u64::MAX).ok()?;
-    if !fits(schema, &value) {
-        return None;
+    let value = fitting(alloc, schema, octets)?;
+    if task == "measure" {
+        let other = fitting(alloc, schema, octets)?;
+        return Some(turns_length(schema, &value, &other, turns));
     }
-    match task {
-        "measure" => Some(turns_length(schema, &value, turns)),
-        _ => Some(turns_write(alloc, schema, &value, turns)),
-    }
+    Some(turns_write(alloc, schema, &value, turns))
 }
 
 /// The turns of a task on the type and the octets.

@@ -16,7 +16,8 @@ use Rattle.oer_types.specs.declared.size.Size.{Size}
 use Rattle.oer_types.proofs.LeastBits.{length-padded}
 use Rattle.oer_types.proofs.Packing.{bits_counted}
 use Rattle.oer_types.proofs.Parts.{length-bits_of}
-use Rattle.oer_checker.specs.Steps.{got_both, addition_map, between, last_are_zero, unused_fits}
+use Rattle.oer_types.specs.SharedSteps.{unused_fits}
+use Rattle.oer_checker.specs.Steps.{got_both, addition_map, between, last_are_zero}
 use Rattle.oer_checker.proofs.BitLists.{spare_last}
 use Rattle.oer_checker.proofs.Joins.{bind_got, bind_stop, give_got, judged_got, judged_stop}
 use Rattle.oer_checker.proofs.StringSteps.{group_between, group_size, with_got, with_stop}

@@ -21,7 +21,8 @@ use Rattle.oer_types.specs.declared.size.Size.{Size}
 use Rattle.oer_types.specs.declared.shape.Field.{Field}
 use Rattle.oer_types.specs.declared.shape.Addition.{Addition}
 use Rattle.oer_types.proofs.Same.{same_list-refl, same_list-true}
-use Rattle.oer_checker.specs.Steps.{addition_map, and_after, between, bits_left, check_if, check_there, got_both, is_default, is_there, sized_quantity}
+use Rattle.oer_types.specs.SharedSteps.{bits_left, is_there}
+use Rattle.oer_checker.specs.Steps.{addition_map, and_after, between, check_if, check_there, got_both, is_default, sized_quantity}
 use Rattle.oer_checker.proofs.BitLists.{drop_next, drop_past}
 use Rattle.oer_checker.proofs.Joins.{also_is, and_all, and_true, bind_got, bind_stop, both_got, both_stop, give_got, judged_got, judged_stop, more_got, more_stop, no_more}
 

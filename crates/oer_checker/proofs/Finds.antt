@@ -14,7 +14,7 @@ use Rattle.oer_types.specs.Parts.{Answer, Part, Step, addition_parts, field_part
 use Rattle.oer_types.specs.ShapeView.{additions_of, fields_of, need_of}
 use Rattle.oer_types.specs.declared.shape.Addition.{Addition}
 use Rattle.oer_types.specs.declared.shape.Field.{Field}
-use Rattle.oer_checker.specs.Steps.{is_there}
+use Rattle.oer_types.specs.SharedSteps.{is_there}
 use Rattle.oer_checker.specs.Walk.{read_in}
 use Rattle.oer_checker.proofs.BitLists.{drop_sum}
 use Rattle.oer_checker.proofs.Entries.{Ends, Entry, FoundBy, FoundBy_same, NotIn, Passes, both_ends, found_there, missed, walked}

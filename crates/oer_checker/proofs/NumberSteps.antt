@@ -1,6 +1,5 @@
 -- Numbers, compared with bounds and with their least forms.
-use Rattle.std.specs.Int.{w128}
-use Rattle.std.proofs.Common.{SFits, negsuc, ◌<◌, ◌-◌, ◌≡◌, ℕ, ℤ, pos, ◌^◌, ◌-ℤ◌, ◌≤ℤ◌, neg_ℤ, Bool, true, false, ◌&&◌, ◌||◌, leb, ltb, eqb, int_le, List, length, Option, inl, inr, refl, sym, ap, ◌∙◌, subst, arith, unsigned_abs}
+use Rattle.std.proofs.Common.{◌-◌, ◌≡◌, ℕ, ℤ, pos, ◌^◌, ◌≤ℤ◌, Bool, true, false, ◌||◌, leb, ltb, eqb, List, length, Option, inl, inr, refl, sym, ap, ◌∙◌, subst, arith, unsigned_abs}
 use Rattle.std.proofs.lemmas.Bool.{cases_lt, le-leb, le-ltb, lt-leb, lt-ltb}
 use Rattle.oer_units.specs.declared.fault.Why.{Why}
 use Rattle.oer_units.specs.declared.fault.Why.TheVariants.{EmptyNumber, IntegerRange, UnknownEnum}
@@ -8,7 +7,7 @@ use Rattle.oer_units.specs.declared.fault.Why.TheVariants as reason
 use Rattle.oer_units.specs.declared.width.Width.{Width}
 use Rattle.oer_units.specs.Fixed.{group_as, signed_fixed_at, unsigned_fixed_at}
 use Rattle.oer_units.specs.Least.{counted, enumerated_octets, unsigned_octets}
-use Rattle.oer_units.specs.Numbers.{natural, signed, unsigned}
+use Rattle.oer_units.specs.Numbers.{natural, unsigned}
 use Rattle.oer_units.specs.Reader.{Outcome, Place, Reader, bind, bounded, got, give, group, guard, refuse, refused, then_read, within}
 use Rattle.oer_units.specs.Reading as unit
 use Rattle.oer_units.specs.Reading.{counted_number, determinant, is_int128, number, with_length}
@@ -18,94 +17,18 @@ use Rattle.oer_units.proofs.Ranges.{int_le-true}
 use Rattle.oer_types.specs.AsnType.{NamedNumber, enumerated, integer}
 use Rattle.oer_types.specs.Canonical.{integer_octets}
 use Rattle.oer_types.specs.Checking.{check_enumerated, check_integer, check_value, is_least, judged, quantity_octets}
-use Rattle.oer_types.specs.Constraints.{above, below, Form, form_of, has_number, in_range, signed_counted, signed_fixed, size_fits, unsigned_counted, unsigned_fixed}
+use Rattle.oer_types.specs.Constraints.{Form, form_of, has_number, in_range, signed_counted, signed_fixed, size_fits, unsigned_counted, unsigned_fixed}
 use Rattle.oer_types.specs.Reading.{quantity, read_integer}
+use Rattle.oer_types.specs.SharedSteps.{number_in}
+use Rattle.oer_types.proofs.NumberSteps.{integer_is, naturals_is, tested, wide}
 use Rattle.oer_types.specs.declared.size.Size.{Size}
 use Rattle.std.specs.Prelude.{Result, Ok, Err, IfOk}
 use Rattle.oer_checker.specs.declared.place.Place as rust_place
 use Rattle.oer_checker.specs.declared.stop.Stop.{Stop}
 use Rattle.oer_checker.specs.Places.{outcome, place_of, same}
-use Rattle.oer_checker.specs.Numbers.{least_in, number_in}
+use Rattle.oer_checker.specs.Numbers.{least_in}
 use Rattle.oer_checker.specs.Steps.{got_both, between, sized_quantity}
 use Rattle.oer_checker.proofs.Joins.{bind_got, bind_stop, give_got, judged_got, judged_stop}
-
-and_left : (a b : Bool) → (a && b) ≡ true → a ≡ true
-and_left true b e = refl
-and_left false b e = cc
-
--- a number within the bounds has 128 bits
-wide : (low high : Option ℤ) (z : ℤ) → in_range low high z ≡ true → is_int128 z ≡ true
-unfolding in_range is_int128
-wide low high z e =
-    let both = int_le (neg_ℤ (pos (2 ^ 127))) z && int_le z (pos (2 ^ 127) -ℤ pos 1) in
-    and_left both (above low z) (and_left (both && above low z) (below high z) e)
-
-low_held : (z : ℤ) → SFits w128 z → int_le (neg_ℤ (pos (2 ^ 127))) z ≡ true
-low_held (pos n) f = refl
-low_held (negsuc n) f = let h : n < 2 ^ 127 = f.sfits in le-leb n (2 ^ 127 - 1) (omega arith)
-
-high_held : (z : ℤ) → SFits w128 z → int_le z (pos (2 ^ 127) -ℤ pos 1) ≡ true
-high_held (pos n) f = let h : n < 2 ^ 127 = f.sfits in le-leb n (2 ^ 127 - 1) (omega arith)
-high_held (negsuc n) f = refl
-
-held_both : (z : ℤ) (a : Bool) → SFits w128 z → (int_le (neg_ℤ (pos (2 ^ 127))) z && int_le z (pos (2 ^ 127) -ℤ pos 1) && a) ≡ a
-held_both z a fits = both (int_le (neg_ℤ (pos (2 ^ 127))) z) (int_le z (pos (2 ^ 127) -ℤ pos 1)) a (low_held z fits) (high_held z fits) where
-  both : (x y a : Bool) → x ≡ true → y ≡ true → (x && y && a) ≡ a
-  both x y a e f = rw (e, f) refl
-
-none : (x y z : Bool) → false ≡ y → false ≡ (x && y && z)
-none true y z e = ap (λ (b : Bool). b && z) e
-none false y z e = refl
-
--- both bounds are kept, by a number of 128 bits
-pub in_both : (low high : Option ℤ) (z : ℤ) (b : Bool) → SFits w128 z → true ≡ above low z → b ≡ below high z → b ≡ in_range low high z
-unfolding in_range
-in_both low high z b fits e f = f ∙ ap (λ (a : Bool). a && below high z) (e ∙ sym (held_both z (above low z) fits))
-
-pub not_above : (low high : Option ℤ) (z : ℤ) → false ≡ above low z → false ≡ in_range low high z
-unfolding in_range
-not_above low high z e = none (int_le (neg_ℤ (pos (2 ^ 127))) z && int_le z (pos (2 ^ 127) -ℤ pos 1)) (above low z) (below high z) e
-
--- the number, if it passes the test
-abbrev tested : (ℤ → Bool) → ℤ → Reader ℤ
-tested test z = guard (test z) IntegerRange (give z)
-
-fixed_is : (f : List ℕ → ℤ) (test : ℤ → Bool) (n : ℕ) (p : Place) → bind (group_as n f) (tested test) p ≡ number IntegerRange f test n p
-unfolding bind give number
-fixed_is f test n p = cases (group n p) where
-  cases : (o : Outcome (List ℕ)) → then_read (tested test) (then_read (λ w q. got (f w) q) o) ≡ then_read (λ w. guard (test (f w)) IntegerRange (λ q. got (f w) q)) o
-  cases (got w q) = refl
-  cases (refused why rest) = refl
-
-counted_is : (f : List ℕ → ℤ) (test : ℤ → Bool) (p : Place) → ((z : ℤ) → test z ≡ true → is_int128 z ≡ true) → bind (counted_number f is_int128) (tested test) p ≡ counted_number f test p
-unfolding counted_number with_length within bind number give refuse
-counted_is f test p sub = cases (determinant p) where
-  last : (z : ℤ) (q : Place) (a b : Bool) → is_int128 z ≡ a → test z ≡ b → then_read (tested test) (guard a IntegerRange (give z) q) ≡ guard b IntegerRange (give z) q
-  last z q true b ea eb = ap (λ (c : Bool). guard c IntegerRange (give z) q) eb
-  last z q false true ea eb = let t = sub z eb in absurd (cc)
-  last z q false false ea eb = refl
-
-  inner : (o : Outcome (List ℕ)) → then_read (tested test) (then_read (λ w. guard (is_int128 (f w)) IntegerRange (give (f w))) o) ≡ then_read (λ w. guard (test (f w)) IntegerRange (give (f w))) o
-  inner (got w q) = last (f w) q (is_int128 (f w)) (test (f w)) refl refl
-  inner (refused why rest) = refl
-
-  some : (c : Bool) (n : ℕ) (q : Place) → then_read (tested test) (guard c EmptyNumber (number IntegerRange f is_int128 n) q) ≡ guard c EmptyNumber (number IntegerRange f test n) q
-  some true n q = inner (group n q)
-  some false n q = refl
-
-  room : (c : Bool) (n : ℕ) (q : Place) → then_read (tested test) (bounded c (guard (leb 1 n) EmptyNumber (number IntegerRange f is_int128 n)) q) ≡ bounded c (guard (leb 1 n) EmptyNumber (number IntegerRange f test n)) q
-  room true n q = some (leb 1 n) n q
-  room false n q = refl
-
-  cases : (o : Outcome ℕ) → then_read (tested test) (then_read (λ n q. bounded (leb n q.left) (guard (leb 1 n) EmptyNumber (number IntegerRange f is_int128 n)) q) o) ≡ then_read (λ n q. bounded (leb n q.left) (guard (leb 1 n) EmptyNumber (number IntegerRange f test n)) q) o
-  cases (got n q) = room (leb n q.left) n q
-  cases (refused why rest) = refl
-
-integer_is : (form : Form) (test : ℤ → Bool) (p : Place) → ((z : ℤ) → test z ≡ true → is_int128 z ≡ true) → bind (number_in form) (tested test) p ≡ read_integer form test p
-integer_is (unsigned_fixed n) test p sub = fixed_is natural test n p
-integer_is (signed_fixed n) test p sub = fixed_is signed test n p
-integer_is unsigned_counted test p sub = counted_is natural test p sub
-integer_is signed_counted test p sub = counted_is signed test p sub
 
 -- ---- what was read, checked
 
@@ -146,20 +69,13 @@ integer_stop low high form p why rest is e =
 
 -- ---- the forms
 
-naturals : (n : ℕ) (p : Place) → bind (group_as n unsigned) (λ x. give (pos x)) p ≡ group_as n natural p
-unfolding bind give
-naturals n p = cases (group n p) where
-  cases : (o : Outcome (List ℕ)) → then_read (λ x q. got (pos x) q) (then_read (λ w q. got (unsigned w) q) o) ≡ then_read (λ w q. got (natural w) q) o
-  cases (got w q) = refl
-  cases (refused why rest) = refl
-
 pub unsigned_got : (w : Width) (p q : Place) (n : ℕ) → got n q ≡ unsigned_fixed_at w p → got (pos n) q ≡ number_in (unsigned_fixed (octets_of_width w)) p
 unfolding unsigned_fixed_at
-unsigned_got w p q n e = bind_got (group_as (octets_of_width w) unsigned) (λ x. give (pos x)) p q n (got (pos n) q) e (give_got (pos n) q) ∙ naturals (octets_of_width w) p
+unsigned_got w p q n e = bind_got (group_as (octets_of_width w) unsigned) (λ x. give (pos x)) p q n (got (pos n) q) e (give_got (pos n) q) ∙ naturals_is (octets_of_width w) p
 
 pub unsigned_stop : (w : Width) (p : Place) (why : Why) (rest : List ℕ) → refused why rest ≡ unsigned_fixed_at w p → refused why rest ≡ number_in (unsigned_fixed (octets_of_width w)) p
 unfolding unsigned_fixed_at
-unsigned_stop w p why rest e = bind_stop (group_as (octets_of_width w) unsigned) (λ x. give (pos x)) p why rest e ∙ naturals (octets_of_width w) p
+unsigned_stop w p why rest e = bind_stop (group_as (octets_of_width w) unsigned) (λ x. give (pos x)) p why rest e ∙ naturals_is (octets_of_width w) p
 
 pub signed_any : (w : Width) (p : Place) (o : Outcome ℤ) → o ≡ signed_fixed_at w p → o ≡ number_in (signed_fixed (octets_of_width w)) p
 unfolding signed_fixed_at

@@ -12,7 +12,8 @@ use Rattle.oer_types.specs.Parts.{Part, Step, addition_parts, field_parts, first
 use Rattle.oer_types.specs.ShapeView.{additions_of, fields_of, need_of, type_of}
 use Rattle.oer_types.specs.declared.shape.Addition.{Addition}
 use Rattle.oer_types.specs.declared.shape.Field.{Field}
-use Rattle.oer_checker.specs.Steps.{bits_left, check_if, check_there, is_there}
+use Rattle.oer_types.specs.SharedSteps.{bits_left, is_there}
+use Rattle.oer_checker.specs.Steps.{check_if, check_there}
 use Rattle.oer_checker.proofs.BitLists.{drop_none}
 use Rattle.oer_checker.proofs.Entries.{Ends, Entry, NotIn, Passes, ends_next, parts_next, passes_next, walked}
 use Rattle.oer_checker.proofs.FieldSteps.{by_bit, field_is, give_both}

@@ -1,5 +1,5 @@
 -- Steps of the checker, as readers of lists.
-use Rattle.std.specs.Prelude.{ℕ, ◌-◌, List, length, take, drop, Bool, true, false, ◌&&◌, ◌||◌, leb, eqb}
+use Rattle.std.specs.Prelude.{ℕ, ◌-◌, List, length, take, drop, Bool, true, false, ◌&&◌}
 use Rattle.oer_units.specs.Least.{length_octets}
 use Rattle.oer_units.specs.Reader.{Outcome, Place, Reader, bind, choose, give, got, guard, leave, refused, within}
 use Rattle.oer_units.specs.Reading.{determinant, subidentifier}
@@ -7,7 +7,7 @@ use Rattle.oer_units.specs.declared.fault.Why.TheVariants as reason
 use Rattle.oer_units.specs.declared.fault.Why.TheVariants.{UnknownAddition}
 use Rattle.oer_units.specs.declared.tagging.Tag.{Tag}
 use Rattle.oer_types.specs.AsnType.{Alternatives, AsnType, Need, default, may, must}
-use Rattle.oer_types.specs.Bits.{all_false, bits_of, first_bit, later_bits}
+use Rattle.oer_types.specs.Bits.{all_false, bits_of}
 use Rattle.oer_types.specs.Canonical.{canonical_octets, same_list}
 use Rattle.oer_types.specs.Checking.{check_alternative, check_octets, check_value, is_bitmap, is_least, judged, quantity_octets, unlike}
 use Rattle.oer_types.specs.Constraints.{has_tag, size_fits}
@@ -47,25 +47,9 @@ subidentifier_size k = bind (subidentifier k) (λ x. give x.1)
 unfoldable pub addition_map : ℕ → Reader (List Bool × Bool)
 addition_map n = bind (judged (is_bitmap n) bitmap) (λ y. guard (all_false (drop 65536 y.0)) UnknownAddition (give y))
 
--- u bits may be unused where a length of n counts the initial octet
-abbrev pub unused_fits : ℕ → ℕ → Bool
-unused_fits n u = leb u 7 && (leb 2 n || eqb u 0)
-
 -- the last u bits of the octets are 0
 abbrev pub last_are_zero : ℕ → List ℕ → Bool
 last_are_zero u b = all_false (drop (length (bits_of b) - u) (bits_of b))
-
--- whether a component is there, by the presence bits from its own on
-abbrev pub is_there : Need → List Bool → Bool
-is_there must s = true
-is_there may s = first_bit s
-is_there (default d) s = first_bit s
-
--- the presence bits of the components after it
-abbrev pub bits_left : Need → List Bool → List Bool
-bits_left must s = s
-bits_left may s = later_bits s
-bits_left (default d) s = later_bits s
 
 -- the octets are those of the default
 abbrev pub is_default : Need → AsnType → List ℕ → Bool

@@ -10,7 +10,8 @@ ghost use Rattle.oer_types.specs.Constraints.{size_fits};
 ghost use Rattle.oer_types.specs.Reading.{preamble as preamble_read, read_bits};
 ghost use Rattle.oer_checker.specs.BitView.{IsWhole, bits_in};
 ghost use Rattle.oer_checker.specs.Places.{outcome, place_of, same};
-ghost use Rattle.oer_checker.specs.Steps.{addition_map as addition_map_read, last_are_zero, unused_fits};
+ghost use Rattle.oer_types.specs.SharedSteps.{unused_fits};
+ghost use Rattle.oer_checker.specs.Steps.{addition_map as addition_map_read, last_are_zero};
 
 use crate::bits::Bits;
 use crate::lengths::{counted_len, octets_between};

@@ -4,6 +4,7 @@
 
 mod bit_strings;
 mod bits;
+mod booleans;
 mod encoding;
 mod facts;
 mod fault;

@@ -4,7 +4,7 @@ ghost use Rattle.oer_units.specs.Reader.{give, guard};
 ghost use Rattle.oer_units.specs.declared.fault.Why.TheVariants.{IntegerRange};
 ghost use Rattle.oer_types.specs.AsnType.{boolean, enumerated as enumerated_type, integer as integer_type};
 ghost use Rattle.oer_types.specs.Checking.{check_value};
-ghost use Rattle.oer_types.specs.Constraints.{above, below, has_number, in_range};
+ghost use Rattle.oer_types.specs.Constraints.{has_number, in_range};
 ghost use Rattle.oer_types.specs.ShapeView.{named_number};
 ghost use Rattle.oer_checker.specs.Places.{outcome, place_of, same};
 ghost use Rattle.oer_checker.specs.Steps.{sized_quantity};
@@ -16,7 +16,7 @@ use crate::units::{
     enumerated_at, octet_at, signed_counted_at, signed_fixed_at, unsigned_counted_at,
     unsigned_fixed_at,
 };
-use oer_types::{Form, Item, Size};
+use oer_types::{Form, Item, Size, contains_number, is_in_range};
 use oer_units::{Why, enumerated_len, signed_counted_len, unsigned_counted_len};
 
 /// A BOOLEAN (X.696, 9): `00`, or canonically `ff`.
@@ -83,31 +83,6 @@ fn in_bounds<'a>(
     Ok((is_least, next))
 }
 
-// Whether the number is within the bounds.
-fn is_in_range(low: Option<i128>, high: Option<i128>, number: i128) -> bool
-    ensures { result ≡ in_range low high number }
-{
-    is_above(low, number) && is_below(high, number)
-}
-
-fn is_above(low: Option<i128>, number: i128) -> bool
-    ensures { result ≡ above low number }
-{
-    match low {
-        Some(low) => low <= number,
-        None => true,
-    }
-}
-
-fn is_below(high: Option<i128>, number: i128) -> bool
-    ensures { result ≡ below high number }
-{
-    match high {
-        Some(high) => number <= high,
-        None => true,
-    }
-}
-
 /// An ENUMERATED (X.696, 11): the number of an item, or any where the type is extensible.
 pub(crate) fn check_enumerated<'a>(
     items: &[Item],
@@ -129,19 +104,7 @@ pub(crate) fn check_enumerated<'a>(
 fn is_known(items: &[Item], extensible: bool, number: i64) -> bool
     ensures { result ≡ (extensible || has_number (map named_number items.now) number) }
 {
-    extensible || is_listed(items, number)
-}
-
-// Whether an item has the number.
-fn is_listed(items: &[Item], number: i64) -> bool
-    ensures { result ≡ has_number (map named_number items.now) number }
-{
-    for item in items {
-        if item.number == number {
-            return true;
-        }
-    }
-    false
+    extensible || contains_number(items, number)
 }
 
 /// How many elements follow (X.696, 17): a quantity that is not above what is left, and that the

@@ -7,7 +7,8 @@ ghost use Rattle.oer_types.specs.Fits.{DefaultFits, Fits};
 ghost use Rattle.oer_types.specs.ShapeView.{need_of, type_of};
 ghost use Rattle.oer_checker.specs.BitView.{IsWhole, bits_in};
 ghost use Rattle.oer_checker.specs.Places.{outcome, place_of, same};
-ghost use Rattle.oer_checker.specs.Steps.{bits_left, is_default as is_default_in, is_there};
+ghost use Rattle.oer_types.specs.SharedSteps.{bits_left, is_there};
+ghost use Rattle.oer_checker.specs.Steps.{is_default as is_default_in};
 
 use crate::bits::Bits;
 use crate::lengths::check_octets;

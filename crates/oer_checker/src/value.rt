@@ -12,6 +12,7 @@ ghost use Rattle.oer_checker.specs.Steps.{check_if, check_later as later_checked
 
 use crate::bit_strings::{addition_map, check_bit_string, preamble};
 use crate::bits::Bits;
+use crate::booleans::check_booleans;
 use crate::facts::{addition_fits, alternative_fits, field_fits, later_fits};
 use crate::lengths::{check_octets, leave, octets_between, sized_length_at};
 use crate::numbers::{check_boolean, check_enumerated, check_integer, sized_quantity_at};
@@ -139,6 +140,9 @@ pub(crate) fn check_elements<'a>(
     requires defaults { DefaultsFit (type_of item.now) }
     ensures { outcome same result ≡ check_times count (check_value (type_of item.now)) (place_of place.entry) }
 {
+    if let Shape::Boolean = item {
+        return check_booleans(count, place);
+    }
     let mut is_canonical = true;
     let mut at = place;
     for turn in 0..count {

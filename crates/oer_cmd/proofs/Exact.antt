@@ -51,7 +51,7 @@ use Rattle.oer_cmd.specs.declared.fault.Fault.{Fault}
 use Rattle.oer_cmd.specs.declared.value.Form.{Form}
 use Rattle.oer_cmd.specs.declared.value.Form.TheVariants as form
 use Rattle.oer_cmd.specs.declared.fault.Fault.TheVariants.{Absent, Follows, Json as Json_fault, Longer, Memory, NoSuchStep, NotJson, Path, Read}
-use Rattle.oer_cmd.proofs.Floats.{made_none}
+use Rattle.oer_json.proofs.Floats.{made_none}
 use Rattle.oer_cmd.proofs.Refusals.{not_memory}
 use Rattle.oer_cmd.proofs.Meeting.{bytes, fails, followed, goes, is_read, refusing, stops, unread, wholly}
 

@@ -19,7 +19,7 @@ use Rattle.serde_json.specs.Written.{compact_text, has_float}
 use Rattle.oer_json.specs.Made.{made}
 use Rattle.oer_cmd.specs.Canon.{IsEmpty, MakesCanonical}
 use Rattle.oer_cmd.specs.Run.{IsShowLine, IsShown}
-use Rattle.oer_cmd.proofs.Floats.{made_none}
+use Rattle.oer_json.proofs.Floats.{made_none}
 
 -- the value is all that the reader had, and c are its canonical octets
 pub rewritten : (T : AsnType) (limit m n : ℕ) (known known' : Option (List ℕ)) (none d c : List ℕ) → IsRewritten T limit known known' (Some none) (Some d) (m, n) → none ≡ [] → c ≡ d → IsEmpty known' → IfSome known (λ b. MakesCanonical T limit b c)

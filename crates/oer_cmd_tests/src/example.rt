@@ -3,7 +3,6 @@
 use crate::cut::is_cut;
 use crate::shared::expect;
 use std::alloc::Global;
-use std::process::Abort;
 use std::test::Fail;
 
 const TYPES: &str = "-- IEEE 1609.2-2016 with amendments 1609.2a-2017 and 1609.2b-2019, in the
@@ -379,52 +378,41 @@ const REFUSED: &[(&str, &str, &str, &str)] = &[
 ];
 
 // A run of `canon` on octets of the type that the Name has among the definitions.
-fn rewrites<R: Abort>(
-    rt: &R,
-    alloc: Global,
-    types: &str,
-    row: (&str, &str, &str),
-) -> Result<(), Fail> {
+fn rewrites(alloc: Global, types: &str, row: (&str, &str, &str)) -> Result<(), Fail> {
     let (name, digits, canonical) = row;
     let words = format!(in alloc;
         "canon | --limit=236 | --name={name} | --types={types} | --hex={digits}"
     )?;
-    expect(rt, alloc, words.as_str(), &[], 0, canonical)
+    expect(alloc, words.as_str(), &[], (0, canonical))
 }
 
 // A run of `canon` that rejects the octets.
-fn refuses<R: Abort>(rt: &R, alloc: Global, row: (&str, &str, &str, &str)) -> Result<(), Fail> {
+fn refuses(alloc: Global, row: (&str, &str, &str, &str)) -> Result<(), Fail> {
     let (name, limit, digits, reason) = row;
     let words = format!(in alloc;
         "canon | --limit={limit} | --name={name} | --types={TYPES} | --hex={digits}"
     )?;
     let line = format!(in alloc; "oer: {reason}")?;
-    expect(rt, alloc, words.as_str(), &[], 1, line.as_str())
+    expect(alloc, words.as_str(), &[], (1, line.as_str()))
 }
 
 #[test]
 fn certificates_and_messages(rt: HostRuntime) -> Result<(), Fail> {
     for row in CANONICAL {
-        rewrites(&rt, rt.alloc(), TYPES, *row)?;
+        rewrites(rt.alloc(), TYPES, *row)?;
     }
-    Ok(())
-}
-
-#[test]
-fn refusals(rt: HostRuntime) -> Result<(), Fail> {
     for row in REFUSED {
-        refuses(&rt, rt.alloc(), *row)?;
+        refuses(rt.alloc(), *row)?;
     }
     Ok(())
 }
 
 #[test]
 fn newer_types(rt: HostRuntime) -> Result<(), Fail> {
-    let alloc = rt.alloc();
-    let types = format!(in alloc; "{TYPES}{NEWER}")?;
+    let types = format!(in rt.alloc(); "{TYPES}{NEWER}")?;
     let relayed = "8001240204200101";
     for digits in [relayed, "8001240205200101"] {
-        rewrites(&rt, alloc, &types, ("NewerHeaderInfo", digits, relayed))?;
+        rewrites(rt.alloc(), &types, ("NewerHeaderInfo", digits, relayed))?;
     }
     Ok(())
 }
@@ -433,9 +421,9 @@ fn newer_types(rt: HostRuntime) -> Result<(), Fail> {
 fn cut_certificate(rt: HostRuntime) -> Result<(), Fail> {
     let alloc = rt.alloc();
     let octets = hex::decode(alloc, BASIC)?;
-    let words = format!(in alloc; "canon | --name=Certificate | --types={TYPES}")?;
+    let options = format!(in alloc; "--name=Certificate | --types={TYPES}")?;
     for count in (0..octets.len()).step_by(9) {
-        is_cut(&rt, alloc, words.as_str(), octets.as_slice(), count)?;
+        is_cut(alloc, "canon", options.as_str(), octets.as_slice(), count)?;
     }
     Ok(())
 }

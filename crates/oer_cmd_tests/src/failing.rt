@@ -1,8 +1,7 @@
 //! Runs whose input, output or errors fail, give or take little, or end.
 use crate::devices::{Reader, Stop, StopAt, Writer};
-use crate::shared::{Devices, columns, ran, says};
+use crate::shared::{Devices, has_said, is_line, is_well, ran};
 use std::alloc::Global;
-use std::process::Abort;
 use std::test::Fail;
 
 /// What the input has, octets in hexadecimal digits or for `make` a text; the line; the words.
@@ -35,183 +34,132 @@ const STOPS: [Stop; 3] = [Stop::Fails, Stop::IsInterrupted, Stop::Ends];
 struct Case<'t> {
     input: Vec<u8>,
     line: &'t str,
+    /// The line and its line feed.
+    whole: String,
     words: &'t str,
 }
 
-fn case_of<'t, R: Abort>(rt: &R, alloc: Global, row: &'t str) -> Result<Case<'t>, Fail> {
-    let (input, line, words) = columns(rt, row);
+fn case_of<'t>(alloc: Global, row: &'t str) -> Result<Case<'t>, Fail> {
+    let (input, rest) = row.split_once(" | ").ok_or("a line")?;
+    let (line, words) = rest.split_once(" | ").ok_or("words")?;
     let input = if words.starts_with("make") {
         input.as_bytes().to_vec(alloc)?
     } else {
         hex::decode(alloc, input)?
     };
-    Ok(Case { input, line, words })
+    Ok(Case {
+        input,
+        line,
+        whole: format!(in alloc; "{line}\n")?,
+        words,
+    })
 }
 
 // ---- the input
 
-// A run whose reader gives one octet a call, and stops at one of its calls if at any.
-fn reads<R: Abort>(
-    rt: &R,
-    alloc: Global,
-    case: &Case<'_>,
-    stop: StopAt,
-    want: (u8, &str),
-) -> Result<(), Fail> {
+// Whether a run says so whose reader gives one octet a call, and stops at one of its calls if at any.
+fn reads(alloc: Global, case: &Case<'_>, stop: StopAt, want: (u8, &str)) -> Result<(), Fail> {
     let mut on = Devices::new(alloc, &[]);
     on.input = Reader::slow(case.input.as_slice(), stop);
     let ended = ran(alloc, case.words, &mut on)?;
-    says(rt, alloc, case.words, &on, ended, want)
+    is_well(case.words, has_said(&on, ended, want))
+}
+
+// That runs whose reader ends before the call refuse the front. No front of the text of `make` is JSON.
+fn reads_front(alloc: Global, case: &Case<'_>, call: usize) -> Result<(), Fail> {
+    let end = format!(in alloc; "oer: End at {call}")?;
+    let want = if case.words.starts_with("make") {
+        (2, "oer: json: not JSON")
+    } else {
+        (1, end.as_str())
+    };
+    reads(alloc, case, Some((call, Stop::Ends)), want)
 }
 
 // Runs whose reader stops at each call, and at none.
-fn reads_slowly<R: Abort>(rt: &R, alloc: Global, row: &str) -> Result<(), Fail> {
-    let case = case_of(rt, alloc, row)?;
+fn reads_slowly(alloc: Global, row: &str) -> Result<(), Fail> {
+    let case = case_of(alloc, row)?;
     for call in 0..=case.input.len() {
-        for stop in [Stop::Fails, Stop::IsInterrupted] {
-            let want = (3, "oer: input failed");
-            reads(rt, alloc, &case, Some((call, stop)), want)?;
+        let want = (3, "oer: input failed");
+        reads(alloc, &case, Some((call, Stop::Fails)), want)?;
+        reads(alloc, &case, Some((call, Stop::IsInterrupted)), want)?;
+        if call < case.input.len() {
+            reads_front(alloc, &case, call)?;
         }
     }
-    reads(rt, alloc, &case, None, (0, case.line))
+    reads(alloc, &case, None, (0, case.line))
 }
 
 #[test]
 fn input_stops(rt: HostRuntime) -> Result<(), Fail> {
     for row in READ.lines() {
-        reads_slowly(&rt, rt.alloc(), row)?;
-    }
-    Ok(())
-}
-
-// Runs whose reader ends before each octet. No front of the text of `make` is JSON.
-fn reads_front<R: Abort>(rt: &R, alloc: Global, row: &str) -> Result<(), Fail> {
-    let case = case_of(rt, alloc, row)?;
-    for call in 0..case.input.len() {
-        let end = format!(in alloc; "oer: End at {call}")?;
-        let want = if case.words.starts_with("make") {
-            (2, "oer: json: not JSON")
-        } else {
-            (1, end.as_str())
-        };
-        reads(rt, alloc, &case, Some((call, Stop::Ends)), want)?;
-    }
-    Ok(())
-}
-
-#[test]
-fn input_ends(rt: HostRuntime) -> Result<(), Fail> {
-    for row in READ.lines() {
-        reads_front(&rt, rt.alloc(), row)?;
+        reads_slowly(rt.alloc(), row)?;
     }
     Ok(())
 }
 
 // ---- the output
 
-// What a run did whose output failed, when this front of the line had been taken.
-fn is_output_failed<R: Abort>(rt: &R, words: &str, on: &Devices<'_>, ended: u8, front: &[u8]) {
-    assert_eq!(rt; on.output.held.as_slice(), front, "{words}");
-    let line = b"oer: output failed\n".as_slice();
-    assert_eq!(rt; on.errors.held.as_slice(), line, "{words}");
-    assert_eq!(rt; ended, 3, "{words}");
-}
-
-// A run whose output takes one octet a call, and stops at one of its calls.
-fn writes_front<R: Abort>(
-    rt: &R,
+// That a run to this output fails, when the front of the line had been taken.
+fn fails(
     alloc: Global,
-    case: &Case<'_>,
-    stop: (usize, Stop),
+    words: &str,
+    input: &[u8],
+    output: Writer,
     front: &[u8],
 ) -> Result<(), Fail> {
-    let mut on = Devices::new(alloc, case.input.as_slice());
-    on.output = Writer::slow(alloc, Some(stop));
-    let ended = ran(alloc, case.words, &mut on)?;
-    is_output_failed(rt, case.words, &on, ended, front);
-    Ok(())
+    let mut on = Devices::new(alloc, input);
+    on.output = output;
+    let ended = ran(alloc, words, &mut on)?;
+    let is_failed = ended == 3 && is_line(on.errors.held.as_slice(), "oer: output failed");
+    is_well(words, is_failed && on.output.held.as_slice() == front)
 }
 
-// Runs whose output stops at each octet of the line, the line feed too.
-fn writes_slowly<R: Abort>(rt: &R, alloc: Global, row: &str) -> Result<(), Fail> {
-    let case = case_of(rt, alloc, row)?;
-    let line = format!(in alloc; "{}\n", case.line)?;
+// Runs whose output takes one octet a call and stops at each octet of the line, the line feed too.
+fn writes_slowly(alloc: Global, words: &str, input: &[u8], line: &[u8]) -> Result<(), Fail> {
     for call in 0..line.len() {
         for stop in STOPS {
-            let front = &line.as_bytes()[..call];
-            writes_front(rt, alloc, &case, (call, stop), front)?;
+            let output = Writer::slow(alloc, Some((call, stop)));
+            fails(alloc, words, input, output, &line[..call])?;
         }
     }
     Ok(())
 }
 
-#[test]
-fn output_stops(rt: HostRuntime) -> Result<(), Fail> {
-    for row in READ.lines() {
-        writes_slowly(&rt, rt.alloc(), row)?;
+// Runs whose output takes the whole line, and whose first flush stops.
+fn flushes(alloc: Global, words: &str, input: &[u8], line: &[u8]) -> Result<(), Fail> {
+    for stop in [Stop::Fails, Stop::IsInterrupted] {
+        let output = Writer::whole(alloc, Some((0, stop)));
+        fails(alloc, words, input, output, line)?;
     }
     Ok(())
 }
 
-// A run whose output takes one octet a call. It is flushed.
-fn writes_whole<R: Abort>(rt: &R, alloc: Global, row: &str) -> Result<(), Fail> {
-    let case = case_of(rt, alloc, row)?;
-    let line = format!(in alloc; "{}\n", case.line)?;
+// That a run whose output takes one octet a call writes the line, and flushes; and that it is one
+// write where the output takes all.
+fn writes_whole(alloc: Global, case: &Case<'_>) -> Result<(), Fail> {
     let mut on = Devices::new(alloc, case.input.as_slice());
     on.output = Writer::slow(alloc, None);
     let ended = ran(alloc, case.words, &mut on)?;
-    assert_eq!(rt; on.output.held.as_slice(), line.as_bytes(), "{row}");
-    assert!(rt; on.output.flushes.count > 0, "{row}");
-    assert!(rt; on.errors.held.is_empty(), "{row}");
-    assert_eq!(rt; ended, 0, "{row}");
-    Ok(())
-}
-
-#[test]
-fn output_is_slow(rt: HostRuntime) -> Result<(), Fail> {
-    for row in READ.lines() {
-        writes_whole(&rt, rt.alloc(), row)?;
-    }
-    Ok(())
-}
-
-// A run whose output takes the whole line, and whose first flush stops.
-fn flushes<R: Abort>(rt: &R, alloc: Global, row: &str, stop: Stop) -> Result<(), Fail> {
-    let case = case_of(rt, alloc, row)?;
-    let line = format!(in alloc; "{}\n", case.line)?;
+    is_well(case.words, has_said(&on, ended, (0, case.line)))?;
+    is_well(case.words, on.output.flushes.count > 0)?;
     let mut on = Devices::new(alloc, case.input.as_slice());
-    on.output = Writer::whole(alloc, Some((0, stop)));
     let ended = ran(alloc, case.words, &mut on)?;
-    is_output_failed(rt, case.words, &on, ended, line.as_bytes());
-    Ok(())
+    is_well(case.words, has_said(&on, ended, (0, case.line)))?;
+    let calls = (on.output.calls.count, on.errors.calls.count);
+    is_well(case.words, calls == (1, 0))
 }
 
 #[test]
-fn flush_stops(rt: HostRuntime) -> Result<(), Fail> {
+fn output_stops(rt: HostRuntime) -> Result<(), Fail> {
+    let alloc = rt.alloc();
     for row in READ.lines() {
-        flushes(&rt, rt.alloc(), row, Stop::Fails)?;
-        flushes(&rt, rt.alloc(), row, Stop::IsInterrupted)?;
+        let case = case_of(alloc, row)?;
+        let line = case.whole.as_bytes();
+        writes_slowly(alloc, case.words, case.input.as_slice(), line)?;
+        flushes(alloc, case.words, case.input.as_slice(), line)?;
+        writes_whole(alloc, &case)?;
     }
-    Ok(())
-}
-
-// Runs that print help, whose output takes one octet a call and stops in each way at one of them.
-fn help_stops_at<R: Abort>(rt: &R, alloc: Global, call: usize, front: &[u8]) -> Result<(), Fail> {
-    for stop in STOPS {
-        let mut on = Devices::new(alloc, &[]);
-        on.output = Writer::slow(alloc, Some((call, stop)));
-        let ended = ran(alloc, "--help", &mut on)?;
-        is_output_failed(rt, "--help", &on, ended, front);
-    }
-    Ok(())
-}
-
-// A run that prints help, and whose flush stops.
-fn help_not_flushed<R: Abort>(rt: &R, alloc: Global, stop: Stop, help: &[u8]) -> Result<(), Fail> {
-    let mut on = Devices::new(alloc, &[]);
-    on.output = Writer::whole(alloc, Some((0, stop)));
-    let ended = ran(alloc, "--help", &mut on)?;
-    is_output_failed(rt, "--help", &on, ended, help);
     Ok(())
 }
 
@@ -220,109 +168,78 @@ fn help_stops(rt: HostRuntime) -> Result<(), Fail> {
     let alloc = rt.alloc();
     let mut on = Devices::new(alloc, &[]);
     ran(alloc, "--help", &mut on)?;
-    assert_eq!(rt; on.output.calls.count, 1);
+    is_well("--help", on.output.calls.count == 1)?;
     let help = on.output.held.as_slice();
-    for call in 0..help.len().min(40) {
-        help_stops_at(&rt, alloc, call, &help[..call])?;
-    }
-    help_not_flushed(&rt, alloc, Stop::Fails, help)?;
-    help_not_flushed(&rt, alloc, Stop::IsInterrupted, help)
+    writes_slowly(alloc, "--help", &[], &help[..help.len().min(40)])?;
+    flushes(alloc, "--help", &[], help)
 }
 
 // ---- the errors
 
-// A run that fails. Its errors take one octet a call, and stop at one of their calls if at any: the
-// status stands, and what they took is a front of the line.
-fn reports<R: Abort>(rt: &R, alloc: Global, row: &str, stop: StopAt) -> Result<(), Fail> {
-    let (status, line, words) = columns(rt, row);
-    let line = format!(in alloc; "{line}\n")?;
+// Whether these octets of the line were taken by errors that stop so: a front of it.
+fn is_front(taken: &[u8], line: &[u8], stop: StopAt) -> bool {
+    let is_long = match stop {
+        Some((call, Stop::IsInterrupted)) => taken.len() >= call,
+        Some((call, _)) => taken.len() == call.min(line.len()),
+        None => taken.len() == line.len(),
+    };
+    is_long && line.starts_with(taken)
+}
+
+// That a run fails with the status. Its errors take one octet a call, and stop at one of their calls
+// if at any: what they took is a front of the line.
+fn reports(alloc: Global, words: &str, status: u8, line: &[u8], stop: StopAt) -> Result<(), Fail> {
     let mut on = Devices::new(alloc, &[]);
     on.input = Reader::slow(&[], Some((0, Stop::Fails)));
     on.errors = Writer::slow(alloc, stop);
     let ended = ran(alloc, words, &mut on)?;
-    assert_eq!(rt; ended, status.parse::<u8>()?, "{row}");
-    assert!(rt; on.output.held.is_empty(), "{row}");
-    let taken = on.errors.held.as_slice();
-    match stop {
-        Some((call, Stop::IsInterrupted)) => assert!(rt; taken.len() >= call, "{row}"),
-        Some((call, _)) => assert_eq!(rt; taken, &line.as_bytes()[..call.min(line.len())], "{row}"),
-        None => assert_eq!(rt; taken, line.as_bytes(), "{row}"),
-    }
-    assert!(rt; line.as_bytes().starts_with(taken), "{row}");
-    Ok(())
+    let is_failed = ended == status && on.output.held.is_empty();
+    is_well(
+        words,
+        is_failed && is_front(on.errors.held.as_slice(), line, stop),
+    )
+}
+
+// That a run fails with its line in one write.
+fn reports_once(alloc: Global, words: &str, want: (u8, &str)) -> Result<(), Fail> {
+    let mut on = Devices::new(alloc, &[]);
+    on.input = Reader::slow(&[], Some((0, Stop::Fails)));
+    let ended = ran(alloc, words, &mut on)?;
+    let calls = (on.errors.calls.count, on.output.calls.count);
+    is_well(words, has_said(&on, ended, want) && calls == (1, 0))
 }
 
 // Runs whose errors stop at each octet of the line, and at none.
-fn reports_slowly<R: Abort>(rt: &R, alloc: Global, row: &str) -> Result<(), Fail> {
-    let (_, line, _) = columns(rt, row);
-    for call in 0..=line.len() {
+fn reports_slowly(alloc: Global, row: &str) -> Result<(), Fail> {
+    let (status, rest) = row.split_once(" | ").ok_or("a line")?;
+    let (line, words) = rest.split_once(" | ").ok_or("words")?;
+    let status = status.parse::<u8>()?;
+    let whole = format!(in alloc; "{line}\n")?;
+    for call in 0..whole.len() {
         for stop in STOPS {
-            reports(rt, alloc, row, Some((call, stop)))?;
+            reports(alloc, words, status, whole.as_bytes(), Some((call, stop)))?;
         }
     }
-    reports(rt, alloc, row, None)
+    reports(alloc, words, status, whole.as_bytes(), None)?;
+    reports_once(alloc, words, (status, line))
 }
 
 #[test]
 fn errors_stop(rt: HostRuntime) -> Result<(), Fail> {
     for row in FAULTS.lines() {
-        reports_slowly(&rt, rt.alloc(), row)?;
+        reports_slowly(rt.alloc(), row)?;
     }
     Ok(())
 }
 
 #[test]
 fn errors_of_refused_words(rt: HostRuntime) -> Result<(), Fail> {
-    let alloc = rt.alloc();
     for call in 0..40 {
-        let mut on = Devices::new(alloc, &[]);
-        on.errors = Writer::slow(alloc, Some((call, Stop::Fails)));
-        let ended = ran(alloc, "canon | --type=BOOLEAN | --json=true", &mut on)?;
-        assert_eq!(rt; ended, 2, "at {call}");
-        assert!(rt; on.output.held.is_empty(), "at {call}");
-        assert_eq!(rt; on.input.calls.count, 0, "at {call}");
-    }
-    Ok(())
-}
-
-// ---- one write
-
-// A run that fails, with its line in one write.
-fn reports_once<R: Abort>(rt: &R, alloc: Global, row: &str) -> Result<(), Fail> {
-    let (status, line, words) = columns(rt, row);
-    let mut on = Devices::new(alloc, &[]);
-    on.input = Reader::slow(&[], Some((0, Stop::Fails)));
-    let ended = ran(alloc, words, &mut on)?;
-    let status = status.parse::<u8>()?;
-    says(rt, alloc, words, &on, ended, (status, line))?;
-    assert_eq!(rt; on.errors.calls.count, 1, "{words}");
-    assert_eq!(rt; on.output.calls.count, 0, "{words}");
-    Ok(())
-}
-
-#[test]
-fn one_write_of_a_fault(rt: HostRuntime) -> Result<(), Fail> {
-    for row in FAULTS.lines() {
-        reports_once(&rt, rt.alloc(), row)?;
-    }
-    Ok(())
-}
-
-// A run with its line, the line feed too, in one write.
-fn prints_once<R: Abort>(rt: &R, alloc: Global, row: &str) -> Result<(), Fail> {
-    let case = case_of(rt, alloc, row)?;
-    let mut on = Devices::new(alloc, case.input.as_slice());
-    let ended = ran(alloc, case.words, &mut on)?;
-    says(rt, alloc, case.words, &on, ended, (0, case.line))?;
-    assert_eq!(rt; on.output.calls.count, 1, "{row}");
-    assert_eq!(rt; on.errors.calls.count, 0, "{row}");
-    Ok(())
-}
-
-#[test]
-fn one_write_of_a_line(rt: HostRuntime) -> Result<(), Fail> {
-    for row in READ.lines() {
-        prints_once(&rt, rt.alloc(), row)?;
+        let mut on = Devices::new(rt.alloc(), &[]);
+        on.errors = Writer::slow(rt.alloc(), Some((call, Stop::Fails)));
+        let ended = ran(rt.alloc(), "canon | --type=BOOLEAN | --json=true", &mut on)?;
+        let is_unread = on.output.held.is_empty() && on.input.calls.count == 0;
+        is_well("refused words", ended == 2 && is_unread)?;
     }
     Ok(())
 }

@@ -3,23 +3,24 @@ use crate::devices::{Reader, Stop};
 use oer_cmd::{GatherFault, gather};
 use oer_units::{Metered, Source};
 use std::alloc::Global;
-use std::process::Abort;
 use std::test::Fail;
 
 const OCTETS: [u8; 5000] = [7u8; 5000];
 
-// All the octets, within the limit.
-fn gathers<R: Abort>(rt: &R, alloc: Global, limit: u64) -> Result<(), Fail> {
-    let mut reader = Metered::new(OCTETS.as_slice());
-    let all = gather(alloc, &mut reader, limit)?;
-    assert_eq!(rt; all.as_slice(), OCTETS.as_slice(), "{limit}");
-    Ok(())
+// A failure that names the limit or the call, unless all is well.
+fn is_well(what: &str, number: u64, well: bool) -> Result<(), Fail> {
+    if well {
+        return Ok(());
+    }
+    Err(Fail::new(format_args!("{what} {number}")))
 }
 
 #[test]
 fn all_octets(rt: HostRuntime) -> Result<(), Fail> {
     for limit in [5000, 5001, u64::MAX] {
-        gathers(&rt, rt.alloc(), limit)?;
+        let mut reader = Metered::new(OCTETS.as_slice());
+        let all = gather(rt.alloc(), &mut reader, limit)?;
+        is_well("limit", limit, all.as_slice() == OCTETS.as_slice())?;
     }
     Ok(())
 }
@@ -29,47 +30,52 @@ fn too_many_octets(rt: HostRuntime) -> Result<(), Fail> {
     for limit in [0, 4096, 4999] {
         let mut reader = Metered::new(OCTETS.as_slice());
         let answer = gather(rt.alloc(), &mut reader, limit);
-        assert!(rt; matches!(answer, Err(GatherFault::Longer)), "{limit}");
+        is_well("limit", limit, matches!(answer, Err(GatherFault::Longer)))?;
     }
     Ok(())
 }
 
-// What is gathered of twenty octets, given one a call, where a call fails.
-fn fails_at<R: Abort>(rt: &R, alloc: Global, call: u8, stop: Stop) {
+// Whether what is gathered of twenty octets, given one a call, is refused where a call fails.
+fn fails_at(alloc: Global, call: u8, stop: Stop) -> bool {
     let call = usize::from(call);
     let mut reader = Metered::new(Reader::slow(&OCTETS[..20], Some((call, stop))));
     let answer = gather(alloc, &mut reader, 20);
-    assert!(rt; matches!(answer, Err(GatherFault::Device)), "{call}");
-    assert_eq!(rt; reader.failures(), 1, "{call}");
-    assert_eq!(rt; reader.into_inner().calls.count, call + 1, "{call}");
+    matches!(answer, Err(GatherFault::Device))
+        && reader.failures() == 1
+        && reader.into_inner().calls.count == call + 1
 }
 
-// The same where a call ends the octets.
-fn ends_at<R: Abort>(rt: &R, alloc: Global, call: u8) -> Result<(), Fail> {
-    let call = usize::from(call);
+// Whether they are gathered up to the call that ends them.
+fn ends_at(alloc: Global, call: usize) -> bool {
     let stop = Some((call, Stop::Ends));
     let mut reader = Metered::new(Reader::slow(&OCTETS[..20], stop));
-    let front = gather(alloc, &mut reader, 20)?;
-    assert_eq!(rt; front.as_slice(), &OCTETS[..call], "{call}");
-    Ok(())
+    match gather(alloc, &mut reader, 20) {
+        Ok(front) => front.len() == call && front.iter().all(|octet| *octet == 7),
+        Err(_) => false,
+    }
 }
 
 #[test]
 fn reader_stops(rt: HostRuntime) -> Result<(), Fail> {
     for call in 0..=20u8 {
-        fails_at(&rt, rt.alloc(), call, Stop::Fails);
-        fails_at(&rt, rt.alloc(), call, Stop::IsInterrupted);
-        ends_at(&rt, rt.alloc(), call)?;
+        let number = u64::from(call);
+        let is_failed = fails_at(rt.alloc(), call, Stop::Fails);
+        is_well("failing call", number, is_failed)?;
+        let is_failed = fails_at(rt.alloc(), call, Stop::IsInterrupted);
+        is_well("interrupted call", number, is_failed)?;
+        is_well("last call", number, ends_at(rt.alloc(), usize::from(call)))?;
     }
     Ok(())
 }
 
 #[test]
-fn one_octet_past_the_limit(rt: HostRuntime) {
+fn one_octet_past_the_limit(rt: HostRuntime) -> Result<(), Fail> {
     for limit in 0..20usize {
         let mut reader = Metered::new(Reader::slow(&OCTETS[..20], None));
         let answer = gather(rt.alloc(), &mut reader, limit as u64);
-        assert!(rt; matches!(answer, Err(GatherFault::Longer)), "{limit}");
-        assert_eq!(rt; reader.into_inner().calls.count, limit + 1, "{limit}");
+        let is_longer = matches!(answer, Err(GatherFault::Longer));
+        let calls = reader.into_inner().calls.count;
+        is_well("limit", limit as u64, is_longer && calls == limit + 1)?;
     }
+    Ok(())
 }

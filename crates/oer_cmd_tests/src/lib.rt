@@ -10,8 +10,6 @@ mod example;
 #[cfg(test)]
 mod failing;
 #[cfg(test)]
-mod faults;
-#[cfg(test)]
 mod help;
 #[cfg(test)]
 mod input;

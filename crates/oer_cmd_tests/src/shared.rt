@@ -2,7 +2,6 @@
 use crate::devices::{Reader, Writer};
 use oer_cmd::run;
 use std::alloc::Global;
-use std::process::Abort;
 use std::test::Fail;
 
 /// What a run reads from and writes to.
@@ -24,73 +23,55 @@ impl<'a> Devices<'a> {
     }
 }
 
-/// The three columns of a row that ` | ` separates; the third has all that is left.
-pub fn columns<'t, R: Abort>(rt: &R, row: &'t str) -> (&'t str, &'t str, &'t str) {
-    let (first, rest) = row.split_once(" | ").expect(rt, "a second column");
-    let (second, third) = rest.split_once(" | ").expect(rt, "a third column");
-    (first, second, third)
-}
-
-/// The words that ` | ` separates, after the program's name.
-pub fn words_of(alloc: Global, text: &str) -> Result<Vec<String>, Fail> {
+/// Runs the program with the words that ` | ` separates after its name. The status.
+pub fn ran(alloc: Global, text: &str, on: &mut Devices<'_>) -> Result<u8, Fail> {
     let mut words = Vec::new(alloc);
     words.push(String::from_str(alloc, "oer")?)?;
     for word in text.split(" | ") {
         words.push(String::from_str(alloc, word)?)?;
     }
-    Ok(words)
-}
-
-/// Runs the program with these words after its name. The status.
-pub fn ran(alloc: Global, words: &str, on: &mut Devices<'_>) -> Result<u8, Fail> {
-    let words = words_of(alloc, words)?;
-    let status = run(
+    Ok(run(
         alloc,
         words.as_slice(),
         &mut on.input,
         &mut on.output,
         &mut on.errors,
-    );
-    Ok(status)
+    ))
 }
 
-/// That a run with these words ended with this status and wrote this one line: on the output where the
-/// status is 0, and else on the errors.
-pub fn says<R: Abort>(
-    rt: &R,
-    alloc: Global,
-    words: &str,
-    on: &Devices<'_>,
-    ended: u8,
-    (status, line): (u8, &str),
-) -> Result<(), Fail> {
-    let line = format!(in alloc; "{line}\n")?;
+/// Whether the octets are the line with its line feed.
+pub fn is_line(octets: &[u8], line: &str) -> bool {
+    match octets.split_last() {
+        Some((last, front)) => *last == b'\n' && front == line.as_bytes(),
+        None => false,
+    }
+}
+
+/// Whether a run ended with the status and wrote this one line: on the output where the status is 0,
+/// and else on the errors.
+pub fn has_said(on: &Devices<'_>, ended: u8, (status, line): (u8, &str)) -> bool {
     let (written, other) = if status == 0 {
         (&on.output, &on.errors)
     } else {
         (&on.errors, &on.output)
     };
-    assert_eq!(rt; written.held.as_slice(), line.as_bytes(), "{words}");
-    assert!(rt; other.held.is_empty(), "{words}");
-    assert_eq!(rt; ended, status, "{words}");
-    Ok(())
+    ended == status && other.held.is_empty() && is_line(written.held.as_slice(), line)
 }
 
-/// Runs the program with these words on this input, and compares its status and its line. Where the
+/// A failure that names the words, unless all is well.
+pub fn is_well(words: &str, well: bool) -> Result<(), Fail> {
+    if well { Ok(()) } else { Err(Fail::new(words)) }
+}
+
+/// That a run with these words on this input ends with the status and writes the line. Where the
 /// octets or the JSON stand among the words, the input isn't asked for any.
-pub fn expect<R: Abort>(
-    rt: &R,
-    alloc: Global,
-    words: &str,
-    input: &[u8],
-    status: u8,
-    line: &str,
-) -> Result<(), Fail> {
+pub fn expect(alloc: Global, words: &str, input: &[u8], want: (u8, &str)) -> Result<(), Fail> {
     let mut on = Devices::new(alloc, input);
     let ended = ran(alloc, words, &mut on)?;
-    says(rt, alloc, words, &on, ended, (status, line))?;
-    if words.contains(" | --hex") || words.contains(" | --json") {
-        assert_eq!(rt; on.input.calls.count, 0, "reads: {words}");
+    let is_given = words.contains(" | --hex") || words.contains(" | --json");
+    if has_said(&on, ended, want) && !(is_given && on.input.calls.count > 0) {
+        return Ok(());
     }
-    Ok(())
+    let (status, line) = want;
+    Err(Fail::new(format_args!("{words}: {ended}, and not {status}: {line}")))
 }

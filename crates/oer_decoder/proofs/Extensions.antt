@@ -16,7 +16,8 @@ use Rattle.oer_types.specs.Fits.{all_absent}
 use Rattle.oer_types.specs.Reading.{bitmap, bits_sized, preamble, read_additions, read_both, read_by_bit, read_extensible, read_extension, read_fields, read_unknown, read_value}
 use Rattle.oer_types.specs.ValueView.{unknown_of}
 use Rattle.oer_types.specs.declared.value.Unknown as rust_unknown
-use Rattle.oer_decoder.specs.BitReading.{addition_map_at, initial_octet_at, kept_map, sized_octet_at, unused_fits, used}
+use Rattle.oer_types.specs.SharedSteps.{unused_fits}
+use Rattle.oer_decoder.specs.BitReading.{addition_map_at, initial_octet_at, kept_map, sized_octet_at, used}
 use Rattle.oer_decoder.specs.Places.{rest_at, root_at, Started, started}
 use Rattle.oer_decoder.proofs.BitReads.{sized_after}
 use Rattle.oer_decoder.proofs.Joins.{seen_twice}

@@ -24,7 +24,8 @@ use Rattle.oer_types.specs.declared.size.Size.{Size}
 use Rattle.oer_types.specs.declared.value.Value.{Value}
 use Rattle.oer_types.specs.declared.shape.Field.{Field}
 use Rattle.oer_types.specs.declared.shape.Addition.{Addition}
-use Rattle.oer_decoder.specs.Places.{bits_left, count_at, is_there, place_by, put, put_all, root_at, started}
+use Rattle.oer_types.specs.SharedSteps.{bits_left, is_there}
+use Rattle.oer_decoder.specs.Places.{count_at, place_by, put, put_all, root_at, started}
 use Rattle.oer_decoder.proofs.Joins.{guard_no, guard_yes, seen_twice, size_plain}
 
 -- ---- one part more

@@ -1,19 +1,16 @@
 -- Steps in which bits are read.
-use Rattle.std.specs.Prelude.{ℕ, ◌-◌, ◌*◌, List, length, take, drop, Bool, ◌&&◌, ◌||◌, leb, eqb}
+use Rattle.std.specs.Prelude.{ℕ, ◌-◌, ◌*◌, List, length, take, drop, Bool, leb}
 use Rattle.oer_units.specs.Reader.{Reader, bind, give, group, guard}
 use Rattle.oer_units.specs.Reading.{octet, with_length}
 use Rattle.oer_units.specs.declared.fault.Why.TheVariants.{BitUnused, Size, UnknownAddition}
 use Rattle.oer_types.specs.Bits.{all_false, bits_of, octets_for}
 use Rattle.oer_types.specs.Constraints.{any_size, size_fits}
+use Rattle.oer_types.specs.SharedSteps.{unused_fits}
 use Rattle.oer_types.specs.declared.size.Size as constraint
 
 -- n bits, and any bits to the octet's end
 abbrev pub fixed_bits_at : ℕ → Reader (List Bool)
 fixed_bits_at n = bind (group (octets_for n)) (λ w. give (take n (bits_of w)))
-
--- u bits may be unused where a length of n counts the initial octet
-abbrev pub unused_fits : ℕ → ℕ → Bool
-unused_fits n u = leb u 7 && (leb 2 n || eqb u 0)
 
 -- the number of unused bits
 unfoldable pub initial_octet_at : ℕ → Reader ℕ

@@ -1,4 +1,3 @@
-pub mod Numbers
 pub mod BitReading
 pub mod Places
 pub mod Choices

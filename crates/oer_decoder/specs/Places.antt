@@ -2,24 +2,12 @@
 use Rattle.std.specs.Prelude.{ℕ, suc, Bool, true, false, List, [], ◌∷◌, Option, Some, None}
 use Rattle.oer_units.specs.Reader.{Reader, bind, give, guard, within}
 use Rattle.oer_units.specs.declared.fault.Why.TheVariants as reason
-use Rattle.oer_types.specs.AsnType.{Additions, Fields, Need, default, may, must}
+use Rattle.oer_types.specs.AsnType.{Additions, Fields}
 use Rattle.oer_types.specs.AsnValue.{AsnValue, Places, absent, present, seq}
 use Rattle.oer_types.specs.Bits.{first_bit, later_bits}
 use Rattle.oer_types.specs.Constraints.{optional, size_fits}
 use Rattle.oer_types.specs.Reading.{preamble, quantity, read_additions, read_extension, read_fields}
 use Rattle.oer_types.specs.declared.size.Size.{Size}
-
--- whether a component is there, by the presence bits from its own on
-abbrev pub is_there : Need → List Bool → Bool
-is_there must s = true
-is_there may s = first_bit s
-is_there (default d) s = first_bit s
-
--- the presence bits of the components after it
-abbrev pub bits_left : Need → List Bool → List Bool
-bits_left must s = s
-bits_left may s = later_bits s
-bits_left (default d) s = later_bits s
 
 -- a component by r, if it is there
 abbrev pub place_by : Bool → Reader AsnValue → Reader (Option AsnValue)

@@ -6,7 +6,8 @@ ghost use Rattle.oer_types.specs.AsnType.{bit_string as bit_string_type};
 ghost use Rattle.oer_types.specs.Bits.{bit as the_bit, bits_of as the_bits, all_false, octets_for};
 ghost use Rattle.oer_types.specs.Reading.{read_bits, read_value};
 ghost use Rattle.oer_types.specs.ValueView.{value_of};
-ghost use Rattle.oer_decoder.specs.BitReading.{addition_map_at, fixed_bits_at, initial_octet_at, sized_octet_at, unused_fits, used};
+ghost use Rattle.oer_types.specs.SharedSteps.{unused_fits};
+ghost use Rattle.oer_decoder.specs.BitReading.{addition_map_at, fixed_bits_at, initial_octet_at, sized_octet_at, used};
 
 use oer_types::{Bits, Size, Value};
 use oer_units::{ReadFault, Source, Why, Window, length, octet, octets};

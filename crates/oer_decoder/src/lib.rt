@@ -2,6 +2,7 @@
 #![tactic(auto)]
 
 mod bit_strings;
+mod booleans;
 mod fault;
 mod front;
 pub mod laws;

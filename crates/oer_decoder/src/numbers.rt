@@ -2,14 +2,14 @@
 ghost use Rattle.std.specs.Prelude.{◌≡◌, ◌||◌, map};
 ghost use Rattle.oer_units.specs.Reads.{Reads, TakesNoMemory, seen, state};
 ghost use Rattle.oer_types.specs.AsnType.{boolean, enumerated as enumerated_type, integer as integer_type};
-ghost use Rattle.oer_types.specs.Constraints.{above, below, form_of, has_number, in_range};
+ghost use Rattle.oer_types.specs.Constraints.{has_number};
 ghost use Rattle.oer_types.specs.Reading.{read_integer, read_value};
 ghost use Rattle.oer_types.specs.ShapeView.{named_number};
 ghost use Rattle.oer_types.specs.ValueView.{value_of};
-ghost use Rattle.oer_decoder.specs.Numbers.{number_in};
+ghost use Rattle.oer_types.specs.SharedSteps.{number_in};
 ghost use Rattle.oer_types.specs.FormView.{form_seen};
 
-use oer_types::{Form, Item, Value};
+use oer_types::{Form, Item, Value, contains_number, is_in_range};
 use oer_units::{
     ReadFault, Source, Why, Window, enumerated, octet, signed_counted, signed_fixed,
     unsigned_counted, unsigned_fixed,
@@ -62,31 +62,6 @@ fn number<R: Source>(form: Form, w: &mut Window<R>) -> Result<i128, ReadFault>
     }
 }
 
-// Whether the number is within the bounds.
-fn is_in_range(low: Option<i128>, high: Option<i128>, number: i128) -> bool
-    ensures { result ≡ in_range low high number }
-{
-    is_above(low, number) && is_below(high, number)
-}
-
-fn is_above(low: Option<i128>, number: i128) -> bool
-    ensures { result ≡ above low number }
-{
-    match low {
-        Some(low) => low <= number,
-        None => true,
-    }
-}
-
-fn is_below(high: Option<i128>, number: i128) -> bool
-    ensures { result ≡ below high number }
-{
-    match high {
-        Some(high) => number <= high,
-        None => true,
-    }
-}
-
 /// An ENUMERATED (X.696, 11): the number of an item, or any where the type is extensible.
 pub(crate) fn read_enumerated<R: Source>(
     items: &[Item],
@@ -107,17 +82,5 @@ pub(crate) fn read_enumerated<R: Source>(
 fn is_known(items: &[Item], extensible: bool, number: i64) -> bool
     ensures { result ≡ (extensible || has_number (map named_number items.now) number) }
 {
-    extensible || is_listed(items, number)
-}
-
-// Whether an item has the number.
-fn is_listed(items: &[Item], number: i64) -> bool
-    ensures { result ≡ has_number (map named_number items.now) number }
-{
-    for item in items {
-        if item.number == number {
-            return true;
-        }
-    }
-    false
+    extensible || contains_number(items, number)
 }

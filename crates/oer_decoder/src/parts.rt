@@ -10,7 +10,8 @@ ghost use Rattle.oer_types.specs.Reading.{read_unknown as unknown_read};
 ghost use Rattle.oer_types.specs.ShapeView.{additions_of, need_of};
 ghost use Rattle.oer_types.specs.ValueView.{places_of, unknown_of, value_of};
 ghost use Rattle.oer_decoder.specs.Choices.{foreign_at};
-ghost use Rattle.oer_decoder.specs.Places.{bits_left, count_at, is_there};
+ghost use Rattle.oer_types.specs.SharedSteps.{bits_left, is_there};
+ghost use Rattle.oer_decoder.specs.Places.{count_at};
 
 use crate::strings::counted_octets;
 use oer_types::{Addition, Need, Size, Unknown, Value};

@@ -13,6 +13,7 @@ ghost use Rattle.oer_decoder.specs.Places.{place_by, rest_at, root_at};
 ghost use Rattle.oer_decoder.specs.Starts.{added_of, start_of};
 
 use crate::bit_strings::{addition_map, read_bit_string};
+use crate::booleans::read_booleans;
 use crate::numbers::{read_boolean, read_enumerated, read_integer};
 use crate::parts::{absent_places, after, chosen, count, first, foreign, presence, read_unknown};
 use crate::preamble::preamble;
@@ -110,6 +111,9 @@ fn read_elements<R: Source>(
     ensures { Reads (times count (read_value (type_of item.now))) (state R.remaining R.failed w.old)
         (seen (λ v. map value_of v.items) result) (state R.remaining R.failed w.new) }
 {
+    if let Shape::Boolean = item {
+        return read_booleans(alloc, count, w);
+    }
     let mut values = Vec::new(alloc);
     for i in 0..count {
         let value = read_shape(item, alloc, w)?;

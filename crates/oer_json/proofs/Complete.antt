@@ -22,7 +22,7 @@ use Rattle.oer_json.specs.Denotes.{DenoteAdditions, DenoteFields, DenoteItems, D
 use Rattle.oer_json.specs.Keys.{class_letter, is_among, tag_digits, tag_key}
 use Rattle.oer_json.specs.Laws.{OneTaken, TakenComplete}
 use Rattle.oer_json.specs.Take.{fitting, foreign_in, foreign_with, octets_in, one_member, sized, tag_of, take, take_additions, take_alternative, take_fields, take_foreign, take_items, take_place, take_unknown, taken}
-use Rattle.oer_json.specs.Texts.{tag_number_of}
+use Rattle.oer_literals.specs.Numbers.{tag_number_of}
 use Rattle.oer_json.specs.declared.fault.JsonFault.{JsonFault}
 use Rattle.oer_json.specs.declared.fault.JsonFault.TheVariants.{Misfit, Name, Range}
 use Rattle.oer_json.proofs.Answered.{ok_is}

@@ -8,15 +8,14 @@ use Rattle.std.specs.Str.Parse.{AllDigits, IsNumeral, digits_value, digits_value
 use Rattle.std.proofs.lemmas.Bool.{and_parts, eqb-true, ltb-true, leb-true}
 use Rattle.std.proofs.lemmas.Fmt.{decimal_digit, decimal_step_wide, decimal_by_steps_wide, decimal_is_IsNumeral_wide}
 use Rattle.std.proofs.lemmas.Str.{digit_value_digit}
-use Rattle.std.proofs.lemmas.Str.Parse.{digit_from_value, tells_all_ascii_digits, numerals_by_value, IsNumeralModel}
+use Rattle.std.proofs.lemmas.Str.Parse.{digit_from_value}
 use Rattle.oer_json.specs.Answer.{some_or}
 use Rattle.oer_json.specs.Take.{decimal_in}
 use Rattle.oer_json.specs.declared.fault.JsonFault.TheVariants.{Kind, Range}
 use Rattle.oer_json.proofs.Answered.{given, if_ok, if_some}
-use Rattle.oer_json.specs.Texts.{is_natural, is_positive, is_whole, is_numeral, integer_of, natural_below}
-
-own : IsNumeralModel (λ ds. all_ascii_digits ds ≡ true) (digits_value 10)
-own = numerals_by_value _ tells_all_ascii_digits
+use Rattle.oer_literals.proofs.Numerals.{numeral_true, tells_numerals}
+use Rattle.oer_literals.specs.Numbers.{is_numeral, integer_of, natural_below}
+use Rattle.oer_json.specs.Texts.{is_natural, is_positive, is_whole}
 
 -- ---- digits of a number
 
@@ -67,7 +66,7 @@ natural_digits w h =
     let q = and_parts (nat_lt 0 (length w)) (all_ascii_digits w) p.0 in
     record {
       some = ltb-true 0 (length w) q.0;
-      all = own.to w q.1;
+      all = tells_numerals.to w q.1;
       lead = either_one (length w == 1) (not (slice_index w 0 == 48)) (length w) (slice_index w 0) (eqb-true (length w) 1) (not_eq (slice_index w 0)) p.1;
     }
 
@@ -109,7 +108,7 @@ pub decimal_natural : (n : ℕ) → n < 10 ^ 64 → is_natural (decimal n) ≡ t
 unfolding is_natural
 decimal_natural n small =
     let k = decimal_is_IsNumeral_wide n small in
-    and_true (nat_lt 0 (length (decimal n)) && all_ascii_digits (decimal n)) _ (and_true (nat_lt 0 (length (decimal n))) (all_ascii_digits (decimal n)) (lt-ltb 0 (length (decimal n)) k.0.0) (own.from (decimal n) k.0.1)) (unspecial n small)
+    and_true (nat_lt 0 (length (decimal n)) && all_ascii_digits (decimal n)) _ (and_true (nat_lt 0 (length (decimal n))) (all_ascii_digits (decimal n)) (lt-ltb 0 (length (decimal n)) k.0.0) (tells_numerals.from (decimal n) k.0.1)) (unspecial n small)
 
 -- ---- a number below a limit
 
@@ -132,7 +131,7 @@ below_sound limit w n small h e =
 pub below_complete : (limit n : ℕ) → limit ≤ 10 ^ 64 → n < limit → natural_below limit (decimal n) ≡ Some n
 below_complete limit n small l =
     let k = decimal_is_IsNumeral_wide n (omega arith) in
-    let a = and_true (nat_lt 0 (length (decimal n))) (all_ascii_digits (decimal n)) (lt-ltb 0 (length (decimal n)) k.0.0) (own.from (decimal n) k.0.1) in
+    let a = and_true (nat_lt 0 (length (decimal n))) (all_ascii_digits (decimal n)) (lt-ltb 0 (length (decimal n)) k.0.0) (tells_numerals.from (decimal n) k.0.1) in
     rw (no_plus (decimal n) k.0.1, k.1, a, lt-ltb n limit l) refl
 
 -- ---- whole numbers
@@ -211,19 +210,16 @@ no_minus (c ∷ cs) d = by (c == 45) refl where
   by true e = let k = eqb-true c 45 e in let l = digit_from_value c d.0 in absurd (omega arith)
   by false e = e
 
-numeral_of : (w : List ℕ) → IsNumeral 10 w → is_numeral w ≡ true
-numeral_of w k = and_true (nat_lt 0 (length w)) (all_ascii_digits w) (lt-ltb 0 (length w) k.0) (own.from w k.1)
-
 plus_complete : (w : List ℕ) (n : ℕ) → IsNumeral 10 w → digits_value 10 w ≡ n → Is128 (pos n) → integer_of w ≡ Some (pos n)
 unfolding integer_of
 plus_complete w n k e i =
-    let q = and_true (is_numeral w) _ (numeral_of w k) (and_true (int_le (negsuc 170141183460469231731687303715884105727) (pos n)) (int_le (pos n) (pos 170141183460469231731687303715884105727)) i.0 i.1) in
+    let q = and_true (is_numeral w) _ (numeral_true w k) (and_true (int_le (negsuc 170141183460469231731687303715884105727) (pos n)) (int_le (pos n) (pos 170141183460469231731687303715884105727)) i.0 i.1) in
     rw (no_minus w k.1, no_plus w k.1, e, q) refl
 
 minus_complete : (w : List ℕ) (n : ℕ) → IsNumeral 10 w → digits_value 10 w ≡ suc n → Is128 (negsuc n) → integer_of (45 ∷ w) ≡ Some (negsuc n)
 unfolding integer_of
 minus_complete w n k e i =
-    let q = and_true (is_numeral w) _ (numeral_of w k) (and_true (int_le (negsuc 170141183460469231731687303715884105727) (negsuc n)) (int_le (negsuc n) (pos 170141183460469231731687303715884105727)) i.0 i.1) in
+    let q = and_true (is_numeral w) _ (numeral_true w k) (and_true (int_le (negsuc 170141183460469231731687303715884105727) (negsuc n)) (int_le (negsuc n) (pos 170141183460469231731687303715884105727)) i.0 i.1) in
     rw (e, q) refl
 
 pub integer_complete : (z : ℤ) → Is128 z → integer_of (signed_decimal z) ≡ Some z

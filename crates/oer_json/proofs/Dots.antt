@@ -7,7 +7,8 @@ use Rattle.std.proofs.lemmas.Fmt.{decimal_is_IsNumeral_wide}
 use Rattle.std.proofs.lemmas.Str.Parse.{digit_from_value}
 use Rattle.oer_types.specs.Fits.{AllBelow}
 use Rattle.oer_json.specs.Answer.{some_or}
-use Rattle.oer_json.specs.Texts.{after_points, all_natural, arc_of, dotted, is_natural, parts}
+use Rattle.oer_literals.specs.Numbers.{arc_of}
+use Rattle.oer_json.specs.Texts.{after_points, all_natural, dotted, is_natural, parts}
 use Rattle.oer_json.specs.Take.{dotted_in, number_in, numbers_in, several_in}
 use Rattle.oer_json.specs.declared.fault.JsonFault.TheVariants.{Kind, Range}
 use Rattle.oer_json.proofs.Answered.{bound_ok, given, if_ok, ok_is}

@@ -3,9 +3,7 @@ pub mod Steps
 pub mod Making
 pub mod Views
 pub mod Numbers
-pub mod Numerals
 pub mod KeySteps
-pub mod BitDigits
 pub mod Decimals
 pub mod Dots
 pub mod Taking
@@ -26,3 +24,4 @@ pub mod Complete
 pub mod MadeLeaves
 pub mod MadeDenotes
 pub mod Promised
+pub mod Floats

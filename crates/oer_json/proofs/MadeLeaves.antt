@@ -17,7 +17,7 @@ use Rattle.oer_types.proofs.FitTests.{both}
 use Rattle.oer_json.specs.Denotes.{DenotesInteger, DenotesItem, DenotesOctets, HoldsWhole}
 use Rattle.oer_json.specs.Keys.{EachKey}
 use Rattle.oer_json.specs.Made.{has_64_bits, made_integer, made_item, made_octets}
-use Rattle.oer_json.specs.Texts.{name_of}
+use Rattle.oer_literals.specs.Items.{name_of}
 use Rattle.oer_json.proofs.Answered.{some_is}
 
 holds_made : (z : ℤ) → HoldsWhole z (json.number (of_integer z))

@@ -7,7 +7,8 @@ use Rattle.oer_units.specs.declared.tagging.Class.TheVariants.{Universal, Applic
 use Rattle.oer_units.specs.declared.tagging.Tag.{Tag}
 use Rattle.oer_types.specs.WellFormed.{is_identifier}
 use Rattle.oer_json.specs.Keys.{class_digits, class_in, class_letter, high_key, if_natural, low_place, place_digits, place_key, tag_digits, tag_key, unless_some, with_class}
-use Rattle.oer_json.specs.Texts.{is_natural, place_of, tag_number_of}
+use Rattle.oer_literals.specs.Numbers.{place_of, tag_number_of}
+use Rattle.oer_json.specs.Texts.{is_natural}
 use Rattle.oer_json.proofs.Answered.{if_some, some_is, then_some}
 use Rattle.oer_json.proofs.Decimals.{below_complete, below_sound, decimal_natural}
 use Rattle.oer_json.proofs.KeySteps.{no_place}

@@ -18,7 +18,7 @@ use Rattle.oer_json.specs.Denotes.{DenoteAdditions, DenoteFields, DenoteItems, D
 use Rattle.oer_json.specs.Keys.{all_pass, class_letter, is_among, keys_of, tag_digits, tag_key}
 use Rattle.oer_json.specs.Laws.{TakenSound}
 use Rattle.oer_json.specs.Take.{arcs_in, bits_in, fitting, foreign_in, foreign_with, integer_in, is_key, item_in, items_in, members_in, octets_in, one_member, sized, tag_of, take, take_additions, take_alternative, take_fields, take_foreign, take_items, take_place, take_unknown, taken, text_in}
-use Rattle.oer_json.specs.Texts.{tag_number_of}
+use Rattle.oer_literals.specs.Numbers.{tag_number_of}
 use Rattle.oer_json.specs.declared.fault.JsonFault.{JsonFault}
 use Rattle.oer_json.specs.declared.fault.JsonFault.TheVariants.{Kind, Misfit, Missing, Name, Range}
 use Rattle.oer_json.proofs.Answered.{bound_ok, given, if_ok, ok_is}

@@ -17,7 +17,9 @@ use Rattle.oer_json.specs.Answer.{some_or}
 use Rattle.oer_json.specs.Denotes.{DenotesInteger, DenotesItem, DenotesOctets, only}
 use Rattle.oer_json.specs.Made.{has_64_bits}
 use Rattle.oer_json.specs.Take.{arcs_in, bits_in, bits_of_text, dotted_in, fitted, from_hex, held_small, integer_in, item_in, items_in, members_in, octets_in, one_member, only_member, text_in}
-use Rattle.oer_json.specs.Texts.{are_bits, bit_digit, dotted, is_one, number_named}
+use Rattle.oer_literals.specs.Bits.{bit_digit, is_one}
+use Rattle.oer_literals.specs.Items.{number_named}
+use Rattle.oer_json.specs.Texts.{are_bits, dotted}
 use Rattle.oer_json.specs.declared.fault.JsonFault.{JsonFault}
 use Rattle.oer_json.specs.declared.fault.JsonFault.TheVariants.{Kind, Misfit, Name, Range}
 use Rattle.oer_json.proofs.Answered.{bound_ok, given, if_ok, ok_is, some_is}

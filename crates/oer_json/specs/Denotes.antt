@@ -11,7 +11,8 @@ use Rattle.oer_types.specs.AsnValue.{AsnValue, Places, Unknown, Values, absent, 
 use Rattle.oer_types.specs.Fits.{Fits}
 use Rattle.oer_types.specs.WellFormed.{AnyOf, field_names, addition_names}
 use Rattle.oer_json.specs.Keys.{EachKey, place_key, tag_key}
-use Rattle.oer_json.specs.Texts.{bit_digit, dotted}
+use Rattle.oer_literals.specs.Bits.{bit_digit}
+use Rattle.oer_json.specs.Texts.{dotted}
 
 -- a whole number that JSON holds as such
 abbrev pub HoldsWhole : ℤ → Data → Type 0

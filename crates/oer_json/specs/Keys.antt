@@ -9,7 +9,8 @@ use Rattle.serde_json.specs.Data.{Members, no_members, member}
 use Rattle.oer_units.specs.declared.tagging.Class.{Class}
 use Rattle.oer_units.specs.declared.tagging.Class.TheVariants.{Universal, Application, Context, Private}
 use Rattle.oer_units.specs.declared.tagging.Tag.{Tag}
-use Rattle.oer_json.specs.Texts.{is_natural, place_of}
+use Rattle.oer_literals.specs.Numbers.{place_of}
+use Rattle.oer_json.specs.Texts.{is_natural}
 
 -- # and the place of an addition
 abbrev pub place_key : ℕ → List ℕ

@@ -10,7 +10,9 @@ use Rattle.oer_types.specs.AsnType.{Additions, Alternatives, AsnType, Fields, ad
 use Rattle.oer_types.specs.AsnValue.{AsnValue, Places, Unknown, Values, absent, bit_list, bool, chosen, enum, foreign, int, items, no_places, no_values, nothing, octets, oid, present, seq, text, unknown, value}
 use Rattle.oer_types.specs.Constraints.{same_tag}
 use Rattle.oer_json.specs.Keys.{place_key, tag_key}
-use Rattle.oer_json.specs.Texts.{bit_digit, dotted, name_of}
+use Rattle.oer_literals.specs.Bits.{bit_digit}
+use Rattle.oer_literals.specs.Items.{name_of}
+use Rattle.oer_json.specs.Texts.{dotted}
 
 abbrev pub has_64_bits : ℤ → Bool
 has_64_bits (pos n) = nat_lt n (2 ^ 63)

@@ -18,7 +18,10 @@ use Rattle.oer_types.specs.declared.size.Size.{Size}
 use Rattle.oer_json.specs.Answer.{◌>>=◌, some_or}
 use Rattle.oer_json.specs.Keys.{all_pass, beyond_in, is_among, keys_of, place_digits, place_key, places_in, tag_digits}
 use Rattle.oer_json.specs.Made.{has_64_bits}
-use Rattle.oer_json.specs.Texts.{all_natural, arc_of, are_bits, integer_of, is_one, is_whole, number_named, parts, tag_number_of}
+use Rattle.oer_literals.specs.Numbers.{arc_of, integer_of, tag_number_of}
+use Rattle.oer_literals.specs.Bits.{is_one}
+use Rattle.oer_literals.specs.Items.{number_named}
+use Rattle.oer_json.specs.Texts.{all_natural, are_bits, is_whole, parts}
 use Rattle.oer_json.specs.declared.fault.JsonFault.{JsonFault}
 use Rattle.oer_json.specs.declared.fault.JsonFault.TheVariants.{Kind, Name, Missing, Range, Misfit}
 

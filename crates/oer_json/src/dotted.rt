@@ -5,7 +5,8 @@ ghost use Rattle.oer_json.specs.Take.{dotted_in, number_in, numbers_in, several_
 ghost use Rattle.oer_json.specs.Texts.{all_natural, parts};
 
 use crate::fault::JsonFault;
-use crate::texts::{arc_of, is_natural};
+use crate::texts::is_natural;
+use oer_literals::arc_of;
 use std::alloc::Global;
 
 /// Whether what stands between the points are numbers.

@@ -9,7 +9,8 @@ ghost use Rattle.oer_json.specs.Keys.{all_pass, beyond_in, class_digits, if_natu
 ghost use Rattle.oer_json.specs.Take.{is_key};
 
 use crate::fault::JsonFault;
-use crate::texts::{is_natural, place_of};
+use crate::texts::is_natural;
+use oer_literals::place_of;
 use oer_types::{Addition, Field};
 use oer_units::Class;
 use serde_json::{Map, Value as Json};

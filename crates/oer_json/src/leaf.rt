@@ -1,14 +1,16 @@
 //! The JSON of values without parts.
-ghost use Rattle.std.specs.Prelude.{◌≡◌, ◌++◌, ◌<◌, [], IfOk, OnOk, Some, length, map, option_map, string_bytes};
+ghost use Rattle.std.specs.Prelude.{◌≡◌, ◌++◌, ◌<◌, IfOk, OnOk, map, string_bytes};
 ghost use Rattle.std.specs.Fmt.{decimal};
-ghost use Rattle.std.specs.List.{slice_get};
 ghost use Rattle.serde_json.specs.Data.{string};
 ghost use Rattle.serde_json.specs.View.{view};
 ghost use Rattle.oer_types.specs.ShapeView.{named_number};
 ghost use Rattle.oer_json.specs.Keys.{class_letter, place_key, tag_key};
 ghost use Rattle.oer_json.specs.Made.{made_integer, made_item, made_octets};
-ghost use Rattle.oer_json.specs.Texts.{after_points, bit_digit, dotted, name_of};
+ghost use Rattle.oer_literals.specs.Bits.{bit_digit};
+ghost use Rattle.oer_literals.specs.Items.{name_of};
+ghost use Rattle.oer_json.specs.Texts.{after_points, dotted};
 
+use oer_literals::{name_of, push_bits};
 use oer_types::{Bits, Item};
 use oer_units::{Class, Tag};
 use serde_json::Value as Json;
@@ -24,23 +26,11 @@ pub(crate) fn integer_json(alloc: Global, number: i128) -> Result<Json, AllocErr
     }
 }
 
-/// The name of the first item with this number.
-fn item_name(items: &[Item], number: i64) -> Option<&str>
-    ensures { option_map (λ s. s.now) result ≡ name_of (map named_number items.now) number }
-{
-    for item in items {
-        if item.number == number {
-            return Some(item.name.as_str());
-        }
-    }
-    None
-}
-
 /// The name of the item, or its number where no item has it.
 pub(crate) fn item_json(alloc: Global, items: &[Item], number: i64) -> Result<Json, AllocError>
     ensures { IfOk result (λ j. view j ≡ made_item (name_of (map named_number items.now) number) number) }
 {
-    match item_name(items, number) {
+    match name_of(items, number) {
         Some(name) => text_json(alloc, name),
         None => Ok(Json::from(number)),
     }
@@ -57,27 +47,6 @@ pub(crate) fn text_json(alloc: Global, text: &str) -> Result<Json, AllocError>
     ensures { IfOk result (λ j. view j ≡ string text.now) }
 {
     Json::try_from_str(alloc, text)
-}
-
-/// The digit of the bit at the index.
-fn digit_at(bits: &Bits, index: u64) -> char
-    requires { index < length bits.now }
-    ensures value { slice_get (map bit_digit bits.now) index ≡ Some result }
-    ensures small { result < 128 }
-{
-    match bits.get(index) {
-        Some(true) => '1',
-        _ => '0',
-    }
-}
-
-fn push_bits(text: &mut String, bits: &Bits) -> Result<(), AllocError>
-    ensures { OnOk result (string_bytes text.new ≡ string_bytes text.old ++ map bit_digit bits.now) }
-{
-    for index in 0..bits.count() {
-        text.push(digit_at(bits, index))?;
-    }
-    Ok(())
 }
 
 /// A digit for each bit.

@@ -1,5 +1,5 @@
 //! Values without parts, from JSON.
-ghost use Rattle.std.specs.Prelude.{◌≡◌, ◌≤◌, length, drop, map, IfOk};
+ghost use Rattle.std.specs.Prelude.{map};
 ghost use Rattle.serde_json.specs.View.{number_view, view};
 ghost use Rattle.oer_types.specs.AsnType.{boolean, null};
 ghost use Rattle.oer_types.specs.AsnValue.{bit_list, enum, int, octets, oid, text};
@@ -7,15 +7,15 @@ ghost use Rattle.oer_types.specs.ShapeView.{named_number, type_of};
 ghost use Rattle.oer_types.specs.ValueView.{value_of};
 ghost use Rattle.oer_json.specs.Answer.{Gives};
 ghost use Rattle.oer_json.specs.Take.{arcs_in, bits_in, bits_of_text, decimal_in, dotted_in, fitted, fitting, held, held_small, in_64_bits, integer_in, item_in, item_named, octets_in, take, text_in};
-ghost use Rattle.oer_json.specs.Texts.{octet_of, octets_more, one_at};
 
 use crate::dotted::dotted_in;
 use crate::fault::JsonFault;
-use crate::texts::{are_bits, integer_of, is_whole, number_named};
+use crate::texts::{are_bits, is_whole};
 use hex::FromHexError;
+use oer_literals::{bits_of_digits, integer_of, number_named};
 use oer_types::{Bits, Item, Shape, Value, fits_shape};
 use serde_json::{Number, Value as Json};
-use std::alloc::{AllocError, Global};
+use std::alloc::Global;
 
 /// The value, if it fits.
 pub(crate) fn fitting(shape: &Shape, value: Value) -> Result<Value, JsonFault>
@@ -189,50 +189,6 @@ pub(crate) fn take_octets(shape: &Shape, alloc: Global, json: &Json) -> Result<V
     fitting(shape, Value::Octets(octets))
 }
 
-fn one_at(digits: &[u8], index: usize) -> u8
-    ensures value { result ≡ one_at digits.now index }
-    ensures small { result ≤ 1 }
-{
-    match digits.get(index) {
-        Some(b'1') => 1,
-        _ => 0,
-    }
-}
-
-/// The octet of the first eight digits 0 and 1.
-#[tactic(auto, unfolding(crate::specs::Texts::octet_of))]
-fn octet_of(digits: &[u8]) -> u8
-    ensures { result ≡ octet_of digits.now }
-{
-    let high = 128 * one_at(digits, 0)
-        + 64 * one_at(digits, 1)
-        + 32 * one_at(digits, 2)
-        + 16 * one_at(digits, 3);
-    high + 8 * one_at(digits, 4) + 4 * one_at(digits, 5) + 2 * one_at(digits, 6) + one_at(digits, 7)
-}
-
-fn past_eight(digits: &[u8]) -> &[u8]
-    ensures { result.now ≡ drop 8 digits.now }
-{
-    if digits.len() < 8 { &[] } else { &digits[8..] }
-}
-
-/// The octets of digits 0 and 1, eight each.
-fn octets_of(alloc: Global, digits: &[u8]) -> Result<Vec<u8>, AllocError>
-    ensures { IfOk result (λ v. v.items ≡ octets_more (length digits.now) digits.now) }
-{
-    let mut octets = Vec::with_capacity(alloc, digits.len() / 8 + 1)?;
-    let mut rest = digits;
-    'octets: for turn in 0..digits.len() {
-        if rest.is_empty() {
-            return Ok(octets);
-        }
-        octets.push(octet_of(rest))?;
-        rest = past_eight(rest);
-    }
-    Ok(octets)
-}
-
 /// The bits of digits 0 and 1.
 fn bits_of_text(alloc: Global, digits: &[u8]) -> Result<Bits, JsonFault>
     ensures { Gives (λ b. b) result (bits_of_text digits.now) }
@@ -240,11 +196,8 @@ fn bits_of_text(alloc: Global, digits: &[u8]) -> Result<Bits, JsonFault>
     if !are_bits(digits) {
         return Err(JsonFault::Kind);
     }
-    let octets = octets_of(alloc, digits)?;
-    match Bits::from_octets(octets, digits.len() as u64) {
-        Ok(bits) => Ok(bits),
-        Err(_) => unreachable!(),
-    }
+    let bits = bits_of_digits(alloc, digits)?;
+    Ok(bits)
 }
 
 #[tactic(auto, unfolding(crate::specs::Take::bits_in))]

@@ -1,10 +1,7 @@
 //! What is read of texts.
-ghost use Rattle.std.specs.Prelude.{◌≡◌, map};
+ghost use Rattle.std.specs.Prelude.{◌≡◌};
 ghost use Rattle.std.specs.Str.{all_ascii_digits};
-ghost use Rattle.oer_types.specs.ShapeView.{named_number};
-ghost use Rattle.oer_json.specs.Texts.{arc_of, are_bits, integer_of, is_natural, is_positive, is_whole, number_named, place_of, tag_number_of};
-
-use oer_types::Item;
+ghost use Rattle.oer_json.specs.Texts.{are_bits, is_natural, is_positive, is_whole};
 
 fn are_digits(bytes: &[u8]) -> bool
     ensures { result ≡ all_ascii_digits bytes.now }
@@ -49,43 +46,6 @@ pub(crate) fn is_whole(bytes: &[u8]) -> bool
     }
 }
 
-/// The number of 128 bits and a sign.
-pub(crate) fn integer_of(digits: &str) -> Option<i128>
-    ensures { result ≡ integer_of digits.now }
-{
-    match digits.parse::<i128>() {
-        Ok(number) => Some(number),
-        Err(_) => None,
-    }
-}
-
-pub(crate) fn arc_of(digits: &str) -> Option<u128>
-    ensures { result ≡ arc_of digits.now }
-{
-    match digits.parse::<u128>() {
-        Ok(number) => Some(number),
-        Err(_) => None,
-    }
-}
-
-pub(crate) fn tag_number_of(digits: &str) -> Option<u32>
-    ensures { result ≡ tag_number_of digits.now }
-{
-    match digits.parse::<u32>() {
-        Ok(number) => Some(number),
-        Err(_) => None,
-    }
-}
-
-pub(crate) fn place_of(digits: &str) -> Option<u16>
-    ensures { result ≡ place_of digits.now }
-{
-    match digits.parse::<u16>() {
-        Ok(number) => Some(number),
-        Err(_) => None,
-    }
-}
-
 /// Whether each is a digit 0 or 1.
 pub(crate) fn are_bits(bytes: &[u8]) -> bool
     ensures { result ≡ are_bits bytes.now }
@@ -96,16 +56,4 @@ pub(crate) fn are_bits(bytes: &[u8]) -> bool
         }
     }
     true
-}
-
-/// The number of the first item with the name.
-pub(crate) fn number_named(items: &[Item], name: &str) -> Option<i64>
-    ensures { result ≡ number_named (map named_number items.now) name.now }
-{
-    for item in items {
-        if item.name.as_str() == name {
-            return Some(item.number);
-        }
-    }
-    None
 }

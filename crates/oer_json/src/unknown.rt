@@ -10,7 +10,7 @@ use crate::fault::JsonFault;
 use crate::keys::{beyond_in, find, places_in, tag_digits};
 use crate::leaf::place_text;
 use crate::scan::{fitting, octets_in};
-use crate::texts::tag_number_of;
+use oer_literals::tag_number_of;
 use oer_types::{Shape, Unknown, Value};
 use oer_units::{Class, Tag};
 use serde_json::{Map, Value as Json};

@@ -8,10 +8,11 @@ use Rattle.oer_lexer.specs.Token.{Token, word, number, sign}
 use Rattle.oer_lexer.specs.declared.token.Sign.TheVariants.{OpenParenthesis, CloseParenthesis, Range}
 use Rattle.oer_types.specs.declared.size.Size.{Size}
 use Rattle.oer_notation.specs.Grammar.{IsInteger, an_integer, IsNatural, a_natural, IsBound, no_bound, a_bound, AreBounds, no_bounds, one_number, range, IsSizeEnd, no_end, an_end, IsSize, one_size, sizes, IsBracketedSize, any_size, bracketed, IsListSize, in_brackets, bare}
-use Rattle.oer_notation.specs.Numbers.{integer_within, natural_below, bound_of, item_number_of, size_of, tag_number_of, arc_of, number_at, end_at, high_at, bounds_at, size_high_at, size_at, bracketed_size_at, list_size_at, string_size_at}
+use Rattle.oer_literals.specs.Numbers.{integer_within, natural_below, integer_of, item_number_of, size_of, tag_number_of, arc_of}
+use Rattle.oer_literals.proofs.Numerals.{IsRange, range_128, range_64, numeral_true}
+use Rattle.oer_notation.specs.Numbers.{number_at, end_at, high_at, bounds_at, size_high_at, size_at, bracketed_size_at, list_size_at, string_size_at}
 use Rattle.oer_notation.specs.State.{State, first, bump, is_sign, at_sign, skip_sign, skip_word, number_text_at}
 use Rattle.oer_notation.proofs.Comes.{Comes, done, front, sole, split}
-use Rattle.oer_notation.proofs.Numerals.{IsRange, range_128, range_64, numeral_true}
 
 integer_given : (width : Width) (low high : ℤ) → IsRange width low high → (w : List ℕ) (z : ℤ) → IsNumeral 10 (without_leading_sign w) → signed_digits_value 10 w ≡ z → FitsSigned width z → integer_within low high w ≡ Some z
 integer_given width low high ends w z n e f =
@@ -29,8 +30,8 @@ natural_given limit w n d e l =
 abbrev pub Reads : {A : Type 0} → (List ℕ → Option A) → A → Token → Type 0
 Reads parse x t = (w : List ℕ) × (t ≡ number w) × (parse w ≡ Some x)
 
-pub bound_reads : {z : ℤ} {t : Token} → IsInteger w128 z t → Reads bound_of z t
-unfolding bound_of
+pub bound_reads : {z : ℤ} {t : Token} → IsInteger w128 z t → Reads integer_of z t
+unfolding integer_of
 bound_reads {z} (an_integer {w = w} n e f) = (w, refl, integer_given w128 _ _ range_128 w z n e f)
 
 pub item_number_reads : {z : ℤ} {t : Token} → IsInteger w64 z t → Reads item_number_of z t
@@ -58,10 +59,10 @@ end_number : {A : Type 0} (parse : List ℕ → Option A) (v : List ℕ) (x : A)
 unfolding end_at
 end_number parse v x t s r e = rw (number_given parse x t s r e, e ∙ ap Some r.1) refl
 
-bound_given : {v : List ℕ} {low : Option ℤ} {t : Token} → IsBound v low t → bytes_eq v v ≡ true → (s : State) → first s ≡ Some t → end_at bound_of v s ≡ Ok (low, bump s)
+bound_given : {v : List ℕ} {low : Option ℤ} {t : Token} → IsBound v low t → bytes_eq v v ≡ true → (s : State) → first s ≡ Some t → end_at integer_of v s ≡ Ok (low, bump s)
 unfolding end_at
 bound_given no_bound self s e = rw (e, self) refl
-bound_given {v} (a_bound {z} {t} d) self s e = end_number bound_of v z t s (bound_reads d) e
+bound_given {v} (a_bound {z} {t} d) self s e = end_number integer_of v z t s (bound_reads d) e
 
 high_single : (z : ℤ) (s : State) → first s ≡ Some (sign CloseParenthesis) → high_at (Some z) s ≡ Ok (Some z, s)
 unfolding high_at
@@ -79,7 +80,7 @@ bounds_given (one_number {z} {t = k} d) s t c clear =
     let a = front c in
     let b = front a.1 in
     let e = sole b.1 in
-    let x = end_number bound_of (codes "MIN") z k (bump s) (bound_reads d) b.0 in
+    let x = end_number integer_of (codes "MIN") z k (bump s) (bound_reads d) b.0 in
     let y = high_single z (bump (bump s)) e.0 in
     rw (a.0, x, y, e.0) (ap (λ t. Ok ((Some z, Some z), t)) e.1)
 bounds_given (range {low} {high} {s = k} {t = l} d f) s t c clear =

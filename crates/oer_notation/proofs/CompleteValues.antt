@@ -9,15 +9,18 @@ use Rattle.oer_lexer.specs.declared.token.Sign.TheVariants.{CloseBrace, Comma}
 use Rattle.oer_types.specs.AsnType.{Need, may, default, NamedNumber, AsnType, integer, enumerated}
 use Rattle.oer_types.specs.AsnValue.{AsnValue, bool, nothing, int, enum, bit_list, octets, text as string, oid}
 use Rattle.oer_types.specs.WellFormed.{IsMisfit}
-use Rattle.oer_notation.specs.Grammar.{IsId, an_id, IsItemNamed, this_item, later_item, is_one, between_quotes, text_of, AreArcs, no_arcs, an_arc, IsValue, true_value, false_value, null_value, number_value as a_number_value, item_value, octets_value, digit_bits_value, bits_value as a_bits_value, text_value, utf8_value, arcs_value, IsNeed, needed, optional, with_default}
-use Rattle.oer_notation.specs.Numbers.{bound_of, arc_of, number_at}
+use Rattle.oer_literals.specs.Bits.{is_one}
+use Rattle.oer_literals.specs.Numbers.{integer_of, arc_of}
+use Rattle.oer_literals.specs.Items.{number_named}
+use Rattle.oer_notation.specs.Grammar.{IsId, an_id, IsItemNamed, this_item, later_item, between_quotes, text_of, AreArcs, no_arcs, an_arc, IsValue, true_value, false_value, null_value, number_value as a_number_value, item_value, octets_value, digit_bits_value, bits_value as a_bits_value, text_value, utf8_value, arcs_value, IsNeed, needed, optional, with_default}
+use Rattle.oer_notation.specs.Numbers.{number_at}
 use Rattle.oer_notation.specs.State.{State, first, bump, is_sign, is_word, at_sign, at_word, same_sign, skip_sign}
-use Rattle.oer_notation.specs.Values.{number_named, arcs_more, arcs_at, word_value, number_value, digits_value, bits_value, sign_value, value_by, value_at, need_at}
+use Rattle.oer_notation.specs.Values.{arcs_more, arcs_at, word_value, number_value, digits_value, sign_value, value_by, value_at, need_at}
 use Rattle.oer_notation.specs.Words.{is_id}
 use Rattle.oer_notation.proofs.Comes.{Comes, done, front, sole, split, bound, Follows}
 use Rattle.oer_notation.proofs.CompleteNumbers.{bound_reads, arc_reads, number_given}
 use Rattle.oer_notation.proofs.Digits.{text_in_is}
-use Rattle.oer_notation.proofs.DigitsGiven.{octets_in_given, digit_bits_given, bits_in_given}
+use Rattle.oer_notation.proofs.DigitsGiven.{octets_in_given, digit_bits_given}
 
 pub no_sign : (g : Sign) (s : State) → same_sign g Comma ≡ false → same_sign g CloseBrace ≡ false → Follows s → at_sign g s ≡ false
 no_sign g s a b (inl e) = ap (is_sign g) e ∙ a
@@ -105,20 +108,20 @@ unfolding value_at
 at_first T s k v t e h m = ap (λ o. value_by T o s) e ∙ h ∙ ap (λ t. Ok (v, t)) m
 
 pub value_given : {T : AsnType} {v : AsnValue} {ts : List Token} → IsValue T v ts → (IsMisfit T (default v) → ⊥) → (s t : State) → Comes s t 0 ts → value_at T s ≡ Ok (v, t)
-unfolding value_at word_value number_value digits_value bits_value sign_value
+unfolding value_at word_value number_value digits_value sign_value
 value_given true_value fits s t c = let e = sole c in rw e.0 (ap (λ t. Ok (bool true, t)) e.1)
 value_given false_value fits s t c = let e = sole c in rw e.0 (ap (λ t. Ok (bool false, t)) e.1)
 value_given null_value fits s t c = let e = sole c in rw e.0 (ap (λ t. Ok (nothing, t)) e.1)
 value_given (a_number_value {low} {high} {z} {t = k} d) fits s t c =
     let e = sole c in
     let r = bound_reads d in
-    ap (λ o. value_by (integer low high) o s) (e.0 ∙ ap Some r.1) ∙ bound (number_at bound_of s) (λ n. Ok (int n.0, n.1)) (z, bump s) (number_given bound_of z k s r e.0) ∙ ap (λ t. Ok (int z, t)) e.1
+    ap (λ o. value_by (integer low high) o s) (e.0 ∙ ap Some r.1) ∙ bound (number_at integer_of s) (λ n. Ok (int n.0, n.1)) (z, bump s) (number_given integer_of z k s r e.0) ∙ ap (λ t. Ok (int z, t)) e.1
 value_given (item_value {items} {marker} {w} {z} i d) fits s t c =
     let e = sole c in
     at_first (enumerated items marker) s (word w) (enum z) t e.0 (id_value (enumerated items marker) w s i z items marker refl (named_given d)) e.1
 value_given (octets_value {size} {w} {xs} d) fits s t c = let e = sole c in rw (e.0, octets_in_given d) (ap (λ t. Ok (octets xs, t)) e.1)
 value_given (digit_bits_value {size} {w} {s = x} d) fits s t c = let e = sole c in rw (e.0, digit_bits_given size (between_quotes w) x d fits) (ap (λ t. Ok (bit_list x, t)) e.1)
-value_given (a_bits_value {size} {w}) fits s t c = let e = sole c in rw (e.0, bits_in_given (between_quotes w)) (ap (λ t. Ok (bit_list (map is_one (between_quotes w)), t)) e.1)
+value_given (a_bits_value {size} {w}) fits s t c = let e = sole c in rw e.0 (ap (λ t. Ok (bit_list (map is_one (between_quotes w)), t)) e.1)
 value_given (text_value {letters} {size} {w}) fits s t c = let e = sole c in rw (e.0, text_in_is w) (ap (λ t. Ok (string (text_of w), t)) e.1)
 value_given (utf8_value {size} {w}) fits s t c = let e = sole c in rw (e.0, text_in_is w) (ap (λ t. Ok (string (text_of w), t)) e.1)
 value_given (arcs_value d) fits s t c = let f = front c in rw f.0 (brace_value d (bump s) t f.1)

@@ -1,5 +1,5 @@
 -- Bits, octets and texts in quotes.
-use Rattle.std.proofs.Common.{◌≡◌, ℕ, zero, suc, ◌+◌, ◌*◌, ◌-◌, ◌/◌, ◌%◌, ◌^◌, ◌≤◌, ◌<◌, List, [], ◌∷◌, ◌++◌, length, take, drop, map, Bool, true, false, cond, ◌==◌, eqb, ◌&&◌, inl, inr, Option, Some, None, Result, Ok, Err, refl, sym, ap, subst, ◌∙◌, arith, append_assoc, append-nil, nat_lt}
+use Rattle.std.proofs.Common.{◌≡◌, ℕ, suc, ◌+◌, ◌*◌, ◌-◌, ◌/◌, ◌%◌, ◌^◌, ◌<◌, List, [], ◌∷◌, ◌++◌, length, take, drop, Bool, true, false, cond, ◌==◌, eqb, ◌&&◌, inl, inr, Option, Some, None, Result, Ok, Err, refl, sym, ap, subst, ◌∙◌, arith, append_assoc, append-nil, nat_lt}
 use Rattle.std.specs.Prelude.{nat_le}
 use Rattle.std.specs.Char.{encode_utf8}
 use Rattle.std.specs.Str.{chars, encode_utf8_all}
@@ -7,71 +7,11 @@ use Rattle.std.proofs.lemmas.Bool.{leb-true, and_parts}
 use Rattle.hex.specs.Hex.{hex_digit_value, digit_or_error, value_at, pair_value, decode_pairs, decode_of, ◌>>=◌}
 use Rattle.hex.specs.declared.error.FromHexError.{FromHexError}
 use Rattle.oer_types.specs.Bits.{bit, bits_of, octets_for}
-use Rattle.oer_notation.specs.Grammar.{AreOctets, no_octets, an_octet, AreBits, no_bits, four_bits, is_one, unquoted, text_of}
-use Rattle.oer_notation.specs.Values.{ok_part, octets_in, bits_from, paired, digit_bits, octet_of, octets_more, bits_in, text_step, text_after, text_in}
+use Rattle.oer_notation.specs.Grammar.{AreOctets, no_octets, an_octet, AreBits, no_bits, four_bits, unquoted, text_of}
+use Rattle.oer_notation.specs.Values.{ok_part, octets_in, bits_from, paired, digit_bits, text_step, text_after, text_in}
 use Rattle.oer_notation.specs.declared.value.TextPlace.TheVariants as place
 use Rattle.oer_notation.proofs.Took.{chosen}
 use Rattle.oer_notation.proofs.SoundNumbers.{some_if}
-
--- ---- digits 0 and 1
-
-abbrev one_if : Bool → ℕ
-one_if b = cond b 1 0
-
-at_most_one : (b : Bool) → one_if b ≤ 1
-at_most_one true = omega arith
-at_most_one false = omega arith
-
-tells_bit : (b : Bool) → eqb (one_if b) 1 ≡ b
-tells_bit true = refl
-tells_bit false = refl
-
-bit_is : (x i : ℕ) (b : Bool) → (x / 2 ^ i) % 2 ≡ one_if b → bit x i ≡ b
-unfolding bit
-bit_is x i b e = ap (λ n. eqb n 1) e ∙ tells_bit b
-
-abbrev eight : Bool → Bool → Bool → Bool → Bool → Bool → Bool → Bool → ℕ
-eight a b c d e f g h = 128 * one_if a + 64 * one_if b + 32 * one_if c + 16 * one_if d + 8 * one_if e + 4 * one_if f + 2 * one_if g + one_if h
-
-octet_bits : (a b c d e f g h : Bool) (xs : List ℕ) → bits_of (eight a b c d e f g h ∷ xs) ≡ a ∷ b ∷ c ∷ d ∷ e ∷ f ∷ g ∷ h ∷ bits_of xs
-octet_bits a b c d e f g h xs =
-    let la = at_most_one a in
-    let lb = at_most_one b in
-    let lc = at_most_one c in
-    let ld = at_most_one d in
-    let le = at_most_one e in
-    let lf = at_most_one f in
-    let lg = at_most_one g in
-    let lh = at_most_one h in
-    let b7 = bit_is (eight a b c d e f g h) 7 a (omega arith) in
-    let b6 = bit_is (eight a b c d e f g h) 6 b (omega arith) in
-    let b5 = bit_is (eight a b c d e f g h) 5 c (omega arith) in
-    let b4 = bit_is (eight a b c d e f g h) 4 d (omega arith) in
-    let b3 = bit_is (eight a b c d e f g h) 3 e (omega arith) in
-    let b2 = bit_is (eight a b c d e f g h) 2 f (omega arith) in
-    let b1 = bit_is (eight a b c d e f g h) 1 g (omega arith) in
-    let b0 = bit_is (eight a b c d e f g h) 0 h (omega arith) in
-    cc
-
-pub bits_whole : (n : ℕ) (w : List ℕ) → length w ≤ n → take (length w) (bits_of (octets_more n w)) ≡ map is_one w
-unfolding octets_more octet_of
-bits_whole zero [] l = refl
-bits_whole zero (a ∷ w) l = absurd (omega arith)
-bits_whole (suc n) [] l = refl
-bits_whole (suc n) (a ∷ []) l = ap (take 1) (octet_bits (is_one a) false false false false false false false (octets_more n []))
-bits_whole (suc n) (a ∷ b ∷ []) l = ap (take 2) (octet_bits (is_one a) (is_one b) false false false false false false (octets_more n []))
-bits_whole (suc n) (a ∷ b ∷ c ∷ []) l = ap (take 3) (octet_bits (is_one a) (is_one b) (is_one c) false false false false false (octets_more n []))
-bits_whole (suc n) (a ∷ b ∷ c ∷ d ∷ []) l = ap (take 4) (octet_bits (is_one a) (is_one b) (is_one c) (is_one d) false false false false (octets_more n []))
-bits_whole (suc n) (a ∷ b ∷ c ∷ d ∷ e ∷ []) l = ap (take 5) (octet_bits (is_one a) (is_one b) (is_one c) (is_one d) (is_one e) false false false (octets_more n []))
-bits_whole (suc n) (a ∷ b ∷ c ∷ d ∷ e ∷ f ∷ []) l = ap (take 6) (octet_bits (is_one a) (is_one b) (is_one c) (is_one d) (is_one e) (is_one f) false false (octets_more n []))
-bits_whole (suc n) (a ∷ b ∷ c ∷ d ∷ e ∷ f ∷ g ∷ []) l = ap (take 7) (octet_bits (is_one a) (is_one b) (is_one c) (is_one d) (is_one e) (is_one f) (is_one g) false (octets_more n []))
-bits_whole (suc n) (a ∷ b ∷ c ∷ d ∷ e ∷ f ∷ g ∷ h ∷ w) l =
-    ap (take (length (a ∷ b ∷ c ∷ d ∷ e ∷ f ∷ g ∷ h ∷ w))) (octet_bits (is_one a) (is_one b) (is_one c) (is_one d) (is_one e) (is_one f) (is_one g) (is_one h) (octets_more n w))
-    ∙ ap (λ s. is_one a ∷ is_one b ∷ is_one c ∷ is_one d ∷ is_one e ∷ is_one f ∷ is_one g ∷ is_one h ∷ s) (bits_whole n w (omega arith))
-
-pub bits_in_sound : (w : List ℕ) (s : List Bool) → bits_in w ≡ Some s → s ≡ map is_one w
-unfolding bits_in
-bits_in_sound w s h = sym (some_if (length (octets_more (length w) w) == octets_for (length w)) (take (length w) (bits_of (octets_more (length w) w))) s h).1 ∙ bits_whole (length w) w (omega arith)
 
 -- ---- hexadecimal digits
 

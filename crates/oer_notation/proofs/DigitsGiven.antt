@@ -1,5 +1,5 @@
--- Bits and octets in quotes are read.
-use Rattle.std.proofs.Common.{◌≡◌, ℕ, zero, suc, ◌+◌, ◌*◌, ◌/◌, ◌%◌, ◌≤◌, ◌<◌, List, [], ◌∷◌, ◌++◌, length, take, map, Bool, true, false, cond, ◌==◌, ⊎_elim, Some, Ok, refl, sym, ap, subst, ◌∙◌, arith, append-nil, leb}
+-- Hexadecimal digits in quotes are read.
+use Rattle.std.proofs.Common.{◌≡◌, ℕ, zero, suc, ◌+◌, ◌*◌, ◌/◌, ◌%◌, ◌≤◌, ◌<◌, List, [], ◌∷◌, ◌++◌, length, take, Bool, true, false, cond, ◌==◌, ⊎_elim, Some, Ok, refl, sym, ap, subst, ◌∙◌, arith, append-nil, leb}
 use Rattle.std.proofs.lemmas.Bool.{lt-ltb, leb-true, and_parts, cases_lt}
 use Rattle.std.proofs.lemmas.Bool.Decides.{Decides-eqb}
 use Rattle.hex.specs.Hex.{decode_pairs}
@@ -9,32 +9,12 @@ use Rattle.oer_types.specs.Bits.{bit, bits_of, octets_for}
 use Rattle.oer_types.specs.Fits.{Fits}
 use Rattle.oer_types.specs.WellFormed.{IsMisfit}
 use Rattle.oer_types.specs.declared.size.Size.{Size}
-use Rattle.oer_notation.specs.Grammar.{AreOctets, no_octets, an_octet, AreBits, no_bits, four_bits, is_one}
-use Rattle.oer_notation.specs.Values.{octets_in, bits_from, digit_bits, octets_more, bits_in}
-use Rattle.oer_notation.proofs.Digits.{bits_whole, digit_below, pair_bits}
+use Rattle.oer_notation.specs.Grammar.{AreOctets, no_octets, an_octet, AreBits, no_bits, four_bits}
+use Rattle.oer_notation.specs.Values.{octets_in, bits_from, digit_bits}
+use Rattle.oer_notation.proofs.Digits.{digit_below, pair_bits}
 
 same_number : (a b : ℕ) → a ≡ b → a == b ≡ true
 same_number a b e = (Decides-eqb a b).1 e
-
--- ---- digits 0 and 1
-
-octets_count : (n : ℕ) (w : List ℕ) → length w ≤ n → length (octets_more n w) ≡ octets_for (length w)
-unfolding octets_more octets_for
-octets_count zero [] l = refl
-octets_count zero (a ∷ w) l = absurd (omega arith)
-octets_count (suc n) [] l = refl
-octets_count (suc n) (a ∷ []) l = ap suc (octets_count n [] (omega arith))
-octets_count (suc n) (a ∷ b ∷ []) l = ap suc (octets_count n [] (omega arith))
-octets_count (suc n) (a ∷ b ∷ c ∷ []) l = ap suc (octets_count n [] (omega arith))
-octets_count (suc n) (a ∷ b ∷ c ∷ d ∷ []) l = ap suc (octets_count n [] (omega arith))
-octets_count (suc n) (a ∷ b ∷ c ∷ d ∷ e ∷ []) l = ap suc (octets_count n [] (omega arith))
-octets_count (suc n) (a ∷ b ∷ c ∷ d ∷ e ∷ f ∷ []) l = ap suc (octets_count n [] (omega arith))
-octets_count (suc n) (a ∷ b ∷ c ∷ d ∷ e ∷ f ∷ g ∷ []) l = ap suc (octets_count n [] (omega arith))
-octets_count (suc n) (a ∷ b ∷ c ∷ d ∷ e ∷ f ∷ g ∷ h ∷ w) l = let r = octets_count n w (omega arith) in ap suc r ∙ omega arith
-
-pub bits_in_given : (w : List ℕ) → bits_in w ≡ Some (map is_one w)
-unfolding bits_in
-bits_in_given w = rw (same_number (length (octets_more (length w) w)) (octets_for (length w)) (octets_count (length w) w (omega arith))) (ap Some (bits_whole (length w) w (omega arith)))
 
 -- ---- hexadecimal digits
 

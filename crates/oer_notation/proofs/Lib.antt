@@ -11,7 +11,6 @@ pub mod DigitsGiven
 pub mod Finding
 pub mod Loops
 pub mod NamesGiven
-pub mod Numerals
 pub mod SpeltWidths
 pub mod Sound
 pub mod SoundAll

@@ -1,6 +1,5 @@
 -- The turns of the loops over items, components, alternatives and arcs.
-use Rattle.std.proofs.Common.{◌≡◌, ℕ, zero, suc, ◌+◌, ◌-◌, ◌≤◌, ◌<◌, List, [], ◌∷◌, ◌++◌, length, drop, Bool, true, false, ◌==◌, Some, None, Ok, Err, refl, sym, ap, arith, sub-one}
-use Rattle.std.proofs.lemmas.Bool.Decides.{nat_tests}
+use Rattle.std.proofs.Common.{◌≡◌, ℕ, zero, suc, ◌+◌, ◌-◌, ◌≤◌, ◌<◌, List, [], ◌∷◌, ◌++◌, length, Bool, true, false, ◌==◌, Some, None, Ok, Err, refl, sym, ap, arith, sub-one}
 use Rattle.hex.specs.Hex.{decode_of}
 use Rattle.hex.specs.declared.error.FromHexError.{FromHexError}
 use Rattle.oer_lexer.specs.Token.{spots_of}
@@ -8,10 +7,12 @@ use Rattle.oer_lexer.specs.declared.token.Spot.{Spot as RawSpot}
 use Rattle.oer_types.specs.AsnType.{AsnType, NamedNumber}
 use Rattle.oer_types.specs.ShapeView.{SeenAlternative}
 use Rattle.oer_lexer.specs.declared.token.Sign.TheVariants.{Comma}
-use Rattle.oer_notation.specs.Numbers.{number_at, arc_of}
+use Rattle.oer_literals.specs.Numbers.{arc_of}
+use Rattle.oer_literals.proofs.Lists.{no_zero}
+use Rattle.oer_notation.specs.Numbers.{number_at}
 use Rattle.oer_notation.specs.Parsing.{entry_at, is_last, end_of, entries_more}
 use Rattle.oer_notation.specs.State.{State, Read, first, bump, at_sign}
-use Rattle.oer_notation.specs.Values.{ok_part, octets_in, is_number, arcs_more, octet_of, octets_more, text_step, text_after}
+use Rattle.oer_notation.specs.Values.{ok_part, octets_in, is_number, arcs_more, text_step, text_after}
 use Rattle.oer_notation.specs.Reading.{Known, NamedItems, Components, with_marker, Choices, with_alternative, with_choice_marker, past_marker, item_at, items_more, component_at, components_more, alternative_at, alternatives_more}
 use Rattle.oer_notation.specs.declared.fault.TextFault.{TextFault}
 use Rattle.oer_notation.specs.declared.value.TextPlace.{TextPlace}
@@ -90,25 +91,6 @@ module _ (type : State → Read AsnType) where
 pub same_marker : (a : SeenAlternative) (c : Choices) → (with_alternative a c).extensible ≡ c.extensible
 same_marker a c = by_marker a c c.extensible refl
 
--- ---- octets of bits
-
-pub octets_done : (n : ℕ) (w : List ℕ) → length w ≤ 0 → octets_more n w ≡ []
-unfolding octets_more
-octets_done zero w h = refl
-octets_done (suc n) [] h = refl
-octets_done (suc n) (c ∷ cs) h = absurd (omega arith)
-
-pub octets_turn : (n : ℕ) (w : List ℕ) → 0 < n → (length w ≡ 0 → ⊥) → octets_more n w ≡ octet_of w ∷ octets_more (n - 1) (drop 8 w)
-unfolding octets_more
-octets_turn zero w some h = absurd (omega arith)
-octets_turn (suc n) [] some h = absurd (h refl)
-octets_turn (suc n) (c ∷ cs) some h = rw sub-one refl
-
-pub octets_over : (n : ℕ) (w : List ℕ) → n ≤ 0 → octets_more n w ≡ []
-unfolding octets_more
-octets_over zero w h = refl
-octets_over (suc n) w h = absurd (omega arith)
-
 -- ---- arcs
 
 pub arcs_end : (n : ℕ) (found : List ℕ) (s : State) → 0 < n → is_number (first s) ≡ false → arcs_more n found s ≡ Ok (found, s)
@@ -176,13 +158,6 @@ pub spots_count : (ss : List RawSpot) → length (spots_of ss) ≡ length ss
 spots_count [] = refl
 spots_count (s ∷ ss) = ap suc (spots_count ss)
 
-pub no_zero : (m : ℕ) → suc m == 0 ≡ false
-no_zero m = grind (arith, nat_tests)
-
 pub last_spots : (ss : List RawSpot) → is_last (spots_of ss) ≡ (length ss == 0)
 last_spots [] = refl
 last_spots (s ∷ ss) = sym (no_zero (length ss))
-
-pub empty_of : (xs : List ℕ) → length xs ≡ 0 → xs ≡ []
-empty_of [] h = refl
-empty_of (x ∷ xs) h = absurd (omega arith)

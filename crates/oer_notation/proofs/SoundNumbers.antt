@@ -8,9 +8,10 @@ use Rattle.oer_lexer.specs.Token.{Token, word, number, sign}
 use Rattle.oer_lexer.specs.declared.token.Sign.TheVariants.{OpenParenthesis, CloseParenthesis, Range}
 use Rattle.oer_types.specs.declared.size.Size.{Size}
 use Rattle.oer_notation.specs.Grammar.{IsInteger, an_integer, IsNatural, a_natural, IsBound, no_bound, a_bound, AreBounds, no_bounds, one_number, range, IsSizeEnd, no_end, an_end, IsSize, one_size, sizes, IsBracketedSize, any_size, bracketed, IsListSize, in_brackets, bare}
-use Rattle.oer_notation.specs.Numbers.{is_numeral, integer_within, natural_below, bound_of, item_number_of, size_of, tag_number_of, arc_of, number_at, end_at, is_given, high_at, bounds_at, size_high_at, size_at, bracketed_size_at, list_size_at, string_size_at}
+use Rattle.oer_literals.specs.Numbers.{is_numeral, integer_within, natural_below, integer_of, item_number_of, size_of, tag_number_of, arc_of}
+use Rattle.oer_literals.proofs.Numerals.{IsRange, range_128, range_64, true_numeral}
+use Rattle.oer_notation.specs.Numbers.{number_at, end_at, is_given, high_at, bounds_at, size_high_at, size_at, bracketed_size_at, list_size_at, string_size_at}
 use Rattle.oer_notation.specs.State.{State, bump, at_sign, at_word, skip_sign, skip_word}
-use Rattle.oer_notation.proofs.Numerals.{IsRange, range_128, range_64, true_numeral}
 use Rattle.oer_notation.proofs.Took.{bind_ok, chosen, Took, stay, both, turned, after, answered, One, one_is, sign_took, word_took, skip_sign_took, skip_word_took, number_took}
 
 pub some_if : {A : Type 0} (b : Bool) (x y : A) → cond b (Some x) None ≡ Some y → (b ≡ true) × (x ≡ y)
@@ -23,8 +24,8 @@ integer_sound width low high ends w z h =
     let q = and_parts (is_numeral (without_leading_sign w)) (int_le low (signed_digits_value 10 w) && int_le (signed_digits_value 10 w) high) p.0 in
     an_integer (true_numeral (without_leading_sign w) q.0) p.1 (subst (FitsSigned width) p.1 (ends.tells (signed_digits_value 10 w) q.1))
 
-pub bound_sound : (w : List ℕ) (z : ℤ) → bound_of w ≡ Some z → IsInteger w128 z (number w)
-unfolding bound_of
+pub bound_sound : (w : List ℕ) (z : ℤ) → integer_of w ≡ Some z → IsInteger w128 z (number w)
+unfolding integer_of
 bound_sound w z h = integer_sound w128 _ _ range_128 w z h
 
 pub item_number_sound : (w : List ℕ) (z : ℤ) → item_number_of w ≡ Some z → IsInteger w64 z (number w)
@@ -61,8 +62,8 @@ end_took parse v Q none some s r h = elim (chosen (at_word v s) _ _ _ h) [
       answered (λ o. One (Q o)) (Some n.0.0, n.0.1) r n.2 (number_took parse (λ x. Q (Some x)) some s n.0 n.1))
 ]
 
-bound_took : (v : List ℕ) (s : State) (r : Option ℤ × State) → end_at bound_of v s ≡ Ok r → Took s r.1 (One (IsBound v r.0))
-bound_took v s r h = end_took bound_of v (IsBound v) no_bound (λ w x e. a_bound (bound_sound w x e)) s r h
+bound_took : (v : List ℕ) (s : State) (r : Option ℤ × State) → end_at integer_of v s ≡ Ok r → Took s r.1 (One (IsBound v r.0))
+bound_took v s r h = end_took integer_of v (IsBound v) no_bound (λ w x e. a_bound (bound_sound w x e)) s r h
 
 -- behind the lower end
 abbrev Higher : Option ℤ → Option ℤ → Token → List Token → Type 0
@@ -92,7 +93,7 @@ bounds_took s r h = elim (chosen (not (at_sign OpenParenthesis s)) _ _ _ h) [
   | inl p ↦ answered (λ b. AreBounds b.0 b.1) ((None, None), s) r p.1 (stay s (AreBounds None None) no_bounds)
   | inr p ↦ (
       let a = sign_took OpenParenthesis s (not_true _ p.0) in
-      let low = bind_ok (end_at bound_of (codes "MIN") (bump s)) _ r p.1 in
+      let low = bind_ok (end_at integer_of (codes "MIN") (bump s)) _ r p.1 in
       let high = bind_ok (high_at low.0.0 low.0.1) _ r low.2 in
       let over = bind_ok (skip_sign CloseParenthesis high.0.1) _ r high.2 in
       let l = bound_took (codes "MIN") (bump s) low.0 low.1 in

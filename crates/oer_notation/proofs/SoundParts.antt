@@ -12,7 +12,8 @@ use Rattle.oer_types.specs.AsnType.{NamedNumber, ia5, visible, numeric, printabl
 use Rattle.oer_types.specs.ShapeView.{SeenField, SeenAddition, SeenAlternative, fields_from, additions_from, later_from, root_from}
 use Rattle.oer_types.specs.declared.size.Size.{Size}
 use Rattle.oer_notation.specs.Grammar.{IsId, IsInteger, IsNatural, IsItemNumber, own_number, number_by_place, AreItems, no_items, item, items_marker, IsClass, universal, application, private, context, IsTag, own_tag, tag_by_place, MayBeOptional, plain_addition, optional_addition, IsNeed, IsBracketedSize, IsType, boolean_type, null_type, object_id_type, integer_type, enumerated_type, octet_string_type, bit_string_type, restricted_string_type, utf8_string_type, empty_sequence_type, sequence_type, extensible_sequence_type, sequence_of_type, choice_type, AreComponents, no_components as none_there, component, components_marker, AreAdditions, none_added, added as an_addition, AreAlternatives, none_left, an_alternative, alternatives_marker, AreLater, none_later, a_later}
-use Rattle.oer_notation.specs.Numbers.{item_number_of, tag_number_of, number_at, bounds_at, bracketed_size_at, string_size_at, list_size_at}
+use Rattle.oer_literals.specs.Numbers.{item_number_of, tag_number_of}
+use Rattle.oer_notation.specs.Numbers.{number_at, bounds_at, bracketed_size_at, string_size_at, list_size_at}
 use Rattle.oer_notation.specs.State.{State, Read, ◌>>=◌, bump, at_sign, at_word, skip_sign, skip_word, id_at, part_at, full}
 use Rattle.oer_notation.specs.Values.{need_at}
 use Rattle.oer_notation.specs.Reading.{Known, most, past_marker, go_on, NamedItems, item_number_at, numbered_at, item_at, items_more, items_at, class_at, tag_at, tagged_at, simple_type, Components, with_marker, with_field, with_addition, Choices, sequence_of_components, choice_of_choices, no_components, no_choices, past_optional, field_at, addition_at, alternative_at, component_at, components_more, alternatives_more, body_at, structure_at, list_at, sequence_at, choice_at, word_type}

@@ -1,5 +1,5 @@
 -- Values after DEFAULT, items, tags and Names that are read are spelt so.
-use Rattle.std.proofs.Common.{◌≡◌, ℕ, zero, suc, ◌^◌, ◌<◌, ℤ, List, [], ◌∷◌, ◌++◌, length, Bool, true, false, cond, ◌⊎◌, inl, inr, Option, Some, None, Ok, refl, sym, ap, subst, ◌∙◌, append_assoc, append-nil, nat_lt, arith}
+use Rattle.std.proofs.Common.{◌≡◌, ℕ, zero, suc, ◌^◌, ◌<◌, ℤ, List, [], ◌∷◌, ◌++◌, length, map, Bool, true, false, cond, ◌⊎◌, inl, inr, Option, Some, None, Ok, refl, sym, ap, subst, ◌∙◌, append_assoc, append-nil, nat_lt, arith}
 use Rattle.std.specs.Prelude.{codes}
 use Rattle.std.specs.Int.{w128}
 use Rattle.std.specs.Str.{bytes_eq}
@@ -11,13 +11,16 @@ use Rattle.oer_types.specs.AsnType.{Need, must, may, default, NamedNumber, Alpha
 use Rattle.oer_types.specs.AsnValue.{AsnValue, bool, nothing, int, enum, bit_list, octets, text as string, oid}
 use Rattle.oer_types.specs.declared.size.Size.{Size}
 use Rattle.oer_notation.specs.Grammar.{IsId, IsInteger, IsNatural, IsItemNamed, this_item, later_item, between_quotes, text_of, AreArcs, no_arcs, an_arc, IsValue, true_value, false_value, null_value, number_value as a_number_value, item_value, octets_value, digit_bits_value, bits_value as a_bits_value, text_value, utf8_value, arcs_value, IsNeed, needed, optional, with_default}
-use Rattle.oer_notation.specs.Numbers.{bound_of, arc_of, number_at}
+use Rattle.oer_literals.specs.Bits.{is_one}
+use Rattle.oer_literals.specs.Items.{items_of, number_named}
+use Rattle.oer_literals.specs.Numbers.{arc_of, integer_of}
+use Rattle.oer_notation.specs.Numbers.{number_at}
 use Rattle.oer_notation.specs.State.{State, first, bump, at_word, same_sign, skip_sign}
-use Rattle.oer_notation.specs.Values.{kind_of, kind_number, is_kind, items_of, number_named, inside, octets_in, digit_bits, bits_in, text_in, is_number, arcs_more, arcs_at, only_for, some_value, word_value, number_value, digits_value, bits_value, sign_value, value_by, value_at, need_at}
+use Rattle.oer_notation.specs.Values.{kind_of, kind_number, is_kind, inside, octets_in, digit_bits, text_in, is_number, arcs_more, arcs_at, only_for, some_value, word_value, number_value, digits_value, sign_value, value_by, value_at, need_at}
 use Rattle.oer_notation.specs.Words.{is_id}
 use Rattle.oer_notation.specs.declared.value.ValueKind.{ValueKind}
 use Rattle.oer_notation.specs.declared.value.ValueKind.TheVariants as kind
-use Rattle.oer_notation.proofs.Digits.{bits_in_sound, octets_in_sound, digit_bits_sound, text_in_is}
+use Rattle.oer_notation.proofs.Digits.{octets_in_sound, digit_bits_sound, text_in_is}
 use Rattle.oer_notation.proofs.SoundNumbers.{bound_sound, arc_sound}
 use Rattle.oer_notation.proofs.Took.{bind_ok, chosen, same_ok, same_bytes, small, Took, stay, both, after, ends, answered, one_is, take_first, sign_same, word_took, skip_sign_took, number_took}
 
@@ -134,9 +137,9 @@ number_took_value : (T : AsnType) (s : State) (r : AsnValue × State) → number
 unfolding number_value
 number_took_value T s r h = elim (chosen (is_kind kind.Number T) _ _ _ h) [
   | inl p ↦ (
-      let n = bind_ok (number_at bound_of s) _ r p.1 in
+      let n = bind_ok (number_at integer_of s) _ r p.1 in
       let k = of_kind kind.Number T p.0 in
-      let t = number_took bound_of (IsInteger w128) bound_sound s n.0 n.1 in
+      let t = number_took integer_of (IsInteger w128) bound_sound s n.0 n.1 in
       answered (IsValue T) (int n.0.0, n.0.1) r n.2 (subst (λ T. Took s n.0.1 (IsValue T (int n.0.0))) (sym k.2) (ends t.holds.0 (IsValue (integer k.0 k.1) (int n.0.0)) (one_is t) (a_number_value t.holds.2))))
   | inr p ↦ absurd (cc)
 ]
@@ -153,15 +156,6 @@ digits_took T w s r e h = elim (chosen (is_kind kind.Octets T) _ _ _ h) [
         some_took bit_list T (digit_bits (inside w)) (digits w) s r (λ x h. subst (λ T. IsValue T (bit_list x) (digits w ∷ [])) (sym k.1) (digit_bits_value (digit_bits_sound (between_quotes w) x h))) e p.1)
     | inr p ↦ absurd (cc)
   ]
-]
-
-bits_took : (T : AsnType) (w : List ℕ) (s : State) (r : AsnValue × State) → first s ≡ Some (bits w) → bits_value T w s ≡ Ok r → Took s r.1 (IsValue T r.0)
-unfolding bits_value
-bits_took T w s r e h = elim (chosen (is_kind kind.Bits T) _ _ _ h) [
-  | inl p ↦ (
-      let k = of_kind kind.Bits T p.0 in
-      some_took bit_list T (bits_in (inside w)) (bits w) s r (λ x h. subst (λ T. IsValue T (bit_list x) (bits w ∷ [])) (sym k.1) (subst (λ x. IsValue (bit_string k.0) (bit_list x) (bits w ∷ [])) (sym (bits_in_sound (between_quotes w) x h)) a_bits_value)) e p.1)
-  | inr p ↦ absurd (cc)
 ]
 
 of_text : (T : AsnType) (w : List ℕ) → Kinds kind.Text T → IsValue T (string (text_of w)) (text w ∷ [])
@@ -223,7 +217,8 @@ by_took : (T : AsnType) (o : Option Token) (s : State) (r : AsnValue × State) �
 by_took T None s r e h = absurd (cc)
 by_took T (Some (word w)) s r e h = word_took_value T w s r e h
 by_took T (Some (number w)) s r e h = number_took_value T s r h
-by_took T (Some (bits w)) s r e h = bits_took T w s r e h
+by_took T (Some (bits w)) s r e h =
+    only_took kind.Bits T (bit_list (map is_one (inside w))) (bits w) s r (λ k. subst (λ T. IsValue T (bit_list (map is_one (inside w))) (bits w ∷ [])) (sym k.1) a_bits_value) e h
 by_took T (Some (digits w)) s r e h = digits_took T w s r e h
 by_took T (Some (text w)) s r e h = text_took T w s r e h
 by_took T (Some (sign u)) s r e h = sign_took_value T s (same_sign u OpenBrace) r (λ b. e ∙ ap (λ u. Some (sign u)) (sign_same u OpenBrace b)) h

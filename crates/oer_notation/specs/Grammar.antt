@@ -8,6 +8,7 @@ use Rattle.hex.specs.Hex.{hex_digit_value}
 use Rattle.oer_lexer.specs.FallsInto.{FallsInto}
 use Rattle.oer_lexer.specs.Token.{Token, word, number, bits, digits, text, sign}
 use Rattle.oer_lexer.specs.declared.token.Sign.TheVariants.{OpenBrace, CloseBrace, OpenParenthesis, CloseParenthesis, OpenBracket, CloseBracket, Comma, Range, Ellipsis, Assign}
+use Rattle.oer_literals.specs.Bits.{is_one}
 use Rattle.oer_types.specs.AsnType.{Need, must, may, default, NamedNumber, ia5, visible, numeric, printable, Alphabet, AsnType, boolean, null, integer, enumerated, bit_string, octet_string, object_id, restricted_string, utf8_string, sequence, extensible_sequence, sequence_of, choice, Fields, no_fields, field, Additions, no_additions, addition, Alternatives, no_alternatives, alternative, later}
 use Rattle.oer_types.specs.AsnValue.{AsnValue, bool, nothing, int, enum, bit_list, octets, text as string, oid}
 use Rattle.oer_types.specs.Bits.{bit}
@@ -140,10 +141,6 @@ pub data AreBits : List ℕ → List Bool → Type 0 where
   no_bits : AreBits [] []
   four_bits : {c n : ℕ} {cs : List ℕ} {s : List Bool} → hex_digit_value c ≡ Some n → AreBits cs s
       → AreBits (c ∷ cs) (bit n 3 ∷ bit n 2 ∷ bit n 1 ∷ bit n 0 ∷ s)
-
--- the digit 1
-abbrev pub is_one : ℕ → Bool
-is_one c = c == 49
 
 -- the characters behind the opening quote, up to the closing one; two quotes stand for one
 abbrev pub unquoted : List ℕ → List ℕ

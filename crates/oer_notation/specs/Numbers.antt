@@ -1,46 +1,11 @@
 -- Numbers of the notation, sizes and bounds: what is read and what is left, or the first fault.
-use Rattle.std.specs.Prelude.{ℕ, ◌^◌, nat_lt, ℤ, pos, negsuc, int_le, List, length, Bool, true, false, not, ◌&&◌, Option, Some, None, Ok, Err, codes, if◌then◌else◌}
-use Rattle.std.specs.Str.Parse.{digits_value, signed_digits_value, without_leading_sign, without_leading_plus}
-use Rattle.std.specs.Str.{all_ascii_digits}
+use Rattle.std.specs.Prelude.{ℕ, ℤ, List, Bool, true, false, not, ◌&&◌, Option, Some, None, Ok, Err, codes, if◌then◌else◌}
 use Rattle.oer_lexer.specs.declared.token.Sign.TheVariants.{OpenParenthesis, CloseParenthesis, Range}
 use Rattle.oer_types.specs.declared.size.Size.{Size}
+use Rattle.oer_literals.specs.Numbers.{integer_of, size_of}
 use Rattle.oer_notation.specs.State.{State, Read, ◌>>=◌, fault, bump, at_sign, at_word, skip_sign, skip_word, number_text_at}
 use Rattle.oer_notation.specs.declared.fault.TextFault.{TextFault}
 use Rattle.oer_notation.specs.declared.fault.TextWhy.TheVariants as why
-
-abbrev pub is_numeral : List ℕ → Bool
-is_numeral w = nat_lt 0 (length w) && all_ascii_digits w
-
--- the number that the text is, where it is one from low to high
-abbrev pub integer_within : ℤ → ℤ → List ℕ → Option ℤ
-integer_within low high w =
-    if is_numeral (without_leading_sign w) && (int_le low (signed_digits_value 10 w) && int_le
-    (signed_digits_value 10 w) high) then Some (signed_digits_value 10 w) else None
-
--- bounds and defaults of INTEGER
-unfoldable pub bound_of : List ℕ → Option ℤ
-bound_of w = integer_within (negsuc 170141183460469231731687303715884105727) (pos 170141183460469231731687303715884105727) w
-
--- numbers of items
-unfoldable pub item_number_of : List ℕ → Option ℤ
-item_number_of w = integer_within (negsuc 9223372036854775807) (pos 9223372036854775807) w
-
--- the number that the text is, where it is one below the limit and not negative
-abbrev pub natural_below : ℕ → List ℕ → Option ℕ
-natural_below limit w = if is_numeral (without_leading_plus w) && nat_lt (digits_value 10
-    (without_leading_plus w)) limit then Some (digits_value 10 (without_leading_plus w)) else None
-
--- sizes
-unfoldable pub size_of : List ℕ → Option ℕ
-size_of w = natural_below (2 ^ 64) w
-
--- numbers of tags
-unfoldable pub tag_number_of : List ℕ → Option ℕ
-tag_number_of w = natural_below (2 ^ 32) w
-
--- arcs of object identifiers
-unfoldable pub arc_of : List ℕ → Option ℕ
-arc_of w = natural_below (2 ^ 128) w
 
 abbrev pub given : {A : Type 0} → Option A → TextFault → State → Read A
 given (Some x) e s = Ok (x, s)
@@ -61,12 +26,12 @@ is_given (Some x) = true
 -- the upper bound: behind two points, or the lower one
 unfoldable pub high_at : Option ℤ → State → Read (Option ℤ)
 high_at low s = if is_given low && not (at_sign Range s) then Ok (low, s)
-    else (skip_sign Range s >>= λ r. end_at bound_of (codes "MAX") r.1)
+    else (skip_sign Range s >>= λ r. end_at integer_of (codes "MAX") r.1)
 
 -- bounds in brackets, or none
 unfoldable pub bounds_at : State → Read (Option ℤ × Option ℤ)
 bounds_at s = if not (at_sign OpenParenthesis s) then Ok ((None, None), s) else (do
-  low ← end_at bound_of (codes "MIN") (bump s)
+  low ← end_at integer_of (codes "MIN") (bump s)
   high ← high_at low.0 low.1
   rest ← skip_sign CloseParenthesis high.1
   Ok ((low.0, high.0), rest.1))

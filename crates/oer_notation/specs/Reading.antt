@@ -11,7 +11,8 @@ use Rattle.oer_types.specs.Nodes.{type_nodes}
 use Rattle.oer_types.specs.ShapeView.{SeenField, SeenAddition, SeenAlternative, fields_from, additions_from, later_from, root_from}
 use Rattle.oer_types.specs.WellFormed.{depth}
 use Rattle.oer_types.specs.declared.fault.SchemaFault.TheVariants.{TooDeep}
-use Rattle.oer_notation.specs.Numbers.{item_number_of, tag_number_of, number_at, bounds_at, bracketed_size_at, string_size_at, list_size_at}
+use Rattle.oer_literals.specs.Numbers.{item_number_of, tag_number_of}
+use Rattle.oer_notation.specs.Numbers.{number_at, bounds_at, bracketed_size_at, string_size_at, list_size_at}
 use Rattle.oer_notation.specs.State.{State, Read, ◌>>=◌, first, fault, bump, at_sign, at_word, skip_sign, skip_word, id_at, part_at, full}
 use Rattle.oer_notation.specs.Values.{need_at}
 use Rattle.oer_notation.specs.Words.{is_name, type_word}

@@ -1,15 +1,18 @@
 -- Values after DEFAULT: what is read and what is left, or the first fault.
-use Rattle.std.specs.Prelude.{ℕ, zero, suc, ◌+◌, ◌*◌, ◌-◌, ◌%◌, ℤ, nat_lt, List, [], ◌∷◌, ◌++◌, length, take, drop, slice_index, ◌==◌, Bool, true, false, not, Option, Some, None, Result, Ok, Err, codes, if◌then◌else◌}
+use Rattle.std.specs.Prelude.{ℕ, zero, suc, ◌*◌, ◌-◌, ◌%◌, nat_lt, List, [], ◌∷◌, ◌++◌, length, take, drop, map, ◌==◌, Bool, true, false, not, Option, Some, None, Result, Ok, Err, codes, if◌then◌else◌}
 use Rattle.std.specs.Str.{bytes_eq}
 use Rattle.std.specs.Char.{encode_utf8}
 use Rattle.std.specs.Str.{chars}
 use Rattle.hex.specs.Hex.{decode_of}
 use Rattle.oer_lexer.specs.Token.{Token, word, number, bits, digits, text, sign}
 use Rattle.oer_lexer.specs.declared.token.Sign.TheVariants.{OpenBrace, CloseBrace}
-use Rattle.oer_types.specs.AsnType.{Need, must, may, default, NamedNumber, AsnType, boolean, null, integer, enumerated, bit_string, octet_string, object_id, restricted_string, utf8_string, sequence, extensible_sequence, sequence_of, choice}
+use Rattle.oer_types.specs.AsnType.{Need, must, may, default, AsnType, boolean, null, integer, enumerated, bit_string, octet_string, object_id, restricted_string, utf8_string, sequence, extensible_sequence, sequence_of, choice}
 use Rattle.oer_types.specs.AsnValue.{AsnValue, bool, nothing, int, enum, bit_list, octets, text as string, oid}
 use Rattle.oer_types.specs.Bits.{bits_of, octets_for}
-use Rattle.oer_notation.specs.Numbers.{bound_of, arc_of, number_at}
+use Rattle.oer_literals.specs.Bits.{is_one}
+use Rattle.oer_literals.specs.Items.{items_of, number_named}
+use Rattle.oer_literals.specs.Numbers.{arc_of, integer_of}
+use Rattle.oer_notation.specs.Numbers.{number_at}
 use Rattle.oer_notation.specs.State.{State, Read, ◌>>=◌, first, fault, bump, at_word, same_sign, skip_sign}
 use Rattle.oer_notation.specs.Words.{is_id}
 use Rattle.oer_notation.specs.declared.fault.TextWhy.TheVariants as why
@@ -48,26 +51,6 @@ kind_number kind.Constructed = 8
 abbrev pub is_kind : ValueKind → AsnType → Bool
 is_kind k T = kind_number k == kind_number (kind_of T)
 
-abbrev pub items_of : AsnType → List NamedNumber
-items_of boolean = []
-items_of null = []
-items_of (integer low high) = []
-items_of (enumerated items extensible) = items
-items_of (bit_string size) = []
-items_of (octet_string size) = []
-items_of object_id = []
-items_of (restricted_string letters size) = []
-items_of (utf8_string size) = []
-items_of (sequence _) = []
-items_of (extensible_sequence _ _) = []
-items_of (sequence_of size T) = []
-items_of (choice extensible more) = []
-
--- the number of the first item with this name
-abbrev pub number_named : List NamedNumber → List ℕ → Option ℤ
-number_named [] w = None
-number_named (i ∷ is) w = if bytes_eq i.name w then Some i.number else number_named is w
-
 -- between the quotes
 abbrev pub inside : List ℕ → List ℕ
 inside w = take (length w - 3) (drop 1 w)
@@ -92,28 +75,6 @@ paired w = if length w % 2 == 1 then w ++ 48 ∷ [] else w
 -- the bits of hexadecimal digits, four each; none where they are too many to be counted with 64 bits
 unfoldable pub digit_bits : List ℕ → Option (List Bool)
 digit_bits w = if nat_lt (length w) 4611686018427387904 then bits_from (octets_in (paired w)) (4 * length w) else None
-
--- 1 for the digit 1
-abbrev pub one_at : List ℕ → ℕ → ℕ
-one_at w i = if slice_index w i == 49 then 1 else 0
-
--- the octet of the first eight digits 0 and 1, with zeros for those that are missing
-unfoldable pub octet_of : List ℕ → ℕ
-octet_of w = 128 * one_at w 0 + 64 * one_at w 1 + 32 * one_at w 2 + 16 * one_at w 3 + 8 * one_at w 4 + 4 * one_at w 5 + 2 * one_at
-    w 6 + one_at w 7
-
-abbrev pub is_empty : {A : Type 0} → List A → Bool
-is_empty [] = true
-is_empty (x ∷ xs) = false
-
--- the octets of digits 0 and 1, eight each; the number bounds the turns, and the count of the digits is always enough
-unfoldable pub octets_more : ℕ → List ℕ → List ℕ
-octets_more zero w = []
-octets_more (suc n) w = if is_empty w then [] else octet_of w ∷ octets_more n (drop 8 w)
-
--- the bits of digits 0 and 1
-unfoldable pub bits_in : List ℕ → Option (List Bool)
-bits_in w = bits_from (Some (octets_more (length w) w)) (length w)
 
 -- A quote that begins or ends a text, or is the first of two, is left out. The text so far, by the place that was reached.
 abbrev pub text_step : TextPlace × List ℕ → ℕ → TextPlace × List ℕ
@@ -165,16 +126,13 @@ word_value T w s =
     else Err (fault why.Syntax s)
 
 unfoldable pub number_value : AsnType → State → Read AsnValue
-number_value T s = if is_kind kind.Number T then (number_at bound_of s >>= λ n. Ok (int n.0, n.1)) else Err (fault why.Default s)
+number_value T s = if is_kind kind.Number T then (number_at integer_of s >>= λ n. Ok (int n.0, n.1)) else Err (fault why.Default s)
 
 unfoldable pub digits_value : AsnType → List ℕ → State → Read AsnValue
 digits_value T w s =
     if is_kind kind.Octets T then some_value octets (octets_in (inside w)) s
     else if is_kind kind.Bits T then some_value bit_list (digit_bits (inside w)) s
     else Err (fault why.Default s)
-
-unfoldable pub bits_value : AsnType → List ℕ → State → Read AsnValue
-bits_value T w s = if is_kind kind.Bits T then some_value bit_list (bits_in (inside w)) s else Err (fault why.Default s)
 
 unfoldable pub sign_value : AsnType → Bool → State → Read AsnValue
 sign_value T brace s = if not brace then Err (fault why.Syntax s)
@@ -184,7 +142,7 @@ abbrev pub value_by : AsnType → Option Token → State → Read AsnValue
 value_by T None s = Err (fault why.Syntax s)
 value_by T (Some (word w)) s = word_value T w s
 value_by T (Some (number w)) s = number_value T s
-value_by T (Some (bits w)) s = bits_value T w s
+value_by T (Some (bits w)) s = only_for kind.Bits T (bit_list (map is_one (inside w))) s
 value_by T (Some (digits w)) s = digits_value T w s
 value_by T (Some (text w)) s = only_for kind.Text T (string (text_in w)) s
 value_by T (Some (sign u)) s = sign_value T (same_sign u OpenBrace) s

@@ -1,11 +1,13 @@
 //! Numbers, bounds and sizes.
-ghost use Rattle.std.specs.Prelude.{◌≡◌, codes};
+ghost use Rattle.std.specs.Prelude.{codes};
 ghost use Rattle.oer_notation.specs.State.{Gives, state_of};
-ghost use Rattle.oer_notation.specs.Numbers.{arc_of, bound_of, bounds_at, bracketed_size_at, end_at, high_at, item_number_of, list_size_at, number_at, size_at, size_high_at, size_of, string_size_at, tag_number_of};
+ghost use Rattle.oer_literals.specs.Numbers.{arc_of, integer_of, item_number_of, size_of, tag_number_of};
+ghost use Rattle.oer_notation.specs.Numbers.{bounds_at, bracketed_size_at, end_at, high_at, list_size_at, number_at, size_at, size_high_at, string_size_at};
 
 use crate::cursor::Cursor;
 use crate::fault::{TextFault, TextWhy};
 use oer_lexer::Sign;
+use oer_literals::{arc_of, integer_of, item_number_of, size_of, tag_number_of};
 use oer_types::Size;
 
 /// The bounds of an INTEGER.
@@ -15,59 +17,14 @@ pub struct Bounds {
     pub high: Option<i128>,
 }
 
-fn bound_of(digits: &str) -> Option<i128>
-    ensures { result ≡ bound_of digits.now }
-{
-    match digits.parse::<i128>() {
-        Ok(number) => Some(number),
-        Err(_) => None,
-    }
-}
-
-fn item_number_of(digits: &str) -> Option<i64>
-    ensures { result ≡ item_number_of digits.now }
-{
-    match digits.parse::<i64>() {
-        Ok(number) => Some(number),
-        Err(_) => None,
-    }
-}
-
-fn size_of(digits: &str) -> Option<u64>
-    ensures { result ≡ size_of digits.now }
-{
-    match digits.parse::<u64>() {
-        Ok(number) => Some(number),
-        Err(_) => None,
-    }
-}
-
-fn tag_number_of(digits: &str) -> Option<u32>
-    ensures { result ≡ tag_number_of digits.now }
-{
-    match digits.parse::<u32>() {
-        Ok(number) => Some(number),
-        Err(_) => None,
-    }
-}
-
-fn arc_of(digits: &str) -> Option<u128>
-    ensures { result ≡ arc_of digits.now }
-{
-    match digits.parse::<u128>() {
-        Ok(number) => Some(number),
-        Err(_) => None,
-    }
-}
-
 /// A bound or a value of an INTEGER.
 #[tactic(auto, unfolding(crate::specs::Numbers::number_at))]
 pub fn read_bound(cursor: &mut Cursor<'_, '_>) -> Result<i128, TextFault>
-    ensures { Gives (λ n. (n, state_of cursor.new)) result (number_at bound_of (state_of cursor.old)) }
+    ensures { Gives (λ n. (n, state_of cursor.new)) result (number_at integer_of (state_of cursor.old)) }
 {
     let fault = cursor.fault(TextWhy::Number);
     let digits = cursor.number()?;
-    let Some(number) = bound_of(digits) else {
+    let Some(number) = integer_of(digits) else {
         return Err(fault);
     };
     Ok(number)
@@ -126,7 +83,7 @@ pub fn read_arc(cursor: &mut Cursor<'_, '_>) -> Result<u128, TextFault>
 
 #[tactic(auto, unfolding(crate::specs::Numbers::end_at))]
 fn read_low(cursor: &mut Cursor<'_, '_>) -> Result<Option<i128>, TextFault>
-    ensures { Gives (λ n. (n, state_of cursor.new)) result (end_at bound_of (codes "MIN") (state_of cursor.old)) }
+    ensures { Gives (λ n. (n, state_of cursor.new)) result (end_at integer_of (codes "MIN") (state_of cursor.old)) }
 {
     if cursor.take_word("MIN") {
         return Ok(None);
@@ -136,7 +93,7 @@ fn read_low(cursor: &mut Cursor<'_, '_>) -> Result<Option<i128>, TextFault>
 
 #[tactic(auto, unfolding(crate::specs::Numbers::end_at))]
 fn read_upper(cursor: &mut Cursor<'_, '_>) -> Result<Option<i128>, TextFault>
-    ensures { Gives (λ n. (n, state_of cursor.new)) result (end_at bound_of (codes "MAX") (state_of cursor.old)) }
+    ensures { Gives (λ n. (n, state_of cursor.new)) result (end_at integer_of (codes "MAX") (state_of cursor.old)) }
 {
     if cursor.take_word("MAX") {
         return Ok(None);

@@ -1,12 +1,13 @@
 //! Values after DEFAULT.
-ghost use Rattle.std.specs.Prelude.{◌≡◌, ◌≤◌, ◌==◌, [], suc, length, drop, map, option_map, IfOk, Ok, string_bytes};
+ghost use Rattle.std.specs.Prelude.{◌≡◌, ◌==◌, [], suc, length, map, option_map, IfOk, Ok, string_bytes};
 ghost use Rattle.oer_lexer.specs.declared.token.Sign.TheVariants.{OpenBrace};
-ghost use Rattle.oer_types.specs.AsnValue.{text};
-ghost use Rattle.oer_types.specs.ShapeView.{named_number, need_of, type_of};
+ghost use Rattle.oer_literals.specs.Bits.{is_one};
+ghost use Rattle.oer_types.specs.AsnValue.{bit_list, text};
+ghost use Rattle.oer_types.specs.ShapeView.{need_of, type_of};
 ghost use Rattle.oer_types.specs.ValueView.{value_of};
 ghost use Rattle.oer_notation.specs.State.{first, Gives, same_sign, state_of};
-ghost use Rattle.oer_notation.specs.declared.value.ValueKind.TheVariants.{Text};
-ghost use Rattle.oer_notation.specs.Values.{arcs_at, arcs_more, bits_from, bits_value, digit_bits, digits_value, inside, is_kind, is_number, items_of, kind_number, kind_of, need_at, number_named, number_value, octet_of, octets_in, octets_more, one_at, only_for, sign_value, text_in, text_step, value_at, word_value};
+ghost use Rattle.oer_notation.specs.declared.value.ValueKind.TheVariants.{Bits as bits_kind, Text};
+ghost use Rattle.oer_notation.specs.Values.{arcs_at, arcs_more, bits_from, digit_bits, digits_value, inside, is_kind, is_number, kind_number, kind_of, need_at, number_value, octets_in, only_for, sign_value, text_in, text_step, value_at, word_value};
 
 use crate::cursor::{Cursor, is_same as is_same_sign};
 use crate::fault::{TextFault, TextWhy};
@@ -14,7 +15,8 @@ use crate::number::{read_arc, read_bound};
 use crate::word::is_id;
 use hex::FromHexError;
 use oer_lexer::{Sign, Token};
-use oer_types::{Bits, Item, Need, Shape, Value};
+use oer_literals::{bits_of_digits, items_of, number_named};
+use oer_types::{Bits, Need, Shape, Value};
 use std::alloc::{AllocError, Global};
 
 /// The notations that values of types have.
@@ -142,40 +144,11 @@ fn read_word_value(
     if !is_id(word) {
         return Err(cursor.fault(TextWhy::Syntax));
     }
-    let Some(number) = item_number(shape, word) else {
+    let Some(number) = number_named(items_of(shape), word) else {
         return Err(cursor.fault(TextWhy::Default));
     };
     cursor.bump();
     Ok(Value::Enum(number))
-}
-
-/// The number of the item of this name, if the type has one.
-fn item_number(shape: &Shape, name: &str) -> Option<i64>
-    ensures { result ≡ number_named (items_of (type_of shape.now)) name.now }
-{
-    match shape {
-        Shape::Enumerated { items, .. } => number_named(items, name),
-        Shape::Sequence { additions, .. } => match additions {
-            Some(_) => None,
-            None => None,
-        },
-        Shape::Choice { additions, .. } => match additions {
-            Some(_) => None,
-            None => None,
-        },
-        _ => None,
-    }
-}
-
-fn number_named(items: &[Item], name: &str) -> Option<i64>
-    ensures { result ≡ number_named (map named_number items.now) name.now }
-{
-    for item in items {
-        if item.name.as_str() == name {
-            return Some(item.number);
-        }
-    }
-    None
 }
 
 #[tactic(auto, unfolding(crate::specs::Values::number_value))]
@@ -269,67 +242,19 @@ fn read_digits_value(
     Ok(Value::Bits(bits))
 }
 
-fn one_at(digits: &[u8], index: usize) -> u8
-    ensures value { result ≡ one_at digits.now index }
-    ensures small { result ≤ 1 }
-{
-    match digits.get(index) {
-        Some(b'1') => 1,
-        _ => 0,
-    }
-}
-
-/// The octet of the first eight digits 0 and 1.
-#[tactic(auto, unfolding(crate::specs::Values::octet_of))]
-fn octet_of(digits: &[u8]) -> u8
-    ensures { result ≡ octet_of digits.now }
-{
-    let high = 128 * one_at(digits, 0)
-        + 64 * one_at(digits, 1)
-        + 32 * one_at(digits, 2)
-        + 16 * one_at(digits, 3);
-    high + 8 * one_at(digits, 4) + 4 * one_at(digits, 5) + 2 * one_at(digits, 6) + one_at(digits, 7)
-}
-
-fn past_eight(digits: &[u8]) -> &[u8]
-    ensures { result.now ≡ drop 8 digits.now }
-{
-    if digits.len() < 8 { &[] } else { &digits[8..] }
-}
-
-/// The octets of digits 0 and 1, eight each.
-fn octets_of(alloc: Global, digits: &[u8]) -> Result<Vec<u8>, AllocError>
-    ensures { IfOk result (λ v. v.items ≡ octets_more (length digits.now) digits.now) }
-{
-    let mut octets = Vec::with_capacity(alloc, digits.len() / 8 + 1)?;
-    let mut rest = digits;
-    'octets: for turn in 0..digits.len() {
-        if rest.is_empty() {
-            return Ok(octets);
-        }
-        octets.push(octet_of(rest))?;
-        rest = past_eight(rest);
-    }
-    Ok(octets)
-}
-
-#[tactic(auto, unfolding(crate::specs::Values::bits_value, crate::specs::Values::bits_in))]
 fn read_bits_value(
     alloc: Global,
     cursor: &mut Cursor<'_, '_>,
     shape: &Shape,
     word: &str,
 ) -> Result<Value, TextFault>
-    ensures { Gives (λ v. (value_of v, state_of cursor.new)) result (bits_value (type_of shape.now) word.now (state_of cursor.old)) }
+    ensures { Gives (λ v. (value_of v, state_of cursor.new)) result
+        (only_for bits_kind (type_of shape.now) (bit_list (map is_one (inside word.now))) (state_of cursor.old)) }
 {
     if !is_kind(ValueKind::Bits, shape) {
         return Err(cursor.fault(TextWhy::Default));
     }
-    let digits = inside(word);
-    let octets = octets_of(alloc, digits)?;
-    let Some(bits) = bits_from(Some(octets), digits.len() as u64) else {
-        return Err(cursor.fault(TextWhy::Default));
-    };
+    let bits = bits_of_digits(alloc, inside(word))?;
     cursor.bump();
     Ok(Value::Bits(bits))
 }

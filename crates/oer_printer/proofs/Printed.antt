@@ -1,7 +1,6 @@
 -- Tokens that a printer puts out, one after the other.
-use Rattle.std.proofs.Common.{◌≡◌, ℕ, zero, suc, ◌+◌, ◌<◌, ◌≤◌, List, [], ◌∷◌, ◌++◌, length, map, take, Option, Vec, Global, Bool, true, false, ◌==◌, ◌||◌, ◌&&◌, Some, None, Result, Ok, Err, refl, sym, ap, ap₂, ◌∙◌, add-one, lt-ltb, append_assoc, append-nil}
+use Rattle.std.proofs.Common.{◌≡◌, ℕ, ◌<◌, ◌≤◌, List, [], ◌∷◌, ◌++◌, length, map, Option, Vec, Global, Bool, true, false, ◌==◌, ◌||◌, ◌&&◌, Some, None, Result, Ok, Err, refl, sym, ap, ap₂, ◌∙◌, lt-ltb, append_assoc, append-nil}
 use Rattle.std.specs.Prelude.{IfOk}
-use Rattle.std.specs.List.{slice_get}
 use Rattle.std.specs.declared.alloc.AllocError.{AllocError}
 use Rattle.std.proofs.lemmas.Bool.{le-ltb}
 use Rattle.oer_lexer.specs.Token.{Token, word, number, bits, digits, text, sign}
@@ -15,7 +14,7 @@ use Rattle.oer_printer.specs.Printer.{Written, Puts, alternative_part, are_apart
 use Rattle.oer_printer.specs.Printing.{after_commas, alternatives_have_notation, behind, component_tokens, field_parts, has_notation, in_braces, is_apart, is_plain, is_tight, is_visible, is_word, item_tokens, joined, later_parts, marker, printed, root_parts, space_if, spaced, token_text, type_tokens}
 use Rattle.oer_printer.specs.declared.printer.Edge.TheVariants as edge
 use Rattle.oer_printer.specs.declared.printer.Printer.{Printer}
-use Rattle.oer_printer.proofs.Lists.{no_zero}
+use Rattle.oer_literals.proofs.Lists.{no_zero}
 
 pub run_append : (w : Written) (xs ys : List Token) → run w (xs ++ ys) ≡ run (run w xs) ys
 run_append w [] ys = refl
@@ -232,13 +231,6 @@ whole (t ∷ ts) = placed (token_text t) t ts
 
 pub printed_some : (T : AsnType) (w : Written) → has_notation T ≡ true → w ≡ run ([], edge.Other) (type_tokens T) → printed T ≡ Some w.0
 printed_some T w h e = rw h (ap Some (sym (ap (λ v. v.0) e ∙ whole (type_tokens T))))
-
--- ---- lists of digits
-
-pub take_next : (xs : List ℕ) (k x : ℕ) → slice_get xs k ≡ Some x → take (k + 1) xs ≡ take k xs ++ x ∷ []
-take_next [] k x h = absurd (cc)
-take_next (y ∷ ys) zero x h = let same : y ≡ x = cc in ap (λ z. z ∷ []) same
-take_next (y ∷ ys) (suc k) x h = rw (add-one (suc k)) (ap (λ zs. y ∷ zs) (sym (ap (λ n. take n ys) (add-one k)) ∙ take_next ys k x h))
 
 -- ---- characters
 

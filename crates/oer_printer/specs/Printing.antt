@@ -13,25 +13,11 @@ use Rattle.oer_lexer.specs.declared.token.Sign.TheVariants.{OpenBrace, CloseBrac
 use Rattle.oer_units.specs.declared.tagging.Class.{Class}
 use Rattle.oer_units.specs.declared.tagging.Class.TheVariants.{Universal, Application, Context, Private}
 use Rattle.oer_units.specs.declared.tagging.Tag.{Tag}
+use Rattle.oer_literals.specs.Bits.{bit_digit}
+use Rattle.oer_literals.specs.Items.{items_of, name_of}
 use Rattle.oer_types.specs.AsnType.{Need, must, may, default, NamedNumber, Alphabet, ia5, visible, numeric, printable, AsnType, boolean, null, integer, enumerated, bit_string, octet_string, object_id, restricted_string, utf8_string, sequence, extensible_sequence, sequence_of, choice, Fields, no_fields, field, Additions, no_additions, addition, Alternatives, no_alternatives, alternative, later}
 use Rattle.oer_types.specs.AsnValue.{AsnValue, bool, nothing, int, enum, bit_list, octets, text as string, oid, seq, items as list, chosen, foreign}
 use Rattle.oer_types.specs.declared.size.Size.{Size}
-
--- the items of an ENUMERATED; other types have none
-abbrev pub items_of : AsnType → List NamedNumber
-items_of boolean = []
-items_of null = []
-items_of (integer low high) = []
-items_of (enumerated items extensible) = items
-items_of (bit_string size) = []
-items_of (octet_string size) = []
-items_of object_id = []
-items_of (restricted_string letters size) = []
-items_of (utf8_string size) = []
-items_of (sequence _) = []
-items_of (extensible_sequence _ _) = []
-items_of (sequence_of size T) = []
-items_of (choice extensible more) = []
 
 -- ---- tokens
 
@@ -110,10 +96,6 @@ abbrev pub truth_word : Bool → List ℕ
 truth_word true = codes "TRUE"
 truth_word false = codes "FALSE"
 
-abbrev pub bit_digit : Bool → ℕ
-bit_digit true = 49
-bit_digit false = 48
-
 -- a quote is doubled
 abbrev pub inside_quotes : ℕ → List ℕ
 inside_quotes c = if c == double_quote then codes "\"\"" else encode_utf8 c
@@ -124,11 +106,6 @@ doubled (c ∷ cs) = inside_quotes c ++ doubled cs
 
 abbrev pub quoted_text : List ℕ → List ℕ
 quoted_text w = double_quote ∷ (doubled (chars w) ++ codes "\"")
-
--- the name of the first item with this number
-abbrev pub name_of : List NamedNumber → ℤ → Option (List ℕ)
-name_of [] z = None
-name_of (i ∷ is) z = if int_eq i.number z then Some i.name else name_of is z
 
 abbrev pub name_tokens : Option (List ℕ) → List Token
 name_tokens None = []

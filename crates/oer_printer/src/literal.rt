@@ -1,50 +1,22 @@
 //! The text of values after DEFAULT.
-ghost use Rattle.std.specs.Prelude.{◌≡◌, ◌<◌, [], ◌∷◌, ◌++◌, IfOk, OnOk, Some, codes, length, map, option_map, string_bytes};
-ghost use Rattle.std.specs.List.{slice_get};
+ghost use Rattle.std.specs.Prelude.{◌≡◌, [], ◌∷◌, ◌++◌, OnOk, codes, map, option_map, string_bytes};
 ghost use Rattle.std.specs.Str.{chars};
 ghost use Rattle.hex.specs.Hex.{encode_upper};
 ghost use Rattle.oer_lexer.specs.Characters.{quote};
 ghost use Rattle.oer_types.specs.AsnValue.{oid};
-ghost use Rattle.oer_types.specs.ShapeView.{named_number, type_of};
+ghost use Rattle.oer_types.specs.ShapeView.{type_of};
 ghost use Rattle.oer_types.specs.ValueView.{value_of};
 ghost use Rattle.oer_printer.specs.Printer.{Puts};
-ghost use Rattle.oer_printer.specs.Printing.{bit_digit, doubled, inside_quotes, is_visible, items_of, name_of, name_tokens, natural_token, quoted_text, truth_word, value_has_notation, value_tokens};
+ghost use Rattle.oer_literals.specs.Bits.{bit_digit};
+ghost use Rattle.oer_literals.specs.Items.{items_of};
+ghost use Rattle.oer_printer.specs.Printing.{doubled, inside_quotes, is_visible, name_tokens, natural_token, quoted_text, truth_word, value_has_notation, value_tokens};
 ghost use Rattle.oer_lexer.specs.Token.{bits as of_bits, digits, text as of_text, word};
 
 use crate::printer::Printer;
 use oer_lexer::{Sign, Token};
-use oer_types::{Bits, Item, Shape, Value};
+use oer_literals::{items_of, name_of, push_bits};
+use oer_types::{Bits, Shape, Value};
 use std::alloc::{AllocError, Global};
-
-/// The items of an ENUMERATED; other types have none.
-fn items(shape: &Shape) -> &[Item]
-    ensures { map named_number result.now ≡ items_of (type_of shape.now) }
-{
-    match shape {
-        Shape::Enumerated { items, .. } => items,
-        Shape::Sequence { additions, .. } => match additions {
-            Some(_) => &[],
-            None => &[],
-        },
-        Shape::Choice { additions, .. } => match additions {
-            Some(_) => &[],
-            None => &[],
-        },
-        _ => &[],
-    }
-}
-
-/// The name of the first item with this number.
-fn item_name(items: &[Item], number: i64) -> Option<&str>
-    ensures { option_map (λ s. s.now) result ≡ name_of (map named_number items.now) number }
-{
-    for item in items {
-        if item.number == number {
-            return Some(item.name.as_str());
-        }
-    }
-    None
-}
 
 fn is_visible(text: &str) -> bool
     ensures { result ≡ is_visible (chars text.now) }
@@ -62,7 +34,7 @@ pub fn value_has_notation(value: &Value, shape: &Shape) -> bool
     ensures { result ≡ value_has_notation (items_of (type_of shape.now)) (value_of value.now) }
 {
     match value {
-        Value::Enum(number) => item_name(items(shape), *number).is_some(),
+        Value::Enum(number) => name_of(items_of(shape), *number).is_some(),
         Value::Text(text) => is_visible(text.as_str()),
         Value::Seq { .. } => false,
         Value::List(_) => false,
@@ -85,7 +57,7 @@ pub fn put_value(
         Value::Bool(truth) => put_truth(printer, *truth),
         Value::Null => printer.word("NULL"),
         Value::Int(number) => printer.integer(alloc, *number),
-        Value::Enum(number) => put_name(printer, item_name(items(shape), *number)),
+        Value::Enum(number) => put_name(printer, name_of(items_of(shape), *number)),
         Value::Bits(bits) => put_bits(alloc, printer, bits),
         Value::Octets(octets) => put_octets(alloc, printer, octets),
         Value::Text(text) => put_text(alloc, printer, text.as_str()),
@@ -113,27 +85,6 @@ fn put_name(printer: &mut Printer, name: Option<&str>) -> Result<(), AllocError>
         Some(name) => printer.word(name),
         None => Ok(()),
     }
-}
-
-/// The digit of the bit at the index.
-fn digit_at(bits: &Bits, index: u64) -> char
-    requires { index < length bits.now }
-    ensures value { slice_get (map bit_digit bits.now) index ≡ Some result }
-    ensures small { result < 128 }
-{
-    match bits.get(index) {
-        Some(true) => '1',
-        _ => '0',
-    }
-}
-
-fn push_bits(text: &mut String, bits: &Bits) -> Result<(), AllocError>
-    ensures { OnOk result (string_bytes text.new ≡ string_bytes text.old ++ map bit_digit bits.now) }
-{
-    for index in 0..bits.count() {
-        text.push(digit_at(bits, index))?;
-    }
-    Ok(())
 }
 
 fn put_bits(alloc: Global, printer: &mut Printer, bits: &Bits) -> Result<(), AllocError>

@@ -2,7 +2,8 @@
 ghost use Rattle.std.specs.Prelude.{◌≡◌};
 ghost use Rattle.oer_types.specs.AsnType.{no_alternatives};
 ghost use Rattle.oer_types.specs.ShapeView.{additions_of, fields_of, need_of, root_of, type_of};
-ghost use Rattle.oer_printer.specs.Printing.{additions_have_notation, alternatives_have_notation, has_notation, have_notation, items_of, need_has_notation};
+ghost use Rattle.oer_literals.specs.Items.{items_of};
+ghost use Rattle.oer_printer.specs.Printing.{additions_have_notation, alternatives_have_notation, has_notation, have_notation, need_has_notation};
 
 use crate::literal::value_has_notation;
 use oer_types::{Addition, Alt, Field, Need, Shape};

@@ -6,7 +6,8 @@ ghost use Rattle.oer_lexer.specs.declared.token.Sign.TheVariants.{OpenBrace};
 ghost use Rattle.oer_types.specs.Schema.{the_type};
 ghost use Rattle.oer_types.specs.ShapeView.{additions_of, fields_of, named_number, need_of, root_of, seen_alternative, seen_field, type_of};
 ghost use Rattle.oer_printer.specs.Printer.{Puts, alternative_part, comma_unless, field_part, joined_from, marker_behind};
-ghost use Rattle.oer_printer.specs.Printing.{addition_parts, after_commas, field_parts, item_tokens, items_of, joined, need_tokens, printed, root_parts, size_tokens, type_tokens};
+ghost use Rattle.oer_literals.specs.Items.{items_of};
+ghost use Rattle.oer_printer.specs.Printing.{addition_parts, after_commas, field_parts, item_tokens, joined, need_tokens, printed, root_parts, size_tokens, type_tokens};
 ghost use Rattle.oer_printer.specs.Shapes.{IsChoice, IsSequence};
 ghost use Rattle.oer_printer.specs.declared.fault.PrintFault.TheVariants.{NoNotation};
 

@@ -1,10 +1,10 @@
 //! Encodings of values: what they are rewritten as, however they come, and cut at every octet.
-use crate::drawing::drawn_value;
-use crate::shared::{SlowReader, Want, comes, each, is_wanted, schema_of, takes_slowly};
-use crate::values::{LAST_PLACE, VALUES, case_of, is_well};
-use oer_reader::{RewriteFault, read, read_with_length};
+use crate::shared::{SlowReader, Want, comes, each, is_well, takes_slowly};
+use crate::values::{Case, case_of, each_case, each_encoding, is_written};
+use oer_reader::{RewriteFault, check, read, read_with_length};
 use oer_types::Schema;
 use oer_units::{Metered, ReadFault, Why};
+use oer_vectors::{LAST_PLACE, Row, TAKEN_JSON, row_of};
 use std::alloc::Global;
 use std::test::Fail;
 
@@ -17,43 +17,27 @@ fn length_of(at: Global, schema: &Schema, octets: &[u8]) -> Option<u64> {
     }
 }
 
-// That each encoding is rewritten as the canonical one: under the limit of its octets, and without a
+// Whether the encoding is rewritten as the canonical one: under the limit of its octets, and without a
 // limit where a further octet follows, which is left and is no part of its length.
-fn are_rewritten(at: Global, row: &str) -> Result<(), Fail> {
-    let case = case_of(at, row)?;
-    for one in &case.encodings {
-        let counts = (one.len() as u64, case.canonical.len() as u64);
-        let want = Want {
-            done: Ok(counts),
-            written: &case.canonical,
-            taken: one.len(),
-            asked: one.len(),
-        };
-        let alone = comes(at, &case.schema, one, counts.0, want);
-        let mut more = Vec::from_slice(at, one)?;
-        more.push(0x62)?;
-        let followed = comes(at, &case.schema, &more, u64::MAX, want);
-        let is_long = length_of(at, &case.schema, &more) == Some(counts.0);
-        is_well(row, alone && followed && is_long)?;
-    }
-    Ok(())
+fn is_rewritten(at: Global, case: &Case) -> Result<bool, Fail> {
+    let count = case.octets.len() as u64;
+    let want = Want {
+        done: Ok((count, case.canonical.len() as u64)),
+        written: &case.canonical,
+        taken: case.octets.len(),
+        asked: case.octets.len(),
+    };
+    Ok(
+        comes(at, &case.schema, &case.octets, count, want)
+            && comes(at, &case.schema, &case.followed, u64::MAX, want)
+            && length_of(at, &case.schema, &case.followed) == Some(count),
+    )
 }
 
 #[test]
 fn are_rewritten_as_canonical_octets(rt: HostRuntime) -> Result<(), Fail> {
-    are_rewritten(rt.alloc(), LAST_PLACE)?;
-    each(rt.alloc(), VALUES, are_rewritten)
-}
-
-// What follows the encoding is left unread.
-#[test]
-fn what_follows_is_left(rt: HostRuntime) -> Result<(), Fail> {
-    let at = rt.alloc();
-    let schema = schema_of(at, "OCTET STRING")?;
-    let mut reader = Metered::new(&[0x01, 0x61, 0x62][..]);
-    let value = read(at, &schema, &mut reader, u64::MAX)?;
-    is_wanted("016162", drawn_value(at, &value)?.as_str(), "Octets 61")?;
-    is_well("016162", reader.into_inner() == [0x62].as_slice())
+    each_encoding(rt.alloc(), LAST_PLACE, &is_rewritten)?;
+    each_case(rt.alloc(), is_rewritten)
 }
 
 // Whether the reading is refused under the limit, and takes what the refusal says, at most so much.
@@ -69,7 +53,8 @@ fn is_limited(at: Global, schema: &Schema, octets: &[u8], limit: u64) -> bool {
 }
 
 // Whether it is refused where the first octets come alone, where the reader fails after them, and
-// under a limit of so many; each time so many are asked for at most.
+// under a limit of so many; each time so many are asked for at most. Checking the first octets alone
+// finds the same.
 fn is_cut(at: Global, schema: &Schema, octets: &[u8], count: usize, asked: usize) -> bool {
     let taken = count as u64;
     let refused = |why| Want {
@@ -79,10 +64,12 @@ fn is_cut(at: Global, schema: &Schema, octets: &[u8], count: usize, asked: usize
         asked,
     };
     let front = &octets[..count.min(octets.len())];
+    let why = Why::End;
     let failing = SlowReader::new(octets, count, true);
-    comes(at, schema, front, u64::MAX, refused(Why::End))
+    comes(at, schema, front, u64::MAX, refused(why))
         && takes_slowly(at, schema, failing, u64::MAX, refused(Why::Device))
         && is_limited(at, schema, octets, taken)
+        && check(schema, front) == Err(ReadFault { taken, why })
 }
 
 /// Whether so many octets are all needed; no more than `asked` are asked for.
@@ -95,22 +82,41 @@ pub fn are_needed(at: Global, schema: &Schema, octets: &[u8], taken: usize, aske
     true
 }
 
-// That each encoding needs all its octets.
-fn need_all(at: Global, row: &str) -> Result<(), Fail> {
-    let case = case_of(at, row)?;
-    for one in &case.encodings {
-        is_well(row, are_needed(at, &case.schema, one, one.len(), one.len()))?;
-    }
-    Ok(())
+// Whether the encoding needs all its octets.
+fn needs_all(at: Global, case: &Case) -> Result<bool, Fail> {
+    let count = case.octets.len();
+    Ok(are_needed(at, &case.schema, &case.octets, count, count))
 }
 
 #[test]
 fn need_all_octets(rt: HostRuntime) -> Result<(), Fail> {
-    each(rt.alloc(), VALUES, need_all)
+    each_case(rt.alloc(), needs_all)
 }
 
 // This takes long where nothing is optimized.
 #[test]
 fn last_place_needs_all_octets(rt: HostRuntime) -> Result<(), Fail> {
-    need_all(rt.alloc(), LAST_PLACE)
+    each_encoding(rt.alloc(), LAST_PLACE, &needs_all)
+}
+
+// ---- values by other JSON
+
+// That the value of the row of `TAKEN_JSON` is written in its canonical octets, which are rewritten as
+// they are, and all needed.
+fn is_taken(at: Global, row: &str) -> Result<(), Fail> {
+    let columns = row_of(row);
+    let written = Row {
+        first: columns.first,
+        second: columns.second,
+        third: columns.rest,
+        rest: "=",
+    };
+    let case = case_of(at, written, "=")?;
+    let is_right = is_written(at, &case)? && is_rewritten(at, &case)? && needs_all(at, &case)?;
+    is_well(row, is_right)
+}
+
+#[test]
+fn values_of_json(rt: HostRuntime) -> Result<(), Fail> {
+    each(rt.alloc(), TAKEN_JSON, is_taken)
 }

@@ -142,17 +142,6 @@ impl Sink for BrokenSink {
 
 // ---- rows of tables
 
-/// A row in which `~` parts pieces: a piece `00*15` stands for `00` fifteen times over.
-pub fn expanded(at: Global, row: &str) -> Result<String, Fail> {
-    let mut all = String::new(at);
-    for piece in row.split('~') {
-        let (run, times) = piece.split_once('*').unwrap_or((piece, "1"));
-        let pieces = run.repeat(at, times.parse::<usize>()?)?;
-        all.push_str(pieces.as_str())?;
-    }
-    Ok(all)
-}
-
 /// That the check passes each row.
 pub fn each<F: Fn(Global, &str) -> Result<(), Fail>>(
     at: Global,
@@ -172,7 +161,15 @@ pub fn octets(at: Global, digits: &str) -> Result<Vec<u8>, Fail> {
     if digits == "-" {
         return Ok(Vec::new(at));
     }
-    Ok(hex::decode(at, digits)?)
+    match hex::decode(at, digits) {
+        Ok(octets) => Ok(octets),
+        Err(_) => Err(Fail::new(digits)),
+    }
+}
+
+/// A failure that names the row, unless all is well.
+pub fn is_well(row: &str, well: bool) -> Result<(), Fail> {
+    if well { Ok(()) } else { Err(Fail::new(row)) }
 }
 
 /// A failure that names the row, unless the answer is the one that was wanted.
@@ -193,7 +190,10 @@ pub fn schema_of(at: Global, kind: &str) -> Result<Schema, Fail> {
     if kind == NESTED {
         return nested(at);
     }
-    Ok(parse_type(at, kind)?)
+    match parse_type(at, kind) {
+        Ok(schema) => Ok(schema),
+        Err(_) => Err(Fail::new(kind)),
+    }
 }
 
 fn nested(at: Global) -> Result<Schema, Fail> {
@@ -216,8 +216,11 @@ fn nested(at: Global) -> Result<Schema, Fail> {
 
 /// The value of the type that the JSON stands for.
 pub fn value_of(at: Global, schema: &Schema, json: &str) -> Result<Value, Fail> {
-    let json = Json::from_str(at, json)?;
-    Ok(from_json(at, schema, &json)?)
+    let tree = Json::from_str(at, json)?;
+    match from_json(at, schema, &tree) {
+        Ok(value) => Ok(value),
+        Err(_) => Err(Fail::new(json)),
+    }
 }
 
 // ---- octets that are rewritten

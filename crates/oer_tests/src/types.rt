@@ -1,7 +1,7 @@
 //! Faults of types; which values fit, which are the same, what they are when filled in, and copies.
 use crate::drawing::{drawn, drawn_value};
-use crate::shared::{NESTED, each, expanded, is_wanted, octets, schema_of, value_of};
-use crate::values::{VALUES, case_of, is_well};
+use crate::shared::{NESTED, each, is_wanted, is_well, octets, schema_of, value_of};
+use crate::values::{Case, each_case};
 use oer_reader::read;
 use oer_text::parse_type;
 use oer_types::{
@@ -9,26 +9,11 @@ use oer_types::{
     contains_tag, filled, fits, is_same_tag, optional, same_filled, same_filled_at,
 };
 use oer_units::{Class, Metered, Tag};
+use oer_vectors::{expanded, row_of};
 use std::alloc::{AllocError, Global};
 use std::test::Fail;
 
 // ---- faults of types
-
-/// Types by their texts, and the least fault of each.
-const TEXTS: &str = "INTEGER (5..4) | BoundOrder at 0
-OCTET STRING (SIZE(2..1)) | SizeOrder at 0
-SEQUENCE {a NULL, ..., a NULL} | RepeatedName at 0
-ENUMERATED {a(1), b(1)} | RepeatedNumber at 0
-CHOICE {a [1] NULL, b [1] NULL} | RepeatedTag at 0
-CHOICE {a [1] NULL, ..., b [1] NULL} | RepeatedTag at 0
-CHOICE {a [1] NULL, b [2] NULL} | none
-SEQUENCE {b INTEGER (0..5) DEFAULT 6} | DefaultMisfit at 0
-SEQUENCE {a PrintableString DEFAULT \"*\"} | DefaultMisfit at 0
-SEQUENCE OF SEQUENCE {a NULL, b OCTET STRING (SIZE(0))} | EmptyElement at 0
-SEQUENCE OF NULL | EmptyElement at 0
-SEQUENCE OF NumericString (SIZE(0)) | EmptyElement at 0
-SEQUENCE OF SEQUENCE {a NULL OPTIONAL} | none
-SEQUENCE {a INTEGER (5..4), a SEQUENCE OF NULL} | BoundOrder at 0";
 
 /// Components of a SEQUENCE, also ones that no text spells, and the least fault.
 const COMPONENTS: &str = "A NULL | BadName
@@ -39,19 +24,6 @@ a- NULL | BadName
 a-B2-c NULL | none
 a NULL, a NULL | RepeatedName
 a NULL, a BOOLEAN, B NULL | BadName";
-
-fn has_text_fault(at: Global, row: &str) -> Result<(), Fail> {
-    let (text, want) = row.split_once(" | ").ok_or("a fault")?;
-    match parse_type(at, text) {
-        Ok(_) => is_wanted(row, "none", want),
-        Err(fault) => is_wanted(row, format!(in at; "{fault}")?.as_str(), want),
-    }
-}
-
-#[test]
-fn faults_of_texts(rt: HostRuntime) -> Result<(), Fail> {
-    each(rt.alloc(), TEXTS, has_text_fault)
-}
 
 // That the shape has that fault, and is returned as it was.
 fn has_fault(at: Global, row: &str, shape: Shape, want: &str) -> Result<(), Fail> {
@@ -285,9 +257,9 @@ CHOICE {a [UNIVERSAL 2] NULL, ...} | Choice {a Universal 2 Null, } ... {}
 
 fn stands_for(at: Global, row: &str) -> Result<(), Fail> {
     let whole = expanded(at, row)?;
-    let (text, want) = whole.as_str().split_once(" | ").ok_or("a shape")?;
-    let schema = parse_type(at, text)?;
-    is_wanted(row, drawn(at, schema.shape())?.as_str(), want)
+    let columns = row_of(whole.as_str());
+    let schema = parse_type(at, columns.first)?;
+    is_wanted(row, drawn(at, schema.shape())?.as_str(), columns.second)
 }
 
 #[test]
@@ -394,12 +366,10 @@ INTEGER (0..5) | INTEGER | 6 | false
 BOOLEAN | NULL | null | false";
 
 fn is_fitting(at: Global, row: &str) -> Result<(), Fail> {
-    let (kind, rest) = row.split_once(" | ").ok_or("a type")?;
-    let (other, rest) = rest.split_once(" | ").ok_or("another")?;
-    let (json, want) = rest.split_once(" | ").ok_or("an answer")?;
-    let value = value_of(at, &parse_type(at, other)?, json)?;
-    let fit = fits(&parse_type(at, kind)?, &value);
-    is_well(row, fit == (want == "true"))
+    let columns = row_of(row);
+    let value = value_of(at, &parse_type(at, columns.second)?, columns.third)?;
+    let fit = fits(&parse_type(at, columns.first)?, &value);
+    is_well(row, fit == (columns.rest == "true"))
 }
 
 #[test]
@@ -480,13 +450,13 @@ fn compared(at: Global, schema: &Schema, one: &Value, other: &Value) -> Result<S
 }
 
 fn is_compared(at: Global, row: &str) -> Result<(), Fail> {
-    let (kind, rest) = row.split_once(" | ").ok_or("a type")?;
-    let (one, rest) = rest.split_once(" | ").ok_or("a value")?;
-    let (other, want) = rest.split_once(" | ").ok_or("another")?;
-    let schema = schema_of(at, if kind == "NESTED" { NESTED } else { kind })?;
-    let (one, other) = (one_of(at, &schema, one)?, one_of(at, &schema, other)?);
+    let columns = row_of(row);
+    let is_nested = columns.first == "NESTED";
+    let schema = schema_of(at, if is_nested { NESTED } else { columns.first })?;
+    let one = one_of(at, &schema, columns.second)?;
+    let other = one_of(at, &schema, columns.third)?;
     let answer = compared(at, &schema, &one, &other)?;
-    is_wanted(row, answer.as_str(), want)
+    is_wanted(row, answer.as_str(), columns.rest)
 }
 
 #[test]
@@ -494,20 +464,17 @@ fn values_compared(rt: HostRuntime) -> Result<(), Fail> {
     each(rt.alloc(), PAIRS, is_compared)
 }
 
-// That copies of the type and of the value are as they are.
-fn is_copied(at: Global, row: &str) -> Result<(), Fail> {
-    let case = case_of(at, row)?;
+// Whether copies of the type and of the value are as they are.
+fn is_copied(at: Global, case: &Case) -> Result<bool, Fail> {
     let value = case.value.clone_in(at)?;
-    is_well(row, value.same(&case.value))?;
-    let other = drawn_value(at, &case.value)?;
-    is_wanted(row, drawn_value(at, &value)?.as_str(), other.as_str())?;
+    let is_same = value.same(&case.value);
+    let (one, other) = (drawn_value(at, &value)?, drawn_value(at, &case.value)?);
     let copy = case.schema.shape().clone_in(at)?;
-    let other = drawn(at, case.schema.shape())?;
-    is_wanted(row, drawn(at, &copy)?.as_str(), other.as_str())?;
-    is_well(row, Schema::new(copy).is_ok())
+    let (kind, kinds) = (drawn(at, &copy)?, drawn(at, case.schema.shape())?);
+    Ok(is_same && one == other && kind == kinds && Schema::new(copy).is_ok())
 }
 
 #[test]
 fn copies(rt: HostRuntime) -> Result<(), Fail> {
-    each(rt.alloc(), VALUES, is_copied)
+    each_case(rt.alloc(), is_copied)
 }

@@ -1,9 +1,10 @@
 //! What the readers of units answer, and how many octets they take.
-use crate::shared::{SlowReader, expanded, is_wanted, octets as octets_of};
+use crate::shared::{SlowReader, is_wanted, octets as octets_of};
 use oer_units::{
     Metered, ReadFault, Source, Why, Width, Window, enumerated, length, octet, octets, octets_into,
     signed_counted, signed_fixed, subidentifier, tag, unsigned_counted, unsigned_fixed,
 };
+use oer_vectors::{expanded, row_of};
 use std::alloc::Global;
 use std::test::Fail;
 
@@ -146,9 +147,9 @@ fn count_of(row: &str, why: &str) -> u64 {
 // from a reader that fails after the octets. Answered is how many calls of the reader failed.
 fn failures(at: Global, row: &str, fails: bool) -> Result<u64, Fail> {
     let whole = expanded(at, row)?;
-    let (digits, rest) = whole.as_str().split_once(" | ").ok_or("octets")?;
-    let (limit, turns) = rest.split_once(" | ").ok_or("a limit")?;
-    let (octets, limit) = (octets_of(at, digits)?, limit.parse::<u64>()?);
+    let columns = row_of(whole.as_str());
+    let (octets, turns) = (octets_of(at, columns.first)?, columns.third);
+    let limit = columns.second.parse::<u64>()?;
     if fails {
         let mut reader = Metered::new(SlowReader::new(&octets, octets.len(), true));
         return Ok(answers(at, row, &mut reader, limit, turns)?.0);

@@ -16,7 +16,8 @@ use Rattle.oer_units.specs.declared.tagging.Tag.{Tag}
 use Rattle.oer_notation.specs.Grammar.{Spells, IsNeed, needed, optional, with_default, plain_addition, in_brackets, IsType, boolean_type, null_type, object_id_type, integer_type, enumerated_type, octet_string_type, bit_string_type, restricted_string_type, utf8_string_type, empty_sequence_type, sequence_type, extensible_sequence_type, sequence_of_type, choice_type, AreComponents, no_components, component, components_marker, AreAdditions, none_added, added, AreAlternatives, none_left, an_alternative, alternatives_marker, AreLater, none_later, a_later}
 use Rattle.oer_notation.specs.Laws.{ParseComplete}
 use Rattle.oer_notation.specs.Parsing.{parse}
-use Rattle.oer_printer.specs.Printing.{printed, spaced, after_commas, marker, marker_if, need_tokens, type_tokens, field_parts, addition_parts, root_parts, later_parts, has_notation, items_of, need_has_notation, have_notation, additions_have_notation, alternatives_have_notation}
+use Rattle.oer_literals.specs.Items.{items_of}
+use Rattle.oer_printer.specs.Printing.{printed, spaced, after_commas, marker, marker_if, need_tokens, type_tokens, field_parts, addition_parts, root_parts, later_parts, has_notation, need_has_notation, have_notation, additions_have_notation, alternatives_have_notation}
 use Rattle.oer_text.proofs.PrintedNumbers.{AllIds, ids, split_ids, id_given, worded}
 use Rattle.oer_text.proofs.PrintedParts.{bounds_given, size_given, items_given, tag_given}
 use Rattle.oer_text.proofs.PrintedText.{AreTokens, no_tokens, plain, single, both, falls_into}

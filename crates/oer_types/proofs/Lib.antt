@@ -47,3 +47,4 @@ pub mod Pieces
 pub mod Finding
 pub mod Relaying
 pub mod Headlines
+pub mod NumberSteps

@@ -28,3 +28,4 @@ pub mod AtMostOne
 pub mod Parts
 pub mod Headline
 pub mod Faults
+pub mod SharedSteps

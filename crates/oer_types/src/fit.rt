@@ -35,14 +35,14 @@ fn is_below(high: Option<i128>, number: i128) -> bool
 }
 
 /// Whether the number is within the bounds.
-fn is_in_range(low: Option<i128>, high: Option<i128>, number: i128) -> bool
+pub fn is_in_range(low: Option<i128>, high: Option<i128>, number: i128) -> bool
     ensures { result ≡ in_range low high number }
 {
     is_above(low, number) && is_below(high, number)
 }
 
 /// Whether an item has the number.
-pub(crate) fn contains_number(items: &[Item], number: i64) -> bool
+pub fn contains_number(items: &[Item], number: i64) -> bool
     ensures { result ≡ has_number (map named_number items.now) number }
 {
     for item in items {

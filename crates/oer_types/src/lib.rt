@@ -28,7 +28,7 @@ pub use counting::parts_left;
 pub use depth::is_within_depth;
 pub use fault::SchemaFault;
 pub use fill::same_filled_at;
-pub use fit::fits_shape;
+pub use fit::{contains_number, fits_shape, is_in_range};
 pub use form::Form;
 pub use schema::Schema;
 pub use shape::{Addition, Alt, Field, Item, Need, Shape, optional};

@@ -1,14 +1,14 @@
 -- The canonical octets of components, elements and alternatives, one after another.
-use Rattle.std.proofs.Common.{◌≡◌, ℕ, suc, ◌+◌, ◌<◌, ◌≤◌, List, [], ◌∷◌, ◌++◌, length, drop, get_or, map, Bool, true, false, ◌||◌, if◌then◌else◌, Option, Some, None, option_map, Vec, Box, Global, arith, refl, sym, ap, ap₂, ◌∙◌, append-nil, length-append}
+use Rattle.std.proofs.Common.{◌≡◌, ℕ, suc, ◌+◌, ◌<◌, ◌≤◌, List, [], ◌∷◌, ◌++◌, length, drop, get_or, map, Bool, true, false, ◌||◌, if◌then◌else◌, Option, Some, None, option_map, Vec, Box, Global, refl, sym, ap, ap₂, ◌∙◌, append-nil, append_assoc, length-append}
 use Rattle.std.proofs.lemmas.Bool.{false≢true}
 use Rattle.std.proofs.lemmas.List.{drop_more, drop_all, length-map}
 use Rattle.oer_units.specs.Least.{counted, tag_octets, unsigned_octets}
 use Rattle.oer_units.specs.declared.tagging.Tag.{Tag}
-use Rattle.oer_types.specs.AsnType.{AsnType, Need, must, may, default, Fields, Additions, Alternatives, no_fields, field, no_additions, addition, no_alternatives, sequence, extensible_sequence, sequence_of, choice}
-use Rattle.oer_types.specs.AsnValue.{AsnValue, Places, Unknown, no_places, absent, present, seq, chosen}
+use Rattle.oer_types.specs.AsnType.{AsnType, Need, must, may, default, Fields, Additions, Alternatives, no_fields, field, no_additions, addition, no_alternatives, extensible_sequence, choice}
+use Rattle.oer_types.specs.AsnValue.{AsnValue, Places, Unknown, no_places, absent, present, seq, items, chosen}
 use Rattle.oer_types.specs.Bits.{padded}
 use Rattle.oer_types.specs.Canonical.{any_present, any_unknown, bitmap_octets, canonical_octets, count, extension_octets, same, trimmed, trimmed_additions, unknown_marks, unknown_octets}
-use Rattle.oer_types.specs.Constraints.{addition_count, has_tag, same_tag}
+use Rattle.oer_types.specs.Constraints.{has_tag, same_tag}
 use Rattle.oer_types.specs.Filling.{filled, map_values}
 use Rattle.oer_types.specs.ShapeView.{additions_of, fields_of, later_of, root_of, choice_with, seen_field, seen_addition, need_of, type_of}
 use Rattle.oer_types.specs.ValueView.{places_of, places_from, unknown_of, value_of, values_of, values_from}
@@ -18,10 +18,9 @@ use Rattle.oer_types.specs.declared.shape.Field.{Field}
 use Rattle.oer_types.specs.declared.shape.Shape.{Shape, Sequence, SequenceOf, Choice}
 use Rattle.oer_types.specs.declared.size.Size.{Size}
 use Rattle.oer_types.specs.declared.value.Unknown as rust_unknown
-use Rattle.oer_types.specs.declared.value.Value.{Value, Seq, List as Elements, Chosen}
+use Rattle.oer_types.specs.declared.value.Value.{Value}
 use Rattle.oer_types.proofs.Shapes.{type_of-Sequence, type_of-SequenceOf, type_of-Choice}
-use Rattle.oer_types.proofs.Values.{value_of-Seq, value_of-List, value_of-Chosen}
-use Rattle.oer_writer.specs.Parts.{chosen_octets, counted_place, field_bits, field_octets, first_bits, kept_place, known_bits, known_octets, place_octets_of, values_octets}
+use Rattle.oer_writer.specs.Parts.{addition_octets, chosen_octets, counted_place, field_bits, field_octets, kept_place, known_bits, known_octets, place_octets_of, root_octets, values_octets}
 use Rattle.oer_writer.proofs.Places.{counted_additions}
 
 -- ---- the root
@@ -159,12 +158,12 @@ past_root (x ∷ xs) after t v h = by (same_tag x.tag t) refl (past_root xs afte
 
 -- ---- whole values
 
-pub at_sequence : (shape : Shape) (v : Value) (root : Vec Field Global) (places added : Vec (Option Value) Global) (more : Vec rust_unknown.Unknown Global) (fs : List Field) (ps : List (Option Value)) → shape ≡ Sequence root None → v ≡ Seq places added more → fs ≡ root.items → ps ≡ places.items
-    → canonical_octets (type_of shape) (value_of v) ≡ padded (first_bits None ++ field_bits (fields_of fs) (places_of ps)) ++ field_octets (fields_of fs) (places_of ps)
-at_sequence shape v root places added more fs ps e f a b =
-    ap (λ x. canonical_octets (type_of x) (value_of v)) e ∙ ap (λ x. canonical_octets (type_of (Sequence root None)) (value_of x)) f
-    ∙ ap (λ T. canonical_octets T (value_of (Seq places added more))) (type_of-Sequence root None) ∙ ap (canonical_octets (sequence (fields_of root.items))) (value_of-Seq places added more)
-    ∙ ap₂ (λ gs qs. padded (field_bits (fields_of gs) (places_of qs)) ++ field_octets (fields_of gs) (places_of qs)) (sym a) (sym b)
+pub at_sequence : (shape : Shape) (root : Vec Field Global) (fs : List Field) (ps qs : List (Option Value)) (us : List rust_unknown.Unknown) → shape ≡ Sequence root None → fs ≡ root.items
+    → canonical_octets (type_of shape) (seq (places_of ps) (places_of qs) (map unknown_of us)) ≡ root_octets None (fields_of fs) (places_of ps)
+at_sequence shape root fs ps qs us e a =
+    ap (λ x. canonical_octets (type_of x) (seq (places_of ps) (places_of qs) (map unknown_of us))) e
+    ∙ ap (λ T. canonical_octets T (seq (places_of ps) (places_of qs) (map unknown_of us))) (type_of-Sequence root None)
+    ∙ ap (λ gs. root_octets None (fields_of gs) (places_of ps)) (sym a)
 
 present_same : (more : Additions) (ps : Places) → any_present (trimmed_additions more ps) ≡ any_present ps
 present_same no_additions ps = refl
@@ -172,76 +171,72 @@ present_same (addition n T more) no_places = refl
 present_same (addition n T more) (absent ps) = present_same more ps
 present_same (addition n T more) (present v ps) = refl
 
-extended_is : (fs : Fields) (more : Additions) (ps qs : Places) (us : List Unknown) (x : Bool) (n : ℕ) → x ≡ (any_present qs || any_unknown us) → n ≡ addition_count more
-    → canonical_octets (extensible_sequence fs more) (seq ps qs us) ≡ padded (first_bits (Some x) ++ field_bits fs ps) ++ (field_octets fs ps ++ extension_octets x (bitmap_octets (known_bits more qs ++ unknown_marks n us) ++ (known_octets more qs ++ unknown_octets us)))
-extended_is fs more ps qs us x n e c =
-    ap (λ b. padded ((b || any_unknown us) ∷ field_bits fs ps) ++ (field_octets fs ps ++ extension_octets (b || any_unknown us) (bitmap_octets (known_bits more qs ++ unknown_marks (addition_count more) us) ++ (known_octets more qs ++ unknown_octets us)))) (present_same more qs)
-    ∙ ap₂ (λ b m. padded (b ∷ field_bits fs ps) ++ (field_octets fs ps ++ extension_octets b (bitmap_octets (known_bits more qs ++ unknown_marks m us) ++ (known_octets more qs ++ unknown_octets us)))) (sym e) (sym c)
+extended_is : (fs : Fields) (more : Additions) (ps qs : Places) (us : List Unknown) (x : Bool) → x ≡ (any_present qs || any_unknown us)
+    → canonical_octets (extensible_sequence fs more) (seq ps qs us) ≡ root_octets (Some x) fs ps ++ extension_octets x (addition_octets more qs us)
+extended_is fs more ps qs us x e =
+    ap (λ b. padded ((b || any_unknown us) ∷ field_bits fs ps) ++ (field_octets fs ps ++ extension_octets (b || any_unknown us) (addition_octets more qs us))) (present_same more qs)
+    ∙ ap (λ b. padded (b ∷ field_bits fs ps) ++ (field_octets fs ps ++ extension_octets b (addition_octets more qs us))) (sym e)
+    ∙ sym (append_assoc (padded (x ∷ field_bits fs ps)) (field_octets fs ps) (extension_octets x (addition_octets more qs us)))
 
-pub at_extended : (shape : Shape) (v : Value) (root : Vec Field Global) (additions : Vec Addition Global) (places added : Vec (Option Value) Global) (more : Vec rust_unknown.Unknown Global) (fs : List Field) (ps : List (Option Value)) (xs : List Addition) (qs : List (Option Value)) (us : List rust_unknown.Unknown) (x : Bool)
-    → shape ≡ Sequence root (Some additions) → v ≡ Seq places added more → fs ≡ root.items → ps ≡ places.items → xs ≡ additions.items → qs ≡ added.items → us ≡ more.items → x ≡ (any_present (places_of qs) || any_unknown (map unknown_of us))
-    → canonical_octets (type_of shape) (value_of v) ≡ padded (first_bits (Some x) ++ field_bits (fields_of fs) (places_of ps)) ++ (field_octets (fields_of fs) (places_of ps) ++ extension_octets x (bitmap_octets (known_bits (additions_of xs) (places_of qs) ++ unknown_marks (length xs) (map unknown_of us)) ++ (known_octets (additions_of xs) (places_of qs) ++ unknown_octets (map unknown_of us))))
-at_extended shape v root additions places added more fs ps xs qs us x e f a b g h i k =
-    ap (λ y. canonical_octets (type_of y) (value_of v)) e ∙ ap (λ y. canonical_octets (type_of (Sequence root (Some additions))) (value_of y)) f
-    ∙ ap (λ T. canonical_octets T (value_of (Seq places added more))) (type_of-Sequence root (Some additions)) ∙ ap (canonical_octets (extensible_sequence (fields_of root.items) (additions_of additions.items))) (value_of-Seq places added more)
-    ∙ ap₂ (λ gs qs. canonical_octets (extensible_sequence (fields_of gs) (additions_of additions.items)) (seq (places_of qs) (places_of added.items) (map unknown_of more.items))) (sym a) (sym b)
-    ∙ ap₂ (λ ys qs. canonical_octets (extensible_sequence (fields_of fs) (additions_of ys)) (seq (places_of ps) (places_of qs) (map unknown_of more.items))) (sym g) (sym h)
-    ∙ ap (λ vs. canonical_octets (extensible_sequence (fields_of fs) (additions_of xs)) (seq (places_of ps) (places_of qs) (map unknown_of vs))) (sym i)
-    ∙ extended_is (fields_of fs) (additions_of xs) (places_of ps) (places_of qs) (map unknown_of us) x (length xs) k (sym (counted_additions xs))
+pub at_extended : (shape : Shape) (root : Vec Field Global) (additions : Vec Addition Global) (fs : List Field) (ps : List (Option Value)) (xs : List Addition) (qs : List (Option Value)) (us : List rust_unknown.Unknown) (x : Bool)
+    → shape ≡ Sequence root (Some additions) → fs ≡ root.items → xs ≡ additions.items → x ≡ (any_present (places_of qs) || any_unknown (map unknown_of us))
+    → canonical_octets (type_of shape) (seq (places_of ps) (places_of qs) (map unknown_of us)) ≡ root_octets (Some x) (fields_of fs) (places_of ps) ++ extension_octets x (addition_octets (additions_of xs) (places_of qs) (map unknown_of us))
+at_extended shape root additions fs ps xs qs us x e a b k =
+    ap (λ y. canonical_octets (type_of y) (seq (places_of ps) (places_of qs) (map unknown_of us))) e
+    ∙ ap (λ T. canonical_octets T (seq (places_of ps) (places_of qs) (map unknown_of us))) (type_of-Sequence root (Some additions))
+    ∙ ap₂ (λ gs ys. canonical_octets (extensible_sequence (fields_of gs) (additions_of ys)) (seq (places_of ps) (places_of qs) (map unknown_of us))) (sym a) (sym b)
+    ∙ extended_is (fields_of fs) (additions_of xs) (places_of ps) (places_of qs) (map unknown_of us) x k
 
-pub at_list : (shape : Shape) (v : Value) (size : Size) (item : Box Shape Global) (values : Vec Value Global) (s : Shape) (vs : List Value) (n : ℕ) → shape ≡ SequenceOf size item → v ≡ Elements values → s ≡ item.value → vs ≡ values.items → n ≡ length values.items
-    → canonical_octets (type_of shape) (value_of v) ≡ counted (unsigned_octets n) ++ values_octets (type_of s) (values_of vs)
-at_list shape v size item values s vs n e f a b c =
-    ap (λ y. canonical_octets (type_of y) (value_of v)) e ∙ ap (λ y. canonical_octets (type_of (SequenceOf size item)) (value_of y)) f
-    ∙ ap (λ T. canonical_octets T (value_of (Elements values))) (type_of-SequenceOf size item) ∙ ap (canonical_octets (sequence_of size (type_of item.value))) (value_of-List values)
-    ∙ ap (λ k. counted (unsigned_octets k) ++ values_octets (type_of item.value) (values_of values.items)) (count_of (type_of item.value) values.items ∙ sym c)
-    ∙ ap₂ (λ T ws. counted (unsigned_octets n) ++ values_octets (type_of T) (values_of ws)) (sym a) (sym b)
+-- what follows the root, by the number of known additions
+pub addition_parts : (xs : List Addition) (ps : Places) (us : List Unknown) → addition_octets (additions_of xs) ps us ≡ bitmap_octets (known_bits (additions_of xs) ps ++ unknown_marks (length xs) us) ++ (known_octets (additions_of xs) ps ++ unknown_octets us)
+addition_parts xs ps us = ap (λ n. bitmap_octets (known_bits (additions_of xs) ps ++ unknown_marks n us) ++ (known_octets (additions_of xs) ps ++ unknown_octets us)) (counted_additions xs)
+
+pub at_list : (shape : Shape) (size : Size) (item : Box Shape Global) (s : Shape) (vs : List Value) (n : ℕ) → shape ≡ SequenceOf size item → s ≡ item.value → n ≡ length vs
+    → canonical_octets (type_of shape) (items (values_of vs)) ≡ counted (unsigned_octets n) ++ values_octets (type_of s) (values_of vs)
+at_list shape size item s vs n e a c =
+    ap (λ y. canonical_octets (type_of y) (items (values_of vs))) e
+    ∙ ap (λ T. canonical_octets T (items (values_of vs))) (type_of-SequenceOf size item)
+    ∙ ap (λ k. counted (unsigned_octets k) ++ values_octets (type_of item.value) (values_of vs)) (count_of (type_of item.value) vs ∙ sym c)
+    ∙ ap (λ T. counted (unsigned_octets n) ++ values_octets (type_of T) (values_of vs)) (sym a)
 
 -- by the type that the shape stands for
-choice_octets : (T : AsnType) (shape : Shape) (v : Value) (root : Vec Alt Global) (additions : Option (Vec Alt Global)) (t : Tag) (inner : Box Value Global) → shape ≡ Choice root additions → choice_with root.items additions ≡ T → v ≡ Chosen t inner → canonical_octets (type_of shape) (value_of v) ≡ canonical_octets T (chosen t (value_of inner.value))
-choice_octets T shape v root additions t inner e w f =
-    ap (λ y. canonical_octets (type_of y) (value_of v)) e ∙ ap (λ y. canonical_octets (type_of (Choice root additions)) (value_of y)) f
-    ∙ ap (λ T. canonical_octets T (value_of (Chosen t inner))) (type_of-Choice root additions ∙ w) ∙ ap (canonical_octets T) (value_of-Chosen t inner)
+choice_octets : (T : AsnType) (shape : Shape) (root : Vec Alt Global) (additions : Option (Vec Alt Global)) (t : Tag) (v : AsnValue) → shape ≡ Choice root additions → choice_with root.items additions ≡ T → canonical_octets (type_of shape) (chosen t v) ≡ canonical_octets T (chosen t v)
+choice_octets T shape root additions t v e w =
+    ap (λ y. canonical_octets (type_of y) (chosen t v)) e ∙ ap (λ T. canonical_octets T (chosen t v)) (type_of-Choice root additions ∙ w)
 
-pub at_root : (shape : Shape) (v : Value) (root : Vec Alt Global) (additions : Option (Vec Alt Global)) (t : Tag) (inner : Box Value Global) (xs : List Alt) (x : Value) → shape ≡ Choice root additions → v ≡ Chosen t inner → xs ≡ root.items → x ≡ inner.value → has_tag t (root_of xs no_alternatives) ≡ true
-    → canonical_octets (type_of shape) (value_of v) ≡ tag_octets t ++ chosen_octets (root_of xs no_alternatives) t (value_of x)
-at_root shape v root None t inner xs x e f a b h =
-    choice_octets (choice false (root_of root.items no_alternatives)) shape v root None t inner e refl f
-    ∙ ap₂ (λ ys y. tag_octets t ++ chosen_octets (root_of ys no_alternatives) t (value_of y)) (sym a) (sym b)
-at_root shape v root (Some more) t inner xs x e f a b h =
-    choice_octets (choice true (root_of root.items (later_of more.items))) shape v root (Some more) t inner e refl f
-    ∙ ap₂ (λ ys y. tag_octets t ++ chosen_octets (root_of ys (later_of more.items)) t (value_of y)) (sym a) (sym b)
-    ∙ ap (λ l. tag_octets t ++ l) (in_root xs (later_of more.items) t (value_of x) h)
+pub at_root : (shape : Shape) (root : Vec Alt Global) (additions : Option (Vec Alt Global)) (t : Tag) (xs : List Alt) (v : AsnValue) → shape ≡ Choice root additions → xs ≡ root.items → has_tag t (root_of xs no_alternatives) ≡ true
+    → canonical_octets (type_of shape) (chosen t v) ≡ tag_octets t ++ chosen_octets (root_of xs no_alternatives) t v
+at_root shape root None t xs v e a h =
+    choice_octets (choice false (root_of root.items no_alternatives)) shape root None t v e refl
+    ∙ ap (λ ys. tag_octets t ++ chosen_octets (root_of ys no_alternatives) t v) (sym a)
+at_root shape root (Some more) t xs v e a h =
+    choice_octets (choice true (root_of root.items (later_of more.items))) shape root (Some more) t v e refl
+    ∙ ap (λ ys. tag_octets t ++ chosen_octets (root_of ys (later_of more.items)) t v) (sym a)
+    ∙ ap (λ l. tag_octets t ++ l) (in_root xs (later_of more.items) t v h)
 
-pub at_none : (shape : Shape) (v : Value) (root : Vec Alt Global) (t : Tag) (inner : Box Value Global) (xs : List Alt) → shape ≡ Choice root None → v ≡ Chosen t inner → xs ≡ root.items → has_tag t (root_of xs no_alternatives) ≡ false
-    → canonical_octets (type_of shape) (value_of v) ≡ tag_octets t
-at_none shape v root t inner xs e f a h =
-    choice_octets (choice false (root_of root.items no_alternatives)) shape v root None t inner e refl f
-    ∙ ap (λ ys. tag_octets t ++ chosen_octets (root_of ys no_alternatives) t (value_of inner.value)) (sym a)
-    ∙ ap (λ l. tag_octets t ++ l) (past_root xs no_alternatives t (value_of inner.value) h) ∙ append-nil (tag_octets t)
+pub at_none : (shape : Shape) (root : Vec Alt Global) (t : Tag) (xs : List Alt) (v : AsnValue) → shape ≡ Choice root None → xs ≡ root.items → has_tag t (root_of xs no_alternatives) ≡ false
+    → canonical_octets (type_of shape) (chosen t v) ≡ tag_octets t
+at_none shape root t xs v e a h =
+    choice_octets (choice false (root_of root.items no_alternatives)) shape root None t v e refl
+    ∙ ap (λ ys. tag_octets t ++ chosen_octets (root_of ys no_alternatives) t v) (sym a)
+    ∙ ap (λ l. tag_octets t ++ l) (past_root xs no_alternatives t v h) ∙ append-nil (tag_octets t)
 
-pub at_later : (shape : Shape) (v : Value) (root more : Vec Alt Global) (t : Tag) (inner : Box Value Global) (xs ys : List Alt) (x : Value) → shape ≡ Choice root (Some more) → v ≡ Chosen t inner → xs ≡ root.items → ys ≡ more.items → x ≡ inner.value → has_tag t (root_of xs no_alternatives) ≡ false
-    → canonical_octets (type_of shape) (value_of v) ≡ tag_octets t ++ chosen_octets (later_of ys) t (value_of x)
-at_later shape v root more t inner xs ys x e f a b g h =
-    choice_octets (choice true (root_of root.items (later_of more.items))) shape v root (Some more) t inner e refl f
-    ∙ ap₂ (λ zs y. tag_octets t ++ chosen_octets (root_of zs (later_of y)) t (value_of inner.value)) (sym a) (sym b)
-    ∙ ap (λ y. tag_octets t ++ chosen_octets (root_of xs (later_of ys)) t (value_of y)) (sym g)
-    ∙ ap (λ l. tag_octets t ++ l) (past_root xs (later_of ys) t (value_of x) h)
+pub at_later : (shape : Shape) (root more : Vec Alt Global) (t : Tag) (xs ys : List Alt) (v : AsnValue) → shape ≡ Choice root (Some more) → xs ≡ root.items → ys ≡ more.items → has_tag t (root_of xs no_alternatives) ≡ false
+    → canonical_octets (type_of shape) (chosen t v) ≡ tag_octets t ++ chosen_octets (later_of ys) t v
+at_later shape root more t xs ys v e a b h =
+    choice_octets (choice true (root_of root.items (later_of more.items))) shape root (Some more) t v e refl
+    ∙ ap₂ (λ zs y. tag_octets t ++ chosen_octets (root_of zs (later_of y)) t v) (sym a) (sym b)
+    ∙ ap (λ l. tag_octets t ++ l) (past_root xs (later_of ys) t v h)
+
+-- a value of a CHOICE begins with its tag
+pub tag_first : (shape : Shape) (root : Vec Alt Global) (additions : Option (Vec Alt Global)) (t : Tag) (v : AsnValue) → shape ≡ Choice root additions → (rest : List ℕ) × (canonical_octets (type_of shape) (chosen t v) ≡ tag_octets t ++ rest)
+tag_first shape root None t v e = (chosen_octets (root_of root.items no_alternatives) t v, choice_octets (choice false (root_of root.items no_alternatives)) shape root None t v e refl)
+tag_first shape root (Some more) t v e = (chosen_octets (root_of root.items (later_of more.items)) t v, choice_octets (choice true (root_of root.items (later_of more.items))) shape root (Some more) t v e refl)
 
 -- ---- lengths of the same
 
 pub length-two : (whole a b : List ℕ) → whole ≡ a ++ b → length whole ≡ length a + length b
 length-two whole a b e = ap length e ∙ length-append a b
-
-pub length-extended : (whole p f b k u : List ℕ) (x : Bool) → whole ≡ p ++ (f ++ extension_octets x (b ++ (k ++ u))) → x ≡ true → length whole ≡ length p + (length f + (length b + (length k + length u)))
-length-extended whole p f b k u x e t =
-    omega (arith, ap length (e ∙ ap (λ y. p ++ (f ++ extension_octets y (b ++ (k ++ u)))) t), length-append p (f ++ (b ++ (k ++ u))), length-append f (b ++ (k ++ u)), length-append b (k ++ u), length-append k u)
-
-pub length-least : (whole p f e : List ℕ) (x : Bool) → whole ≡ p ++ (f ++ extension_octets x e) → length p + length f ≤ length whole
-length-least whole p f e x is = omega (arith, ap length is, length-append p (f ++ extension_octets x e), length-append f (extension_octets x e))
-
-pub length-closed : (whole p f e : List ℕ) (x : Bool) → whole ≡ p ++ (f ++ extension_octets x e) → x ≡ false → length whole ≡ length p + length f
-length-closed whole p f e x is t = omega (arith, ap length (is ∙ ap (λ y. p ++ (f ++ extension_octets y e)) t), length-append p (f ++ []), length-append f [])
 
 pub field_len : (xs : List Field) (i : ℕ) (x : Field) (ps qs : List (Option Value)) (p : Option Value) → i < length xs → x ≡ get_or xs i x → ps ≡ p ∷ qs → length (field_octets (fields_of (drop i xs)) (places_of ps)) ≡ length (place_octets_of (type_of x.shape) (kept_place (need_of x.need) (type_of x.shape) (option_map value_of p))) + length (field_octets (fields_of (drop (i + 1) xs)) (places_of qs))
 field_len xs i x ps qs p h is e = length-two (field_octets (fields_of (drop i xs)) (places_of ps)) (place_octets_of (type_of x.shape) (kept_place (need_of x.need) (type_of x.shape) (option_map value_of p))) (field_octets (fields_of (drop (i + 1) xs)) (places_of qs)) (field_step xs i x ps qs p h is e)
@@ -251,22 +246,3 @@ known_len xs i x ps qs p h is e = length-two (known_octets (additions_of (drop i
 
 pub values_len : (T : AsnType) (vs : List Value) (i : ℕ) (v : Value) → i < length vs → v ≡ get_or vs i v → length (values_octets T (values_of (drop i vs))) ≡ length (canonical_octets T (value_of v)) + length (values_octets T (values_of (drop (i + 1) vs)))
 values_len T vs i v h e = length-two (values_octets T (values_of (drop i vs))) (canonical_octets T (value_of v)) (values_octets T (values_of (drop (i + 1) vs))) (values_step T vs i v h e)
-
--- a value of a CHOICE begins with its tag
-pub tag_least : (shape : Shape) (v : Value) (root : Vec Alt Global) (additions : Option (Vec Alt Global)) (t : Tag) (inner : Box Value Global) → shape ≡ Choice root additions → v ≡ Chosen t inner → length (tag_octets t) ≤ length (canonical_octets (type_of shape) (value_of v))
-tag_least shape v root None t inner e f =
-    let o = chosen_octets (root_of root.items no_alternatives) t (value_of inner.value) in
-    let len = length-two (canonical_octets (type_of shape) (value_of v)) (tag_octets t) o (choice_octets (choice false (root_of root.items no_alternatives)) shape v root None t inner e refl f) in
-    omega (arith, len)
-tag_least shape v root (Some more) t inner e f =
-    let o = chosen_octets (root_of root.items (later_of more.items)) t (value_of inner.value) in
-    let len = length-two (canonical_octets (type_of shape) (value_of v)) (tag_octets t) o (choice_octets (choice true (root_of root.items (later_of more.items))) shape v root (Some more) t inner e refl f) in
-    omega (arith, len)
-
-pub tag_is : (b x : Bool) (t : Tag) (xs ys zs : List Alt) → b ≡ has_tag t (root_of xs no_alternatives) → xs ≡ ys → zs ≡ ys → b ≡ x → has_tag t (root_of zs no_alternatives) ≡ x
-tag_is b x t xs ys zs is e f on = ap (λ l. has_tag t (root_of l no_alternatives)) (f ∙ sym e) ∙ sym is ∙ on
-
--- a value of a CHOICE begins with its tag
-pub tag_first : (shape : Shape) (v : Value) (root : Vec Alt Global) (additions : Option (Vec Alt Global)) (t : Tag) (inner : Box Value Global) → shape ≡ Choice root additions → v ≡ Chosen t inner → (rest : List ℕ) × (canonical_octets (type_of shape) (value_of v) ≡ tag_octets t ++ rest)
-tag_first shape v root None t inner e f = (chosen_octets (root_of root.items no_alternatives) t (value_of inner.value), choice_octets (choice false (root_of root.items no_alternatives)) shape v root None t inner e refl f)
-tag_first shape v root (Some more) t inner e f = (chosen_octets (root_of root.items (later_of more.items)) t (value_of inner.value), choice_octets (choice true (root_of root.items (later_of more.items))) shape v root (Some more) t inner e refl f)

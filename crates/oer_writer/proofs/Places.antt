@@ -1,5 +1,5 @@
 -- Components, one after another.
-use Rattle.std.proofs.Common.{◌≡◌, ℕ, zero, suc, ◌+◌, ◌-◌, ◌<◌, ◌≤◌, List, [], ◌∷◌, ◌++◌, length, drop, get_or, map, replicate, Bool, true, false, not, ◌||◌, if◌then◌else◌, is_some, Option, Some, None, option_map, arith, refl, sym, ap, ◌∙◌, append_assoc, length-append, min}
+use Rattle.std.proofs.Common.{◌≡◌, ℕ, zero, suc, ◌+◌, ◌-◌, ◌<◌, ◌≤◌, List, [], ◌∷◌, ◌++◌, length, drop, get_or, map, replicate, Bool, true, false, not, if◌then◌else◌, is_some, Option, Some, None, option_map, arith, refl, sym, ap, ◌∙◌, append_assoc, length-append, min}
 use Rattle.std.proofs.lemmas.List.{drop_more, drop_all, length-replicate}
 use Rattle.oer_types.specs.AsnType.{AsnType, Need, must, may, default, Fields, Additions, field, addition}
 use Rattle.oer_types.specs.AsnValue.{AsnValue, no_places, present}

@@ -2,11 +2,12 @@
 ghost use Rattle.std.specs.Prelude.{◌≡◌, ◌++◌, ℕ, List, length, map, option_map};
 ghost use Rattle.oer_units.specs.Least.{counted, tag_octets, unsigned_octets};
 ghost use Rattle.oer_types.specs.AsnType.{no_alternatives};
+ghost use Rattle.oer_types.specs.AsnValue.{chosen, items, seq};
 ghost use Rattle.oer_types.specs.Bits.{padded};
 ghost use Rattle.oer_types.specs.Canonical.{bitmap_octets, canonical_octets, unknown_marks, unknown_octets};
 ghost use Rattle.oer_types.specs.ShapeView.{additions_of, fields_of, later_of, need_of, root_of, type_of};
 ghost use Rattle.oer_types.specs.ValueView.{places_of, unknown_of, value_of, values_of};
-ghost use Rattle.oer_writer.specs.Parts.{chosen_octets, counted_place, field_bits, field_octets, first_bits, kept_place, known_bits, known_octets, leaf_octets, place_octets_of, values_octets};
+ghost use Rattle.oer_writer.specs.Parts.{addition_octets, chosen_octets, counted_place, field_bits, field_octets, first_bits, kept_place, known_bits, known_octets, leaf_octets, place_octets_of, root_octets, values_octets};
 ghost use Rattle.oer_writer.specs.Wrote.{Measures};
 
 use crate::booleans::measured_booleans;
@@ -23,50 +24,101 @@ use oer_units::{Tag, length_len};
 pub(crate) fn measured(shape: &Shape, value: &Value, done: u64) -> Option<u64>
     ensures { Measures done (canonical_octets (type_of shape.now) (value_of value.now)) result }
 {
-    match (shape, value) {
-        (
-            Shape::Sequence { root, additions },
-            Value::Seq {
-                root: places,
-                added,
-                unknown,
-            },
-        ) => {
-            let fields: &[Field] = root;
-            let places: &[Option<Value>] = places;
-            let Some(additions) = additions else {
-                let done = put_preamble(None, fields, places, done, &mut Nowhere).ok()?;
-                return measured_fields(fields, places, done);
-            };
-            let additions: &[Addition] = additions;
-            let added: &[Option<Value>] = added;
-            let unknown: &[Unknown] = unknown;
-            let extended = is_extended(added, unknown);
-            let done = put_preamble(Some(extended), fields, places, done, &mut Nowhere).ok()?;
-            let done = measured_fields(fields, places, done)?;
-            if !extended {
-                return Some(done);
-            }
-            let done = put_bitmap(additions, added, unknown, done, &mut Nowhere).ok()?;
-            let done = measured_additions(additions, added, done)?;
-            put_unknown(unknown, done, &mut Nowhere).ok()
-        }
-        (Shape::SequenceOf { item, .. }, Value::List(values)) => {
-            let done = put_quantity(values.len(), done, &mut Nowhere).ok()?;
-            measured_values(item, values, done)
-        }
-        (Shape::Choice { root, additions }, Value::Chosen { tag, value }) => {
-            let done = put_tag_octets(*tag, done, &mut Nowhere).ok()?;
-            if contains_tag(root, *tag) {
-                return measured_alternative(root, *tag, value, done);
-            }
-            match additions {
-                None => Some(done),
-                Some(additions) => measured_later(additions, *tag, value, done),
-            }
-        }
+    match value {
+        Value::Seq {
+            root,
+            added,
+            unknown,
+        } => measured_sequence(shape, root, added, unknown, done),
+        Value::List(values) => measured_list(shape, values, done),
+        Value::Chosen { tag, value } => measured_chosen(shape, *tag, value, done),
         _ => put_leaf(shape, value, done, &mut Nowhere).ok(),
     }
+}
+
+#[cycle(measured)]
+#[tactic(auto, using(crate::proofs::Views::views))]
+fn measured_sequence(
+    shape: &Shape,
+    places: &[Option<Value>],
+    added: &[Option<Value>],
+    unknown: &[Unknown],
+    done: u64,
+) -> Option<u64>
+    ensures { Measures done (canonical_octets (type_of shape.now) (seq (places_of places.now) (places_of added.now) (map unknown_of unknown.now))) result }
+{
+    let Shape::Sequence { root, additions } = shape else {
+        return Some(done);
+    };
+    let fields: &[Field] = root;
+    let Some(additions) = additions else {
+        return measured_root(None, fields, places, done);
+    };
+    let additions: &[Addition] = additions;
+    let extended = is_extended(added, unknown);
+    let done = measured_root(Some(extended), fields, places, done)?;
+    if !extended {
+        return Some(done);
+    }
+    measured_extension(additions, added, unknown, done)
+}
+
+#[cycle(measured)]
+fn measured_root(
+    extended: Option<bool>,
+    fields: &[Field],
+    places: &[Option<Value>],
+    done: u64,
+) -> Option<u64>
+    ensures { Measures done (root_octets extended (fields_of fields.now) (places_of places.now)) result }
+{
+    let done = put_preamble(extended, fields, places, done, &mut Nowhere).ok()?;
+    measured_fields(fields, places, done)
+}
+
+#[cycle(measured)]
+fn measured_extension(
+    additions: &[Addition],
+    added: &[Option<Value>],
+    unknown: &[Unknown],
+    done: u64,
+) -> Option<u64>
+    ensures { Measures done (addition_octets (additions_of additions.now) (places_of added.now) (map unknown_of unknown.now)) result }
+{
+    let done = put_bitmap(additions, added, unknown, done, &mut Nowhere).ok()?;
+    let done = measured_additions(additions, added, done)?;
+    put_unknown(unknown, done, &mut Nowhere).ok()
+}
+
+#[cycle(measured)]
+#[tactic(auto, using(crate::proofs::Views::views))]
+fn measured_list(shape: &Shape, values: &[Value], done: u64) -> Option<u64>
+    ensures { Measures done (canonical_octets (type_of shape.now) (items (values_of values.now))) result }
+{
+    let Shape::SequenceOf { item, .. } = shape else {
+        return Some(done);
+    };
+    let done = put_quantity(values.len(), done, &mut Nowhere).ok()?;
+    measured_values(item, values, done)
+}
+
+#[cycle(measured)]
+#[tactic(auto, using(crate::proofs::Views::views))]
+fn measured_chosen(shape: &Shape, tag: Tag, value: &Value, done: u64) -> Option<u64>
+    ensures { Measures done (canonical_octets (type_of shape.now) (chosen tag (value_of value.now))) result }
+{
+    let Shape::Choice { root, additions } = shape else {
+        return Some(done);
+    };
+    let alternatives: &[Alt] = root;
+    let done = put_tag_octets(tag, done, &mut Nowhere).ok()?;
+    if contains_tag(alternatives, tag) {
+        return measured_alternative(alternatives, tag, value, done);
+    }
+    let Some(additions) = additions else {
+        return Some(done);
+    };
+    measured_later(additions, tag, value, done)
 }
 
 #[cycle(measured)]

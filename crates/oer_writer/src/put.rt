@@ -1,10 +1,11 @@
 //! The canonical octets of a value, to a sink.
 ghost use Rattle.std.specs.Prelude.{◌≡◌, List, map, option_map};
 ghost use Rattle.oer_types.specs.AsnType.{no_alternatives};
+ghost use Rattle.oer_types.specs.AsnValue.{chosen, items, seq};
 ghost use Rattle.oer_types.specs.Canonical.{canonical_octets};
 ghost use Rattle.oer_types.specs.ShapeView.{additions_of, fields_of, later_of, need_of, root_of, type_of};
-ghost use Rattle.oer_types.specs.ValueView.{places_of, value_of, values_of};
-ghost use Rattle.oer_writer.specs.Parts.{chosen_octets, counted_place, field_octets, kept_place, known_octets, place_octets_of, values_octets};
+ghost use Rattle.oer_types.specs.ValueView.{places_of, unknown_of, value_of, values_of};
+ghost use Rattle.oer_writer.specs.Parts.{addition_octets, chosen_octets, counted_place, field_octets, kept_place, known_octets, place_octets_of, root_octets, values_octets};
 ghost use Rattle.oer_writer.specs.Wrote.{Wrote, WroteHead};
 
 use crate::booleans::put_booleans;
@@ -41,50 +42,120 @@ pub(crate) fn put<W: Sink>(
 ) -> Result<u64, SinkFault>
     ensures { Wrote done (canonical_octets (type_of shape.now) (value_of value.now)) (W.contents w.old) (W.failed w.old) result (W.contents w.new) (W.failed w.new) }
 {
-    match (shape, value) {
-        (
-            Shape::Sequence { root, additions },
-            Value::Seq {
-                root: places,
-                added,
-                unknown,
-            },
-        ) => {
-            let fields: &[Field] = root;
-            let places: &[Option<Value>] = places;
-            let Some(additions) = additions else {
-                let done = put_preamble(None, fields, places, done, w)?;
-                return put_fields(fields, places, done, w);
-            };
-            let additions: &[Addition] = additions;
-            let added: &[Option<Value>] = added;
-            let unknown: &[Unknown] = unknown;
-            let extended = is_extended(added, unknown);
-            let done = put_preamble(Some(extended), fields, places, done, w)?;
-            let done = put_fields(fields, places, done, w)?;
-            if !extended {
-                return Ok(done);
-            }
-            let done = put_bitmap(additions, added, unknown, done, w)?;
-            let done = put_additions(additions, added, done, w)?;
-            put_unknown(unknown, done, w)
-        }
-        (Shape::SequenceOf { item, .. }, Value::List(values)) => {
-            let done = put_quantity(values.len(), done, w)?;
-            put_values(item, values, done, w)
-        }
-        (Shape::Choice { root, additions }, Value::Chosen { tag, value }) => {
-            let done = put_tag_octets(*tag, done, w)?;
-            if contains_tag(root, *tag) {
-                return put_alternative(root, *tag, value, done, w);
-            }
-            match additions {
-                None => Ok(done),
-                Some(additions) => put_later(additions, *tag, value, done, w),
-            }
-        }
+    match value {
+        Value::Seq {
+            root,
+            added,
+            unknown,
+        } => put_sequence(shape, root, added, unknown, done, w),
+        Value::List(values) => put_list(shape, values, done, w),
+        Value::Chosen { tag, value } => put_chosen(shape, *tag, value, done, w),
         _ => put_leaf(shape, value, done, w),
     }
+}
+
+// Writes a SEQUENCE (X.696, 16).
+#[cycle(put)]
+#[tactic(auto, using(crate::proofs::Views::views))]
+fn put_sequence<W: Sink>(
+    shape: &Shape,
+    places: &[Option<Value>],
+    added: &[Option<Value>],
+    unknown: &[Unknown],
+    done: u64,
+    w: &mut W,
+) -> Result<u64, SinkFault>
+    ensures { Wrote done (canonical_octets (type_of shape.now) (seq (places_of places.now) (places_of added.now) (map unknown_of unknown.now))) (W.contents w.old) (W.failed w.old) result (W.contents w.new) (W.failed w.new) }
+{
+    let Shape::Sequence { root, additions } = shape else {
+        return Ok(done);
+    };
+    let fields: &[Field] = root;
+    let Some(additions) = additions else {
+        return put_root(None, fields, places, done, w);
+    };
+    let additions: &[Addition] = additions;
+    let extended = is_extended(added, unknown);
+    let done = put_root(Some(extended), fields, places, done, w)?;
+    if !extended {
+        return Ok(done);
+    }
+    put_extension(additions, added, unknown, done, w)
+}
+
+// Writes the preamble of a SEQUENCE, and the components of its root.
+#[cycle(put)]
+fn put_root<W: Sink>(
+    extended: Option<bool>,
+    fields: &[Field],
+    places: &[Option<Value>],
+    done: u64,
+    w: &mut W,
+) -> Result<u64, SinkFault>
+    ensures { Wrote done (root_octets extended (fields_of fields.now) (places_of places.now)) (W.contents w.old) (W.failed w.old) result (W.contents w.new) (W.failed w.new) }
+{
+    let done = put_preamble(extended, fields, places, done, w)?;
+    put_fields(fields, places, done, w)
+}
+
+// Writes what follows the root, where an addition is there.
+#[cycle(put)]
+fn put_extension<W: Sink>(
+    additions: &[Addition],
+    added: &[Option<Value>],
+    unknown: &[Unknown],
+    done: u64,
+    w: &mut W,
+) -> Result<u64, SinkFault>
+    ensures { Wrote done (addition_octets (additions_of additions.now) (places_of added.now) (map unknown_of unknown.now)) (W.contents w.old) (W.failed w.old) result (W.contents w.new) (W.failed w.new) }
+{
+    let done = put_bitmap(additions, added, unknown, done, w)?;
+    let done = put_additions(additions, added, done, w)?;
+    put_unknown(unknown, done, w)
+}
+
+// Writes a SEQUENCE OF (X.696, 17).
+#[cycle(put)]
+#[tactic(auto, using(crate::proofs::Views::views))]
+fn put_list<W: Sink>(
+    shape: &Shape,
+    values: &[Value],
+    done: u64,
+    w: &mut W,
+) -> Result<u64, SinkFault>
+    ensures { Wrote done (canonical_octets (type_of shape.now) (items (values_of values.now))) (W.contents w.old) (W.failed w.old) result (W.contents w.new) (W.failed w.new) }
+{
+    let Shape::SequenceOf { item, .. } = shape else {
+        return Ok(done);
+    };
+    let done = put_quantity(values.len(), done, w)?;
+    put_values(item, values, done, w)
+}
+
+// Writes an alternative of a CHOICE (X.696, 20).
+#[cycle(put)]
+#[tactic(auto, using(crate::proofs::Views::views))]
+fn put_chosen<W: Sink>(
+    shape: &Shape,
+    tag: Tag,
+    value: &Value,
+    done: u64,
+    w: &mut W,
+) -> Result<u64, SinkFault>
+    ensures { Wrote done (canonical_octets (type_of shape.now) (chosen tag (value_of value.now))) (W.contents w.old) (W.failed w.old) result (W.contents w.new) (W.failed w.new) }
+{
+    let Shape::Choice { root, additions } = shape else {
+        return Ok(done);
+    };
+    let alternatives: &[Alt] = root;
+    let done = put_tag_octets(tag, done, w)?;
+    if contains_tag(alternatives, tag) {
+        return put_alternative(alternatives, tag, value, done, w);
+    }
+    let Some(additions) = additions else {
+        return Ok(done);
+    };
+    put_later(additions, tag, value, done, w)
 }
 
 // Writes the components of a root that are kept.

@@ -1,5 +1,4 @@
-use Rattle.std.proofs.Common.{◌≡◌, ◌^◌, ◌<◌, Ok, Some, length, rules, ap, sym, subst, take}
-use Rattle.oer_types.specs.AsnType.{AsnType}
+use Rattle.std.proofs.Common.{◌^◌, ◌<◌, Some, length, rules, ap, sym, subst, take}
 use Rattle.oer_types.specs.Constraints.{KeepsLimits}
 use Rattle.oer_types.specs.Fits.{DefaultsFit}
 use Rattle.oer_types.specs.Parts.{find_part}

@@ -1,7 +1,7 @@
-use Rattle.std.proofs.Common.{◌≡◌, ℕ, List, sym, subst}
+use Rattle.std.proofs.Common.{ℕ, List, subst}
 use Rattle.oer_types.specs.AsnType.{AsnType}
 use Rattle.oer_types.specs.Schema.{the_type}
-use Rattle.oer_checker.specs.Encoding.{octets_in, type_of_encoding}
+use Rattle.oer_checker.specs.Encoding.{octets_in}
 use Rattle.oer_checker.specs.Handing.{Follows}
 use Rattle.oer_checker.specs.Walk.{path_of}
 use Rattle.oer_checker.proofs.handing.part.Goals as goal

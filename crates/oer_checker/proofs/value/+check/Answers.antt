@@ -15,7 +15,7 @@ use Rattle.oer_checker.proofs.Exits.{at_stop}
 use Rattle.oer_checker.proofs.FieldSteps.{additions_end, additions_next, additions_stop, count_is, extensible_stop, fields_end, fields_next, fields_stop, if_absent, items_stop, items_then, known_stop, later_got, later_stop, map_stop, no_extension, root_stop, sequence_stop, sequence_then, there_got, there_stop, times_end, times_next, times_start, times_stop, unknown_got, unknown_stop}
 use Rattle.oer_checker.proofs.Joins.{give_got}
 use Rattle.oer_checker.proofs.LengthSteps.{open_stop, open_then}
-use Rattle.oer_checker.proofs.Shapes.{type_of-Null}
+use Rattle.oer_checker.proofs.Shapes.{type_of-Boolean, type_of-Null}
 use Rattle.oer_checker.proofs.TagSteps.{choice_later, choice_none, choice_root, choice_stop, later_end, later_here, later_next, root_end, root_here, root_next}
 use Rattle.oer_checker.proofs.Sizes.{additions_fall, alternatives_fall, fields_fall, later_fall}
 use Rattle.oer_checker.proofs.TypeSteps.{as_choice, as_closed, as_extensible, as_items, as_open, as_sequence, by_type, choice_defaults, choice_limits, open_defaults, open_limits}
@@ -62,6 +62,9 @@ check_later-loop-alternative-preserved t c = later_next c.args.alternatives.now 
 
 pub check_later-returns : goal.check_later-returns
 check_later-returns t c = c.check_octets.ensures ∙ ap (λ (r : Reader Bool). r (place_of c.args.place)) (later_end c.args.alternatives.now c.loop-alternative.alternative-index c.args.tag _ c.loop-alternative-test.false c.loop-alternative.invariant)
+
+pub check_elements-returns-in-Boolean : goal.check_elements-returns-in-Boolean
+check_elements-returns-in-Boolean t c = rw (c.in-Boolean.is, type_of-Boolean) c.check_booleans.ensures
 
 pub check_elements-loop-turn-init : goal.check_elements-loop-turn-init
 check_elements-loop-turn-init t c = times_start c.args.count (check_value (type_of c.args.item.now)) _

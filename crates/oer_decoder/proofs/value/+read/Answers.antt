@@ -16,7 +16,7 @@ use Rattle.oer_decoder.specs.Starts.{added_of, start_of}
 use Rattle.oer_decoder.proofs.Extensions.{extensible_stop, extensible_then, extension_known, extension_none, extension_stop, extension_then, rest_then}
 use Rattle.oer_decoder.proofs.Loops.{addition_count_is, adds_end, adds_next, adds_none, adds_stop, elements_end, elements_next, elements_none, elements_stop, fields_end, fields_next, fields_none, fields_stop, items_stop, items_then, leads_memory, listed_is, place_none, place_then, root_stop, root_then, sequence_stop, sequence_then}
 use Rattle.oer_decoder.proofs.Picks.{choice_found, choice_later, choice_none, choice_with-is, has_marker, more_of, choice_refused, choice_stop, chosen_stop, chosen_then, later_end, later_foreign, later_found, later_here, later_next, later_stop, root_end, root_here, root_next}
-use Rattle.oer_decoder.proofs.Shapes.{type_of-Null}
+use Rattle.oer_decoder.proofs.Shapes.{type_of-Boolean, type_of-Null}
 use Rattle.oer_decoder.proofs.Values.{value_of-Null}
 use Rattle.oer_decoder.proofs.value.+read.Goals as goal
 
@@ -43,6 +43,9 @@ read_open-returns g t c =
     open_filled (read_value (type_of c.args.shape.now)) _ _ _ _ _ c.in_ok-size.size (value_of c.in_ok-value.value) _ _ c.in_ok-size.ensures.room c.in_ok-size.ensures.reads c.enter-outer.ensures.entered c.in_ok-value.ensures.reads (omega (arith, e.filled, c.read_shape.new.w.bound.ordered)) e.ok c.enter-outer.ensures.end c.enter-outer.ensures.inside
 
 -- ---- elements
+
+pub read_elements-returns-in-Boolean : goal.read_elements-returns-in-Boolean
+read_elements-returns-in-Boolean g t c = rw (c.in-Boolean.is, type_of-Boolean) c.read_booleans.ensures
 
 pub read_elements-loop-i-init : goal.read_elements-loop-i-init
 read_elements-loop-i-init g t c = elements_none c.args.count (read_value (type_of c.args.item.now)) _ _ c.new-values.ensures.items

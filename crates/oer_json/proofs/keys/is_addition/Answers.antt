@@ -3,7 +3,8 @@ use Rattle.std.specs.Str.{bytes_eq}
 use Rattle.oer_types.specs.ShapeView.{additions_of}
 use Rattle.oer_types.specs.WellFormed.{addition_names}
 use Rattle.oer_json.specs.Keys.{is_among}
-use Rattle.oer_json.proofs.Steps.{among_here, among_past, split_at}
+use Rattle.oer_literals.proofs.Lists.{split_at}
+use Rattle.oer_json.proofs.Steps.{among_here, among_past}
 use Rattle.oer_json.proofs.keys.is_addition.Goals as goal
 
 pub returns-then-eq : goal.returns-then-eq

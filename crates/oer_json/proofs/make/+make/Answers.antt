@@ -9,7 +9,7 @@ use Rattle.oer_types.proofs.Shapes.{type_of-Sequence, type_of-Choice}
 use Rattle.oer_json.specs.Made.{made, made_items}
 use Rattle.oer_json.proofs.Making.{before_items, before_none, chosen_first, items_step}
 use Rattle.oer_json.proofs.Views.{view-Null}
-use Rattle.oer_json.proofs.Steps.{nothing_left, split_at}
+use Rattle.oer_literals.proofs.Lists.{nothing_left, split_at}
 use Rattle.oer_json.proofs.make.+make.Goals as goal
 
 pub items_json-loop-value-preserved : goal.items_json-loop-value-preserved

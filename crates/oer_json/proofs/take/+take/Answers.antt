@@ -10,7 +10,7 @@ use Rattle.oer_types.proofs.Shapes.{type_of-Choice, type_of-Sequence}
 use Rattle.oer_types.proofs.Values.{value_of-Seq}
 use Rattle.oer_json.specs.Answer.{◌>>=◌}
 use Rattle.oer_json.specs.Take.{take, take_additions, take_fields, take_items}
-use Rattle.oer_json.proofs.Steps.{nothing_left, split_at}
+use Rattle.oer_literals.proofs.Lists.{nothing_left, split_at}
 use Rattle.oer_json.proofs.Taking.{addition_ok, attached_none, before_none, before_values, field_ok, item_err, item_ok, places_push, stopped, values_push}
 use Rattle.oer_json.proofs.TakingParts.{choice_foreign, choice_found, choice_later, choice_nowhere, ext_added, ext_name, ext_ok, ext_root, ext_unknown}
 use Rattle.oer_json.proofs.take.+take.Goals as goal

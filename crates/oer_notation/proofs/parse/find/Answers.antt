@@ -2,7 +2,8 @@ use Rattle.std.proofs.Common.{◌≡◌, map, true, false, sym, ap, ◌∙◌, a
 use Rattle.std.specs.Str.{bytes_eq}
 use Rattle.oer_notation.specs.Reading.{find}
 use Rattle.oer_notation.specs.Views.{known}
-use Rattle.oer_notation.proofs.Finding.{find_here, find_past, nothing_left, split_at}
+use Rattle.oer_literals.proofs.Lists.{nothing_left, split_at}
+use Rattle.oer_notation.proofs.Finding.{find_here, find_past}
 use Rattle.oer_notation.proofs.parse.find.Goals as goal
 
 pub returns-then-eq : goal.returns-then-eq

@@ -3,7 +3,7 @@ use Rattle.std.specs.Char.{encode_utf8}
 use Rattle.std.specs.Str.{chars}
 use Rattle.std.proofs.lemmas.Str.{chars_past_char, IsUtf8-past_char, chars-nil}
 use Rattle.oer_printer.specs.Printing.{doubled, inside_quotes}
-use Rattle.oer_printer.proofs.Lists.{empty_of}
+use Rattle.oer_literals.proofs.Lists.{empty_of}
 use Rattle.oer_printer.proofs.literal.push_doubled.Goals as goal
 
 pub characters-preserved : goal.characters-preserved

@@ -6,7 +6,7 @@ use Rattle.oer_types.specs.ShapeView.{additions_of, fields_of, later_of, root_of
 use Rattle.oer_types.proofs.Shapes.{type_of-Ia5, type_of-Visible, type_of-Numeric, type_of-Printable, type_of-Utf8, type_of-Sequence, type_of-Choice}
 use Rattle.oer_printer.specs.Printer.{alternative_part, field_part, joined_from, run, step, written}
 use Rattle.oer_printer.specs.Printing.{addition_parts, after_commas, field_parts, in_braces, joined, later_parts, marker, root_parts, type_tokens}
-use Rattle.oer_printer.proofs.Lists.{split_at}
+use Rattle.oer_literals.proofs.Lists.{split_at}
 use Rattle.oer_printer.proofs.Printed.{choice_parts, component_step, joined_step, marked, no_field_parts, no_root_parts, plain_choice_parts, puts_last, wrapped}
 use Rattle.oer_printer.proofs.printing.+put.Goals as goal
 

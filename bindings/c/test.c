@@ -1,0 +1,405 @@
+/* Tests of the library from C: test FOLDER STRINGS
+ *
+ * FOLDER is examples/ieee1609dot2, and STRINGS is how many random strings of octets are tried. With
+ * FAIL_MEMORY defined, and linked with --wrap for malloc, realloc and free, allocations fail
+ * in turn, and blocks that are left are found. It says what differs, and then its status is 1. */
+#include "vectors.h"
+
+#include <stdio.h>
+#include <stdlib.h>
+#include <string.h>
+
+static int differs;
+
+#define EXPECT(condition, what)                                                            \
+    do {                                                                                   \
+        if (!(condition)) {                                                                \
+            printf("bindings/c/test.c:%d: %s: %.200s\n", __LINE__, #condition, what);      \
+            differs = 1;                                                                   \
+        }                                                                                  \
+    } while (0)
+
+#define COUNT(array) (sizeof(array) / sizeof((array)[0]))
+
+/* ---- the allocator: the growth number `fail_at` fails, and blocks are counted */
+
+#ifdef FAIL_MEMORY
+static long growths, fail_at, blocks;
+
+void *__real_malloc(size_t size);
+void *__real_realloc(void *old, size_t size);
+void __real_free(void *old);
+
+void *__wrap_malloc(size_t size) {
+    void *made;
+    if (++growths == fail_at) return NULL;
+    made = __real_malloc(size);
+    blocks += made != NULL;
+    return made;
+}
+
+void *__wrap_realloc(void *old, size_t size) {
+    void *made;
+    if (++growths == fail_at) return NULL;
+    made = __real_realloc(old, size);
+    blocks += made != NULL && old == NULL;
+    return made;
+}
+
+void __wrap_free(void *old) {
+    blocks -= old != NULL;
+    __real_free(old);
+}
+#endif
+
+/* ---- octets */
+
+struct octets {
+    uint8_t at[LONGEST];
+    size_t length;
+};
+
+static struct octets from_hex(const char *digits) {
+    static const char all[] = "0123456789abcdef";
+    struct octets octets;
+    memset(&octets, 0, sizeof octets);
+    for (; digits[0] > ' '; digits += 2)
+        octets.at[octets.length++] = (uint8_t)((strchr(all, digits[0]) - all) * 16 + (strchr(all, digits[1]) - all));
+    return octets;
+}
+
+static struct octets from_text(const char *text) {
+    struct octets octets;
+    memset(&octets, 0, sizeof octets);
+    octets.length = strlen(text);
+    memcpy(octets.at, text, octets.length);
+    return octets;
+}
+
+/* The text of a file, with a zero octet at the end. */
+static char *contents(const char *folder, const char *name) {
+    static char texts[3][65536];
+    static size_t next;
+    char *text = texts[next++ % 3];
+    char path[1024];
+    FILE *file;
+    snprintf(path, sizeof path, "%s/%s", folder, name);
+    file = fopen(path, "rb");
+    if (!file) {
+        printf("bindings/c/test.c: no file %s\n", path);
+        exit(2);
+    }
+    text[fread(text, 1, sizeof texts[0] - 1, file)] = 0;
+    fclose(file);
+    return text;
+}
+
+/* ---- calls */
+
+static oer_types types_of(const char *type) {
+    char text[1024];
+    oer_types types = OER_TYPES_NONE;
+    oer_parsed parsed;
+    snprintf(text, sizeof text, "A ::= %s", type);
+    parsed = oer_types_read(&types, text, strlen(text));
+    EXPECT(parsed.status == OER_OK && parsed.why == 0 && parsed.place == strlen(text), text);
+    return types;
+}
+
+/* What the call of the vector answers; the answer of a check has its `canonical` in `written`. */
+static oer_written call(oer_types *types, const char *name, const struct vector *vector, uint8_t *out, size_t room) {
+    struct octets given = vector->task == FROM_JSON ? from_text(vector->given) : from_hex(vector->given);
+    size_t length = strlen(name);
+    oer_written written;
+    oer_checked checked;
+    switch (vector->task) {
+    case CANON:
+        return oer_canon(types, name, length, given.at, given.length, vector->limit, out, room);
+    case PART:
+        return oer_part(types, name, length, given.at, given.length, vector->path, strlen(vector->path), out, room);
+    case TO_JSON:
+        return oer_to_json(types, name, length, given.at, given.length, vector->limit, (char *)out, room);
+    case FROM_JSON:
+        return oer_from_json(types, name, length, (const char *)given.at, given.length, out, room);
+    default:
+        checked = oer_check(types, name, length, given.at, given.length);
+        written.status = checked.status;
+        written.why = checked.why;
+        written.octets = checked.octets;
+        written.written = checked.canonical;
+        return written;
+    }
+}
+
+static int is_only(oer_written answer, uint32_t status) {
+    return answer.status == status && answer.why == 0 && answer.octets == 0 && answer.written == 0;
+}
+
+/* That all octets of the buffer from `from` on are `fill`. */
+static int are_all(const uint8_t *buffer, size_t from, size_t to, uint8_t fill) {
+    for (; from < to; from++)
+        if (buffer[from] != fill) return 0;
+    return 1;
+}
+
+static struct octets wanted(const struct vector *vector) {
+    if (!vector->answer) return from_text("");
+    return vector->task == TO_JSON ? from_text(vector->answer) : from_hex(vector->answer);
+}
+
+/* ---- the table */
+
+static void test_vector(const struct vector *vector) {
+    oer_types types = types_of(vector->type);
+    struct octets want = wanted(vector);
+    uint8_t out[LONGEST];
+    size_t room;
+    oer_written answer;
+    memset(out, 0xaa, sizeof out);
+    answer = call(&types, "A", vector, out, sizeof out);
+    EXPECT(answer.status == vector->status && answer.why == vector->why, vector->given);
+    EXPECT(answer.octets == vector->octets && answer.written == vector->written, vector->given);
+    EXPECT(memcmp(out, want.at, want.length) == 0, vector->given);
+    EXPECT(are_all(out, want.length, sizeof out, 0xaa), vector->given);
+    /* Each size below what is needed is too small, and leaves the buffer as it was; of long answers
+     * some sizes are tried. */
+    for (room = 0; room < want.length; room += 1 + room / 64) {
+        memset(out, 0xbb, sizeof out);
+        answer = call(&types, "A", vector, out, room);
+        EXPECT(answer.status == OER_ROOM && answer.why == 0, vector->given);
+        EXPECT(answer.octets == vector->octets && answer.written == vector->written, vector->given);
+        EXPECT(are_all(out, 0, sizeof out, 0xbb), vector->given);
+    }
+    memset(out, 0xcc, sizeof out);
+    EXPECT(is_only(call(&types, "B", vector, out, sizeof out), OER_UNNAMED), vector->given);
+    EXPECT(is_only(call(&types, "", vector, out, sizeof out), OER_UNNAMED), vector->given);
+    EXPECT(is_only(call(&types, "\377", vector, out, sizeof out), OER_UNNAMED), vector->given);
+    oer_types_free(&types);
+    EXPECT(is_only(call(&types, "A", vector, out, sizeof out), OER_NO_TYPES), vector->given);
+    oer_types_free(&types);
+    EXPECT(is_only(call(&types, "A", vector, out, sizeof out), OER_NO_TYPES), vector->given);
+    EXPECT(are_all(out, 0, sizeof out, 0xcc), vector->given);
+}
+
+/* A text that is rejected leaves the types from before. */
+static void test_rejected_text(const struct rejected_text *row) {
+    oer_types types = OER_TYPES_NONE;
+    struct vector check = { CHECK, 0, "ff", 0, OER_NO_LIMIT, 0, 0, 0, 0, 0 };
+    oer_parsed parsed = oer_types_read(&types, row->text, strlen(row->text));
+    EXPECT(parsed.status == OER_REJECTED && parsed.why == row->why && parsed.place == row->place, row->text);
+    EXPECT(is_only(call(&types, "A", &check, 0, 0), OER_NO_TYPES), row->text);
+    oer_types_free(&types);
+    types = types_of("BOOLEAN");
+    parsed = oer_types_read(&types, row->text, strlen(row->text));
+    EXPECT(parsed.status == OER_REJECTED && parsed.why == row->why && parsed.place == row->place, row->text);
+    EXPECT(call(&types, "A", &check, 0, 0).octets == 1, row->text);
+    oer_types_free(&types);
+}
+
+static void test_kept_types(void) {
+    struct vector check = { CHECK, 0, "ff", 0, OER_NO_LIMIT, 0, 0, 0, 0, 0 };
+    oer_types types = OER_TYPES_NONE, other;
+    EXPECT(is_only(call(&types, "A", &check, 0, 0), OER_NO_TYPES), "before any types are read");
+    oer_types_free(&types);
+    types = types_of("BOOLEAN");
+    EXPECT(oer_types_read(&types, "B ::= NULL", 10).status == OER_OK, "types in place of others");
+    EXPECT(is_only(call(&types, "A", &check, 0, 0), OER_UNNAMED), "the earlier types are gone");
+    EXPECT(call(&types, "B", &check, 0, 0).status == OER_OK, "the new types");
+    other = types;
+    EXPECT(call(&other, "B", &check, 0, 0).status == OER_OK, "types that were moved");
+    oer_types_free(&other);
+}
+
+/* ---- the certificate of the example */
+
+static void test_certificate(const char *folder) {
+    char *text = contents(folder, "types.asn");
+    struct octets certificate = from_hex(contents(folder, "certificate-rsu.hex"));
+    struct octets basic = from_hex(contents(folder, "certificate-rsu-basic.hex"));
+    oer_types types = OER_TYPES_NONE;
+    struct octets out, json;
+    oer_checked checked;
+    oer_written answer;
+    EXPECT(oer_types_read(&types, text, strlen(text)).status == OER_OK, "types.asn");
+    checked = oer_check(&types, "Certificate", 11, certificate.at, certificate.length);
+    EXPECT(checked.status == OER_OK && checked.octets == 230 && checked.canonical == 1, "certificate");
+    checked = oer_check(&types, "Certificate", 11, basic.at, basic.length);
+    EXPECT(checked.status == OER_OK && checked.octets == 236 && checked.canonical == 0, "basic");
+    answer = oer_canon(&types, "Certificate", 11, basic.at, basic.length, 236, out.at, 230);
+    EXPECT(answer.status == OER_OK && answer.octets == 236 && answer.written == 230, "canon");
+    EXPECT(memcmp(out.at, certificate.at, 230) == 0, "canon");
+    answer = oer_canon(&types, "Certificate", 11, basic.at, basic.length, 235, out.at, 230);
+    EXPECT(answer.status == OER_REJECTED && answer.why == OER_LIMIT && answer.written == 0, "limit");
+    answer = oer_part(&types, "Certificate", 11, certificate.at, 230, "c3", 2, out.at, sizeof out.at);
+    EXPECT(answer.status == OER_OK && answer.written == 152, "toBeSigned");
+    EXPECT(memcmp(out.at, certificate.at + 12, 152) == 0, "toBeSigned");
+    answer = oer_to_json(&types, "Certificate", 11, basic.at, basic.length, OER_NO_LIMIT, (char *)json.at, sizeof json.at);
+    EXPECT(answer.status == OER_OK && answer.octets == 236, "to_json");
+    answer = oer_from_json(&types, "Certificate", 11, (char *)json.at, (size_t)answer.written, out.at, sizeof out.at);
+    EXPECT(answer.status == OER_OK && answer.written == 230, "from_json");
+    EXPECT(memcmp(out.at, certificate.at, 230) == 0, "from_json");
+    oer_types_free(&types);
+}
+
+/* ---- memory */
+
+#ifdef FAIL_MEMORY
+/* The call where each of its growths fails in turn, up to the run where none fails: that one
+ * gives the answer of the vector, and each before it says that memory ran out. */
+static void fail_in_turn(const struct vector *vector) {
+    oer_types types = types_of(vector->type);
+    long before = blocks, nth;
+    uint8_t out[LONGEST];
+    oer_written answer;
+    for (nth = 1;; nth++) {
+        memset(out, 0xdd, sizeof out);
+        growths = 0;
+        fail_at = nth;
+        answer = call(&types, "A", vector, out, sizeof out);
+        fail_at = 0;
+        EXPECT(blocks == before, vector->given);
+        if (growths < nth) break;
+        EXPECT(is_only(answer, OER_MEMORY), vector->given);
+        EXPECT(are_all(out, 0, sizeof out, 0xdd), vector->given);
+    }
+    EXPECT(answer.status == vector->status && answer.why == vector->why, vector->given);
+    EXPECT(answer.octets == vector->octets && answer.written == vector->written, vector->given);
+    EXPECT(vector->task != CHECK || nth == 1, "a check takes no memory");
+    oer_types_free(&types);
+}
+
+/* Reading the text where each growth fails in turn: the types are those from before. */
+static long fail_text_in_turn(const char *text) {
+    oer_types types = types_of("BOOLEAN");
+    struct vector check = { CHECK, 0, "ff", 0, OER_NO_LIMIT, 0, 0, 0, 0, 0 };
+    long before = blocks, nth;
+    oer_parsed parsed;
+    for (nth = 1;; nth++) {
+        growths = 0;
+        fail_at = nth;
+        parsed = oer_types_read(&types, text, strlen(text));
+        fail_at = 0;
+        if (growths < nth) break;
+        EXPECT(parsed.status == OER_MEMORY && parsed.why == 0 && parsed.place == 0, text);
+        EXPECT(blocks == before, text);
+        EXPECT(call(&types, "A", &check, 0, 0).octets == 1, text);
+    }
+    EXPECT(parsed.status == OER_OK && parsed.place == strlen(text), text);
+    oer_types_free(&types);
+    return nth - 1;
+}
+
+static void test_memory(const char *folder) {
+    size_t i;
+    long failed = 0;
+    for (i = 0; i < COUNT(vectors); i++) fail_in_turn(&vectors[i]);
+    for (i = 0; i < COUNT(vectors); i++) {
+        char text[1024];
+        snprintf(text, sizeof text, "A ::= %s", vectors[i].type);
+        failed += fail_text_in_turn(text);
+    }
+    failed += fail_text_in_turn(contents(folder, "types.asn"));
+    EXPECT(failed > 100, "growths fail");
+    EXPECT(blocks == 0, "all blocks are given back");
+}
+#endif
+
+/* ---- random octets */
+
+static uint64_t random_state = 88172645463325252u;
+
+static uint32_t random_below(uint32_t bound) {
+    random_state ^= random_state << 13;
+    random_state ^= random_state >> 7;
+    random_state ^= random_state << 17;
+    return (uint32_t)(random_state >> 33) % bound;
+}
+
+/* Small octets, so that many strings are encodings; or an octet of any kind. */
+static uint8_t random_octet(void) {
+    static const uint8_t common[] = { 0x00, 0x01, 0x02, 0x03, 0x80, 0x81, 0x82, 0xff, 0x20, 0x60 };
+    return random_below(4) ? common[random_below(COUNT(common))] : (uint8_t)random_below(256);
+}
+
+/* How many strings are encodings, and how many of these are canonical. */
+static long encodings, canonicals;
+
+/* That the calls agree on the octets. */
+static void compare(oer_types *types, const uint8_t *octets, size_t length) {
+    uint8_t out[256], again[256];
+    char json[4096];
+    oer_checked checked = oer_check(types, "A", 1, octets, length), made;
+    oer_written canon = oer_canon(types, "A", 1, octets, length, OER_NO_LIMIT, out, sizeof out);
+    oer_written shown = oer_to_json(types, "A", 1, octets, length, OER_NO_LIMIT, json, sizeof json);
+    oer_written back;
+    EXPECT(canon.status == checked.status && shown.status == checked.status, "status");
+    EXPECT(canon.why == checked.why && shown.why == checked.why, "why");
+    EXPECT(canon.octets == checked.octets && shown.octets == checked.octets, "octets");
+    if (checked.status != OER_OK) {
+        EXPECT(checked.status == OER_REJECTED && checked.why >= OER_END && checked.why <= OER_UNKNOWN_ADDITION, "a reason");
+        EXPECT(checked.octets <= length && canon.written == 0, "octets");
+        return;
+    }
+    encodings++;
+    canonicals += checked.canonical;
+    EXPECT(checked.canonical == (canon.written == checked.octets && !memcmp(out, octets, (size_t)canon.written)), "canonical");
+    made = oer_check(types, "A", 1, out, (size_t)canon.written);
+    EXPECT(made.status == OER_OK && made.octets == canon.written && made.canonical == 1, "canonical octets");
+    back = oer_from_json(types, "A", 1, json, (size_t)shown.written, again, sizeof again);
+    EXPECT(back.status == OER_OK && back.written == canon.written && !memcmp(again, out, (size_t)back.written), "json");
+}
+
+static void test_random(long strings) {
+    static const char *const kinds[] = {
+        BOOLEANS, BYTE, PLAIN, ADDITIONS, CHOSEN, LISTED, HIGH_TAGS, "INTEGER", "INTEGER (0..MAX)",
+        "OCTET STRING", "BIT STRING", "UTF8String", "IA5String (SIZE(2))", "OBJECT IDENTIFIER",
+        "SEQUENCE OF CHOICE {a INTEGER, b BOOLEAN, ..., c SEQUENCE {d NULL OPTIONAL, e OCTET STRING}}"
+    };
+    size_t i;
+    long n;
+    for (i = 0; i < COUNT(kinds); i++) {
+        oer_types types = types_of(kinds[i]);
+        for (n = 0; n < strings / (long)COUNT(kinds) + 1; n++) {
+            uint8_t octets[24];
+            size_t length = random_below(COUNT(octets) + 1), k;
+            for (k = 0; k < length; k++) octets[k] = random_octet();
+            compare(&types, octets, length);
+        }
+        oer_types_free(&types);
+    }
+    EXPECT(encodings > strings / 10 && canonicals > 0 && canonicals < encodings, "strings of each kind");
+}
+
+/* ---- the layout, as the documents of crates/oer_c say it */
+
+static void test_layout(void) {
+    EXPECT(sizeof(oer_types) == 16 && offsetof(oer_types, at_) == 0 && offsetof(oer_types, full_) == 8, "oer_types");
+    EXPECT(sizeof(oer_parsed) == 16 && offsetof(oer_parsed, status) == 0, "oer_parsed");
+    EXPECT(offsetof(oer_parsed, why) == 4 && offsetof(oer_parsed, place) == 8, "oer_parsed");
+    EXPECT(sizeof(oer_checked) == 24 && offsetof(oer_checked, status) == 0, "oer_checked");
+    EXPECT(offsetof(oer_checked, why) == 4 && offsetof(oer_checked, octets) == 8, "oer_checked");
+    EXPECT(offsetof(oer_checked, canonical) == 16, "oer_checked");
+    EXPECT(sizeof(oer_written) == 24 && offsetof(oer_written, status) == 0, "oer_written");
+    EXPECT(offsetof(oer_written, why) == 4 && offsetof(oer_written, octets) == 8, "oer_written");
+    EXPECT(offsetof(oer_written, written) == 16, "oer_written");
+    EXPECT(oer_version() == OER_VERSION_NUMBER, "the version");
+}
+
+int main(int count, char **words) {
+    size_t i;
+    if (count != 3) {
+        puts("usage: test FOLDER STRINGS");
+        return 2;
+    }
+    test_layout();
+    for (i = 0; i < COUNT(vectors); i++) test_vector(&vectors[i]);
+    for (i = 0; i < COUNT(rejected_texts); i++) test_rejected_text(&rejected_texts[i]);
+    test_kept_types();
+    test_certificate(words[1]);
+    test_random(atol(words[2]));
+#ifdef FAIL_MEMORY
+    test_memory(words[1]);
+#endif
+    if (!differs) printf("%d vectors, %ld encodings of %s strings, %ld of them canonical\n", (int)COUNT(vectors), encodings, words[2], canonicals);
+    return differs;
+}

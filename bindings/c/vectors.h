@@ -1,0 +1,133 @@
+/* Calls and what they have to answer. The octets and answers are those of docs/COMMAND.md,
+ * docs/NOTATION.md and docs/JSON.md, and of the tables of tests in Rattle, whose octets follow from
+ * the standard. worked.h has the rows of oer_vectors: bindings/worked prints it. */
+#ifndef VECTORS_H
+#define VECTORS_H
+
+#include "oer.h"
+
+enum task { CHECK, CANON, PART, TO_JSON, FROM_JSON };
+
+/* A call: the definition of the type A, what it is given (octets in hexadecimal digits, or JSON), the
+ * path or NULL, the limit, and the answer: the fields of it, and what is written, where something is
+ * (octets in digits, or JSON). For CHECK `written` is `canonical`. */
+struct vector {
+    enum task task;
+    const char *type;
+    const char *given;
+    const char *path;
+    uint64_t limit;
+    uint32_t status;
+    uint32_t why;
+    uint64_t octets;
+    uint64_t written;
+    const char *answer;
+};
+
+#define BOOLEANS "SEQUENCE OF BOOLEAN"
+#define BYTE "SEQUENCE {a BOOLEAN, b INTEGER (0..255) DEFAULT 7, c NULL OPTIONAL, ...}"
+#define PLAIN "SEQUENCE {a BOOLEAN, b INTEGER (0..255) DEFAULT 7, c NULL OPTIONAL}"
+#define ADDITIONS "SEQUENCE {a BOOLEAN, ..., x INTEGER (0..255), y BOOLEAN}"
+#define CHOSEN "CHOICE {a NULL, ..., b OCTET STRING}"
+#define LISTED "ENUMERATED {a(5), b(128), c(-1)}"
+#define HIGH_TAGS "CHOICE {a [62] NULL, b [63] NULL, c [200] NULL}"
+#define ALL OER_NO_LIMIT
+
+/* The longest octets of the table, and room for more. */
+#define LONGEST 16384
+
+/* Some octets are long. */
+#ifdef __GNUC__
+#pragma GCC diagnostic ignored "-Woverlength-strings"
+#endif
+
+static const struct vector vectors[] = {
+#include "worked.h"
+
+    { CHECK, BOOLEANS, "0102ff00", 0, ALL, OER_OK, 0, 4, 1, 0 },
+    { CHECK, BOOLEANS, "0200020107", 0, ALL, OER_OK, 0, 5, 0, 0 },
+    { CHECK, BOOLEANS, "0102ff00ffff", 0, ALL, OER_OK, 0, 4, 1, 0 },
+    { CHECK, "BOOLEAN", "0102", 0, ALL, OER_OK, 0, 1, 0, 0 },
+    { CHECK, ADDITIONS, "80ff020020810109", 0, ALL, OER_OK, 0, 8, 0, 0 },
+    { CHECK, "OCTET STRING", "0361", 0, ALL, OER_REJECTED, OER_END, 2, 0, 0 },
+    { CHECK, "NULL", "", 0, ALL, OER_OK, 0, 0, 1, 0 },
+    { CHECK, "BOOLEAN", "", 0, ALL, OER_REJECTED, OER_END, 0, 0, 0 },
+
+    { CANON, BOOLEANS, "0200020107", 0, ALL, OER_OK, 0, 5, 4, "0102ffff" },
+    { CANON, "BOOLEAN", "01", 0, ALL, OER_OK, 0, 1, 1, "ff" },
+    { CANON, "BOOLEAN", "0102", 0, ALL, OER_OK, 0, 1, 1, "ff" },
+    { CANON, ADDITIONS, "80ff020020810109", 0, ALL, OER_OK, 0, 8, 7, "80ff0205200109" },
+    { CANON, ADDITIONS, "80ff020430010900", 0, ALL, OER_OK, 0, 8, 8, "80ff020430010900" },
+    { CANON, CHOSEN, "85810101", 0, ALL, OER_OK, 0, 4, 3, "850101" },
+    { CANON, "NULL", "ff", 0, ALL, OER_OK, 0, 0, 0, "" },
+
+    { CANON, "OCTET STRING", "0361", 0, 2, OER_REJECTED, OER_LIMIT, 1, 0, 0 },
+    { CANON, "OCTET STRING", "0361", 0, 4, OER_REJECTED, OER_END, 2, 0, 0 },
+    { CANON, "INTEGER (0..65535)", "0001", 0, 1, OER_REJECTED, OER_LIMIT, 0, 0, 0 },
+    { CANON, ADDITIONS, "80ff020680020900", 0, ALL, OER_REJECTED, OER_WINDOW, 7, 0, 0 },
+    { CANON, "INTEGER (0..MAX)", "80", 0, ALL, OER_REJECTED, OER_LENGTH_FORM, 1, 0, 0 },
+    { CANON, "INTEGER (0..MAX)", "00", 0, ALL, OER_REJECTED, OER_EMPTY_NUMBER, 1, 0, 0 },
+    { CANON, "INTEGER (0..5)", "06", 0, ALL, OER_REJECTED, OER_INTEGER_RANGE, 1, 0, 0 },
+    { CANON, LISTED, "80", 0, ALL, OER_REJECTED, OER_ENUM_FORM, 1, 0, 0 },
+    { CANON, LISTED, "06", 0, ALL, OER_REJECTED, OER_UNKNOWN_ENUM, 1, 0, 0 },
+    { CANON, "SEQUENCE (SIZE(1..2)) OF BOOLEAN", "0100", 0, ALL, OER_REJECTED, OER_SIZE, 2, 0, 0 },
+    { CANON, "VisibleString", "017f", 0, ALL, OER_REJECTED, OER_CHARACTER, 2, 0, 0 },
+    { CANON, "BIT STRING", "00", 0, ALL, OER_REJECTED, OER_BIT_UNUSED, 1, 0, 0 },
+    { CANON, "OBJECT IDENTIFIER", "0180", 0, ALL, OER_REJECTED, OER_OBJECT_ID, 2, 0, 0 },
+    { CANON, PLAIN, "20ff", 0, ALL, OER_REJECTED, OER_PREAMBLE_PADDING, 1, 0, 0 },
+    { CANON, HIGH_TAGS, "bf05", 0, ALL, OER_REJECTED, OER_TAG_FORM, 2, 0, 0 },
+    { CANON, HIGH_TAGS, "80", 0, ALL, OER_REJECTED, OER_UNKNOWN_ALTERNATIVE, 1, 0, 0 },
+
+    { PART, BOOLEANS, "0200020107", "i1", ALL, OER_OK, 0, 0, 1, "07" },
+    { PART, ADDITIONS, "80ff0206800109", "a0", ALL, OER_OK, 0, 0, 1, "09" },
+    { PART, ADDITIONS, "80ff0206800109", "a1", ALL, OER_ABSENT, 0, 0, 0, 0 },
+    { PART, ADDITIONS, "80ff0206800109", "c1", ALL, OER_NO_STEP, 0, 0, 0, 0 },
+    { PART, CHOSEN, "8103026162", "v", ALL, OER_OK, 0, 0, 3, "026162" },
+    { PART, "BOOLEAN", "ff", "c01", ALL, OER_NO_PATH, 0, 0, 0, 0 },
+    { PART, "BOOLEAN", "ff", "", ALL, OER_NO_PATH, 0, 0, 0, 0 },
+    { PART, "BOOLEAN", "ff", "\377", ALL, OER_NO_PATH, 0, 0, 0, 0 },
+    { PART, "OCTET STRING", "0361", "c0", ALL, OER_REJECTED, OER_END, 2, 0, 0 },
+
+    { TO_JSON, BYTE, "60ff08", 0, ALL, OER_OK, 0, 3, 25, "{\"a\":true,\"b\":8,\"c\":null}" },
+    { TO_JSON, ADDITIONS, "80ff0205200109", 0, ALL, OER_OK, 0, 7, 20, "{\"#2\":\"09\",\"a\":true}" },
+    { TO_JSON, CHOSEN, "85020102", 0, ALL, OER_OK, 0, 4, 14, "{\"#c5\":\"0102\"}" },
+    { TO_JSON, "OCTET STRING", "0361", 0, 2, OER_REJECTED, OER_LIMIT, 1, 0, 0 },
+    { TO_JSON, "OCTET STRING", "0361", 0, 4, OER_REJECTED, OER_END, 2, 0, 0 },
+
+    { FROM_JSON, BYTE, "{\"a\":true,\"b\":8,\"c\":null}", 0, ALL, OER_OK, 0, 0, 3, "60ff08" },
+    { FROM_JSON, BOOLEANS, "[true, false]", 0, ALL, OER_OK, 0, 0, 4, "0102ff00" },
+    { FROM_JSON, "INTEGER", "true", 0, ALL, OER_REJECTED, OER_JSON_KIND, 0, 0, 0 },
+    { FROM_JSON, BYTE, "{\"a\":true,\"d\":8}", 0, ALL, OER_REJECTED, OER_JSON_NAME, 0, 0, 0 },
+    { FROM_JSON, BYTE, "{\"b\":8}", 0, ALL, OER_REJECTED, OER_JSON_MISSING, 0, 0, 0 },
+    { FROM_JSON, "INTEGER", "\"170141183460469231731687303715884105728\"", 0, ALL, OER_REJECTED, OER_JSON_RANGE, 0, 0, 0 },
+    { FROM_JSON, "INTEGER (0..5)", "6", 0, ALL, OER_REJECTED, OER_JSON_MISFIT, 0, 0, 0 },
+    { FROM_JSON, "INTEGER", "five", 0, ALL, OER_NO_JSON, 0, 0, 0, 0 },
+    { FROM_JSON, "INTEGER", "\377", 0, ALL, OER_NO_JSON, 0, 0, 0, 0 }
+};
+
+/* Definitions that are rejected: the reason, and the place. */
+struct rejected_text {
+    const char *text;
+    uint32_t why;
+    uint64_t place;
+};
+
+static const struct rejected_text rejected_texts[] = {
+    { "A ::= BOOLEAN \377", OER_TEXT_NOT_UTF8, 0 },
+    { "A ::= INTEGER (05)", OER_TEXT_TOKEN, 15 },
+    { "A ::= INTEGER (170141183460469231731687303715884105728)", OER_TEXT_NUMBER, 15 },
+    { "A ::= CHOICE {a [0] NULL, b NULL}", OER_TEXT_MIXED, 28 },
+    { "A ::= SEQUENCE {a BOOLEAN DEFAULT 1}", OER_TEXT_DEFAULT, 34 },
+    { "A ::= INTEGER (5..4) $", OER_TEXT_BOUND_ORDER, 6 },
+    { "a ::= NULL", OER_TEXT_SYNTAX, 0 },
+    { "A BOOLEAN", OER_TEXT_SYNTAX, 2 },
+    { "A ::= NULL 5", OER_TEXT_SYNTAX, 11 },
+    { "A ::= A", OER_TEXT_NAME, 6 },
+    { "A ::= B  B ::= NULL", OER_TEXT_NAME, 6 },
+    { "A ::= BOOLEAN B ::= C", OER_TEXT_NAME, 20 },
+    { "A ::= NULL  A ::= NULL", OER_TEXT_REPEATED, 12 },
+    { "A ::= NULL  B ::= SEQUENCE OF A", OER_TEXT_EMPTY_ELEMENT, 18 },
+    { "", OER_TEXT_SYNTAX, 0 }
+};
+
+#endif

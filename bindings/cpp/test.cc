@@ -1,0 +1,518 @@
+// Tests of include/oer.hpp: test FOLDER STRINGS TABLE
+//
+// FOLDER is examples/ieee1609dot2, STRINGS is how many random strings of octets are tried, and TABLE is
+// what bindings/table printed. The vectors are those of the tests in C. It says what differs, and then
+// its status is 1. Octets that are read and buffers that are written end where a page ends that may be
+// used, so that a call that goes past them ends the program. With FAIL_MEMORY defined, and linked with
+// --wrap for malloc and realloc, allocations of the library fail in turn as well.
+#include "oer.hpp"
+#include "vectors.h"
+
+#include <algorithm>
+#include <array>
+#include <cstdio>
+#include <cstdlib>
+#include <fstream>
+#include <iterator>
+#include <sstream>
+#include <string>
+#include <sys/mman.h>
+#include <unistd.h>
+#include <vector>
+#ifdef __cpp_lib_string_view
+#include <string_view>
+#endif
+
+typedef std::vector<std::uint8_t> bytes;
+
+static bool differs;
+
+#define EXPECT(condition, what)                                                                          \
+    do {                                                                                                 \
+        if (!(condition)) {                                                                              \
+            std::printf("bindings/cpp/test.cc:%d: %s: %.200s\n", __LINE__, #condition,                   \
+                        std::string(what).c_str());                                                      \
+            differs = true;                                                                              \
+        }                                                                                                \
+    } while (0)
+
+static_assert(!std::is_copy_constructible<oer::types>::value, "types are not copied");
+static_assert(!std::is_copy_assignable<oer::types>::value, "types are not copied");
+static_assert(std::is_nothrow_move_constructible<oer::types>::value, "types are moved");
+static_assert(std::is_nothrow_move_assignable<oer::types>::value, "types are moved");
+static_assert(!std::is_copy_constructible<oer::octets>::value, "octets are not copied");
+static_assert(std::is_nothrow_move_constructible<oer::octets>::value, "octets are moved");
+static_assert(!std::is_convertible<std::string, oer::octets_in>::value, "a text is no octets");
+static_assert(!std::is_convertible<const bytes &, oer::octets_out>::value, "what is const is not written");
+#ifdef __cpp_lib_span
+static_assert(std::is_convertible<std::span<const std::uint8_t>, oer::octets_in>::value, "a span");
+static_assert(std::is_convertible<std::span<std::uint8_t>, oer::octets_out>::value, "a span");
+static_assert(std::is_convertible<const oer::octets &, std::span<const std::uint8_t>>::value, "a span");
+#endif
+
+// ---- memory that runs out
+
+// Whether the header's allocations fail.
+static bool fail_new;
+
+void *operator new[](std::size_t size, const std::nothrow_t &) noexcept {
+    return fail_new ? nullptr : ::operator new[](size);
+}
+
+#ifdef FAIL_MEMORY
+// The allocation number `fail_at` of the library fails.
+static long allocations, fail_at;
+
+extern "C" {
+void *__real_malloc(std::size_t size);
+void *__real_realloc(void *old, std::size_t size);
+void *__wrap_malloc(std::size_t size) { return ++allocations == fail_at ? nullptr : __real_malloc(size); }
+void *__wrap_realloc(void *old, std::size_t size) {
+    return ++allocations == fail_at ? nullptr : __real_realloc(old, size);
+}
+}
+#endif
+
+// ---- memory before a page that may not be touched
+
+class guarded {
+public:
+    guarded() : page_(static_cast<std::size_t>(sysconf(_SC_PAGESIZE))), size_(4 * page_) {
+        void *at = mmap(nullptr, size_ + page_, PROT_READ | PROT_WRITE, MAP_PRIVATE | MAP_ANONYMOUS, -1, 0);
+        if (at == MAP_FAILED || mprotect(static_cast<char *>(at) + size_, page_, PROT_NONE) != 0) std::abort();
+        at_ = static_cast<std::uint8_t *>(at);
+    }
+    ~guarded() { munmap(at_, size_ + page_); }
+    guarded(const guarded &) = delete;
+    guarded &operator=(const guarded &) = delete;
+
+    // So many octets, the last ones before the page.
+    std::uint8_t *end_with(std::size_t size) const {
+        if (size > size_) std::abort();
+        return at_ + size_ - size;
+    }
+
+    oer::octets_in with(const bytes &octets) const {
+        std::copy(octets.begin(), octets.end(), end_with(octets.size()));
+        return oer::octets_in(end_with(octets.size()), octets.size());
+    }
+
+private:
+    std::size_t page_, size_;
+    std::uint8_t *at_;
+};
+
+// ---- octets
+
+static bytes from_hex(const std::string &digits) {
+    bytes octets;
+    for (std::size_t i = 0; i + 1 < digits.size() && digits[i] > ' '; i += 2)
+        octets.push_back(static_cast<std::uint8_t>(std::stoi(digits.substr(i, 2), nullptr, 16)));
+    return octets;
+}
+
+static bytes from_text(const std::string &text) { return bytes(text.begin(), text.end()); }
+
+static std::string contents(const std::string &path) {
+    std::ifstream file(path, std::ios::binary);
+    EXPECT(file.good(), path);
+    return std::string(std::istreambuf_iterator<char>(file), std::istreambuf_iterator<char>());
+}
+
+template <class T>
+static bytes copy(const oer::buffer<T> &made) {
+    return bytes(made.begin(), made.end());
+}
+
+// ---- calls
+
+// What a call answered: its error, or what it made. A check makes nothing, and `size` is `canonical`.
+struct answer {
+    oer::error error;
+    bytes made;
+    std::uint64_t read, size;
+};
+
+// That value() of a result that has an error throws it, or is empty.
+template <class T>
+static void test_value(oer::result<T> &from) {
+    EXPECT(from.ok() == static_cast<bool>(from), "bool");
+#ifdef OER_EXCEPTIONS
+    try {
+        from.value();
+        EXPECT(from.ok(), "value() throws");
+    } catch (const oer::failure &thrown) {
+        EXPECT(!from.ok() && thrown.error().status == from.error().status, thrown.what());
+        EXPECT(thrown.what() == std::string(from.error().name()), thrown.what());
+    }
+#endif
+}
+
+template <class T>
+static answer of(oer::result<oer::buffer<T>> from) {
+    test_value(from);
+    answer made = { from.error(), bytes(), 0, 0 };
+    if (!from) return made;
+    made.made = copy(from.value());
+    made.read = from.value().read();
+    made.size = from.value().size();
+    return made;
+}
+
+static answer of(oer::result<oer::checked> from) {
+    test_value(from);
+    answer made = { from.error(), bytes(), 0, 0 };
+    if (!from) return made;
+    made.read = from.value().octets;
+    made.size = from.value().canonical;
+    return made;
+}
+
+static answer call(oer::types &types, const char *name, const vector &row) {
+    static const guarded memory;
+    if (row.task == FROM_JSON) return of(types.from_json(name, row.given));
+    oer::octets_in given = memory.with(from_hex(row.given));
+    switch (row.task) {
+    case CANON:
+        return of(types.canon(name, given, row.limit));
+    case PART:
+        return of(types.part(name, given, row.path));
+    case TO_JSON:
+        return of(types.to_json(name, given, row.limit));
+    default:
+        return of(types.check(name, given));
+    }
+}
+
+// The same into a buffer.
+static oer::result<oer::written> call_into(oer::types &types, const vector &row, oer::octets_out out) {
+    bytes given = row.task == FROM_JSON ? bytes() : from_hex(row.given);
+    switch (row.task) {
+    case CANON:
+        return types.canon_into("A", given, out, row.limit);
+    case PART:
+        return types.part_into("A", given, row.path, out);
+    case TO_JSON:
+        return types.to_json_into("A", given, oer::text_out(reinterpret_cast<char *>(out.data()), out.size()), row.limit);
+    default:
+        return types.from_json_into("A", row.given, out);
+    }
+}
+
+static oer::types types_of(const std::string &type) {
+    std::string text = "A ::= " + type;
+    oer::types types;
+    oer::result<std::uint64_t> read = types.read(text);
+    test_value(read);
+    EXPECT(read.ok() && read.value() == text.size(), text);
+    return types;
+}
+
+// What the calls of the row read.
+static oer::subject subject_of(const vector &row) {
+    return row.task == FROM_JSON ? oer::subject::json : oer::subject::octets;
+}
+
+static bool is_only(const oer::error &error, std::uint32_t status) {
+    return error.status == status && error.why == 0 && error.place == 0 && error.needed == 0;
+}
+
+// ---- the table
+
+static bytes wanted(const vector &row) {
+    if (!row.answer) return bytes();
+    return row.task == TO_JSON ? from_text(row.answer) : from_hex(row.answer);
+}
+
+// Each size below what is needed is too small, and leaves the buffer as it was; of long answers some
+// sizes are tried.
+static void test_rooms(oer::types &types, const vector &row) {
+    static const guarded memory;
+    bytes want = wanted(row);
+    std::size_t room;
+    for (room = 0; room < want.size(); room += 1 + room / 64) {
+        std::uint8_t *out = memory.end_with(room);
+        std::fill(out, out + room, static_cast<std::uint8_t>(0xbb));
+        oer::result<oer::written> small = call_into(types, row, oer::octets_out(room ? out : nullptr, room));
+        EXPECT(small.error().status == OER_ROOM && small.error().needed == want.size(), row.given);
+        EXPECT(small.error().why == 0 && small.error().place == 0, row.given);
+        EXPECT(std::count(out, out + room, 0xbb) == static_cast<std::ptrdiff_t>(room), row.given);
+    }
+    room = want.size();
+    std::uint8_t *out = memory.end_with(room);
+    std::fill(out, out + room, static_cast<std::uint8_t>(0xcc));
+    oer::result<oer::written> made = call_into(types, row, oer::octets_out(out, room));
+    EXPECT(made.error().status == row.status && made.error().why == row.why, row.given);
+    EXPECT(made.error().place == (row.status ? row.octets : 0) && made.error().needed == 0, row.given);
+    EXPECT(made.ok() || made.error().of == subject_of(row), row.given);
+    if (!made) return;
+    EXPECT(made.value().size == want.size() && made.value().read == row.octets, row.given);
+    EXPECT(std::equal(want.begin(), want.end(), out), row.given);
+}
+
+static void test_vector(const vector &row) {
+    oer::types types = types_of(row.type);
+    answer made = call(types, "A", row);
+    EXPECT(made.error.status == row.status && made.error.why == row.why && made.error.needed == 0, row.given);
+    EXPECT(made.error.place == (row.status ? row.octets : 0), row.given);
+    EXPECT(made.read == (row.status ? 0 : row.octets) && made.size == row.written, row.given);
+    EXPECT(made.made == wanted(row), row.given);
+    EXPECT(!made.error.status || made.error.of == subject_of(row), row.given);
+    if (row.task != CHECK) test_rooms(types, row);
+    EXPECT(is_only(call(types, "B", row).error, OER_UNNAMED), row.given);
+    EXPECT(is_only(call(types, "", row).error, OER_UNNAMED), row.given);
+    EXPECT(is_only(call(types, "\377", row).error, OER_UNNAMED), row.given);
+    oer::types moved = std::move(types);
+    EXPECT(is_only(call(types, "A", row).error, OER_NO_TYPES), "moved from");
+    EXPECT(call(moved, "A", row).error.status == row.status, "moved to");
+    moved.free();
+    EXPECT(is_only(call(moved, "A", row).error, OER_NO_TYPES), "freed");
+    moved.free();
+    EXPECT(is_only(call(moved, "A", row).error, OER_NO_TYPES), "freed twice");
+    oer::types none;
+    EXPECT(is_only(call(none, "A", row).error, OER_NO_TYPES), "before types are read");
+}
+
+// Where an allocation fails, the header and the library say so, and the types are as before.
+static void test_memory(const vector &row) {
+    oer::types types = types_of(row.type);
+    fail_new = true;
+    oer::error error = call(types, "A", row).error;
+    fail_new = false;
+    EXPECT(is_only(error, OER_MEMORY) || row.task == CHECK, row.given);
+#ifdef FAIL_MEMORY
+    for (long nth = 1; nth <= 1000; nth++) {
+        allocations = 0;
+        fail_at = nth;
+        error = call(types, "A", row).error;
+        fail_at = 0;
+        if (allocations < nth) break;
+        EXPECT(is_only(error, OER_MEMORY), row.given);
+    }
+    allocations = 0;
+    fail_at = 1;
+    EXPECT(is_only(types.read("A ::= NULL").error(), OER_MEMORY), row.given);
+    fail_at = 0;
+#endif
+    EXPECT(call(types, "A", row).error.status == row.status, row.given);
+}
+
+// A text that is rejected leaves the types from before.
+static void test_rejected_text(const rejected_text &row) {
+    const bytes octets(1, 0xff);
+    oer::result<oer::types> none = oer::types::of(row.text);
+    test_value(none);
+    EXPECT(none.error().status == OER_REJECTED && none.error().why == row.why, row.text);
+    EXPECT(none.error().place == row.place && none.error().of == oer::subject::definitions, row.text);
+    oer::types types = types_of("BOOLEAN");
+    oer::result<std::uint64_t> read = types.read(row.text);
+    EXPECT(read.error().status == OER_REJECTED && read.error().why == row.why, row.text);
+    EXPECT(read.error().place == row.place, row.text);
+    EXPECT(types.check("A", octets).value().octets == 1, row.text);
+}
+
+// Types in place of others, by reading and by moving.
+static void test_kept_types() {
+    const bytes octets(1, 0xff);
+    oer::types types = types_of("BOOLEAN"), other = types_of("BOOLEAN"), none;
+    EXPECT(types.read("B ::= BOOLEAN").ok(), "types in place of others");
+    EXPECT(is_only(types.check("A", octets).error(), OER_UNNAMED), "the earlier types are gone");
+    EXPECT(types.check("B", octets).ok(), "the new types");
+    other = std::move(types);
+    EXPECT(other.check("B", octets).ok(), "types that were moved");
+    EXPECT(is_only(types.check("B", octets).error(), OER_NO_TYPES), "moved from");
+    other = std::move(none);
+    EXPECT(is_only(other.check("B", octets).error(), OER_NO_TYPES), "none were moved");
+    EXPECT(types.read("A ::= BOOLEAN").ok() && types.check("A", octets).ok(), "read after it was moved from");
+}
+
+// ---- arguments of each kind
+
+static void test_arguments() {
+    oer::types types = types_of("OCTET STRING");
+    const std::uint8_t array[] = { 1, 5 };
+    std::array<std::uint8_t, 2> other = { { 1, 5 } }, out = { { 0, 0 } };
+    const std::string name = "A";
+    EXPECT(types.check("A", array).value().octets == 2, "an array");
+    EXPECT(types.check(name, other).value().octets == 2, "std::array and std::string");
+    EXPECT(types.check(oer::text_in("Ab", 1), oer::octets_in(array, 2)).value().octets == 2, "numbers");
+    EXPECT(types.check("A", bytes()).error().why == OER_END, "no octets");
+    EXPECT(types.check("A", oer::octets_in()).error().why == OER_END, "no octets");
+    EXPECT(types.check("A", oer::octets_in(nullptr, 0)).error().why == OER_END, "no octets");
+    EXPECT(oer::octets_in().data() && oer::text_in(nullptr, 0).data() && oer::text_out(nullptr, 0).data(), "null");
+    EXPECT(types.canon_into("A", array, out).value().size == 2 && out[1] == 5, "std::array");
+    EXPECT(types.canon_into("A", array, oer::octets_out()).error().needed == 2, "no buffer");
+    oer::octets made = types.canon("A", array).value(), moved = std::move(made);
+    EXPECT(made.empty() && made.read() == 0 && moved.size() == 2 && moved[1] == 5 && moved.read() == 2, "moved");
+    made = std::move(moved);
+    EXPECT(moved.empty() && copy(made) == bytes(array, array + 2) && made.read() == 2, "moved");
+    EXPECT(types.check("A", made).value().octets == 2, "oer::octets");
+    EXPECT(copy(types.from_json("A", types.to_json("A", made).value()).value()) == copy(made), "oer::text");
+    EXPECT(oer::octets().size() == 0 && oer::octets().begin() == oer::octets().end(), "no octets");
+#ifdef __cpp_lib_span
+    std::span<const std::uint8_t> span = made.span();
+    EXPECT(span.size() == 2 && types.check("A", span).value().octets == 2, "std::span");
+    EXPECT(types.canon_into("A", span, std::span<std::uint8_t>(out)).value().size == 2, "std::span");
+#endif
+#ifdef __cpp_lib_string_view
+    EXPECT(types.check(std::string_view("Ab").substr(0, 1), array).ok(), "std::string_view");
+#endif
+}
+
+// A JSON that is longer than the first buffer is made with a second.
+static void test_growth() {
+    oer::types types = types_of("SEQUENCE OF SEQUENCE {a-long-name-of-a-component BOOLEAN}");
+    bytes octets = { 1, 100 };
+    octets.insert(octets.end(), 100, 0xff);
+    oer::result<oer::text> json = types.to_json("A", octets);
+    EXPECT(json.value().size() == 100 * 35 + 1 && json.value().read() == octets.size(), "JSON");
+    EXPECT(copy(types.from_json("A", json.value()).value()) == octets, "octets");
+}
+
+// ---- the certificate of the example
+
+static void test_certificate(const std::string &folder) {
+    oer::types types = oer::types::of(contents(folder + "/types.asn")).value();
+    bytes certificate = from_hex(contents(folder + "/certificate-rsu.hex"));
+    bytes basic = from_hex(contents(folder + "/certificate-rsu-basic.hex"));
+    bytes signed_part = from_hex(contents(folder + "/tbs-rsu.hex"));
+    oer::checked checked = types.check("Certificate", certificate).value();
+    EXPECT(checked.octets == 230 && checked.canonical, "certificate");
+    checked = types.check("Certificate", basic).value();
+    EXPECT(checked.octets == 236 && !checked.canonical, "basic");
+    EXPECT(copy(types.canon("Certificate", basic, 236).value()) == certificate, "canon");
+    EXPECT(types.canon("Certificate", basic, 235).error().why == OER_LIMIT, "limit");
+    EXPECT(copy(types.part("Certificate", certificate, "c3").value()) == signed_part, "toBeSigned");
+    oer::text json = types.to_json("Certificate", basic).value();
+    EXPECT(copy(types.from_json("Certificate", json).value()) == certificate, "json");
+}
+
+// ---- the numbers of the header
+
+// The name as the header has it: LengthForm is LENGTH_FORM there.
+static std::string spelt(const char *name) {
+    std::string made;
+    for (; *name; name++) {
+        if (*name >= 'A' && *name <= 'Z' && !made.empty()) made += '_';
+        made += *name >= 'a' && *name <= 'z' ? static_cast<char>(*name - 'a' + 'A') : *name;
+    }
+    return made;
+}
+
+static std::string name_of(std::uint32_t status, std::uint32_t why, oer::subject of) {
+    oer::error error = { status, why, 0, 0, of };
+    return spelt(error.name());
+}
+
+static void test_numbers(const std::string &file) {
+    std::istringstream lines(contents(file));
+    std::string line, kind, name;
+    std::uint32_t number, tested = 0, statuses = 0;
+    while (std::getline(lines, line)) {
+        std::istringstream words(line);
+        words >> kind;
+        if (kind != "number") continue;
+        words >> name >> number;
+        EXPECT(name.compare(0, 4, "OER_") == 0, name);
+        name = name.substr(4);
+        bool status = statuses <= OER_NO_JSON;
+        oer::subject of = oer::subject::octets;
+        if (name.compare(0, 5, "TEXT_") == 0) of = oer::subject::definitions;
+        if (name.compare(0, 5, "JSON_") == 0) of = oer::subject::json;
+        if (of != oer::subject::octets) name = name.substr(5);
+        if (status) EXPECT(name == "REJECTED" || name_of(number, 0, of) == name, name);
+        else EXPECT(name_of(OER_REJECTED, number, of) == name, name);
+        statuses += status;
+        tested++;
+    }
+    EXPECT(tested == 50, std::to_string(tested) + " numbers");
+    EXPECT(name_of(OER_REJECTED, 0, oer::subject::octets) == "UNKNOWN", "no reason");
+    EXPECT(name_of(OER_REJECTED, 99, oer::subject::json) == "UNKNOWN", "no reason");
+    EXPECT(name_of(99, 0, oer::subject::json) == "UNKNOWN", "no status");
+    EXPECT(oer::version() == OER_VERSION_NUMBER, "the version");
+}
+
+// ---- random octets
+
+static std::uint64_t random_state = 88172645463325252u;
+
+static std::uint32_t random_below(std::uint32_t bound) {
+    random_state ^= random_state << 13;
+    random_state ^= random_state >> 7;
+    random_state ^= random_state << 17;
+    return static_cast<std::uint32_t>(random_state >> 33) % bound;
+}
+
+// Small octets, so that many strings are encodings; or an octet of any kind.
+static std::uint8_t random_octet() {
+    static const std::uint8_t common[] = { 0x00, 0x01, 0x02, 0x03, 0x80, 0x81, 0x82, 0xff, 0x20, 0x60 };
+    return random_below(4) ? common[random_below(sizeof common)] : static_cast<std::uint8_t>(random_below(256));
+}
+
+// How many strings are encodings, and how many of these are canonical.
+static long encodings, canonicals;
+
+// That check and canon agree on the octets.
+static void compare(oer::types &types, oer::octets_in given) {
+    oer::result<oer::checked> checked = types.check("A", given);
+    oer::result<oer::octets> canon = types.canon("A", given);
+    EXPECT(canon.error().status == checked.error().status && canon.error().why == checked.error().why, "error");
+    EXPECT(canon.error().place == checked.error().place && canon.error().place <= given.size(), "place");
+    if (!checked) {
+        EXPECT(checked.error().status == OER_REJECTED && checked.error().name() != std::string("Unknown"), "a reason");
+        return;
+    }
+    const oer::octets &made = canon.value();
+    encodings++;
+    canonicals += checked.value().canonical;
+    EXPECT(made.read() == checked.value().octets && made.read() <= given.size(), "octets");
+    bool same = made.size() == made.read() && std::equal(made.begin(), made.end(), given.data());
+    EXPECT(same == checked.value().canonical, "canonical");
+    oer::result<oer::checked> again = types.check("A", made);
+    EXPECT(again.ok() && again.value().octets == made.size() && again.value().canonical, "canonical octets");
+}
+
+// The types of the vectors, each once.
+static std::vector<std::string> kinds() {
+    std::vector<std::string> found;
+    for (const vector &row : vectors)
+        if (std::find(found.begin(), found.end(), row.type) == found.end()) found.push_back(row.type);
+    return found;
+}
+
+static void test_random(long strings) {
+    const guarded memory;
+    const std::vector<std::string> all = kinds();
+    long tried = 0;
+    for (std::size_t i = 0; i < all.size(); i++) {
+        oer::types types = types_of(all[i]);
+        for (; tried < strings * static_cast<long>(i + 1) / static_cast<long>(all.size()); tried++) {
+            bytes octets(random_below(25));
+            std::generate(octets.begin(), octets.end(), random_octet);
+            compare(types, memory.with(octets));
+        }
+    }
+    EXPECT(tried == strings && strings > 0, "strings");
+    EXPECT(encodings > strings / 10 && encodings < strings, "encodings");
+    EXPECT(canonicals > 0 && canonicals < encodings, "canonical encodings");
+}
+
+int main(int count, char **words) {
+    if (count != 4) {
+        std::puts("usage: test FOLDER STRINGS TABLE");
+        return 2;
+    }
+    for (const vector &row : vectors) test_vector(row);
+    for (const vector &row : vectors) test_memory(row);
+    for (const rejected_text &row : rejected_texts) test_rejected_text(row);
+    test_kept_types();
+    test_arguments();
+    test_growth();
+    test_certificate(words[1]);
+    test_numbers(words[3]);
+    test_random(std::atol(words[2]));
+    if (!differs)
+        std::printf("%d vectors, %ld encodings of %s strings, %ld of them canonical\n",
+                    static_cast<int>(sizeof vectors / sizeof *vectors), encodings, words[2], canonicals);
+    return differs;
+}

@@ -1,0 +1,456 @@
+"""Encodings of ASN.1 values by the octet encoding rules (ITU-T X.696), over the proved library liboer.
+
+A Types holds definitions that were read. By the types in it octets are checked, rewritten as canonical
+octets, taken apart, shown as JSON, and made from JSON:
+
+    with oer.Types("Flags ::= SEQUENCE OF BOOLEAN") as types:
+        types.check("Flags", b"\\x02\\x00\\x02\\x01\\x07")   # Checked(octets=5, canonical=False)
+        types.canon("Flags", b"\\x02\\x00\\x02\\x01\\x07")   # Canonical(octets=b"\\x01\\x02\\xff\\xff", read=5)
+
+Octets are bytes, or whatever bytes() takes as a buffer. Names, paths, definitions and JSON are str, or
+UTF-8 as bytes. Lengths and places are numbers of octets. The notation of definitions is in NOTATION.md,
+that of paths in COMMAND.md, and the JSON in JSON.md.
+
+The library is the file that the variable OER_LIB of the environment names, or liboer.so in the folder
+that OER_LIB_DIR names, or the one that the system finds. Where there is none, or one of another version,
+to import this module raises ImportError.
+
+Threads: a Types belongs to the thread that made it. A call from another one raises WrongThread, and the
+library is not called. Each thread may have a Types of its own, and calls on them run at the same time. A
+Types that is collected in another thread, without a close() before, is not freed, with a ResourceWarning.
+No call may be made in the child of a fork of a process with threads.
+"""
+
+import ctypes
+import ctypes.util
+import enum
+import os
+import threading
+import warnings
+from types import TracebackType
+from typing import Any, Callable, Dict, NamedTuple, Optional, Tuple, Type, Union
+
+__all__ = [
+    "VERSION_NUMBER", "version", "Types", "Checked", "Canonical", "Json", "Reason", "TextReason", "JsonReason",
+    "Error", "Rejected", "OctetsRejected", "DefinitionsRejected", "JsonRejected", "NoTypes", "Unnamed",
+    "OutOfMemory", "NoPath", "NoStep", "Absent", "NotJson", "WrongThread",
+]
+
+VERSION_NUMBER = 100
+"""The version of the header that this module was written for: 10,000 times the major number, 100 times the
+minor number, and the patch. A library with the same major and minor number is taken."""
+
+Octets = Union[bytes, bytearray, memoryview]
+Text = Union[str, bytes]
+
+
+class Reason(enum.IntEnum):
+    """Why octets are rejected. ENCODING.md says in which order the reasons are looked for."""
+
+    END = 3  # they end within the value
+    LIMIT = 4  # they would pass the limit
+    WINDOW = 5  # they would pass the end of the addition or alternative that they are in, or end before it
+    LENGTH_FORM = 6  # a length begins with 80
+    EMPTY_NUMBER = 7  # a number of no octets
+    INTEGER_RANGE = 8  # a number outside its range or bounds
+    ENUM_FORM = 9  # an enumeration with count 0, or outside 64 bits
+    UNKNOWN_ENUM = 10  # a number that isn't listed, in an enumeration without a marker
+    SIZE = 11  # a size outside its constraint, or above 2^64 - 1
+    CHARACTER = 12  # a character outside the type, or not UTF-8
+    BIT_UNUSED = 13  # a BIT STRING without an initial octet, or with a wrong one
+    OBJECT_ID = 14  # contents that are no object identifier
+    PREAMBLE_PADDING = 15  # a preamble with a bit set after its last one
+    TAG_FORM = 16  # no tag, or one with a number above 2^32 - 1
+    UNKNOWN_ALTERNATIVE = 17  # a tag that no alternative has, in a CHOICE without a marker
+    UNKNOWN_ADDITION = 18  # a bit set for an addition past place 65,535
+
+
+class TextReason(enum.IntEnum):
+    """Why definitions are rejected (NOTATION.md)."""
+
+    NOT_UTF8 = 0  # the text is not UTF-8
+    TOKEN = 2  # no token begins here, or it has no end
+    SYNTAX = 3  # a token that the grammar doesn't have here
+    NUMBER = 4  # a number out of range for its place
+    NAME = 5  # a name that no earlier definition has
+    REPEATED = 6  # a name that is defined twice
+    MIXED = 7  # tags on some alternatives only, or numbers on some items only
+    DEFAULT = 8  # a value that isn't in the notation of the component's type
+    TOO_DEEP = 9  # a type of more than 32 levels
+    TOO_MANY_PARTS = 10  # a type of more than 4,096 parts
+    BOUND_ORDER = 11  # a lower bound above the upper bound
+    SIZE_ORDER = 12  # a least size above the greatest
+    BAD_NAME = 13  # a name that is no identifier; no text has this fault
+    REPEATED_NAME = 14  # the same name twice in a SEQUENCE, CHOICE or ENUMERATED
+    NO_ITEMS = 15  # no items or alternatives; no text has this fault
+    REPEATED_NUMBER = 16  # the same number twice in an ENUMERATED
+    REPEATED_TAG = 17  # the same tag twice in a CHOICE
+    DEFAULT_MISFIT = 18  # a default that doesn't fit its type
+    EMPTY_ELEMENT = 19  # a SEQUENCE OF whose elements may take no octets
+
+
+class JsonReason(enum.IntEnum):
+    """Why JSON is rejected (JSON.md)."""
+
+    KIND = 2  # JSON of another kind than the type's values have, or of another form
+    NAME = 3  # a key that the type doesn't have, or a text that is no item's name
+    MISSING = 4  # a component that must be there has no key
+    RANGE = 5  # a number out of range
+    MISFIT = 6  # a value of the right form that doesn't fit the type
+
+
+AnyReason = Union[Reason, TextReason, JsonReason]
+
+
+class Error(Exception):
+    """A call has no answer. The types are as before."""
+
+
+class Rejected(Error):
+    """Octets, definitions or JSON are rejected."""
+
+    what = "input"
+
+    def __init__(self, reason: AnyReason, place: Optional[int]) -> None:
+        at = "" if place is None else f", place {place}"
+        super().__init__(f"{self.what} rejected: {reason.name}{at}")
+        self.reason = reason
+        """What is wrong."""
+        self.place = place
+        """Where, in octets; the classes below say what is counted."""
+
+    def __reduce__(self) -> Tuple[Any, ...]:
+        return (type(self), (self.reason, self.place))
+
+
+class OctetsRejected(Rejected):
+    """The octets don't begin with an encoding of a value of the type. `reason` is a Reason, `place` how
+    many octets had been looked at."""
+
+    what = "octets"
+
+
+class DefinitionsRejected(Rejected):
+    """The text spells no types. `reason` is a TextReason, `place` the octet of the text, counted from 0, at
+    which the token or type begins that shows the fault."""
+
+    what = "definitions"
+
+
+class JsonRejected(Rejected):
+    """The JSON is no value of the type. `reason` is a JsonReason, and `place` is None."""
+
+    what = "JSON"
+
+
+class NoTypes(Error):
+    """There are no types: none were read, or they were freed."""
+
+
+class Unnamed(Error):
+    """No definition has the name."""
+
+
+class OutOfMemory(Error, MemoryError):
+    """An allocation failed in the library. One in Python is a MemoryError."""
+
+
+class NoPath(Error):
+    """The text is not a path."""
+
+
+class NoStep(Error):
+    """The path has a step that the type doesn't have, one past the last element, or one to an addition that
+    the type doesn't know and that isn't there; or it goes on from a part that the type doesn't know."""
+
+
+class Absent(Error):
+    """The path leads to a component or a known addition that is absent."""
+
+
+class NotJson(Error):
+    """The text is not JSON, or not UTF-8."""
+
+
+class WrongThread(Error):
+    """A call on a Types from another thread than the one that made it."""
+
+
+class Checked(NamedTuple):
+    """What check() returns."""
+
+    octets: int
+    """How many octets the encoding has."""
+    canonical: bool
+    """Whether it is the canonical one."""
+
+
+class Canonical(NamedTuple):
+    """What canon() returns."""
+
+    octets: bytes
+    """The canonical octets of the value."""
+    read: int
+    """How many octets the encoding has that was read."""
+
+
+class Json(NamedTuple):
+    """What to_json() returns."""
+
+    text: str
+    """The JSON of the value."""
+    read: int
+    """How many octets the encoding has that was read."""
+
+
+# ---- the calls, as oer.h has them
+
+_OK, _REJECTED, _NO_TYPES, _UNNAMED, _MEMORY, _ROOM, _NO_PATH, _NO_STEP, _ABSENT, _NO_JSON = range(10)
+_NO_LIMIT = 2**64 - 1
+_KEPT = 65536  # a buffer of more octets is not kept for the next call
+
+
+class _Types(ctypes.Structure):
+    _fields_ = [("at_", ctypes.c_void_p), ("full_", ctypes.c_uint32)]
+
+
+class _Parsed(ctypes.Structure):
+    _fields_ = [("status", ctypes.c_uint32), ("why", ctypes.c_uint32), ("place", ctypes.c_uint64)]
+
+
+class _Checked(ctypes.Structure):
+    _fields_ = [("status", ctypes.c_uint32), ("why", ctypes.c_uint32), ("octets", ctypes.c_uint64),
+                ("canonical", ctypes.c_uint32)]
+
+
+class _Written(ctypes.Structure):
+    _fields_ = [("status", ctypes.c_uint32), ("why", ctypes.c_uint32), ("octets", ctypes.c_uint64),
+                ("written", ctypes.c_uint64)]
+
+
+def _file() -> str:
+    """The file of the library."""
+    file = os.environ.get("OER_LIB")
+    if file:
+        return file
+    folder = os.environ.get("OER_LIB_DIR")
+    if folder:
+        return os.path.join(folder, "liboer.so")
+    return ctypes.util.find_library("oer") or "liboer.so.0"
+
+
+def _load() -> ctypes.CDLL:
+    """The library, with the types of its calls. Raises ImportError."""
+    file = _file()
+    try:
+        library = ctypes.CDLL(file)
+        library.oer_version.argtypes, library.oer_version.restype = [], ctypes.c_uint32
+        found = library.oer_version()
+    except (OSError, AttributeError) as problem:
+        raise ImportError(f"no liboer (OER_LIB and OER_LIB_DIR say where it is): {problem}") from problem
+    if found // 100 != VERSION_NUMBER // 100:
+        raise ImportError(f"{file} has version number {found}, and this module is for {VERSION_NUMBER}")
+    handle, size, limit = ctypes.POINTER(_Types), ctypes.c_size_t, ctypes.c_uint64
+    given, out = [ctypes.c_char_p, size], [ctypes.c_void_p, size]
+    calls: Dict[str, Tuple[Any, Any]] = {
+        "oer_types_read": ([handle] + given, _Parsed),
+        "oer_types_free": ([handle], None),
+        "oer_check": ([handle] + given + given, _Checked),
+        "oer_canon": ([handle] + given + given + [limit] + out, _Written),
+        "oer_part": ([handle] + given + given + given + out, _Written),
+        "oer_to_json": ([handle] + given + given + [limit] + out, _Written),
+        "oer_from_json": ([handle] + given + given + out, _Written),
+    }
+    for name, (arguments, answer) in calls.items():
+        call = getattr(library, name)
+        call.argtypes, call.restype = arguments, answer
+    return library
+
+
+_library = _load()
+
+
+def version() -> int:
+    """The version of the library, as VERSION_NUMBER has that of the header."""
+    return int(_library.oer_version())
+
+
+_ERRORS: Dict[int, Type[Error]] = {
+    _NO_TYPES: NoTypes, _UNNAMED: Unnamed, _MEMORY: OutOfMemory, _NO_PATH: NoPath, _NO_STEP: NoStep,
+    _ABSENT: Absent, _NO_JSON: NotJson,
+}
+
+
+def _error(status: int) -> Error:
+    """The exception of a status other than OK and REJECTED."""
+    kind = _ERRORS.get(status)
+    if kind is None:
+        return Error(f"status {status}")
+    return kind((kind.__doc__ or "").partition(".")[0])
+
+
+def _octets(octets: Octets) -> bytes:
+    """Octets that nothing else changes during the call."""
+    return octets if type(octets) is bytes else bytes(memoryview(octets))
+
+
+def _text(text: Text) -> bytes:
+    """A text as octets. Half of a surrogate pair is kept, as octets that are not UTF-8."""
+    return text.encode("utf-8", "surrogatepass") if isinstance(text, str) else _octets(text)
+
+
+def _limited(limit: Optional[int]) -> int:
+    """A limit as the library takes it. None, and what it has no number for, rejects nothing."""
+    if limit is None:
+        return _NO_LIMIT
+    if limit < 0:
+        raise ValueError("a limit is not negative")
+    return min(limit, _NO_LIMIT)
+
+
+class Types:
+    """Definitions that were read, by their names; or none.
+
+    It belongs to the thread that made it. It is freed by close(), by the end of a `with`, or when it is
+    collected in its thread.
+
+    Each call may raise WrongThread. Those that take a name raise NoTypes if there are no types, and Unnamed
+    if no definition has the name; all may raise OutOfMemory, except check() and close(). Their further
+    exceptions stand with each. After an exception the types are those from before.
+    """
+
+    def __init__(self, definitions: Optional[Text] = None) -> None:
+        """Reads the definitions, as read() does; without any there are no types."""
+        self._held = _Types()
+        self._at = ctypes.byref(self._held)
+        self._thread = threading.get_ident()
+        self._room: Optional[Any] = None
+        if definitions is not None:
+            self.read(definitions)
+
+    def read(self, definitions: Text) -> None:
+        """Reads definitions, each `Name ::= type`, in place of the types that were there.
+
+        Raises DefinitionsRejected if the text spells no types.
+        """
+        self._own()
+        text = _text(definitions)
+        parsed = _library.oer_types_read(self._at, text, len(text))
+        if parsed.status == _REJECTED:
+            raise DefinitionsRejected(TextReason(parsed.why), parsed.place)
+        if parsed.status != _OK:
+            raise _error(parsed.status)
+
+    def close(self) -> None:
+        """Frees the types. After it there are none, and types may be read again. It may be called twice."""
+        self._own()
+        _library.oer_types_free(self._at)
+
+    def check(self, name: Text, octets: Octets) -> Checked:
+        """Whether the octets begin with an encoding of a value of the type with the name, in any spelling
+        that the rules allow (Basic-OER): how long it is, and whether it is the canonical one. What follows
+        it is not looked at.
+
+        Raises OctetsRejected if they don't.
+        """
+        self._own()
+        named, given = _text(name), _octets(octets)
+        answer = _library.oer_check(self._at, named, len(named), given, len(given))
+        if answer.status == _OK:
+            return Checked(answer.octets, bool(answer.canonical))
+        raise self._rejection(answer, answer.octets)
+
+    def canon(self, name: Text, octets: Octets, limit: Optional[int] = None) -> Canonical:
+        """The canonical octets (Canonical-OER) of the value whose encoding, of at most `limit` octets, is at
+        the front of the octets. What follows it is not looked at.
+
+        Raises OctetsRejected if there is no such encoding.
+        """
+        named, given = _text(name), _octets(octets)
+        made, read = self._gather(
+            _library.oer_canon, (named, len(named), given, len(given), _limited(limit)), len(given))
+        return Canonical(made, read)
+
+    def part(self, name: Text, octets: Octets, path: Text) -> bytes:
+        """The part of the encoding at the front of the octets to which the path leads, as it stands in them.
+        A path is steps joined by dots: c0 a component, a0 an addition, i0 an element, v the alternative
+        chosen. What follows the encoding is not looked at.
+
+        Raises OctetsRejected if the octets don't begin with an encoding; NoPath, NoStep, Absent.
+        """
+        named, given, steps = _text(name), _octets(octets), _text(path)
+        made, _ = self._gather(
+            _library.oer_part, (named, len(named), given, len(given), steps, len(steps)), len(given))
+        return made
+
+    def to_json(self, name: Text, octets: Octets, limit: Optional[int] = None) -> Json:
+        """The JSON of the value whose encoding, of at most `limit` octets, is at the front of the octets.
+        What follows it is not looked at.
+
+        Raises OctetsRejected if there is no such encoding.
+        """
+        named, given = _text(name), _octets(octets)
+        made, read = self._gather(
+            _library.oer_to_json, (named, len(named), given, len(given), _limited(limit)), 4 * len(given) + 64)
+        return Json(made.decode("utf-8"), read)
+
+    def from_json(self, name: Text, json: Text) -> bytes:
+        """The canonical octets of the value that the JSON stands for.
+
+        Raises NotJson if the text is not JSON, and JsonRejected if the JSON is no value of the type.
+        """
+        named, given = _text(name), _text(json)
+        made, _ = self._gather(
+            _library.oer_from_json, (named, len(named), given, len(given)), len(given), json=True)
+        return made
+
+    def __enter__(self) -> "Types":
+        return self
+
+    def __exit__(self, kind: Optional[Type[BaseException]], problem: Optional[BaseException],
+                 trace: Optional[TracebackType]) -> None:
+        self.close()
+
+    def __del__(self) -> None:
+        if not hasattr(self, "_thread"):
+            return
+        if threading.get_ident() == self._thread:
+            _library.oer_types_free(self._at)
+        else:
+            warnings.warn("an oer.Types was collected in another thread, and is not freed", ResourceWarning)
+
+    def __reduce__(self) -> Tuple[Any, ...]:
+        raise TypeError("an oer.Types is neither copied nor pickled")
+
+    def _own(self) -> None:
+        """Raises WrongThread in another thread than the one that made the types."""
+        if threading.get_ident() != self._thread:
+            raise WrongThread("the types belong to another thread")
+
+    def _rejection(self, answer: Any, place: int) -> Error:
+        """The exception of an answer about octets that is not OK."""
+        if answer.status == _REJECTED:
+            return OctetsRejected(Reason(answer.why), place)
+        return _error(answer.status)
+
+    def _gather(self, call: Callable[..., Any], given: Tuple[Any, ...], room: int,
+                json: bool = False) -> Tuple[bytes, int]:
+        """Calls with a buffer of at least `room` octets, and where that is too small once more with as many
+        as are needed. Returns what was written, and how many octets were read. A small buffer is kept for the
+        next call, but not during the call, so that one from within (by a finalizer) has its own."""
+        self._own()
+        out, self._room = self._room, None
+        if out is None or len(out) < room:
+            out = ctypes.create_string_buffer(max(room, 1024))
+        answer = call(self._at, *given, out, len(out))
+        if answer.status == _ROOM:
+            out = ctypes.create_string_buffer(answer.written)
+            answer = call(self._at, *given, out, len(out))
+        made = ctypes.string_at(out, answer.written) if answer.status == _OK else b""
+        if len(out) <= _KEPT:
+            self._room = out
+        if answer.status == _OK:
+            return made, answer.octets
+        if json and answer.status == _REJECTED:
+            raise JsonRejected(JsonReason(answer.why), None)
+        raise self._rejection(answer, answer.octets)

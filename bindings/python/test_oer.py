@@ -1,0 +1,380 @@
+"""The vectors of the tests in C, through the module; and random octets, as many strings as the variable
+OER_STRINGS says. OER_LIB_DIR or OER_LIB says where the library is. The table of vectors is the file that
+OER_TABLE names, or else what bindings/table prints."""
+
+import collections
+import copy
+import ctypes
+import ctypes.util
+import gc
+import os
+import pickle
+import random
+import subprocess
+import sys
+import threading
+import unittest
+import warnings
+from typing import Any, Callable, List, NamedTuple, Optional, Tuple
+from unittest import mock
+
+import oer
+
+HERE = os.path.dirname(os.path.abspath(__file__))
+EXAMPLE = os.path.join(HERE, "..", "..", "examples", "ieee1609dot2")
+
+
+def table() -> List[List[str]]:
+    file = os.environ.get("OER_TABLE")
+    if file:
+        with open(file, encoding="ascii") as lines:
+            return [line.rstrip("\n").split("\t") for line in lines]
+    made = subprocess.run([os.path.join(HERE, "..", "table")], check=True, stdout=subprocess.PIPE)
+    return [line.split("\t") for line in made.stdout.decode("ascii").splitlines()]
+
+
+TABLE = table()
+
+
+def rows(kind: str) -> List[List[str]]:
+    found = [row[1:] for row in TABLE if row[0] == kind]
+    if not found:
+        raise AssertionError(f"the table has no {kind}")
+    return found
+
+
+def from_hex(digits: str) -> bytes:
+    return b"" if digits == "-" else bytes.fromhex(digits)
+
+
+class Vector(NamedTuple):
+    """A call and what it has to answer."""
+
+    task: str
+    kind: bytes
+    given: bytes
+    path: bytes
+    limit: int
+    status: int
+    why: int
+    octets: int
+    written: int
+    answer: bytes
+
+    def call(self, types: oer.Types, name: Any) -> Any:
+        if self.task == "check":
+            return types.check(name, self.given)
+        if self.task == "canon":
+            return types.canon(name, self.given, self.limit)
+        if self.task == "part":
+            return types.part(name, self.given, self.path)
+        if self.task == "to_json":
+            return types.to_json(name, self.given, self.limit)
+        return types.from_json(name, self.given)
+
+    def wanted(self) -> Any:
+        """What is returned."""
+        if self.task == "check":
+            return (self.octets, self.written == 1)
+        if self.task == "canon":
+            return (self.answer, self.octets)
+        if self.task == "to_json":
+            return (self.answer.decode("utf-8"), self.octets)
+        return self.answer
+
+    def raised(self) -> Tuple[type, Optional[int], Optional[int]]:
+        """Which exception is raised, with its reason and place."""
+        if self.status == 1:
+            if self.task == "from_json":
+                return (oer.JsonRejected, self.why, None)
+            return (oer.OctetsRejected, self.why, self.octets)
+        return ({6: oer.NoPath, 7: oer.NoStep, 8: oer.Absent, 9: oer.NotJson}[self.status], None, None)
+
+
+VECTORS = [
+    Vector(row[0], from_hex(row[1]), from_hex(row[2]), from_hex(row[3]), int(row[4]), int(row[5]), int(row[6]),
+           int(row[7]), int(row[8]), from_hex(row[9]))
+    for row in rows("vector")
+]
+
+
+def types_of(kind: bytes) -> oer.Types:
+    return oer.Types(b"A ::= " + kind)
+
+
+def hex_file(name: str) -> bytes:
+    with open(os.path.join(EXAMPLE, name), encoding="ascii") as file:
+        return bytes.fromhex(file.read())
+
+
+class Calls(unittest.TestCase):
+    def raised(self, call: Callable[[], Any]) -> Tuple[type, Optional[int], Optional[int]]:
+        with self.assertRaises(oer.Error) as caught:
+            call()
+        problem = caught.exception
+        self.assertNotEqual(str(problem), "")
+        return (type(problem), getattr(problem, "reason", None), getattr(problem, "place", None))
+
+    def test_vectors(self) -> None:
+        for row in VECTORS:
+            with self.subTest(row=row), types_of(row.kind) as types:
+                if row.status == 0:
+                    self.assertEqual(row.call(types, "A"), row.wanted())
+                else:
+                    self.assertEqual(self.raised(lambda: row.call(types, "A")), row.raised())
+                for name in ("B", "", b"\xff"):
+                    self.assertEqual(self.raised(lambda: row.call(types, name)), (oer.Unnamed, None, None))
+
+    def test_calls_without_types(self) -> None:
+        for row in VECTORS:
+            with self.subTest(row=row):
+                types = types_of(row.kind)
+                for _ in range(2):
+                    types.close()
+                    self.assertEqual(self.raised(lambda: row.call(types, "A")), (oer.NoTypes, None, None))
+                self.assertEqual(self.raised(lambda: row.call(oer.Types(), "A")), (oer.NoTypes, None, None))
+                with types_of(row.kind) as left:
+                    pass
+                self.assertEqual(self.raised(lambda: row.call(left, "A")), (oer.NoTypes, None, None))
+
+    def test_rejected_definitions(self) -> None:
+        for text, why, place in rows("rejected"):
+            with self.subTest(text=from_hex(text)):
+                wanted = (oer.DefinitionsRejected, int(why), int(place))
+                self.assertEqual(self.raised(lambda: oer.Types(from_hex(text))), wanted)
+                types = types_of(b"BOOLEAN")
+                self.assertEqual(self.raised(lambda: types.read(from_hex(text))), wanted)
+                self.assertEqual(types.check("A", b"\xff"), (1, True))
+
+    def test_types_in_place_of_others(self) -> None:
+        types = types_of(b"BOOLEAN")
+        types.read("B ::= BOOLEAN")
+        self.assertEqual(self.raised(lambda: types.check("A", b"\xff")), (oer.Unnamed, None, None))
+        self.assertEqual(types.check("B", b"\xff"), oer.Checked(octets=1, canonical=True))
+
+    def test_arguments(self) -> None:
+        types = types_of(b"OCTET STRING")
+        for octets in (b"\x01\x05", bytearray(b"\x01\x05"), memoryview(b"\x00\x01\x05")[1:]):
+            self.assertEqual(types.canon("A", octets), oer.Canonical(octets=b"\x01\x05", read=2))
+        for octets in ("0105", 2, None, [1, 5]):
+            self.assertRaises(TypeError, types.check, "A", octets)
+        for name in (2, None):
+            self.assertRaises(TypeError, types.check, name, b"\x01\x05")
+        self.assertEqual(self.raised(lambda: types.check("\ud800", b"")), (oer.Unnamed, None, None))
+        self.assertEqual(self.raised(lambda: types.canon("A", b"\x01\x05", 1)), (oer.OctetsRejected, 4, 1))
+        self.assertEqual(types.canon("A", b"\x01\x05", 2**70).read, 2)
+        self.assertRaises(ValueError, types.to_json, "A", b"\x01\x05", -1)
+
+    def test_types_are_freed(self) -> None:
+        with mock.patch.object(oer, "_library", wraps=oer._library) as library:
+            def freed() -> int:
+                return library.oer_types_free.call_count
+
+            with types_of(b"NULL"):
+                self.assertEqual(freed(), 0)
+            self.assertEqual(freed(), 2)
+            types = types_of(b"NULL")
+            types.close()
+            self.assertEqual(freed(), 3)
+            del types
+            self.assertEqual(freed(), 4)
+
+    def test_other_statuses(self) -> None:
+        types = types_of(b"NULL")
+        for status, wanted in ((4, oer.OutOfMemory), (42, oer.Error)):
+            with mock.patch.object(oer, "_library") as library:
+                library.oer_types_read.return_value = oer._Parsed(status, 0, 0)
+                library.oer_check.return_value = oer._Checked(status, 0, 0, 0)
+                library.oer_canon.return_value = oer._Written(status, 0, 0, 0)
+                for call in (lambda: types.read("A ::= NULL"), lambda: types.check("A", b""),
+                             lambda: types.canon("A", b"")):
+                    self.assertEqual(self.raised(call), (wanted, None, None))
+        self.assertEqual(types.check("A", b""), (0, True))
+
+    def test_exceptions(self) -> None:
+        types = types_of(b"OCTET STRING")
+        with self.assertRaises(oer.Rejected) as caught:
+            types.check("A", b"\x03\x61")
+        problem = caught.exception
+        self.assertEqual((problem.reason, problem.place), (oer.Reason.END, 2))
+        self.assertEqual(str(problem), "octets rejected: END, place 2")
+        again = pickle.loads(pickle.dumps(problem))
+        self.assertEqual((type(again), again.reason, again.place), (oer.OctetsRejected, oer.Reason.END, 2))
+        self.assertRaises(TypeError, copy.copy, types)
+        self.assertTrue(issubclass(oer.OutOfMemory, MemoryError))
+
+    def test_large_buffers(self) -> None:
+        types = types_of(b"SEQUENCE OF SEQUENCE {a-long-name-of-a-component BOOLEAN}")
+        for count in (100, 200, 3000, 3):
+            octets = bytes([2, count // 256, count % 256]) + b"\xff" * count
+            json = types.to_json("A", octets)
+            self.assertEqual((len(json.text), json.read), (count * 35 + 1, len(octets)))
+            self.assertEqual(types.from_json("A", json.text)[-count:], b"\xff" * count)
+            self.assertLessEqual(len(types._room or b""), oer._KEPT)
+
+    def test_call_within_a_call(self) -> None:
+        types = types_of(b"OCTET STRING")
+        types.canon("A", b"\x01\x05")
+        within: List[bytes] = []
+        canon = oer._library.oer_canon
+
+        def call(*given: Any) -> Any:
+            answer = canon(*given)
+            if not within:
+                within.append(b"")
+                within[0] = types.canon("A", b"\x01\x06").octets
+            return answer
+
+        with mock.patch.object(oer, "_library", wraps=oer._library) as library:
+            library.oer_canon.side_effect = call
+            self.assertEqual(types.canon("A", b"\x01\x05").octets, b"\x01\x05")
+        self.assertEqual(within, [b"\x01\x06"])
+
+    def test_certificate(self) -> None:
+        with open(os.path.join(EXAMPLE, "types.asn"), encoding="utf-8") as file:
+            types = oer.Types(file.read())
+        certificate, basic = hex_file("certificate-rsu.hex"), hex_file("certificate-rsu-basic.hex")
+        self.assertEqual(types.check("Certificate", certificate), (230, True))
+        self.assertEqual(types.check("Certificate", basic), (236, False))
+        self.assertEqual(types.canon("Certificate", basic, 236), (certificate, 236))
+        rejected = self.raised(lambda: types.canon("Certificate", basic, 235))
+        self.assertEqual(rejected[:2], (oer.OctetsRejected, oer.Reason.LIMIT))
+        self.assertEqual(types.part("Certificate", certificate, "c3"), hex_file("tbs-rsu.hex"))
+        json = types.to_json("Certificate", basic)
+        self.assertEqual(types.from_json("Certificate", json.text), certificate)
+
+
+class Header(unittest.TestCase):
+    """That numbers and structs are those of oer.h."""
+
+    def test_numbers(self) -> None:
+        found = {"OER_" + reason.name: reason.value for reason in oer.Reason}
+        found.update({"OER_TEXT_" + reason.name: reason.value for reason in oer.TextReason})
+        found.update({"OER_JSON_" + reason.name: reason.value for reason in oer.JsonReason})
+        statuses = "OK REJECTED NO_TYPES UNNAMED MEMORY ROOM NO_PATH NO_STEP ABSENT NO_JSON".split()
+        found.update({"OER_" + name: getattr(oer, "_" + name) for name in statuses})
+        self.assertEqual(found, {name: int(number) for name, number in rows("number")})
+
+    def test_layout(self) -> None:
+        def place(field: Any) -> str:
+            return f"{field.offset}+{field.size}"
+
+        structs = {"oer_types": oer._Types, "oer_parsed": oer._Parsed, "oer_checked": oer._Checked,
+                   "oer_written": oer._Written}
+        found = [
+            [name, str(ctypes.sizeof(struct))] + [place(getattr(struct, field[0])) for field in struct._fields_]
+            for name, struct in structs.items()
+        ]
+        self.assertEqual(found, rows("layout"))
+
+    def test_version(self) -> None:
+        self.assertEqual([[str(oer.version())]], rows("version"))
+        self.assertEqual(oer.VERSION_NUMBER, oer.version())
+
+    def test_no_library(self) -> None:
+        for file in (os.path.join(HERE, "none.so"), __file__, ctypes.util.find_library("c") or __file__):
+            run = subprocess.run([sys.executable, "-c", "import oer"], cwd=HERE, stderr=subprocess.PIPE,
+                                 env={**os.environ, "OER_LIB": file})
+            self.assertEqual(run.returncode, 1)
+            self.assertIn(b"ImportError: no liboer", run.stderr)
+
+    def test_left_at_the_end(self) -> None:
+        program = "import oer; types = oer.Types('A ::= NULL'); again = [types]; print(types.check('A', b''))"
+        run = subprocess.run([sys.executable, "-W", "error", "-c", program], cwd=HERE, stdout=subprocess.PIPE,
+                             stderr=subprocess.STDOUT)
+        self.assertEqual((run.returncode, run.stdout), (0, b"Checked(octets=0, canonical=True)\n"))
+
+
+class Threads(unittest.TestCase):
+    def in_thread(self, call: Callable[[], Any]) -> Any:
+        answers: List[Any] = []
+
+        def run() -> None:
+            try:
+                answers.append(call())
+            except oer.Error as problem:
+                answers.append(type(problem))
+
+        thread = threading.Thread(target=run)
+        thread.start()
+        thread.join()
+        return answers[0]
+
+    def test_other_thread(self) -> None:
+        types = types_of(b"BOOLEAN")
+        for call in (lambda: types.check("A", b"\xff"), lambda: types.canon("A", b"\xff"),
+                     lambda: types.part("A", b"\xff", "v"), lambda: types.to_json("A", b"\xff"),
+                     lambda: types.from_json("A", "true"), lambda: types.read("A ::= NULL"), types.close):
+            self.assertIs(self.in_thread(call), oer.WrongThread)
+        self.assertEqual(types.check("A", b"\xff"), (1, True))
+        self.assertEqual(self.in_thread(lambda: types_of(b"BOOLEAN").check("A", b"\xff")), (1, True))
+
+    def test_collected_in_another_thread(self) -> None:
+        gc.collect()
+        kept = [types_of(b"BOOLEAN")]
+        with warnings.catch_warnings(record=True) as caught:
+            warnings.simplefilter("always")
+            self.in_thread(lambda: (kept.clear(), gc.collect()))
+        self.assertEqual([warning.category for warning in caught], [ResourceWarning])
+
+    def test_side_by_side(self) -> None:
+        def run() -> None:
+            types = types_of(b"SEQUENCE OF BOOLEAN")
+            for _ in range(2000):
+                answers.append(types.canon("A", b"\x02\x00\x02\x01\x07"))
+
+        answers: List[oer.Canonical] = []
+        threads = [threading.Thread(target=run) for _ in range(4)]
+        for thread in threads:
+            thread.start()
+        for thread in threads:
+            thread.join()
+        self.assertEqual(collections.Counter(answers), {(b"\x01\x02\xff\xff", 5): 8000})
+
+
+class Random(unittest.TestCase):
+    COMMON = bytes.fromhex("00010203808182ff2060")
+
+    def compare(self, types: oer.Types, octets: bytes) -> Optional[oer.Checked]:
+        """That check and canon agree on the octets. Returns what check found, if they begin with an
+        encoding."""
+        try:
+            found = types.check("A", octets)
+        except oer.OctetsRejected as rejected:
+            with self.assertRaises(oer.OctetsRejected) as caught:
+                types.canon("A", octets)
+            self.assertEqual((caught.exception.reason, caught.exception.place), (rejected.reason, rejected.place))
+            self.assertLessEqual(rejected.place or 0, len(octets))
+            return None
+        made = types.canon("A", octets)
+        self.assertEqual(made.read, found.octets)
+        self.assertEqual(found.canonical, octets[:made.read] == made.octets)
+        self.assertEqual(types.check("A", made.octets), (len(made.octets), True))
+        return found
+
+    def test_check_and_canon_agree(self) -> None:
+        strings = int(os.environ.get("OER_STRINGS", 100000))
+        kinds = sorted({row.kind for row in VECTORS})
+        numbers = random.Random(20260101)
+        common = self.COMMON
+        tried = encodings = canonicals = 0
+        for place, kind in enumerate(kinds):
+            types = types_of(kind)
+            while tried < strings * (place + 1) // len(kinds):
+                drawn = numbers.getrandbits(400).to_bytes(50, "little")[:2 * numbers.randrange(25)]
+                # Small octets, so that many strings are encodings; or an octet of any kind.
+                pairs = zip(drawn[::2], drawn[1::2])
+                octets = bytes(common[octet % 10] if choice % 4 else octet for choice, octet in pairs)
+                found = self.compare(types, octets)
+                tried += 1
+                if found:
+                    encodings += 1
+                    canonicals += found.canonical
+        self.assertTrue(tried == strings and strings > 0)
+        self.assertTrue(strings // 10 < encodings < strings, f"{encodings} encodings of {strings}")
+        self.assertTrue(0 < canonicals < encodings, f"{canonicals} canonical of {encodings}")
+        print(f"{encodings} encodings of {strings} strings, {canonicals} of them canonical")
+
+
+if __name__ == "__main__":
+    unittest.main()

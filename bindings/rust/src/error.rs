@@ -1,0 +1,167 @@
+//! Why a call has no answer.
+
+use crate::sys;
+use crate::{JsonReason, Reason, TextReason};
+use std::fmt;
+
+/// Why a call has no answer. Each call says which of these it may return.
+#[derive(Clone, Copy, Debug, PartialEq, Eq)]
+#[non_exhaustive]
+pub enum Error {
+    /// The octets don't begin with an encoding of a value of the type.
+    Octets {
+        /// What is wrong with them.
+        reason: Reason,
+        /// How many of them had been looked at.
+        place: u64,
+    },
+    /// The text spells no types.
+    Definitions {
+        /// What is wrong with it.
+        reason: TextReason,
+        /// The octet of the text at which the token or type begins that shows the fault, counted from 0.
+        place: u64,
+    },
+    /// The JSON is no value of the type.
+    Json {
+        /// What is wrong with it.
+        reason: JsonReason,
+    },
+    /// There are no types: none were read, or they were freed.
+    NoTypes,
+    /// No definition has the name.
+    Unnamed,
+    /// An allocation failed, here or in the library.
+    Memory,
+    /// The buffer is too small. Only the calls whose names end in `_into` return this.
+    Room {
+        /// How many octets the buffer has to have.
+        needed: u64,
+    },
+    /// The text is not a path.
+    NoPath,
+    /// The path has a step that the type doesn't have, one past the last element, or one to an addition
+    /// that the type doesn't know and that isn't there; or it goes on from a part that the type doesn't
+    /// know.
+    NoStep,
+    /// The path leads to a component or a known addition that is absent.
+    Absent,
+    /// The text is not JSON, or not UTF-8.
+    NoJson,
+    /// A status or reason that this crate doesn't know. No library of the version that the crate was
+    /// made for answers it.
+    Unknown {
+        /// The status.
+        status: u32,
+        /// The reason.
+        why: u32,
+    },
+}
+
+impl Error {
+    /// The name of the reason, where octets, definitions or JSON are rejected.
+    pub fn reason(&self) -> Option<&'static str> {
+        match self {
+            Error::Octets { reason, .. } => Some(reason.name()),
+            Error::Definitions { reason, .. } => Some(reason.name()),
+            Error::Json { reason } => Some(reason.name()),
+            _ => None,
+        }
+    }
+
+    /// The place, where octets or definitions are rejected: how many octets had been looked at, or the
+    /// octet of the text at which the token or type begins that shows the fault.
+    pub fn place(&self) -> Option<u64> {
+        match self {
+            Error::Octets { place, .. } | Error::Definitions { place, .. } => Some(*place),
+            _ => None,
+        }
+    }
+
+    /// The error of a status that is neither OK nor REJECTED. `needed` is of ROOM.
+    fn of_status(status: u32, why: u32, needed: u64) -> Error {
+        match status {
+            sys::NO_TYPES => Error::NoTypes,
+            sys::UNNAMED => Error::Unnamed,
+            sys::MEMORY => Error::Memory,
+            sys::ROOM => Error::Room { needed },
+            sys::NO_PATH => Error::NoPath,
+            sys::NO_STEP => Error::NoStep,
+            sys::ABSENT => Error::Absent,
+            sys::NO_JSON => Error::NoJson,
+            _ => Error::Unknown { status, why },
+        }
+    }
+
+    /// The error of a call that reads octets.
+    pub(crate) fn of_octets(status: u32, why: u32, place: u64, needed: u64) -> Error {
+        match Reason::from_number(why) {
+            Some(reason) if status == sys::REJECTED => Error::Octets { reason, place },
+            _ => Error::of_status(status, why, needed),
+        }
+    }
+
+    /// The error of a call that reads definitions.
+    pub(crate) fn of_definitions(status: u32, why: u32, place: u64) -> Error {
+        match TextReason::from_number(why) {
+            Some(reason) if status == sys::REJECTED => Error::Definitions { reason, place },
+            _ => Error::of_status(status, why, 0),
+        }
+    }
+
+    /// The error of a call that reads JSON.
+    pub(crate) fn of_json(status: u32, why: u32, needed: u64) -> Error {
+        match JsonReason::from_number(why) {
+            Some(reason) if status == sys::REJECTED => Error::Json { reason },
+            _ => Error::of_status(status, why, needed),
+        }
+    }
+}
+
+impl fmt::Display for Error {
+    fn fmt(&self, out: &mut fmt::Formatter<'_>) -> fmt::Result {
+        match self {
+            Error::Octets { reason, place } => write!(out, "octets rejected: {reason}, {place} octets looked at"),
+            Error::Definitions { reason, place } => write!(out, "definitions rejected: {reason} at octet {place}"),
+            Error::Json { reason } => write!(out, "JSON rejected: {reason}"),
+            Error::NoTypes => out.write_str("no types were read"),
+            Error::Unnamed => out.write_str("no definition has the name"),
+            Error::Memory => out.write_str("an allocation failed"),
+            Error::Room { needed } => write!(out, "the buffer is too small: {needed} octets are needed"),
+            Error::NoPath => out.write_str("not a path"),
+            Error::NoStep => out.write_str("the type has no such step"),
+            Error::Absent => out.write_str("the part is absent"),
+            Error::NoJson => out.write_str("not JSON"),
+            Error::Unknown { status, why } => write!(out, "status {status}, reason {why}"),
+        }
+    }
+}
+
+impl std::error::Error for Error {}
+
+#[cfg(test)]
+mod tests {
+    use super::*;
+    use crate::table;
+
+    /// Each status of the header but OK and REJECTED has the error with its name.
+    #[test]
+    fn statuses_are_those_of_the_header() {
+        for row in &table::rows("number")[2..10] {
+            let wanted = row[0].strip_prefix("OER_").unwrap().replace('_', "").to_lowercase();
+            let status = row[1].parse().unwrap();
+            for error in [
+                Error::of_octets(status, 3, 5, 7),
+                Error::of_definitions(status, 3, 5),
+                Error::of_json(status, 3, 7),
+            ] {
+                let found = format!("{error:?}").to_lowercase();
+                assert_eq!(found.split(' ').next(), Some(&wanted[..]));
+                assert_eq!((error.reason(), error.place()), (None, None));
+            }
+        }
+        assert_eq!(Error::of_octets(sys::ROOM, 0, 0, 7), Error::Room { needed: 7 });
+        assert_eq!(Error::of_json(sys::REJECTED, 99, 0), Error::Unknown { status: 1, why: 99 });
+        assert_eq!(Error::of_octets(99, 3, 0, 0), Error::Unknown { status: 99, why: 3 });
+    }
+}

@@ -1,0 +1,526 @@
+//! Encodings of ASN.1 values by the octet encoding rules (ITU-T X.696), over the proved library
+//! `liboer`.
+//!
+//! [`Types`] holds definitions that were read. By the types in it octets are checked, rewritten as
+//! canonical octets, taken apart, shown as JSON, and made from JSON.
+//!
+//! ```
+//! # fn main() -> Result<(), oer::Error> {
+//! let types = oer::Types::parse("Flags ::= SEQUENCE OF BOOLEAN")?;
+//! let found = types.check("Flags", &[0x02, 0x00, 0x02, 0x01, 0x07])?;
+//! assert_eq!(found, oer::Checked { octets: 5, canonical: false });
+//! let canonical = types.canon("Flags", &[0x02, 0x00, 0x02, 0x01, 0x07])?;
+//! assert_eq!(canonical.octets, [0x01, 0x02, 0xff, 0xff]);
+//! # Ok(())
+//! # }
+//! ```
+//!
+//! Names, paths, definitions and JSON are UTF-8, and are taken as `&str` or as octets. Lengths and
+//! places are numbers of octets. The notation of definitions is in NOTATION.md, that of paths in
+//! COMMAND.md, and the JSON in JSON.md.
+//!
+//! # The library
+//!
+//! The crate is linked with `liboer.a`. It is looked for in the folder whose whole path `OER_LIB_DIR`
+//! of the environment is, or else in the one that `pkg-config` says.
+//!
+//! # Threads
+//!
+//! A [`Types`] is neither `Sync` nor `Send`. The library wants one call at a time on a handle, and all
+//! of them from one thread, also that which frees it. The calls take `&self`: without `Sync` there is
+//! no second call at the same time, and none is made from within a call. Each thread may have a
+//! [`Types`] of its own. Answers and errors go to other threads as any values do.
+//!
+//! No call is made from a signal handler, or in the child of a fork of a process with threads. No type
+//! holds that: the program has to.
+
+#![warn(missing_docs)]
+
+mod error;
+mod reason;
+mod sys;
+#[cfg(test)]
+#[path = "../tests/table/mod.rs"]
+mod table;
+
+pub use error::Error;
+pub use reason::{JsonReason, Reason, TextReason};
+
+use std::borrow::Cow;
+use std::cell::UnsafeCell;
+use std::fmt;
+use std::marker::PhantomData;
+use std::ops::Deref;
+use std::os::raw::c_char;
+
+/// A limit that rejects nothing.
+pub const NO_LIMIT: u64 = u64::MAX;
+
+/// The version of the library: 10,000 times the major number, 100 times the minor number, and the patch.
+///
+/// ```
+/// assert_eq!(oer::version() / 10_000, 0);
+/// ```
+pub fn version() -> u32 {
+    // SAFETY: the call takes nothing.
+    unsafe { sys::oer_version() }
+}
+
+/// What [`Types::check`] returns.
+#[derive(Clone, Copy, Debug, PartialEq, Eq)]
+pub struct Checked {
+    /// How many octets the encoding has.
+    pub octets: usize,
+    /// Whether it is the canonical one.
+    pub canonical: bool,
+}
+
+/// What [`Types::canon`] returns.
+#[derive(Clone, Debug, PartialEq, Eq)]
+pub struct Canonical {
+    /// The canonical octets of the value.
+    pub octets: Vec<u8>,
+    /// How many octets the encoding has that was read.
+    pub read: usize,
+}
+
+/// What [`Types::to_json`] returns.
+#[derive(Clone, Debug, PartialEq, Eq)]
+pub struct Json {
+    /// The JSON of the value.
+    pub text: String,
+    /// How many octets the encoding has that was read.
+    pub read: usize,
+}
+
+/// What the calls return that write into a buffer of the caller's.
+#[derive(Clone, Copy, Debug, PartialEq, Eq)]
+pub struct Written {
+    /// How many octets the encoding has that was read: [`Types::canon_into`], [`Types::to_json_into`].
+    /// Else 0.
+    pub read: usize,
+    /// How many octets were written, from the first of the buffer on. Those after them are as before.
+    pub size: usize,
+}
+
+/// A part of an encoding, as it stands in the octets that were given.
+///
+/// It has the lifetime of these octets, so that it can be borrowed from them. The library doesn't say
+/// yet where a part lies in them: for now a `Part` is a copy.
+#[derive(Clone, Debug, PartialEq, Eq)]
+pub struct Part<'a>(Cow<'a, [u8]>);
+
+impl Part<'_> {
+    /// The octets of the part, owned.
+    pub fn into_owned(self) -> Vec<u8> {
+        self.0.into_owned()
+    }
+}
+
+impl Deref for Part<'_> {
+    type Target = [u8];
+
+    fn deref(&self) -> &[u8] {
+        &self.0
+    }
+}
+
+impl AsRef<[u8]> for Part<'_> {
+    fn as_ref(&self) -> &[u8] {
+        &self.0
+    }
+}
+
+/// Definitions that were read, by their names; or none.
+///
+/// The calls that take a name return [`Error::NoTypes`] if there are no types, and [`Error::Unnamed`]
+/// if no definition has the name. Their further errors stand with each. After an error the types and
+/// the caller's buffers are as before.
+pub struct Types {
+    held: UnsafeCell<sys::OerTypes>,
+    /// Neither `Send` nor `Sync`.
+    one_thread: PhantomData<*mut ()>,
+}
+
+impl Types {
+    /// No types.
+    ///
+    /// ```
+    /// assert_eq!(oer::Types::new().check("A", &[]), Err(oer::Error::NoTypes));
+    /// ```
+    pub const fn new() -> Types {
+        let none = sys::OerTypes { at_: std::ptr::null_mut(), full_: 0 };
+        Types { held: UnsafeCell::new(none), one_thread: PhantomData }
+    }
+
+    /// The types of the definitions, each `Name ::= type`.
+    ///
+    /// # Errors
+    ///
+    /// Those of [`Types::read`].
+    ///
+    /// ```
+    /// let rejected = oer::Types::parse("A ::= INTEGER (5..4)").unwrap_err();
+    /// assert_eq!(rejected, oer::Error::Definitions { reason: oer::TextReason::BoundOrder, place: 6 });
+    /// assert_eq!(rejected.to_string(), "definitions rejected: BoundOrder at octet 6");
+    /// ```
+    pub fn parse(definitions: impl AsRef<[u8]>) -> Result<Types, Error> {
+        let mut types = Types::new();
+        types.read(definitions)?;
+        Ok(types)
+    }
+
+    /// Reads definitions, in place of the types that were there.
+    ///
+    /// # Errors
+    ///
+    /// [`Error::Definitions`] if the text spells no types, and [`Error::Memory`]. After an error the
+    /// types are those from before.
+    pub fn read(&mut self, definitions: impl AsRef<[u8]>) -> Result<(), Error> {
+        let text = definitions.as_ref();
+        // SAFETY: the handle was made by `new` and is in no other call; the text is `text.len()` octets.
+        let parsed = unsafe { sys::oer_types_read(self.held.get(), text.as_ptr().cast(), text.len()) };
+        match parsed.status {
+            sys::OK => Ok(()),
+            status => Err(Error::of_definitions(status, parsed.why, parsed.place)),
+        }
+    }
+
+    /// Frees the types. After it there are none, and types may be read again.
+    ///
+    /// ```
+    /// let mut types = oer::Types::parse("A ::= NULL")?;
+    /// types.clear();
+    /// assert_eq!(types.check("A", &[]), Err(oer::Error::NoTypes));
+    /// # Ok::<(), oer::Error>(())
+    /// ```
+    pub fn clear(&mut self) {
+        // SAFETY: the handle was made by `new` and is in no other call. After it, it is as new.
+        unsafe { sys::oer_types_free(self.held.get()) }
+    }
+
+    /// Whether the octets begin with an encoding of a value of the type with the name, in any spelling
+    /// that the rules allow (Basic-OER): how long it is, and whether it is the canonical one. What
+    /// follows it is not looked at. It takes no memory.
+    ///
+    /// # Errors
+    ///
+    /// [`Error::Octets`] if they don't.
+    ///
+    /// ```
+    /// let types = oer::Types::parse("A ::= OCTET STRING")?;
+    /// let rejected = types.check("A", &[0x03, 0x61]).unwrap_err();
+    /// assert_eq!(rejected, oer::Error::Octets { reason: oer::Reason::End, place: 2 });
+    /// # Ok::<(), oer::Error>(())
+    /// ```
+    pub fn check(&self, name: impl AsRef<[u8]>, octets: &[u8]) -> Result<Checked, Error> {
+        let name = name.as_ref();
+        // SAFETY: the handle was made by `new`. The type is not `Sync` and the library calls nothing of
+        // ours, so it is in no other call. The slices are as long as it says.
+        let answer = unsafe {
+            sys::oer_check(self.held.get(), name.as_ptr().cast(), name.len(), octets.as_ptr(), octets.len())
+        };
+        match answer.status {
+            sys::OK => Ok(Checked { octets: answer.octets as usize, canonical: answer.canonical != 0 }),
+            status => Err(Error::of_octets(status, answer.why, answer.octets, 0)),
+        }
+    }
+
+    /// The canonical octets (Canonical-OER) of the value whose encoding is at the front of the octets.
+    /// What follows it is not looked at.
+    ///
+    /// # Errors
+    ///
+    /// [`Error::Octets`] if the octets don't begin with an encoding, and [`Error::Memory`].
+    pub fn canon(&self, name: impl AsRef<[u8]>, octets: &[u8]) -> Result<Canonical, Error> {
+        self.canon_within(name, octets, NO_LIMIT)
+    }
+
+    /// The same of an encoding of at most `limit` octets. If it would be longer, the error is
+    /// [`Error::Octets`] with [`Reason::Limit`].
+    ///
+    /// ```
+    /// let types = oer::Types::parse("A ::= OCTET STRING")?;
+    /// let rejected = types.canon_within("A", &[0x03, 0x61], 2).unwrap_err();
+    /// assert_eq!(rejected, oer::Error::Octets { reason: oer::Reason::Limit, place: 1 });
+    /// # Ok::<(), oer::Error>(())
+    /// ```
+    pub fn canon_within(&self, name: impl AsRef<[u8]>, octets: &[u8], limit: u64) -> Result<Canonical, Error> {
+        let name = name.as_ref();
+        let (octets, read) = gather(octets.len(), |out| self.canon_into(name, octets, limit, out))?;
+        Ok(Canonical { octets, read })
+    }
+
+    /// The same, written into the buffer.
+    ///
+    /// # Errors
+    ///
+    /// Those of [`Types::canon_within`], and [`Error::Room`] if the buffer is too small.
+    ///
+    /// ```
+    /// let types = oer::Types::parse("A ::= BOOLEAN")?;
+    /// let mut out = [0; 1];
+    /// let written = types.canon_into("A", &[0x01], oer::NO_LIMIT, &mut out)?;
+    /// assert_eq!((written, out), (oer::Written { read: 1, size: 1 }, [0xff]));
+    /// let rejected = types.canon_into("A", &[0x01], oer::NO_LIMIT, &mut []).unwrap_err();
+    /// assert_eq!(rejected, oer::Error::Room { needed: 1 });
+    /// # Ok::<(), oer::Error>(())
+    /// ```
+    pub fn canon_into(
+        &self,
+        name: impl AsRef<[u8]>,
+        octets: &[u8],
+        limit: u64,
+        out: &mut [u8],
+    ) -> Result<Written, Error> {
+        let name = name.as_ref();
+        // SAFETY: as in `check`; `out` is borrowed mutably, so that it overlaps nothing.
+        let answer = unsafe {
+            sys::oer_canon(
+                self.held.get(),
+                name.as_ptr().cast(),
+                name.len(),
+                octets.as_ptr(),
+                octets.len(),
+                limit,
+                out.as_mut_ptr(),
+                out.len(),
+            )
+        };
+        written(answer)
+    }
+
+    /// The part of the encoding at the front of the octets to which the path leads, as it stands in
+    /// them. A path is steps joined by dots: `c0` a component, `a0` an addition, `i0` an element, `v`
+    /// the alternative chosen. What follows the encoding is not looked at.
+    ///
+    /// # Errors
+    ///
+    /// [`Error::Octets`] if the octets don't begin with an encoding, [`Error::NoPath`],
+    /// [`Error::NoStep`], [`Error::Absent`], and [`Error::Memory`].
+    ///
+    /// ```
+    /// let types = oer::Types::parse("A ::= SEQUENCE OF BOOLEAN")?;
+    /// let part = types.part("A", &[0x02, 0x00, 0x02, 0x01, 0x07], "i1")?;
+    /// assert_eq!(*part, [0x07]);
+    /// # Ok::<(), oer::Error>(())
+    /// ```
+    pub fn part<'a>(
+        &self,
+        name: impl AsRef<[u8]>,
+        octets: &'a [u8],
+        path: impl AsRef<[u8]>,
+    ) -> Result<Part<'a>, Error> {
+        let (name, path) = (name.as_ref(), path.as_ref());
+        let (part, _) = gather(octets.len(), |out| self.part_into(name, octets, path, out))?;
+        Ok(Part(Cow::Owned(part)))
+    }
+
+    /// The same, written into the buffer.
+    ///
+    /// # Errors
+    ///
+    /// Those of [`Types::part`], and [`Error::Room`] if the buffer is too small.
+    pub fn part_into(
+        &self,
+        name: impl AsRef<[u8]>,
+        octets: &[u8],
+        path: impl AsRef<[u8]>,
+        out: &mut [u8],
+    ) -> Result<Written, Error> {
+        let (name, path) = (name.as_ref(), path.as_ref());
+        // SAFETY: as in `canon_into`.
+        let answer = unsafe {
+            sys::oer_part(
+                self.held.get(),
+                name.as_ptr().cast(),
+                name.len(),
+                octets.as_ptr(),
+                octets.len(),
+                path.as_ptr().cast(),
+                path.len(),
+                out.as_mut_ptr(),
+                out.len(),
+            )
+        };
+        written(answer)
+    }
+
+    /// The JSON of the value whose encoding is at the front of the octets. What follows it is not
+    /// looked at.
+    ///
+    /// # Errors
+    ///
+    /// [`Error::Octets`] if the octets don't begin with an encoding, and [`Error::Memory`].
+    ///
+    /// ```
+    /// let types = oer::Types::parse("A ::= SEQUENCE OF BOOLEAN")?;
+    /// assert_eq!(types.to_json("A", &[0x01, 0x02, 0xff, 0x00])?.text, "[true,false]");
+    /// assert_eq!(types.from_json("A", "[true, false]")?, [0x01, 0x02, 0xff, 0x00]);
+    /// # Ok::<(), oer::Error>(())
+    /// ```
+    pub fn to_json(&self, name: impl AsRef<[u8]>, octets: &[u8]) -> Result<Json, Error> {
+        self.to_json_within(name, octets, NO_LIMIT)
+    }
+
+    /// The same of an encoding of at most `limit` octets. If it would be longer, the error is
+    /// [`Error::Octets`] with [`Reason::Limit`].
+    pub fn to_json_within(&self, name: impl AsRef<[u8]>, octets: &[u8], limit: u64) -> Result<Json, Error> {
+        let name = name.as_ref();
+        let room = octets.len().saturating_mul(4).saturating_add(64).min(isize::MAX as usize);
+        let (text, read) = gather(room, |out| self.to_json_into(name, octets, limit, out))?;
+        Ok(Json { text: String::from_utf8(text).expect("the library writes JSON as UTF-8"), read })
+    }
+
+    /// The same, written into the buffer, as UTF-8.
+    ///
+    /// # Errors
+    ///
+    /// Those of [`Types::to_json_within`], and [`Error::Room`] if the buffer is too small.
+    pub fn to_json_into(
+        &self,
+        name: impl AsRef<[u8]>,
+        octets: &[u8],
+        limit: u64,
+        out: &mut [u8],
+    ) -> Result<Written, Error> {
+        let name = name.as_ref();
+        // SAFETY: as in `canon_into`.
+        let answer = unsafe {
+            sys::oer_to_json(
+                self.held.get(),
+                name.as_ptr().cast(),
+                name.len(),
+                octets.as_ptr(),
+                octets.len(),
+                limit,
+                out.as_mut_ptr().cast::<c_char>(),
+                out.len(),
+            )
+        };
+        written(answer)
+    }
+
+    /// The canonical octets of the value that the JSON stands for.
+    ///
+    /// # Errors
+    ///
+    /// [`Error::NoJson`] if the text is not JSON, [`Error::Json`] if the JSON is no value of the type,
+    /// and [`Error::Memory`].
+    ///
+    /// ```
+    /// let types = oer::Types::parse("A ::= INTEGER (0..5)")?;
+    /// let rejected = types.from_json("A", "6").unwrap_err();
+    /// assert_eq!(rejected, oer::Error::Json { reason: oer::JsonReason::Misfit });
+    /// # Ok::<(), oer::Error>(())
+    /// ```
+    pub fn from_json(&self, name: impl AsRef<[u8]>, json: impl AsRef<[u8]>) -> Result<Vec<u8>, Error> {
+        let (name, json) = (name.as_ref(), json.as_ref());
+        let (octets, _) = gather(json.len(), |out| self.from_json_into(name, json, out))?;
+        Ok(octets)
+    }
+
+    /// The same, written into the buffer.
+    ///
+    /// # Errors
+    ///
+    /// Those of [`Types::from_json`], and [`Error::Room`] if the buffer is too small.
+    pub fn from_json_into(
+        &self,
+        name: impl AsRef<[u8]>,
+        json: impl AsRef<[u8]>,
+        out: &mut [u8],
+    ) -> Result<Written, Error> {
+        let (name, json) = (name.as_ref(), json.as_ref());
+        // SAFETY: as in `canon_into`.
+        let answer = unsafe {
+            sys::oer_from_json(
+                self.held.get(),
+                name.as_ptr().cast(),
+                name.len(),
+                json.as_ptr().cast(),
+                json.len(),
+                out.as_mut_ptr(),
+                out.len(),
+            )
+        };
+        match answer.status {
+            sys::OK => written(answer),
+            status => Err(Error::of_json(status, answer.why, answer.written)),
+        }
+    }
+}
+
+impl Default for Types {
+    /// No types.
+    fn default() -> Types {
+        Types::new()
+    }
+}
+
+impl Drop for Types {
+    fn drop(&mut self) {
+        self.clear();
+    }
+}
+
+impl fmt::Debug for Types {
+    fn fmt(&self, out: &mut fmt::Formatter<'_>) -> fmt::Result {
+        out.debug_struct("Types").finish_non_exhaustive()
+    }
+}
+
+/// This compiles only if [`Types`] is neither `Sync` nor `Send`: otherwise two impls fit.
+const _: fn() = || {
+    trait Unless<Fits> {
+        fn holds() {}
+    }
+    impl<T: ?Sized> Unless<()> for T {}
+    impl<T: ?Sized + Sync> Unless<u8> for T {}
+    impl<T: ?Sized + Send> Unless<u16> for T {}
+    <Types as Unless<_>>::holds();
+};
+
+/// What a call answers that reads octets and writes.
+fn written(answer: sys::OerWritten) -> Result<Written, Error> {
+    match answer.status {
+        sys::OK => Ok(Written { read: answer.octets as usize, size: answer.written as usize }),
+        status => Err(Error::of_octets(status, answer.why, answer.octets, answer.written)),
+    }
+}
+
+/// Calls with a buffer of `room` octets, and where that is too small once more with as many as are
+/// needed. Returns what was written, and how many octets were read.
+fn gather(room: usize, call: impl Fn(&mut [u8]) -> Result<Written, Error>) -> Result<(Vec<u8>, usize), Error> {
+    let mut out = zeros(room)?;
+    let mut answer = call(&mut out);
+    if let Err(Error::Room { needed }) = answer {
+        out = zeros(usize::try_from(needed).map_err(|_| Error::Memory)?)?;
+        answer = call(&mut out);
+    }
+    let written = answer?;
+    out.truncate(written.size);
+    Ok((out, written.read))
+}
+
+/// So many zero octets, or [`Error::Memory`].
+fn zeros(size: usize) -> Result<Vec<u8>, Error> {
+    let mut octets = Vec::new();
+    octets.try_reserve_exact(size).map_err(|_| Error::Memory)?;
+    octets.resize(size, 0);
+    Ok(octets)
+}
+
+#[cfg(test)]
+mod tests {
+    use super::*;
+
+    #[test]
+    fn an_allocation_that_fails_is_said() {
+        let none = |_: &mut [u8]| Ok(Written { read: 0, size: 0 });
+        assert_eq!(gather(usize::MAX, none), Err(Error::Memory));
+        let more = |_: &mut [u8]| Err(Error::Room { needed: u64::MAX });
+        assert_eq!(gather(0, more), Err(Error::Memory));
+        assert_eq!(gather(3, none), Ok((Vec::new(), 0)));
+    }
+}

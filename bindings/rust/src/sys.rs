@@ -1,0 +1,137 @@
+//! The calls of `include/oer.h`, as C has them.
+
+use std::os::raw::{c_char, c_void};
+
+#[repr(C)]
+pub struct OerTypes {
+    pub at_: *mut c_void,
+    pub full_: u32,
+}
+
+#[repr(C)]
+pub struct OerParsed {
+    pub status: u32,
+    pub why: u32,
+    pub place: u64,
+}
+
+#[repr(C)]
+pub struct OerChecked {
+    pub status: u32,
+    pub why: u32,
+    pub octets: u64,
+    pub canonical: u32,
+}
+
+#[repr(C)]
+pub struct OerWritten {
+    pub status: u32,
+    pub why: u32,
+    pub octets: u64,
+    pub written: u64,
+}
+
+pub const OK: u32 = 0;
+pub const REJECTED: u32 = 1;
+pub const NO_TYPES: u32 = 2;
+pub const UNNAMED: u32 = 3;
+pub const MEMORY: u32 = 4;
+pub const ROOM: u32 = 5;
+pub const NO_PATH: u32 = 6;
+pub const NO_STEP: u32 = 7;
+pub const ABSENT: u32 = 8;
+pub const NO_JSON: u32 = 9;
+
+extern "C" {
+    pub fn oer_version() -> u32;
+    pub fn oer_types_read(types: *mut OerTypes, text: *const c_char, text_length: usize) -> OerParsed;
+    pub fn oer_types_free(types: *mut OerTypes);
+    pub fn oer_check(
+        types: *mut OerTypes,
+        name: *const c_char,
+        name_length: usize,
+        octets: *const u8,
+        octets_length: usize,
+    ) -> OerChecked;
+    pub fn oer_canon(
+        types: *mut OerTypes,
+        name: *const c_char,
+        name_length: usize,
+        octets: *const u8,
+        octets_length: usize,
+        limit: u64,
+        out: *mut u8,
+        room: usize,
+    ) -> OerWritten;
+    pub fn oer_part(
+        types: *mut OerTypes,
+        name: *const c_char,
+        name_length: usize,
+        octets: *const u8,
+        octets_length: usize,
+        path: *const c_char,
+        path_length: usize,
+        out: *mut u8,
+        room: usize,
+    ) -> OerWritten;
+    pub fn oer_to_json(
+        types: *mut OerTypes,
+        name: *const c_char,
+        name_length: usize,
+        octets: *const u8,
+        octets_length: usize,
+        limit: u64,
+        out: *mut c_char,
+        room: usize,
+    ) -> OerWritten;
+    pub fn oer_from_json(
+        types: *mut OerTypes,
+        name: *const c_char,
+        name_length: usize,
+        text: *const c_char,
+        text_length: usize,
+        out: *mut u8,
+        room: usize,
+    ) -> OerWritten;
+}
+
+#[cfg(test)]
+mod tests {
+    use super::*;
+    use std::mem::{align_of, size_of};
+
+    fn size_at<T>(_: *const T) -> usize {
+        size_of::<T>()
+    }
+
+    /// The size of a struct, and the offset and size of each field, in the order of the header.
+    macro_rules! layout {
+        ($struct:ident, $($field:ident),*) => {{
+            let at = std::mem::MaybeUninit::<$struct>::uninit();
+            let start = at.as_ptr();
+            let mut found = vec![size_of::<$struct>().to_string()];
+            $(
+                // SAFETY: the place is only compared, and nothing is read.
+                let field = unsafe { std::ptr::addr_of!((*start).$field) };
+                found.push(format!("{}+{}", field as usize - start as usize, size_at(field)));
+            )*
+            found
+        }};
+    }
+
+    #[test]
+    fn structs_lie_as_in_the_header() {
+        let found = [
+            ("oer_types", layout!(OerTypes, at_, full_)),
+            ("oer_parsed", layout!(OerParsed, status, why, place)),
+            ("oer_checked", layout!(OerChecked, status, why, octets, canonical)),
+            ("oer_written", layout!(OerWritten, status, why, octets, written)),
+        ];
+        let wanted = crate::table::rows("layout");
+        assert_eq!(found.len(), wanted.len());
+        for ((name, numbers), row) in found.iter().zip(wanted) {
+            assert_eq!((*name, &numbers[..]), (row[0].as_str(), &row[1..]));
+        }
+        assert_eq!(align_of::<OerWritten>(), 8);
+    }
+}

@@ -1,0 +1,288 @@
+//! The vectors of the tests in C, through the crate; and random octets, as many strings as the variable
+//! `OER_STRINGS` says.
+
+mod table;
+
+use oer::{Checked, Error, JsonReason, Reason, TextReason, Types, Written, NO_LIMIT};
+use std::env;
+use std::fs;
+use std::path::Path;
+
+/// A call and what it has to answer.
+struct Vector {
+    task: String,
+    kind: Vec<u8>,
+    given: Vec<u8>,
+    path: Vec<u8>,
+    limit: u64,
+    status: u32,
+    why: u32,
+    octets: u64,
+    written: u64,
+    answer: Vec<u8>,
+}
+
+/// What a call made: octets or JSON, how many octets were read, and `canonical` of a check.
+#[derive(Debug, PartialEq)]
+struct Made {
+    octets: Vec<u8>,
+    read: usize,
+    canonical: bool,
+}
+
+fn from_hex(digits: &str) -> Vec<u8> {
+    let digits = digits.trim();
+    if digits == "-" {
+        return Vec::new();
+    }
+    (0..digits.len()).step_by(2).map(|at| u8::from_str_radix(&digits[at..at + 2], 16).unwrap()).collect()
+}
+
+fn vectors() -> Vec<Vector> {
+    let number = |text: &String| text.parse::<u64>().unwrap();
+    let vector = |row: &Vec<String>| Vector {
+        task: row[0].clone(),
+        kind: from_hex(&row[1]),
+        given: from_hex(&row[2]),
+        path: from_hex(&row[3]),
+        limit: number(&row[4]),
+        status: number(&row[5]) as u32,
+        why: number(&row[6]) as u32,
+        octets: number(&row[7]),
+        written: number(&row[8]),
+        answer: from_hex(&row[9]),
+    };
+    table::rows("vector").iter().map(vector).collect()
+}
+
+impl Vector {
+    fn call(&self, types: &Types, name: &[u8]) -> Result<Made, Error> {
+        let (octets, read, canonical) = match self.task.as_str() {
+            "check" => types.check(name, &self.given).map(|found| (Vec::new(), found.octets, found.canonical)),
+            "canon" => types.canon_within(name, &self.given, self.limit).map(|made| (made.octets, made.read, false)),
+            "part" => types.part(name, &self.given, &self.path).map(|part| (part.into_owned(), 0, false)),
+            "to_json" => types
+                .to_json_within(name, &self.given, self.limit)
+                .map(|made| (made.text.into_bytes(), made.read, false)),
+            "from_json" => types.from_json(name, &self.given).map(|octets| (octets, 0, false)),
+            task => panic!("no task {task}"),
+        }?;
+        Ok(Made { octets, read, canonical })
+    }
+
+    fn call_into(&self, types: &Types, out: &mut [u8]) -> Result<Written, Error> {
+        match self.task.as_str() {
+            "canon" => types.canon_into("A", &self.given, self.limit, out),
+            "part" => types.part_into("A", &self.given, &self.path, out),
+            "to_json" => types.to_json_into("A", &self.given, self.limit, out),
+            "from_json" => types.from_json_into("A", &self.given, out),
+            task => panic!("no buffer for {task}"),
+        }
+    }
+
+    fn wanted(&self) -> Result<Made, Error> {
+        match self.status {
+            0 => Ok(Made {
+                octets: self.answer.clone(),
+                read: self.octets as usize,
+                canonical: self.task == "check" && self.written == 1,
+            }),
+            1 if self.task == "from_json" => Err(Error::Json { reason: JsonReason::from_number(self.why).unwrap() }),
+            1 => Err(Error::Octets { reason: Reason::from_number(self.why).unwrap(), place: self.octets }),
+            6 => Err(Error::NoPath),
+            7 => Err(Error::NoStep),
+            8 => Err(Error::Absent),
+            9 => Err(Error::NoJson),
+            status => panic!("no row has status {status}"),
+        }
+    }
+
+    fn types(&self) -> Types {
+        types_of(&self.kind)
+    }
+}
+
+fn types_of(kind: &[u8]) -> Types {
+    Types::parse([b"A ::= ", kind].concat()).unwrap()
+}
+
+#[test]
+fn vectors_are_answered() {
+    for row in vectors() {
+        let types = row.types();
+        assert_eq!(row.call(&types, b"A"), row.wanted(), "{} {:02x?}", row.task, row.given);
+        for name in [&b"B"[..], b"", b"\xff"] {
+            assert_eq!(row.call(&types, name), Err(Error::Unnamed));
+        }
+    }
+}
+
+#[test]
+fn buffers_are_filled_or_kept() {
+    for row in vectors().iter().filter(|row| row.task != "check") {
+        let types = row.types();
+        // Of long answers some sizes are tried.
+        for room in (0..row.answer.len()).filter(|room| *room < 64 || room % 64 == 0) {
+            let mut out = vec![0xbb; room];
+            assert_eq!(row.call_into(&types, &mut out), Err(Error::Room { needed: row.written }));
+            assert_eq!(out, vec![0xbb; room]);
+        }
+        let mut out = vec![0xcc; row.answer.len() + 3];
+        let wanted = row.wanted().map(|made| Written { read: made.read, size: made.octets.len() });
+        assert_eq!(row.call_into(&types, &mut out), wanted);
+        assert_eq!(out, [&row.answer[..], &[0xcc; 3]].concat());
+    }
+}
+
+#[test]
+fn calls_without_types_are_rejected() {
+    for row in vectors() {
+        assert_eq!(row.call(&Types::new(), b"A"), Err(Error::NoTypes));
+        assert_eq!(row.call(&Types::default(), b"A"), Err(Error::NoTypes));
+        let mut types = row.types();
+        for _ in 0..2 {
+            types.clear();
+            assert_eq!(row.call(&types, b"A"), Err(Error::NoTypes));
+        }
+        let mut moved = Box::new(row.types());
+        assert_eq!(row.call(&moved, b"A"), row.wanted());
+        moved.read("B ::= NULL").unwrap();
+        assert_eq!(row.call(&moved, b"A"), Err(Error::Unnamed));
+    }
+}
+
+#[test]
+fn rejected_definitions_leave_the_types() {
+    for row in table::rows("rejected") {
+        let (text, why) = (from_hex(&row[0]), row[1].parse().unwrap());
+        let reason = TextReason::from_number(why).unwrap();
+        let wanted = Error::Definitions { reason, place: row[2].parse().unwrap() };
+        assert_eq!(Types::parse(&text).unwrap_err(), wanted);
+        let mut types = types_of(b"BOOLEAN");
+        assert_eq!(types.read(&text), Err(wanted));
+        assert_eq!(types.check("A", &[0xff]), Ok(Checked { octets: 1, canonical: true }));
+        assert_eq!((wanted.reason(), wanted.place()), (Some(reason.name()), row[2].parse().ok()));
+    }
+}
+
+/// The name of the header without its underscores, in small letters.
+fn spelt(name: &str) -> String {
+    name.replace('_', "").to_lowercase()
+}
+
+#[test]
+fn numbers_are_those_of_the_header() {
+    let rows = table::rows("number");
+    for row in &rows[10..] {
+        let (name, number) = (row[0].strip_prefix("OER_").unwrap(), row[1].parse().unwrap());
+        let (found, name) = match (name.strip_prefix("TEXT_"), name.strip_prefix("JSON_")) {
+            (Some(name), _) => (TextReason::from_number(number).map(|why| (why.name(), why.number())), name),
+            (_, Some(name)) => (JsonReason::from_number(number).map(|why| (why.name(), why.number())), name),
+            _ => (Reason::from_number(number).map(|why| (why.name(), why.number())), name),
+        };
+        let (found, again) = found.unwrap();
+        assert_eq!((found.to_lowercase(), again), (spelt(name), number));
+    }
+    assert_eq!(rows.len(), 50);
+    assert_eq!((Reason::from_number(2), TextReason::from_number(1), JsonReason::from_number(7)), (None, None, None));
+    assert_eq!(table::rows("version")[0][0], oer::version().to_string());
+}
+
+#[test]
+fn errors_are_errors() {
+    let types = Types::parse("A ::= OCTET STRING").unwrap();
+    let rejected: Box<dyn std::error::Error> = Box::new(types.check("A", &[3, 0x61]).unwrap_err());
+    assert_eq!(rejected.to_string(), "octets rejected: End, 2 octets looked at");
+    assert_eq!(types.check("A", &[3]).unwrap_err().place(), Some(1));
+    assert_eq!((Error::Absent.reason(), Error::Absent.place()), (None, None));
+    let rejected = types.from_json("A", "true").unwrap_err();
+    assert_eq!((rejected.reason(), rejected.place()), (Some("Kind"), None));
+}
+
+#[test]
+fn long_json_is_made_with_a_second_buffer() {
+    let types = types_of(b"SEQUENCE OF SEQUENCE {a-long-name-of-a-component BOOLEAN}");
+    let octets = [&[1, 100][..], &[0xff; 100]].concat();
+    let json = types.to_json("A", &octets).unwrap();
+    assert_eq!((json.text.len(), json.read), (100 * 35 + 1, octets.len()));
+    assert_eq!(types.from_json("A", json.text), Ok(octets));
+}
+
+#[test]
+fn the_certificate_of_the_example() {
+    let folder = Path::new(env!("CARGO_MANIFEST_DIR")).join("../../examples/ieee1609dot2");
+    let file = |name: &str| fs::read_to_string(folder.join(name)).unwrap();
+    let types = Types::parse(file("types.asn")).unwrap();
+    let (certificate, basic) = (from_hex(&file("certificate-rsu.hex")), from_hex(&file("certificate-rsu-basic.hex")));
+    assert_eq!(types.check("Certificate", &certificate), Ok(Checked { octets: 230, canonical: true }));
+    assert_eq!(types.check("Certificate", &basic), Ok(Checked { octets: 236, canonical: false }));
+    assert_eq!(types.canon("Certificate", &basic).unwrap().octets, certificate);
+    let rejected = types.canon_within("Certificate", &basic, 235).unwrap_err();
+    assert_eq!(rejected.reason(), Some("Limit"));
+    assert_eq!(*types.part("Certificate", &certificate, "c3").unwrap(), from_hex(&file("tbs-rsu.hex")));
+    let json = types.to_json("Certificate", &basic).unwrap();
+    assert_eq!(types.from_json("Certificate", json.text), Ok(certificate));
+}
+
+/// A generator of numbers (xorshift).
+struct Random(u64);
+
+impl Random {
+    fn below(&mut self, bound: u64) -> u64 {
+        self.0 ^= self.0 << 13;
+        self.0 ^= self.0 >> 7;
+        self.0 ^= self.0 << 17;
+        (self.0 >> 33) % bound
+    }
+
+    /// Small octets, so that many strings are encodings; or an octet of any kind.
+    fn octet(&mut self) -> u8 {
+        const COMMON: [u8; 10] = [0x00, 0x01, 0x02, 0x03, 0x80, 0x81, 0x82, 0xff, 0x20, 0x60];
+        match self.below(4) {
+            0 => self.below(256) as u8,
+            _ => COMMON[self.below(COMMON.len() as u64) as usize],
+        }
+    }
+}
+
+/// That check and canon agree on the octets. Returns what check found, if they begin with an encoding.
+fn compare(types: &Types, octets: &[u8]) -> Option<Checked> {
+    let (checked, canon) = (types.check("A", octets), types.canon_within("A", octets, NO_LIMIT));
+    match (checked, canon) {
+        (Ok(found), Ok(made)) => {
+            assert_eq!(found.octets, made.read, "{octets:02x?}");
+            assert_eq!(found.canonical, octets[..made.read] == made.octets, "{octets:02x?}");
+            let again = Checked { octets: made.octets.len(), canonical: true };
+            assert_eq!(types.check("A", &made.octets), Ok(again), "{octets:02x?}");
+            Some(found)
+        }
+        (Err(Error::Octets { reason, place }), Err(other)) => {
+            assert_eq!(Error::Octets { reason, place }, other, "{octets:02x?}");
+            assert!(place <= octets.len() as u64, "{octets:02x?}");
+            None
+        }
+        (checked, canon) => panic!("{octets:02x?}: {checked:?}, {canon:?}"),
+    }
+}
+
+#[test]
+fn check_and_canon_agree_on_random_octets() {
+    let strings: u64 = env::var("OER_STRINGS").map_or(100_000, |count| count.parse().unwrap());
+    let mut kinds: Vec<_> = vectors().into_iter().map(|row| row.kind).collect();
+    kinds.sort();
+    kinds.dedup();
+    let (mut random, mut tried, mut found) = (Random(88172645463325252), 0, Vec::new());
+    for (place, kind) in kinds.iter().enumerate() {
+        let types = types_of(kind);
+        while tried < strings * (place as u64 + 1) / kinds.len() as u64 {
+            let octets: Vec<u8> = (0..random.below(25)).map(|_| random.octet()).collect();
+            found.extend(compare(&types, &octets));
+            tried += 1;
+        }
+    }
+    let (encodings, canonicals) = (found.len() as u64, found.iter().filter(|found| found.canonical).count() as u64);
+    assert!(tried == strings && strings > 0);
+    assert!(encodings > strings / 10 && encodings < strings, "{encodings} encodings of {strings}");
+    assert!(canonicals > 0 && canonicals < encodings, "{canonicals} canonical of {encodings}");
+    println!("{encodings} encodings of {strings} strings, {canonicals} of them canonical");
+}

@@ -1,0 +1,31 @@
+-- What reading definitions answers, and which types there are then.
+use Rattle.std.specs.Prelude.{◌≡◌, ◌≢◌, ℕ, List, length, Option, Some, Err, ◌⊎◌}
+use Rattle.std.specs.Str.{IsUtf8}
+use Rattle.oer_notation.specs.Grammar.{AreWellFormed, SpellsAll}
+use Rattle.oer_notation.specs.Parsing.{parse_all}
+use Rattle.oer_notation.specs.Reading.{Known}
+use Rattle.oer_notation.specs.Views.{knowns}
+use Rattle.oer_notation.specs.declared.fault.TextFault.{TextFault}
+use Rattle.oer_notation.specs.declared.fault.TextWhy.TheVariants.{Memory}
+use Rattle.oer_notation.specs.declared.types.Types.{Types}
+use Rattle.oer_c.specs.Reasons.{text_number}
+use Rattle.oer_c.specs.declared.definitions.Parsed.{Parsed}
+
+abbrev pub answer : ℕ → ℕ → ℕ → Parsed
+answer status why place = record { status = status; why = why; place = place }
+
+-- what a fault comes to
+abbrev pub IsFault : TextFault → Parsed → Type 0
+IsFault fault p = (p ≡ answer 4 0 0) ⊎ ((p ≡ answer 1 (text_number fault.why) fault.at) × (fault.why ≢ Memory))
+
+-- The text is not UTF-8; or it spells no well-formed types, and this is the first fault from the left; or an allocation failed.
+abbrev pub IsRejected : List ℕ → Parsed → Type 0
+IsRejected text p = (p ≡ answer 4 0 0)
+    ⊎ (((IsUtf8 text → ⊥) × (p ≡ answer 1 0 0))
+    ⊎ ((fault : TextFault) × (p ≡ answer 1 (text_number fault.why) fault.at) × (parse_all text ≡ Err fault)
+    × ((definitions : List Known) → SpellsAll definitions text → AreWellFormed definitions → ⊥)))
+
+-- There are types that the text spells; or the text is rejected, and there are those from before.
+abbrev pub IsRead : List ℕ → Option Types → Option Types → Parsed → Type 0
+IsRead text old new p = ((t : Types) × (new ≡ Some t) × SpellsAll (knowns t) text × (p ≡ answer 0 0 (length text)))
+    ⊎ ((new ≡ old) × IsRejected text p)

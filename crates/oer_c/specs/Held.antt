@@ -1,0 +1,23 @@
+-- What a handle holds.
+use Rattle.std.specs.Prelude.{ℕ, Option, None, Some}
+use base.Fml.{Fml, ftrue}
+use denote.RawPtr.{Ptr}
+use Rattle.std.specs.Box.Ownership.{box_owns}
+use Rattle.std.specs.Global.{Global}
+use Rattle.std.specs.contracts.impls.GlobalAllocator.TheImpl.{ghosts}
+use Rattle.oer_notation.specs.contracts.types.Types.{the_row}
+use Rattle.oer_notation.specs.declared.types.Types.{Types}
+
+-- the heap, of which there is one
+abbrev pub heap : Global
+heap = record { memory = record { seal = tt } }
+
+-- the types at p, with the right to free their block; or nothing
+abbrev pub holds : Ptr → Option Types → Fml
+holds p None = ftrue
+holds p (Some types) = box_owns (ghosts.dealloc_token heap) the_row p types
+
+-- whether there are any, as a number
+abbrev pub flag : Option Types → ℕ
+flag None = 0
+flag (Some types) = 1

@@ -1,0 +1,10 @@
+pub mod Held
+pub mod Reasons
+pub mod Naming
+pub mod Definitions
+pub mod Checking
+pub mod Buffers
+pub mod Rewriting
+pub mod Parts
+pub mod Showing
+pub mod Making

@@ -1,0 +1,18 @@
+//! The calls for C, which `include/oer.h` declares: types are read once and kept in a handle, and by
+//! them octets are checked, rewritten, taken apart, shown as JSON and made from it.
+#![tactic(auto)]
+
+mod buffer;
+mod canon;
+mod check;
+mod definitions;
+mod handle;
+mod held;
+mod make;
+mod naming;
+mod part;
+mod raw_box;
+mod reason;
+mod show;
+mod status;
+mod version;

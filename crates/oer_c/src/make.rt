@@ -1,0 +1,144 @@
+//! The octets of the value for which JSON stands.
+ghost use Rattle.std.specs.Prelude.{◌≡◌, Some, IfErr, IfOk};
+ghost use Rattle.serde_json.specs.Read.{read};
+ghost use Rattle.serde_json.specs.View.{view};
+ghost use Rattle.oer_types.specs.Fits.{Fits};
+ghost use Rattle.oer_types.specs.Schema.{the_type};
+ghost use Rattle.oer_types.specs.Strict.{IsCanonical};
+ghost use Rattle.oer_types.specs.ValueView.{value_of};
+ghost use Rattle.oer_json.specs.Denotes.{Takes};
+ghost use Rattle.oer_c.specs.Buffers.{IsUndone, only_written};
+ghost use Rattle.oer_c.specs.Making.{IsOctetsOf, IsUnmade, IsUnread, IsUntaken, Makes, json_rejection};
+ghost use Rattle.oer_c.specs.Naming.{ByName};
+
+use crate::buffer::{Written, only_status, put};
+use crate::handle::Handle;
+use crate::naming::find_type;
+use crate::reason;
+use crate::status::{MEMORY, NO_JSON, NO_TYPES, REJECTED, UNNAMED};
+use oer_text::{JsonFault, Types, from_json};
+use oer_types::{Schema, Value};
+use oer_units::Metered;
+use oer_writer::write;
+use serde_json::Value as Json;
+use std::alloc::Global;
+
+// An error of JSON.
+fn reject(fault: JsonFault) -> Written
+    ensures { result ≡ json_rejection fault }
+{
+    Written {
+        status: REJECTED,
+        why: reason::of_json(fault),
+        octets: 0,
+        written: 0,
+    }
+}
+
+// The value of the type for which the JSON stands.
+fn value_in(alloc: Global, schema: &Schema, json: &Json) -> Result<Value, Written>
+    ensures takes { IfOk result (λ value. Takes (the_type schema.now) (value_of value) (view json.now)) }
+    ensures fits { IfOk result (λ value. Fits (the_type schema.now) (value_of value)) }
+    ensures rejected { IfErr result (IsUntaken (the_type schema.now) (view json.now)) }
+{
+    match from_json(alloc, schema, json) {
+        Ok(value) => Ok(value),
+        Err(JsonFault::Memory) => Err(only_status(MEMORY)),
+        Err(fault) => Err(reject(fault)),
+    }
+}
+
+// The canonical octets of a value.
+fn octets_of(alloc: Global, schema: &Schema, value: &Value) -> Result<Vec<u8>, Written>
+    requires { Fits (the_type schema.now) (value_of value.now) }
+    ensures octets { IfOk result (λ octets. IsCanonical (the_type schema.now) (value_of value.now) octets.items) }
+    ensures fails { IfErr result (λ a. a ≡ only_written 4) }
+{
+    let mut sink = Metered::new(Vec::new(alloc));
+    match write(schema, value, &mut sink) {
+        Ok(_) => Ok(sink.into_inner()),
+        Err(_) => Err(only_status(MEMORY)),
+    }
+}
+
+// The JSON that the text is.
+fn json_of(alloc: Global, text: &[u8]) -> Result<Json, Written>
+    ensures json { IfOk result (λ json. read text.now ≡ Some (view json)) }
+    ensures rejected { IfErr result (IsUnread text.now) }
+{
+    let Ok(text) = std::str::from_utf8(text) else {
+        return Err(only_status(NO_JSON));
+    };
+    match Json::from_str(alloc, text) {
+        Ok(json) => Ok(json),
+        Err(error) => {
+            if error.is_memory() {
+                Err(only_status(MEMORY))
+            } else {
+                Err(only_status(NO_JSON))
+            }
+        }
+    }
+}
+
+// The canonical octets of the value for which the text stands.
+fn made(alloc: Global, schema: &Schema, text: &[u8]) -> Result<Vec<u8>, Written>
+    ensures octets { IfOk result (λ octets. IsOctetsOf (the_type schema.now) text.now octets.items) }
+    ensures rejected { IfErr result (IsUnmade (the_type schema.now) text.now) }
+{
+    let json = json_of(alloc, text)?;
+    let value = value_in(alloc, schema, &json)?;
+    octets_of(alloc, schema, &value)
+}
+
+fn make(alloc: Global, schema: &Schema, text: &[u8], out: &mut [u8]) -> Written
+    ensures { Makes (the_type schema.now) text.now out.old out.new result }
+{
+    match made(alloc, schema, text) {
+        Ok(octets) => put(out, octets.as_slice(), 0),
+        Err(rejected) => rejected,
+    }
+}
+
+// The octets of a value of the type that the Name has.
+fn named(alloc: Global, types: &Types, name: &[u8], text: &[u8], out: &mut [u8]) -> Written
+    ensures { ByName (Some types.now) name.now (λ T. Makes T text.now out.old out.new result) (IsUndone out.old out.new result) }
+{
+    match find_type(types, name) {
+        Some(schema) => make(alloc, schema, text, out),
+        None => only_status(UNNAMED),
+    }
+}
+
+/// Writes the Canonical-OER encoding (X.696) of the value for which the JSON stands into the buffer.
+/// The type is the one that the Name has. The status is
+///
+/// - `OK`: `written` octets are in the buffer;
+/// - `ROOM`: the buffer has room for fewer than these `written` octets;
+/// - `REJECTED`: the JSON stands for no value of the type, for the reason `why`, a `JsonFault`;
+/// - `NO_JSON`: the text is not JSON, or not UTF-8;
+/// - `NO_TYPES`: the handle has no types;
+/// - `UNNAMED`: no definition has the Name, or it is not UTF-8;
+/// - `MEMORY`: an allocation failed.
+///
+/// Unless it is `OK` the buffer is as before.
+#[unsafe(no_mangle)]
+pub extern "C" fn oer_from_json(
+    alloc: Global,
+    types: &mut Handle,
+    name: &[u8],
+    text: &[u8],
+    out: &mut [u8],
+) -> Written
+    // The octets are in the buffer, or it is as before.
+    ensures makes { ByName types.old.held.types name.now (λ T. Makes T text.now out.old out.new result) (IsUndone out.old out.new result) }
+    // The types are those from before.
+    ensures kept { types.new.held.types ≡ types.old.held.types }
+{
+    let Some(found) = types.take(alloc) else {
+        return only_status(NO_TYPES);
+    };
+    let answer = named(alloc, &found, name, text, out);
+    *types = Handle::of(found);
+    answer
+}

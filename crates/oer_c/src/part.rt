@@ -1,0 +1,90 @@
+//! Handing out parts of octets.
+ghost use Rattle.std.specs.Prelude.{◌≡◌, Some};
+ghost use Rattle.oer_types.specs.Schema.{the_type};
+ghost use Rattle.oer_c.specs.Buffers.{IsUndone};
+ghost use Rattle.oer_c.specs.Naming.{ByName};
+ghost use Rattle.oer_c.specs.Parts.{IsCopied};
+
+use crate::buffer::{Written, only_status, put, reject};
+use crate::handle::Handle;
+use crate::naming::find_type;
+use crate::status::{ABSENT, MEMORY, NO_PATH, NO_STEP, NO_TYPES, UNNAMED};
+use oer_reader::{PartFault, PathFault, part, read_path};
+use oer_text::Types;
+use oer_types::Schema;
+use std::alloc::Global;
+
+// The part is put into the buffer.
+fn copied(alloc: Global, schema: &Schema, octets: &[u8], path: &[u8], out: &mut [u8]) -> Written
+    ensures { IsCopied (the_type schema.now) octets.now path.now out.old out.new result }
+{
+    let Ok(path) = std::str::from_utf8(path) else {
+        return only_status(NO_PATH);
+    };
+    let steps = match read_path(alloc, path) {
+        Ok(steps) => steps,
+        Err(PathFault::Memory) => return only_status(MEMORY),
+        Err(PathFault::Form) => return only_status(NO_PATH),
+    };
+    match part(schema, octets, steps.as_slice()) {
+        Ok(found) => put(out, found, 0),
+        Err(PartFault::Read(fault)) => reject(fault),
+        Err(PartFault::NoSuchStep) => only_status(NO_STEP),
+        Err(PartFault::Absent) => only_status(ABSENT),
+    }
+}
+
+// The part of an encoding of the type that the Name has.
+fn named(
+    alloc: Global,
+    types: &Types,
+    name: &[u8],
+    octets: &[u8],
+    path: &[u8],
+    out: &mut [u8],
+) -> Written
+    ensures { ByName (Some types.now) name.now (λ T. IsCopied T octets.now path.now out.old out.new result) (IsUndone out.old out.new result) }
+{
+    match find_type(types, name) {
+        Some(schema) => copied(alloc, schema, octets, path, out),
+        None => only_status(UNNAMED),
+    }
+}
+
+/// Writes the part of the Basic-OER encoding (X.696) at the front of the octets to which the path
+/// leads, as it stands in them, into the buffer. The type is the one that the Name has. What follows
+/// the encoding is not looked at. The status is
+///
+/// - `OK`: the part, `written` octets, is in the buffer;
+/// - `ROOM`: the buffer has room for fewer than these `written` octets;
+/// - `REJECTED`: no encoding is at the front, for the reason `why`, which was decided after `octets`
+///   of them;
+/// - `NO_PATH`: the text is no path;
+/// - `NO_STEP`, `ABSENT`: the path leads nowhere, and the first step that does so names no component
+///   of the root and no known addition, or one that is absent;
+/// - `NO_TYPES`: the handle has no types;
+/// - `UNNAMED`: no definition has the Name, or it is not UTF-8;
+/// - `MEMORY`: an allocation failed.
+///
+/// Unless it is `OK` the buffer is as before.
+#[unsafe(no_mangle)]
+pub extern "C" fn oer_part(
+    alloc: Global,
+    types: &mut Handle,
+    name: &[u8],
+    octets: &[u8],
+    path: &[u8],
+    out: &mut [u8],
+) -> Written
+    // The part is in the buffer, or it is as before.
+    ensures copies { ByName types.old.held.types name.now (λ T. IsCopied T octets.now path.now out.old out.new result) (IsUndone out.old out.new result) }
+    // The types are those from before.
+    ensures kept { types.new.held.types ≡ types.old.held.types }
+{
+    let Some(found) = types.take(alloc) else {
+        return only_status(NO_TYPES);
+    };
+    let answer = named(alloc, &found, name, octets, path, out);
+    *types = Handle::of(found);
+    answer
+}

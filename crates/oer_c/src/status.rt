@@ -1,0 +1,31 @@
+//! The statuses of calls.
+
+/// The call did what it is for.
+pub const OK: u32 = 0;
+
+/// The octets are no encoding, the text spells no types, or the JSON is no value of the type.
+pub const REJECTED: u32 = 1;
+
+/// The handle has no types.
+pub const NO_TYPES: u32 = 2;
+
+/// No definition has the Name.
+pub const UNNAMED: u32 = 3;
+
+/// An allocation failed.
+pub const MEMORY: u32 = 4;
+
+/// The buffer is too small.
+pub const ROOM: u32 = 5;
+
+/// The text spells no path.
+pub const NO_PATH: u32 = 6;
+
+/// The path leads nowhere.
+pub const NO_STEP: u32 = 7;
+
+/// The path leads to a component or an addition that is absent.
+pub const ABSENT: u32 = 8;
+
+/// The text is not JSON.
+pub const NO_JSON: u32 = 9;

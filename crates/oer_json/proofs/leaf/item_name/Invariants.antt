@@ -1,8 +1,0 @@
-use Rattle.std.proofs.Common.{◌≡◌, map, drop}
-use Rattle.oer_types.specs.ShapeView.{named_number}
-use Rattle.oer_json.specs.Texts.{name_of}
-use Rattle.oer_json.proofs.leaf.item_name.Given as goal
-
--- the number isn't among those before
-abbrev pub invariant-loop-item : goal.invariant-loop-item
-invariant-loop-item l = name_of (map named_number l.items) l.number ≡ name_of (map named_number (drop l.item-index l.items)) l.number

@@ -1,8 +1,0 @@
-use Rattle.std.proofs.Common.{◌≡◌, map, drop}
-use Rattle.oer_types.specs.ShapeView.{named_number}
-use Rattle.oer_json.specs.Texts.{number_named}
-use Rattle.oer_json.proofs.texts.number_named.Given as goal
-
--- the name isn't among those before
-abbrev pub invariant-loop-item : goal.invariant-loop-item
-invariant-loop-item l = number_named (map named_number l.items) l.name ≡ number_named (map named_number (drop l.item-index l.items)) l.name

@@ -1,0 +1,4 @@
+pub mod Lists
+pub mod Names
+pub mod Numerals
+pub mod Digits

@@ -1,0 +1,35 @@
+//! Parts of encodings.
+
+/// A type; octets; a path, of which `-` is the empty one; the octets of the part to which it leads, or
+/// the error.
+pub const PARTS: &str =
+    "SEQUENCE {a BOOLEAN, ..., x INTEGER (0..255), y BOOLEAN} | 80ff0206800109 | - | 80ff0206800109
+SEQUENCE {a BOOLEAN, ..., x INTEGER (0..255), y BOOLEAN} | 80ff0206800109 | c0 | ff
+SEQUENCE {a BOOLEAN, ..., x INTEGER (0..255), y BOOLEAN} | 80ff0206800109 | a0 | 09
+SEQUENCE {a BOOLEAN, ..., x INTEGER (0..255), y BOOLEAN} | 80ff0206800109 | a1 | Absent
+SEQUENCE {a BOOLEAN, ..., x INTEGER (0..255), y BOOLEAN} | 80ff0206800109 | c1 | NoSuchStep
+SEQUENCE {a BOOLEAN, ..., x INTEGER (0..255), y BOOLEAN} | 80ff0206800109 | i0 | NoSuchStep
+SEQUENCE {a BOOLEAN, ..., x INTEGER (0..255), y BOOLEAN} | 80ff0206800109 | c0.v | NoSuchStep
+SEQUENCE {a BOOLEAN, ..., x INTEGER (0..255), y BOOLEAN} | 80ff0207800109 | a0 | 09
+SEQUENCE {a BOOLEAN, ..., x INTEGER (0..255), y BOOLEAN} | 00ff | - | 00ff
+SEQUENCE {a BOOLEAN, ..., x INTEGER (0..255), y BOOLEAN} | 00ff | a0 | Absent
+SEQUENCE {a BOOLEAN, ..., x INTEGER (0..255), y BOOLEAN} | 80ff | c0 | End at 2
+SEQUENCE {a BOOLEAN, ..., x INTEGER (0..255), y BOOLEAN} | 80ff0205200109 | a2 | 09
+SEQUENCE {a BOOLEAN, ..., x INTEGER (0..255), y BOOLEAN} | 80ff0205200109 | a2.v | NoSuchStep
+SEQUENCE {a BOOLEAN, ..., x INTEGER (0..255), y BOOLEAN} | 80ff0205200109 | a3 | NoSuchStep
+SEQUENCE {a BOOLEAN, ..., x INTEGER (0..255), y BOOLEAN} | 80ff0205200109 | a0 | Absent
+SEQUENCE {a BOOLEAN, b INTEGER (0..255) DEFAULT 7, c NULL OPTIONAL, ...} | 00ff | c1 | Absent
+SEQUENCE {a BOOLEAN, b INTEGER (0..255) DEFAULT 7, c NULL OPTIONAL, ...} | 60ff08 | c1 | 08
+SEQUENCE {a BOOLEAN, b INTEGER (0..255) DEFAULT 7, c NULL OPTIONAL, ...} | 60ff08 | c2 | -
+SEQUENCE {a SEQUENCE OF OCTET STRING (SIZE(1))} | 01020307 | c0.i1 | 07
+SEQUENCE OF BOOLEAN | 0102ff00 | i0 | ff
+SEQUENCE OF BOOLEAN | 0102ff00 | i1 | 00
+SEQUENCE OF BOOLEAN | 0102ff00 | i2 | NoSuchStep
+SEQUENCE OF BOOLEAN | 0102ff00 | i18446744073709551615 | NoSuchStep
+CHOICE {a NULL, ..., b OCTET STRING} | 8103026162 | v | 026162
+CHOICE {a NULL, ..., b OCTET STRING} | 8103026162 | c0 | NoSuchStep
+CHOICE {a NULL, ..., b OCTET STRING} | 80 | v | -
+CHOICE {a NULL, ..., b OCTET STRING} | 85020102 | v | 0102
+CHOICE {a NULL, ..., b OCTET STRING} | 85020102 | v.v | NoSuchStep
+CHOICE {a NULL, ..., b OCTET STRING} | 85020102 | v.c0 | NoSuchStep
+OCTET STRING | 0361 | c0 | End at 2";

@@ -1,0 +1,207 @@
+/* oer.h: encodings of ASN.1 values by the octet encoding rules (ITU-T X.696), from C and C++.
+ *
+ * A text of definitions is read once into an oer_types. By the types in it octets are checked,
+ * rewritten as canonical octets, taken apart, shown as JSON, and made from JSON. Each call is a
+ * function of crates/oer_c, and is proved to do what its contract there says. This file and the code
+ * that calls the library are not proved: a caller has to keep the rules below.
+ *
+ * A call that writes takes a buffer of the caller's, and never writes past it. It writes all of the
+ * answer or nothing: where the status is not OER_OK, the buffer is as it was.
+ *
+ * Rules
+ *
+ * - An oer_types begins as OER_TYPES_NONE, or as zeros. Its fields belong to the library: a caller
+ *   neither reads nor writes them. It may be moved to another place while no call uses it, and then
+ *   the old place is not used again; two copies of one oer_types may not both be used.
+ * - An oer_types is in one call at a time, and all calls on it come from one thread. Each thread may
+ *   have an oer_types of its own.
+ * - oer_types_free gives the memory back. After it the oer_types is as new: each call on it answers
+ *   OER_NO_TYPES, and types may be read into it again. To free it twice is allowed.
+ * - No pointer is NULL. A pointer that comes with a length points to that many octets, all of them
+ *   initialized, those of an output buffer too. With length 0 nothing is read or written there.
+ * - The output buffer and the oer_types overlap nothing else that is passed to the call. Inputs may
+ *   overlap each other.
+ * - Memory comes from malloc, realloc and free, which have to belong together. It may run out: then
+ *   the status is OER_MEMORY, and what the call was given is as before. oer_check takes no memory.
+ * - No call is made from a signal handler, or in the child of a fork of a process with threads.
+ *
+ * Octets are uint8_t, texts are char. All lengths and places are numbers of octets; texts are UTF-8,
+ * come with their length, and need no zero octet at the end. None is written after the JSON. */
+#ifndef OER_H
+#define OER_H
+
+#include <stddef.h>
+#include <stdint.h>
+
+#ifdef __cplusplus
+extern "C" {
+#endif
+
+/* The version of this header: major, minor, patch. */
+#define OER_VERSION "0.1.0"
+
+/* The same as a number: 10,000 times the major number, 100 times the minor number, and the patch. */
+#define OER_VERSION_NUMBER 100
+
+/* The version of the library, as such a number. */
+uint32_t oer_version(void);
+
+/* What a call answers in `status`. */
+enum oer_status {
+    OER_OK = 0,       /* the call did what it is for */
+    OER_REJECTED = 1, /* the octets are no encoding, the text spells no types, or the JSON is no value
+                         of the type; `why` has the reason */
+    OER_NO_TYPES = 2, /* the oer_types has no types */
+    OER_UNNAMED = 3,  /* no definition has the name */
+    OER_MEMORY = 4,   /* an allocation failed */
+    OER_ROOM = 5,     /* the buffer is too small: `written` says how many octets are needed */
+    OER_NO_PATH = 6,  /* the text is not a path */
+    OER_NO_STEP = 7,  /* the path has a step that the type doesn't have, one past the last element, or
+                         one to an addition that the type doesn't know and that isn't there; or it
+                         goes on from a part that the type doesn't know */
+    OER_ABSENT = 8,   /* the path leads to a component or a known addition that is absent */
+    OER_NO_JSON = 9   /* the text is not JSON, or not UTF-8 */
+};
+
+/* Why octets are rejected: `why` of oer_checked and of oer_written at OER_REJECTED, except in
+ * oer_from_json. docs/ENCODING.md says in which order the reasons are looked for. */
+enum oer_reason {
+    OER_END = 3,                  /* they end within the value */
+    OER_LIMIT = 4,                /* they would pass the limit */
+    OER_WINDOW = 5,               /* they would pass the end of the addition or alternative that they
+                                     are in, or end before it */
+    OER_LENGTH_FORM = 6,          /* a length begins with 80 */
+    OER_EMPTY_NUMBER = 7,         /* a number of no octets */
+    OER_INTEGER_RANGE = 8,        /* a number outside its range or bounds */
+    OER_ENUM_FORM = 9,            /* an enumeration with count 0, or outside 64 bits */
+    OER_UNKNOWN_ENUM = 10,        /* a number that isn't listed, in an enumeration without a marker */
+    OER_SIZE = 11,                /* a size outside its constraint, or above 2^64 - 1 */
+    OER_CHARACTER = 12,           /* a character outside the type, or not UTF-8 */
+    OER_BIT_UNUSED = 13,          /* a BIT STRING without an initial octet, or with a wrong one */
+    OER_OBJECT_ID = 14,           /* contents that are no object identifier */
+    OER_PREAMBLE_PADDING = 15,    /* a preamble with a bit set after its last one */
+    OER_TAG_FORM = 16,            /* no tag, or one with a number above 2^32 - 1 */
+    OER_UNKNOWN_ALTERNATIVE = 17, /* a tag that no alternative has, in a CHOICE without a marker */
+    OER_UNKNOWN_ADDITION = 18     /* a bit set for an addition past place 65,535 */
+};
+
+/* Why definitions are rejected: `why` of oer_parsed at OER_REJECTED (docs/NOTATION.md). */
+enum oer_text_reason {
+    OER_TEXT_NOT_UTF8 = 0,         /* the text is not UTF-8 */
+    OER_TEXT_TOKEN = 2,            /* no token begins here, or it has no end */
+    OER_TEXT_SYNTAX = 3,           /* a token that the grammar doesn't have here */
+    OER_TEXT_NUMBER = 4,           /* a number out of range for its place */
+    OER_TEXT_NAME = 5,             /* a name that no earlier definition has */
+    OER_TEXT_REPEATED = 6,         /* a name that is defined twice */
+    OER_TEXT_MIXED = 7,            /* tags on some alternatives only, or numbers on some items only */
+    OER_TEXT_DEFAULT = 8,          /* a value that isn't in the notation of the component's type */
+    OER_TEXT_TOO_DEEP = 9,         /* a type of more than 32 levels */
+    OER_TEXT_TOO_MANY_PARTS = 10,  /* a type of more than 4,096 parts */
+    OER_TEXT_BOUND_ORDER = 11,     /* a lower bound above the upper bound */
+    OER_TEXT_SIZE_ORDER = 12,      /* a least size above the greatest */
+    OER_TEXT_BAD_NAME = 13,        /* a name that is no identifier; no text has this fault */
+    OER_TEXT_REPEATED_NAME = 14,   /* the same name twice in a SEQUENCE, CHOICE or ENUMERATED */
+    OER_TEXT_NO_ITEMS = 15,        /* no items or alternatives; no text has this fault */
+    OER_TEXT_REPEATED_NUMBER = 16, /* the same number twice in an ENUMERATED */
+    OER_TEXT_REPEATED_TAG = 17,    /* the same tag twice in a CHOICE */
+    OER_TEXT_DEFAULT_MISFIT = 18,  /* a default that doesn't fit its type */
+    OER_TEXT_EMPTY_ELEMENT = 19    /* a SEQUENCE OF whose elements may take no octets */
+};
+
+/* Why JSON is rejected: `why` of oer_written at OER_REJECTED, in oer_from_json (docs/JSON.md). */
+enum oer_json_reason {
+    OER_JSON_KIND = 2,    /* JSON of another kind than the type's values have, or of another form */
+    OER_JSON_NAME = 3,    /* a key that the type doesn't have, or a text that is no item's name */
+    OER_JSON_MISSING = 4, /* a component that must be there has no key */
+    OER_JSON_RANGE = 5,   /* a number out of range */
+    OER_JSON_MISFIT = 6   /* a value of the right form that doesn't fit the type */
+};
+
+/* Types that were read, by their names; or none. */
+typedef struct oer_types {
+    void *at_;
+    uint32_t full_;
+} oer_types;
+
+/* An oer_types without types: oer_types types = OER_TYPES_NONE; */
+#define OER_TYPES_NONE { 0, 0 }
+
+/* What reading definitions answers. */
+typedef struct oer_parsed {
+    uint32_t status; /* OER_OK, OER_REJECTED or OER_MEMORY */
+    uint32_t why;    /* at OER_REJECTED the reason, an enum oer_text_reason; else 0 */
+    uint64_t place;  /* at OER_REJECTED the octet of the text at which the token or type begins that
+                        shows the fault; at OER_OK the length of the text; else 0 */
+} oer_parsed;
+
+/* What a check answers. */
+typedef struct oer_checked {
+    uint32_t status;    /* OER_OK, OER_REJECTED, OER_NO_TYPES or OER_UNNAMED */
+    uint32_t why;       /* at OER_REJECTED the reason, an enum oer_reason; else 0 */
+    uint64_t octets;    /* at OER_OK how many octets the encoding has; at OER_REJECTED how many had
+                           been looked at when it was rejected; else 0 */
+    uint32_t canonical; /* at OER_OK 1 where the encoding is canonical, 0 where it is another one;
+                           else 0 */
+} oer_checked;
+
+/* What a call answers that writes into a buffer. */
+typedef struct oer_written {
+    uint32_t status;  /* each call says which */
+    uint32_t why;     /* at OER_REJECTED the reason; else 0 */
+    uint64_t octets;  /* at OER_OK and OER_ROOM how many octets the encoding has that was read; at
+                         OER_REJECTED how many had been looked at; else 0. oer_part and oer_from_json
+                         answer 0 at OER_OK and OER_ROOM, oer_from_json at OER_REJECTED too */
+    uint64_t written; /* at OER_OK how many octets were written; at OER_ROOM how many are needed; else
+                         0 */
+} oer_written;
+
+/* A limit that rejects nothing. */
+#define OER_NO_LIMIT ((uint64_t)-1)
+
+/* Reads definitions `Name ::= type` (docs/NOTATION.md), in place of the types that were there. At
+ * OER_REJECTED and OER_MEMORY the types are those from before. */
+oer_parsed oer_types_read(oer_types *types, const char *text, size_t text_length);
+
+/* Frees the types. */
+void oer_types_free(oer_types *types);
+
+/* Whether the octets begin with an encoding of a value of the type with the name, in any spelling
+ * that the rules allow (Basic-OER): how long it is, and whether it is the canonical one. What
+ * follows it is not looked at: compare `octets` of the answer with octets_length. */
+oer_checked oer_check(oer_types *types, const char *name, size_t name_length,
+                      const uint8_t *octets, size_t octets_length);
+
+/* Writes the canonical octets (Canonical-OER) of the value whose encoding, of at most `limit` octets,
+ * is at the front of the octets. What follows it is not looked at.
+ * OER_OK, OER_REJECTED, OER_NO_TYPES, OER_UNNAMED, OER_MEMORY, OER_ROOM. */
+oer_written oer_canon(oer_types *types, const char *name, size_t name_length,
+                      const uint8_t *octets, size_t octets_length, uint64_t limit,
+                      uint8_t *out, size_t room);
+
+/* Writes the part of the encoding at the front of the octets to which the path leads, as it stands in
+ * them. A path is steps joined by dots (docs/COMMAND.md): c0 a component, a0 an addition, i0 an
+ * element, v the alternative chosen. What follows the encoding is not looked at.
+ * OER_OK, OER_REJECTED, OER_NO_TYPES, OER_UNNAMED, OER_MEMORY, OER_ROOM, OER_NO_PATH, OER_NO_STEP,
+ * OER_ABSENT. */
+oer_written oer_part(oer_types *types, const char *name, size_t name_length,
+                     const uint8_t *octets, size_t octets_length,
+                     const char *path, size_t path_length,
+                     uint8_t *out, size_t room);
+
+/* Writes the JSON (docs/JSON.md) of the value whose encoding, of at most `limit` octets, is at the
+ * front of the octets. What follows it is not looked at.
+ * OER_OK, OER_REJECTED, OER_NO_TYPES, OER_UNNAMED, OER_MEMORY, OER_ROOM. */
+oer_written oer_to_json(oer_types *types, const char *name, size_t name_length,
+                        const uint8_t *octets, size_t octets_length, uint64_t limit,
+                        char *out, size_t room);
+
+/* Writes the canonical octets of the value that the JSON stands for.
+ * OER_OK, OER_REJECTED, OER_NO_TYPES, OER_UNNAMED, OER_MEMORY, OER_ROOM, OER_NO_JSON. */
+oer_written oer_from_json(oer_types *types, const char *name, size_t name_length,
+                          const char *text, size_t text_length,
+                          uint8_t *out, size_t room);
+
+#ifdef __cplusplus
+}
+#endif
+#endif

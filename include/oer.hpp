@@ -1,0 +1,545 @@
+/* oer.hpp: encodings of ASN.1 values by the octet encoding rules (ITU-T X.696), from C++11 to C++20.
+ *
+ * A class over the calls of oer.h, all of it in this header. An oer::types holds definitions that were
+ * read. By the types in it octets are checked, rewritten as canonical octets, taken apart, shown as
+ * JSON, and made from JSON. A program that includes this header is linked with liboer, as from C.
+ *
+ *     oer::types types = oer::types::of("Flags ::= SEQUENCE OF BOOLEAN").value();
+ *     auto made = types.canon("Flags", octets);
+ *     if (made) send(made.value().data(), made.value().size());
+ *     else log(made.error().name(), made.error().place);
+ *
+ * Results
+ *
+ * A call returns an oer::result by value: the answer, or an oer::error with the status, the reason and
+ * the place. `ok()` tells which. By default no call throws, and the header compiles without exceptions.
+ * Where OER_EXCEPTIONS is defined before the header is included, `value()` of a result that has an
+ * error throws an oer::failure; nothing else changes. Files with and without it may be linked together.
+ *
+ * Octets and texts that a call makes are returned in an oer::octets or an oer::text, which own them.
+ * The calls whose names end in _into write into a buffer of the caller's, and this header then
+ * allocates nothing.
+ *
+ * Arguments
+ *
+ * Octets are taken as an oer::octets_in: a pointer with a number, an array, or whatever has data() and
+ * size(), as std::vector<std::uint8_t>, std::array, oer::octets and, from C++20 on, std::span. Texts
+ * are taken as an oer::text_in: text that ends with a zero octet, a pointer with a number, std::string,
+ * std::string_view, oer::text. They are UTF-8. A pointer may be null where the number is 0. An argument
+ * is read during the call only, and nothing keeps a pointer to it.
+ *
+ * Lengths and places are numbers of octets.
+ *
+ * Threads
+ *
+ * An oer::types is in one call at a time, and all calls on it come from one thread: that which read it,
+ * and which destroys it. That holds for check() as well, which is not const for this reason. Each
+ * thread may have an oer::types of its own. Results, errors, octets and texts may be handed to other
+ * threads, and read by several at once.
+ *
+ * No call is made from a signal handler, or in the child of a fork of a process with threads. */
+#ifndef OER_HPP
+#define OER_HPP
+
+#include "oer.h"
+
+#include <cstddef>
+#include <cstdint>
+#include <cstring>
+#include <memory>
+#include <new>
+#include <type_traits>
+#include <utility>
+
+#ifdef __has_include
+#if __has_include(<version>)
+#include <version>
+#endif
+#endif
+#ifdef __cpp_lib_span
+#include <span>
+#endif
+
+#ifdef OER_EXCEPTIONS
+#include <stdexcept>
+#define OER_HPP_NAMESPACE throwing
+#else
+#define OER_HPP_NAMESPACE returning
+#endif
+
+namespace oer {
+inline namespace OER_HPP_NAMESPACE {
+
+/* The version of the library that the program was linked with, as the number OER_VERSION_NUMBER is of
+ * the header. */
+inline std::uint32_t version() noexcept { return oer_version(); }
+
+/* What a call was reading when it was rejected. It says of which enumeration `why` of an error is. */
+enum class subject {
+    octets,      /* octets: an oer_reason */
+    definitions, /* definitions: an oer_text_reason */
+    json         /* JSON: an oer_json_reason */
+};
+
+/* Why a call has no answer. */
+struct error {
+    /* An oer_status. OER_OK stands for no error. */
+    std::uint32_t status;
+    /* At OER_REJECTED the reason, of the enumeration that `of` names. Else 0. */
+    std::uint32_t why;
+    /* At OER_REJECTED the place. Of octets: how many had been looked at. Of definitions: the octet of
+     * the text at which the token or type begins that shows the fault. Of JSON: 0. With any other
+     * status 0. */
+    std::uint64_t place;
+    /* At OER_ROOM how many octets the buffer has to have. Else 0. */
+    std::uint64_t needed;
+    /* What the call was reading. */
+    subject of;
+
+    /* The name of the status, and at OER_REJECTED that of the reason, as the documents have them:
+     * "Memory", "End", "LengthForm". It is kept for as long as the program runs. */
+    const char *name() const noexcept;
+};
+
+/* Octets or texts of the caller's: a pointer and a number of elements. T is const for what is read. */
+template <class T>
+class slice {
+public:
+    /* No elements. */
+    slice() noexcept : at_(nullptr), size_(0) {}
+
+    /* `size` elements from `at` on, all of them initialized, those of an output buffer too. */
+    slice(T *at, std::size_t size) noexcept : at_(at), size_(size) {}
+
+    /* All elements of an array. */
+    template <std::size_t N>
+    slice(T (&array)[N]) noexcept : at_(array), size_(N) {}
+
+    /* All elements of whatever has data() and size(), as a vector or a span. It has to live, and its
+     * elements have to stay where they are, for as long as the slice is used. */
+    template <class C, class = typename std::enable_if<
+                           !std::is_same<typename std::decay<C>::type, slice>::value &&
+                           std::is_convertible<decltype(std::declval<C &>().data()), T *>::value &&
+                           std::is_convertible<decltype(std::declval<C &>().size()), std::size_t>::value>::type>
+    slice(C &&from) noexcept : at_(from.data()), size_(from.size()) {}
+
+    /* The first element. It is never null: where there are no elements it points to one that is not
+     * used, as oer.h wants it. */
+    T *data() const noexcept { return at_ ? at_ : nothing(); }
+
+    /* How many elements there are. */
+    std::size_t size() const noexcept { return size_; }
+
+private:
+    static T *nothing() noexcept {
+        static typename std::remove_const<T>::type element = 0;
+        return &element;
+    }
+
+    T *at_;
+    std::size_t size_;
+};
+
+/* Octets that a call reads, and octets and texts that it writes. */
+typedef slice<const std::uint8_t> octets_in;
+typedef slice<std::uint8_t> octets_out;
+typedef slice<char> text_out;
+
+/* A text that a call reads. */
+class text_in : public slice<const char> {
+public:
+    /* `size` octets from `at` on. */
+    text_in(const char *at, std::size_t size) noexcept : slice<const char>(at, size) {}
+
+    /* The octets up to the first zero octet. The pointer is not null. */
+    text_in(const char *text) noexcept : slice<const char>(text, std::strlen(text)) {}
+
+    /* All octets of whatever has data() and size(), as a string. */
+    template <class C, class = typename std::enable_if<
+                           !std::is_same<typename std::decay<C>::type, text_in>::value &&
+                           std::is_convertible<decltype(std::declval<C &>().data()), const char *>::value>::type>
+    text_in(C &&from) noexcept : slice<const char>(from.data(), from.size()) {}
+};
+
+/* Elements that a call made. It owns them, may be moved and not copied. */
+template <class T>
+class buffer {
+public:
+    /* No elements. */
+    buffer() noexcept : at_(), size_(0), read_(0) {}
+
+    /* The elements that `other` had, which has none then. */
+    buffer(buffer &&other) noexcept : at_(std::move(other.at_)), size_(other.size_), read_(other.read_) {
+        other.size_ = 0;
+        other.read_ = 0;
+    }
+
+    /* The same, and the elements from before are freed. */
+    buffer &operator=(buffer &&other) noexcept {
+        buffer moved(std::move(other));
+        std::swap(at_, moved.at_);
+        std::swap(size_, moved.size_);
+        std::swap(read_, moved.read_);
+        return *this;
+    }
+
+    buffer(const buffer &) = delete;
+    buffer &operator=(const buffer &) = delete;
+
+    /* The first element. It may be null where there are none. No zero octet follows a text. */
+    const T *data() const noexcept { return at_.get(); }
+
+    /* How many elements there are. */
+    std::size_t size() const noexcept { return size_; }
+    bool empty() const noexcept { return size_ == 0; }
+
+    const T *begin() const noexcept { return data(); }
+    const T *end() const noexcept { return data() + size_; }
+    const T &operator[](std::size_t place) const noexcept { return at_[place]; }
+
+    /* How many octets the encoding has that was read: what canon() and to_json() read of the octets
+     * that they were given. 0 of the other calls. */
+    std::uint64_t read() const noexcept { return read_; }
+
+#ifdef __cpp_lib_span
+    /* The elements as a span, which is valid until the buffer is changed or destroyed. */
+    std::span<const T> span() const noexcept { return std::span<const T>(data(), size_); }
+#endif
+
+private:
+    friend class types;
+
+    /* Room for `room` elements, all 0. False where an allocation fails. */
+    bool make(std::size_t room) noexcept {
+        at_.reset(new (std::nothrow) T[room ? room : 1]());
+        return at_ != nullptr;
+    }
+
+    std::unique_ptr<T[]> at_;
+    std::size_t size_;
+    std::uint64_t read_;
+};
+
+typedef buffer<std::uint8_t> octets;
+typedef buffer<char> text;
+
+/* What check() answers. */
+struct checked {
+    /* How many octets the encoding has. */
+    std::uint64_t octets;
+    /* Whether it is the canonical one. */
+    bool canonical;
+};
+
+/* What a call answers that writes into a buffer of the caller's. */
+struct written {
+    /* How many octets the encoding has that was read: canon_into() and to_json_into(). Else 0. */
+    std::uint64_t read;
+    /* How many octets were written, from the first of the buffer on. Those after them are as before. */
+    std::size_t size;
+};
+
+#ifdef OER_EXCEPTIONS
+/* What value() throws where there is an error. what() is the name() of the error. */
+class failure : public std::runtime_error {
+public:
+    explicit failure(const error &why) : std::runtime_error(why.name()), why_(why) {}
+
+    /* The error of the result. */
+    const oer::error &error() const noexcept { return why_; }
+
+private:
+    oer::error why_;
+};
+#endif
+
+/* An answer, or the reason why there is none. It may be moved, and copied where the answer may. */
+template <class T>
+class result {
+public:
+    /* A result that has an answer. */
+    result(T &&answer) noexcept : error_(), answer_(std::move(answer)) {}
+
+    /* A result that has an error, whose status is not OER_OK. */
+    result(const oer::error &why) noexcept : error_(why), answer_() {}
+
+    /* Whether there is an answer. */
+    bool ok() const noexcept { return error_.status == OER_OK; }
+    explicit operator bool() const noexcept { return ok(); }
+
+    /* The error. Where there is an answer its status is OER_OK, and all its numbers are 0. */
+    const oer::error &error() const noexcept { return error_; }
+
+    /* The answer. Where there is an error: with OER_EXCEPTIONS it throws a failure; without, it is an
+     * empty one (no octets, no text, no types, numbers 0), so ask ok() before. */
+    const T &value() const & {
+        demand();
+        return answer_;
+    }
+    T &value() & {
+        demand();
+        return answer_;
+    }
+    T value() && {
+        demand();
+        return std::move(answer_);
+    }
+
+private:
+    void demand() const {
+#ifdef OER_EXCEPTIONS
+        if (!ok()) throw failure(error_);
+#endif
+    }
+
+    oer::error error_;
+    T answer_;
+};
+
+/* Definitions that were read, by their names; or none. It may be moved and not copied. It frees what it
+ * holds. One call at a time, and all of them from one thread.
+ *
+ * Every call on it except read() and free() may have these errors:
+ *   OER_NO_TYPES  it has no types: none were read, they were freed, or it was moved from
+ *   OER_UNNAMED   no definition has the name
+ * The further ones stand with each call. After an error the types and the caller's buffers are as
+ * before. */
+class types {
+public:
+    /* No types. */
+    types() noexcept : held_() {}
+
+    /* The types that `other` had, which has none then, as a new one. */
+    types(types &&other) noexcept : held_(other.held_) { other.forget(); }
+
+    /* The same, and the types from before are freed. */
+    types &operator=(types &&other) noexcept {
+        if (this != &other) {
+            free();
+            held_ = other.held_;
+            other.forget();
+        }
+        return *this;
+    }
+
+    types(const types &) = delete;
+    types &operator=(const types &) = delete;
+
+    ~types() { free(); }
+
+    /* The types of the definitions, each `Name ::= type` (docs/NOTATION.md). Errors: those of read(). */
+    static result<types> of(text_in definitions) noexcept {
+        types made;
+        result<std::uint64_t> read = made.read(definitions);
+        if (!read.ok()) return result<types>(read.error());
+        return result<types>(std::move(made));
+    }
+
+    /* Reads definitions, in place of the types that were there. The answer is the length of the text.
+     *   OER_REJECTED  the text spells no types: `why` is an oer_text_reason, `place` the octet of the
+     *                text at which the token or type begins that shows the fault
+     *   OER_MEMORY   an allocation failed
+     * After an error the types are those from before. */
+    result<std::uint64_t> read(text_in definitions) noexcept {
+        oer_parsed parsed = oer_types_read(&held_, definitions.data(), definitions.size());
+        if (parsed.status == OER_OK) return result<std::uint64_t>(std::move(parsed.place));
+        return result<std::uint64_t>(fault(parsed.status, parsed.why, parsed.place, 0, subject::definitions));
+    }
+
+    /* Frees the types. After it there are none, and types may be read again. It may be called twice. */
+    void free() noexcept { oer_types_free(&held_); }
+
+    /* Whether the octets begin with an encoding of a value of the type with the name, in any spelling
+     * that the rules allow (Basic-OER): how long it is, and whether it is the canonical one. What
+     * follows it is not looked at: compare `octets` of the answer with the size. It takes no memory.
+     *   OER_REJECTED  they don't: `why` is an oer_reason, `place` how many had been looked at */
+    result<checked> check(text_in name, octets_in given) noexcept {
+        oer_checked answer = oer_check(&held_, name.data(), name.size(), given.data(), given.size());
+        if (answer.status == OER_OK) {
+            checked found = { answer.octets, answer.canonical != 0 };
+            return result<checked>(std::move(found));
+        }
+        return result<checked>(fault(answer.status, answer.why, answer.octets, 0, subject::octets));
+    }
+
+    /* The canonical octets (Canonical-OER) of the value whose encoding, of at most `limit` octets, is at
+     * the front of the octets. What follows it is not looked at.
+     *   OER_REJECTED  there is no such encoding: `why` is an oer_reason, `place` how many octets had been
+     *                looked at
+     *   OER_MEMORY   an allocation failed, here or in the library */
+    result<octets> canon(text_in name, octets_in given, std::uint64_t limit = OER_NO_LIMIT) noexcept {
+        return gather<std::uint8_t>(given.size(), subject::octets, [&](std::uint8_t *out, std::size_t room) {
+            return oer_canon(&held_, name.data(), name.size(), given.data(), given.size(), limit, out, room);
+        });
+    }
+
+    /* The same, written into the buffer, which overlaps nothing else that is passed.
+     *   OER_ROOM     the buffer is too small: `needed` of the error says how many octets it has to have */
+    result<written> canon_into(text_in name, octets_in given, octets_out out,
+                               std::uint64_t limit = OER_NO_LIMIT) noexcept {
+        return told(oer_canon(&held_, name.data(), name.size(), given.data(), given.size(), limit, out.data(),
+                              out.size()),
+                    subject::octets);
+    }
+
+    /* The part of the encoding at the front of the octets to which the path leads, as it stands in them.
+     * A path is steps joined by dots (docs/COMMAND.md): c0 a component, a0 an addition, i0 an element,
+     * v the alternative chosen. What follows the encoding is not looked at.
+     *   OER_REJECTED  the octets don't begin with an encoding: `why` is an oer_reason, `place` how many
+     *                octets had been looked at
+     *   OER_NO_PATH  the text is not a path
+     *   OER_NO_STEP  the path has a step that the type doesn't have, one past the last element, or one
+     *                to an addition that the type doesn't know and that isn't there; or it goes on from
+     *                a part that the type doesn't know
+     *   OER_ABSENT   the path leads to a component or a known addition that is absent
+     *   OER_MEMORY   an allocation failed, here or in the library */
+    result<octets> part(text_in name, octets_in given, text_in path) noexcept {
+        return gather<std::uint8_t>(given.size(), subject::octets, [&](std::uint8_t *out, std::size_t room) {
+            return oer_part(&held_, name.data(), name.size(), given.data(), given.size(), path.data(), path.size(),
+                            out, room);
+        });
+    }
+
+    /* The same, written into the buffer, which overlaps nothing else that is passed.
+     *   OER_ROOM     the buffer is too small: `needed` of the error says how many octets it has to have */
+    result<written> part_into(text_in name, octets_in given, text_in path, octets_out out) noexcept {
+        return told(oer_part(&held_, name.data(), name.size(), given.data(), given.size(), path.data(), path.size(),
+                             out.data(), out.size()),
+                    subject::octets);
+    }
+
+    /* The JSON (docs/JSON.md) of the value whose encoding, of at most `limit` octets, is at the front of
+     * the octets, as UTF-8. What follows the encoding is not looked at.
+     *   OER_REJECTED  there is no such encoding: `why` is an oer_reason, `place` how many octets had been
+     *                looked at
+     *   OER_MEMORY   an allocation failed, here or in the library */
+    result<text> to_json(text_in name, octets_in given, std::uint64_t limit = OER_NO_LIMIT) noexcept {
+        return gather<char>(room_of_json(given.size()), subject::octets, [&](char *out, std::size_t room) {
+            return oer_to_json(&held_, name.data(), name.size(), given.data(), given.size(), limit, out, room);
+        });
+    }
+
+    /* The same, written into the buffer, which overlaps nothing else that is passed. No zero octet is
+     * written after it.
+     *   OER_ROOM     the buffer is too small: `needed` of the error says how many octets it has to have */
+    result<written> to_json_into(text_in name, octets_in given, text_out out,
+                                 std::uint64_t limit = OER_NO_LIMIT) noexcept {
+        return told(oer_to_json(&held_, name.data(), name.size(), given.data(), given.size(), limit, out.data(),
+                                out.size()),
+                    subject::octets);
+    }
+
+    /* The canonical octets of the value that the JSON stands for.
+     *   OER_NO_JSON  the text is not JSON, or not UTF-8
+     *   OER_REJECTED  the JSON is no value of the type: `why` is an oer_json_reason, `place` is 0
+     *   OER_MEMORY   an allocation failed, here or in the library */
+    result<octets> from_json(text_in name, text_in json) noexcept {
+        return gather<std::uint8_t>(json.size(), subject::json, [&](std::uint8_t *out, std::size_t room) {
+            return oer_from_json(&held_, name.data(), name.size(), json.data(), json.size(), out, room);
+        });
+    }
+
+    /* The same, written into the buffer, which overlaps nothing else that is passed.
+     *   OER_ROOM     the buffer is too small: `needed` of the error says how many octets it has to have */
+    result<written> from_json_into(text_in name, text_in json, octets_out out) noexcept {
+        return told(oer_from_json(&held_, name.data(), name.size(), json.data(), json.size(), out.data(), out.size()),
+                    subject::json);
+    }
+
+private:
+    /* Begins as a new one; what it held has moved. */
+    void forget() noexcept { held_ = oer_types(); }
+
+    static error fault(std::uint32_t status, std::uint32_t why, std::uint64_t place, std::uint64_t needed,
+                       subject of) noexcept {
+        error made = { status, why, place, needed, of };
+        return made;
+    }
+
+    /* The error of an answer that is not OER_OK. */
+    static error fault(const oer_written &answer, subject of) noexcept {
+        return fault(answer.status, answer.why, answer.status == OER_REJECTED ? answer.octets : 0, answer.written, of);
+    }
+
+    static result<written> told(const oer_written &answer, subject of) noexcept {
+        if (answer.status != OER_OK) return result<written>(fault(answer, of));
+        written made = { answer.octets, static_cast<std::size_t>(answer.written) };
+        return result<written>(std::move(made));
+    }
+
+    /* Where the JSON of an encoding begins to be tried; more is taken if it is longer. */
+    static std::size_t room_of_json(std::size_t size) noexcept {
+        return size < static_cast<std::size_t>(-1) / 8 ? 4 * size + 64 : size;
+    }
+
+    /* Calls with a buffer of `room` elements, and where that is too small once more with as many as are
+     * needed. */
+    template <class T, class Call>
+    static result<buffer<T>> gather(std::size_t room, subject of, Call call) noexcept {
+        buffer<T> made;
+        if (!made.make(room)) return result<buffer<T>>(fault(OER_MEMORY, 0, 0, 0, of));
+        oer_written answer = call(made.at_.get(), room);
+        if (answer.status == OER_ROOM) {
+            room = static_cast<std::size_t>(answer.written);
+            if (room != answer.written || !made.make(room)) return result<buffer<T>>(fault(OER_MEMORY, 0, 0, 0, of));
+            answer = call(made.at_.get(), room);
+        }
+        if (answer.status != OER_OK) return result<buffer<T>>(fault(answer, of));
+        made.size_ = static_cast<std::size_t>(answer.written);
+        made.read_ = answer.octets;
+        return result<buffer<T>>(std::move(made));
+    }
+
+    oer_types held_;
+};
+
+namespace names {
+
+/* The name that a table has at a number, or "Unknown". */
+template <std::size_t N>
+const char *at(const char *const (&table)[N], std::uint32_t number) noexcept {
+    return number < N && table[number] ? table[number] : "Unknown";
+}
+
+inline const char *status(std::uint32_t number) noexcept {
+    static const char *const table[] = { "Ok",   "Rejected", "NoTypes",    "Unnamed", "Memory",
+                                         "Room", "NoPath",  "NoStep", "Absent",  "NoJson" };
+    return at(table, number);
+}
+
+inline const char *reason(std::uint32_t number) noexcept {
+    static const char *const table[] = {
+        nullptr,        nullptr,    nullptr,       "End",          "Limit",       "Window",    "LengthForm",
+        "EmptyNumber",  "IntegerRange", "EnumForm", "UnknownEnum", "Size",        "Character", "BitUnused",
+        "ObjectId",     "PreamblePadding", "TagForm", "UnknownAlternative", "UnknownAddition"
+    };
+    return at(table, number);
+}
+
+inline const char *text_reason(std::uint32_t number) noexcept {
+    static const char *const table[] = {
+        "NotUtf8", nullptr, "Token", "Syntax", "Number", "Name", "Repeated", "Mixed", "Default", "TooDeep",
+        "TooManyParts", "BoundOrder", "SizeOrder", "BadName", "RepeatedName", "NoItems", "RepeatedNumber",
+        "RepeatedTag", "DefaultMisfit", "EmptyElement"
+    };
+    return at(table, number);
+}
+
+inline const char *json_reason(std::uint32_t number) noexcept {
+    static const char *const table[] = { nullptr, nullptr, "Kind", "Name", "Missing", "Range", "Misfit" };
+    return at(table, number);
+}
+
+} // namespace names
+
+inline const char *error::name() const noexcept {
+    if (status != OER_REJECTED) return names::status(status);
+    if (of == subject::octets) return names::reason(why);
+    return of == subject::definitions ? names::text_reason(why) : names::json_reason(why);
+}
+
+} // namespace OER_HPP_NAMESPACE
+} // namespace oer
+
+#undef OER_HPP_NAMESPACE
+#endif
