@@ -88,33 +88,33 @@ fn are_written_in_canonical_octets(rt: HostRuntime) -> Result<(), Fail> {
     each_case(rt.alloc(), is_written)
 }
 
+// Whether the value fits, and the octets are told to be its canonical ones.
+fn is_equal(case: &Case, octets: &[u8]) -> bool {
+    fits(&case.schema, &case.value) && equals(case.schema.shape(), &case.value, octets)
+}
+
 // Whether octets that aren't the canonical ones are told from them: those without the last, without
 // the first, and with another last one.
 fn are_others(case: &Case, changed: &mut Vec<u8>) -> bool {
-    let shape = case.schema.shape();
     let Some((last, front)) = case.canonical.split_last() else {
         return true;
     };
     if let Some(place) = changed.last_mut() {
         *place = *last ^ 1;
     }
-    !equals(shape, &case.value, front)
-        && !equals(shape, &case.value, case.canonical.get(1..).unwrap_or(front))
-        && !equals(shape, &case.value, changed)
+    !is_equal(case, front)
+        && !is_equal(case, case.canonical.get(1..).unwrap_or(front))
+        && !is_equal(case, changed)
 }
 
 // Whether octets are told to be the value's canonical ones exactly where they are.
 fn is_told(at: Global, case: &Case) -> Result<bool, Fail> {
-    if !fits(&case.schema, &case.value) {
-        return Ok(false);
-    }
-    let shape = case.schema.shape();
     let is_canonical = case.octets == case.canonical;
     let mut changed = Vec::from_slice(at, &case.canonical)?;
     Ok(
-        equals(shape, &case.value, &case.octets) == is_canonical
-            && equals(shape, &case.value, &case.canonical)
-            && !equals(shape, &case.value, &case.followed)
+        is_equal(case, &case.octets) == is_canonical
+            && is_equal(case, &case.canonical)
+            && !is_equal(case, &case.followed)
             && are_others(case, &mut changed),
     )
 }
