@@ -365,7 +365,8 @@ static void test_growth() {
     bytes octets = { 1, 100 };
     octets.insert(octets.end(), 100, 0xff);
     oer::result<oer::text> json = types.to_json("A", octets);
-    EXPECT(json.value().size() == 100 * 35 + 1 && json.value().read() == octets.size(), "JSON");
+    std::size_t element = std::string("{\"a-long-name-of-a-component\":true},").size();
+    EXPECT(json.value().size() == 100 * element + 1 && json.value().read() == octets.size(), "JSON");
     EXPECT(copy(types.from_json("A", json.value()).value()) == octets, "octets");
 }
 
