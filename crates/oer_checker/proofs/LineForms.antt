@@ -20,7 +20,8 @@ use Rattle.oer_types.specs.declared.size.Size.{Size}
 use Rattle.oer_types.proofs.Parts.{preamble_lawful}
 use Rattle.oer_checker.specs.Lines.{AreAdditions, AreAlternative, AreBoth, AreByTag, AreExtension, AreFields, AreIf, AreLines, AreNone, AreOpen, AreRest, AreTimes, IsOne, StartWith}
 use Rattle.oer_checker.specs.Rows.{Line, Walk, Walker, add_line, go_on, halted, inside, leave, leave_at, line, line_at, row, stay, stuck, walk_additions, walk_alternative, walk_both, walk_choose, walk_chosen, walk_extension, walk_fields, walk_if, walk_open, walk_rest, walk_times, walk_unknown, walk_value, went}
-use Rattle.oer_checker.specs.Steps.{addition_map, between, bits_left, is_there, sized_length, sized_quantity}
+use Rattle.oer_types.specs.SharedSteps.{bits_left, is_there}
+use Rattle.oer_checker.specs.Steps.{addition_map, between, sized_length, sized_quantity}
 use Rattle.oer_checker.specs.declared.row.Role.{Role}
 use Rattle.oer_checker.specs.declared.row.Role.TheVariants.{Bitmap, Contents, Length, Preamble, Quantity, Tag as TagRole, Unknown}
 use Rattle.oer_checker.proofs.LengthSteps.{sized_room}

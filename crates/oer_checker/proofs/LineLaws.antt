@@ -21,7 +21,8 @@ use Rattle.oer_types.specs.declared.size.Size.{Size}
 use Rattle.oer_types.proofs.Parts.{preamble_lawful}
 use Rattle.oer_checker.specs.Listing.{Cover}
 use Rattle.oer_checker.specs.Rows.{Line, Walk, Walker, add_line, go_on, halted, inside, leave, leave_at, line, line_at, row, stay, stuck, walk_additions, walk_alternative, walk_both, walk_choose, walk_chosen, walk_extension, walk_fields, walk_if, walk_open, walk_rest, walk_times, walk_unknown, walk_value, went}
-use Rattle.oer_checker.specs.Steps.{addition_map, and_after, between, bits_left, check_if, check_there, got_both, is_there, left_open, sized_length, sized_quantity}
+use Rattle.oer_types.specs.SharedSteps.{bits_left, is_there}
+use Rattle.oer_checker.specs.Steps.{addition_map, and_after, between, check_if, check_there, got_both, left_open, sized_length, sized_quantity}
 use Rattle.oer_checker.specs.declared.row.Role.{Role}
 use Rattle.oer_checker.specs.declared.row.Role.TheVariants.{Bitmap, Contents, Length, Preamble, Quantity, Tag as TagRole, Unknown}
 use Rattle.oer_checker.proofs.FieldSteps.{by_bit, extensible_stop, extensible_then, field_is, items_stop, items_then, map_stop, map_then, sequence_stop, sequence_then}

@@ -19,7 +19,8 @@ use Rattle.oer_types.specs.Checking.{check_value}
 use Rattle.oer_checker.specs.declared.row.Role.TheVariants.{Bitmap, Contents, Preamble, Tag as TagRole}
 use Rattle.oer_checker.specs.Rows.{Line, Lists, Reaches, Takes, Walk, Walker, Walks, add_line, go_on, halted, inside, leave, leave_at, line_at, path_in, row, stay, stuck, walk_additions, walk_alternative, walk_both, walk_choose, walk_chosen, walk_extension, walk_fields, walk_if, walk_later, walk_open, walk_rest, walk_times, walk_unknown, walk_value, went}
 use Rattle.oer_checker.specs.BitView.{bits_in}
-use Rattle.oer_checker.specs.Steps.{addition_map, bits_left, is_there}
+use Rattle.oer_types.specs.SharedSteps.{bits_left, is_there}
+use Rattle.oer_checker.specs.Steps.{addition_map}
 use Rattle.oer_checker.specs.declared.bits.Bits.{Bits}
 use Rattle.oer_checker.proofs.FieldSteps.{count_is}
 use Rattle.oer_checker.specs.declared.place.Place as rust_place

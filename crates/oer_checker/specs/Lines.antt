@@ -10,7 +10,7 @@ use Rattle.oer_types.specs.Constraints.{addition_count, has_tag, optional, same_
 use Rattle.oer_types.specs.Encoding.{IsSpelling, SpellsBitmap}
 use Rattle.oer_types.specs.Parts.{Step, to_addition, to_chosen, to_component, to_item}
 use Rattle.oer_checker.specs.Rows.{Line, line}
-use Rattle.oer_checker.specs.Steps.{bits_left, is_there}
+use Rattle.oer_types.specs.SharedSteps.{bits_left, is_there}
 use Rattle.oer_checker.specs.declared.row.Role.{Role}
 use Rattle.oer_checker.specs.declared.row.Role.TheVariants.{Preamble, Bitmap, Quantity, Tag as TagRole, Length, Contents, Unknown}
 

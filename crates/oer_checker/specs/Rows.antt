@@ -11,7 +11,8 @@ use Rattle.oer_types.specs.Constraints.{addition_count, has_tag, optional, same_
 use Rattle.oer_types.specs.Parts.{Step, to_addition, to_chosen, to_component, to_item}
 use Rattle.oer_types.specs.Reading.{preamble}
 use Rattle.oer_checker.specs.Places.{place_of}
-use Rattle.oer_checker.specs.Steps.{addition_map, between, bits_left, is_there, sized_length, sized_quantity}
+use Rattle.oer_types.specs.SharedSteps.{bits_left, is_there}
+use Rattle.oer_checker.specs.Steps.{addition_map, between, sized_length, sized_quantity}
 use Rattle.oer_checker.specs.Walk.{path_of}
 use Rattle.oer_checker.specs.declared.place.Place as rust_place
 use Rattle.oer_checker.specs.declared.row.Halt.{Halt}
@@ -162,15 +163,15 @@ path_in spot = path_of spot.path.items
 abbrev pub walk_later : Alternatives → ℕ → List Step → Tag → Walker
 walk_later more total path t = walk_choose (has_tag t more) (walk_alternative more total path t) (walk_unknown total path)
 
--- the octets of a type without parts, by what their check answered
-abbrev pub Lists : Spot → Outcome Bool → rust_place.Place → List Line → List Line → Result rust_place.Place Halt → Type 0
-Lists spot o p old new result = Walks result new (add_line spot.total (path_in spot) Contents (λ f. stay) old (place_of p) o)
-
 -- where a walk of the program is, with the rows that it has made; nothing is said where an allocation fails
 abbrev pub Walks : Result rust_place.Place Halt → List Line → Walk → Type 0
 Walks (Ok q) ls walk = walk ≡ went ls (place_of q)
 Walks (Err Refused) ls walk = walk ≡ halted ls
 Walks (Err Memory) ls walk = Unit {0}
+
+-- the octets of a type without parts, by what their check answered
+abbrev pub Lists : Spot → Outcome Bool → rust_place.Place → List Line → List Line → Result rust_place.Place Halt → Type 0
+Lists spot o p old new result = Walks result new (add_line spot.total (path_in spot) Contents (λ f. stay) old (place_of p) o)
 
 -- the same path, unless an allocation fails
 abbrev pub Copies : List rust_step.Step → Result (Vec rust_step.Step Global) Halt → Type 0

@@ -1,12 +1,13 @@
 //! How the rows of an encoding are made.
-ghost use Rattle.oer_types.specs.AsnType.{no_alternatives, sequence, sequence_of};
-ghost use Rattle.oer_types.specs.ShapeView.{additions_of, fields_of, later_of, root_of, type_of};
+ghost use Rattle.oer_types.specs.AsnType.{enumerated, no_alternatives, restricted_string, sequence, sequence_of};
+ghost use Rattle.oer_types.specs.AlphabetView.{alphabet_of};
+ghost use Rattle.oer_types.specs.ShapeView.{additions_of, fields_of, later_of, named_number, root_of, type_of};
 ghost use Rattle.oer_checker.specs.BitView.{IsWhole, bits_in};
 ghost use Rattle.oer_checker.specs.Facts.{IsChoice, IsExtensible};
 ghost use Rattle.oer_checker.specs.Places.{outcome, place_of, same};
 ghost use Rattle.oer_checker.specs.Rows.{Lists, Walks, lines_of, path_in, walk_additions, walk_alternative, walk_extension, walk_fields, walk_if, walk_later, walk_open, walk_rest, walk_times, walk_unknown, walk_value};
 ghost use Rattle.oer_types.specs.Parts.{to_addition, to_component, to_item};
-ghost use Rattle.std.specs.Prelude.{◌++◌, ◌∷◌, [], drop};
+ghost use Rattle.std.specs.Prelude.{◌++◌, ◌∷◌, [], drop, map};
 
 use crate::bit_strings::{addition_map, check_bit_string, preamble};
 use crate::bits::Bits;
@@ -20,7 +21,7 @@ use crate::step::Step;
 use crate::stop::Stop;
 use crate::strings::{check_object_id, check_octet_string, check_text, check_utf8};
 use crate::units::{group_at, tag_at};
-use oer_types::{Addition, Alphabet, Alt, Field, Shape, Size, contains_tag, is_same_tag, optional};
+use oer_types::{Addition, Alphabet, Alt, Field, Item, Shape, Size, contains_tag, is_same_tag, optional};
 use oer_units::Tag;
 
 /// The value of a type without parts.
@@ -34,6 +35,34 @@ fn list_leaf<'a>(
 {
     let (_, end) = spot.taken(Role::Contents, rows, place, answer)?;
     Ok(end)
+}
+
+// An ENUMERATED.
+fn list_enumerated<'a>(
+    spot: &Spot,
+    items: &[Item],
+    extensible: bool,
+    place: Place<'a>,
+    rows: &mut Vec<Row<'a>>,
+) -> Result<Place<'a>, Halt>
+    ensures { Walks result (lines_of rows.new.items) (walk_value (enumerated (map named_number items.now) extensible) spot.now.total (path_in spot.now) (lines_of rows.old.items) (place_of place.entry)) }
+{
+    let answer = check_enumerated(items, extensible, place);
+    list_leaf(spot, answer, place, rows)
+}
+
+// A character string with one octet for each character.
+fn list_text<'a>(
+    spot: &Spot,
+    kind: Alphabet,
+    size: Size,
+    place: Place<'a>,
+    rows: &mut Vec<Row<'a>>,
+) -> Result<Place<'a>, Halt>
+    ensures { Walks result (lines_of rows.new.items) (walk_value (restricted_string (alphabet_of kind) size) spot.now.total (path_in spot.now) (lines_of rows.old.items) (place_of place.entry)) }
+{
+    let answer = check_text(kind, size, place);
+    list_leaf(spot, answer, place, rows)
 }
 
 /// An open type (X.696, 30) of which the type isn't known.
@@ -91,21 +120,15 @@ pub(crate) fn list_shape<'a>(
             list_leaf(spot, check_integer(*low, *high, place), place, rows)
         }
         Shape::Enumerated { items, extensible } => {
-            list_leaf(spot, check_enumerated(items, *extensible, place), place, rows)
+            list_enumerated(spot, items, *extensible, place, rows)
         }
         Shape::BitString(size) => list_leaf(spot, check_bit_string(*size, place), place, rows),
         Shape::OctetString(size) => list_leaf(spot, check_octet_string(*size, place), place, rows),
         Shape::ObjectId => list_leaf(spot, check_object_id(place), place, rows),
-        Shape::Ia5(size) => list_leaf(spot, check_text(Alphabet::Ia5, *size, place), place, rows),
-        Shape::Visible(size) => {
-            list_leaf(spot, check_text(Alphabet::Visible, *size, place), place, rows)
-        }
-        Shape::Numeric(size) => {
-            list_leaf(spot, check_text(Alphabet::Numeric, *size, place), place, rows)
-        }
-        Shape::Printable(size) => {
-            list_leaf(spot, check_text(Alphabet::Printable, *size, place), place, rows)
-        }
+        Shape::Ia5(size) => list_text(spot, Alphabet::Ia5, *size, place, rows),
+        Shape::Visible(size) => list_text(spot, Alphabet::Visible, *size, place, rows),
+        Shape::Numeric(size) => list_text(spot, Alphabet::Numeric, *size, place, rows),
+        Shape::Printable(size) => list_text(spot, Alphabet::Printable, *size, place, rows),
         Shape::Utf8(size) => list_leaf(spot, check_utf8(*size, place), place, rows),
         Shape::SequenceOf { size, item } => list_items(spot, *size, item, place, rows),
         Shape::Sequence { root, additions } => match additions {

@@ -17,7 +17,7 @@ abbrev pub invariant-list_fields-loop-field : goal.invariant-list_fields-loop-fi
 invariant-list_fields-loop-field l = (l.index ≡ l.field-index) × (walk_fields (fields_of (drop l.field-index l.fields)) l.spot.total (path_in l.spot) l.field-index (bits_in l.left) (lines_of l.rows.items) (place_of l.at) ≡ walk_fields (fields_of l.fields) l.spot.total (path_in l.spot) 0 (bits_in l.bits) (lines_of l.fn.rows.items) (place_of l.place))
 
 abbrev pub invariant-list_alternative-loop-alternative : goal.invariant-list_alternative-loop-alternative
-invariant-list_alternative-loop-alternative l = walk_alternative (root_of (drop l.alternative-index l.alternatives) no_alternatives) l.spot.total (path_in l.spot) l.tag ≡ walk_alternative (root_of l.alternatives no_alternatives) l.spot.total (path_in l.spot) l.tag
+invariant-list_alternative-loop-alternative l = (lines_of l.rows.items ≡ lines_of l.fn.rows.items) × (walk_alternative (root_of (drop l.alternative-index l.alternatives) no_alternatives) l.spot.total (path_in l.spot) l.tag ≡ walk_alternative (root_of l.alternatives no_alternatives) l.spot.total (path_in l.spot) l.tag)
 
 abbrev pub invariant-list_later-loop-alternative : goal.invariant-list_later-loop-alternative
-invariant-list_later-loop-alternative l = walk_later (later_of (drop l.alternative-index l.alternatives)) l.spot.total (path_in l.spot) l.tag ≡ walk_later (later_of l.alternatives) l.spot.total (path_in l.spot) l.tag
+invariant-list_later-loop-alternative l = (lines_of l.rows.items ≡ lines_of l.fn.rows.items) × (walk_later (later_of (drop l.alternative-index l.alternatives)) l.spot.total (path_in l.spot) l.tag ≡ walk_later (later_of l.alternatives) l.spot.total (path_in l.spot) l.tag)
