@@ -26,7 +26,7 @@ use Rattle.oer_checker.specs.Steps.{addition_map, and_after, between, check_if, 
 use Rattle.oer_checker.specs.declared.row.Role.{Role}
 use Rattle.oer_checker.specs.declared.row.Role.TheVariants.{Bitmap, Contents, Length, Preamble, Quantity, Tag as TagRole, Unknown}
 use Rattle.oer_checker.proofs.FieldSteps.{by_bit, extensible_stop, extensible_then, field_is, items_stop, items_then, map_stop, map_then, sequence_stop, sequence_then}
-use Rattle.oer_checker.proofs.Joins.{and_all, bind_got, bind_stop}
+use Rattle.oer_checker.proofs.Joins.{and_all, bind_got, bind_stop, give_got}
 use Rattle.oer_checker.proofs.LineUnits.{Sound, length_sound, map_sound, quantity_sound, value_sound}
 use Rattle.oer_checker.proofs.LengthSteps.{length_then, octets_stop, open_stop, open_then}
 use Rattle.oer_checker.proofs.TagSteps.{choice_stop, choice_then}
@@ -180,12 +180,8 @@ agree_octets total path old p = agree_row total path Length sized_length (λ y. 
   where
     content : (n : ℕ) (q : Place) (new : List Line) → Agree total new q (check_group n q) (row total path Unknown (group n) (λ w. stay) new q)
     content n q new = agree_row total path Unknown (group n) (λ w. stay) new q (check_group n q) (sound_fronts (group n) _ (group_lawful n).sound)
-        (λ w s e. (got true s, (true, bind_got (group n) (λ x. give true) q s w (got true s) e (give_is true s)), λ later. (refl, grew_none total later s.input)))
+        (λ w s e. (got true s, (true, bind_got (group n) (λ x. give true) q s w (got true s) e (give_got true s)), λ later. (refl, grew_none total later s.input)))
         (λ why rest e. (why, rest, bind_stop (group n) (λ x. give true) q why rest e))
-      where
-        give_is : (f : Bool) (s : Place) → got f s ≡ give f s
-        unfolding give
-        give_is f s = refl
 
 -- ---- parts
 

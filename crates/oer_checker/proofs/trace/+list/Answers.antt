@@ -1,5 +1,5 @@
 use Rattle.std.proofs.Common.{◌≡◌, ◌∙◌, subst, Global, Option, Vec, Some, Ok, Err, ◌-◌, ◌+◌, ◌++◌, ◌∷◌, [], ℕ, Bool, List, true, false, length, arith, rules, refl, sym, ap, ap₂}
-use Rattle.oer_types.specs.AsnType.{AsnType, choice, extensible_sequence, ia5, no_alternatives, null, numeric, printable, restricted_string, sequence, sequence_of, visible}
+use Rattle.oer_types.specs.AsnType.{AsnType, bit_string, boolean, choice, extensible_sequence, ia5, integer, no_alternatives, null, numeric, object_id, octet_string, printable, restricted_string, sequence, sequence_of, utf8_string, visible}
 use Rattle.oer_types.specs.Parts.{Step, to_addition, to_chosen, to_component, to_item}
 use Rattle.oer_types.specs.ShapeView.{additions_of, fields_of, later_of, need_of, root_of, type_of}
 use Rattle.oer_types.specs.declared.shape.Addition.{Addition}
@@ -9,8 +9,11 @@ use Rattle.oer_checker.specs.Places.{place_of}
 use Rattle.oer_checker.specs.Rows.{Line, Walker, halted, lines_of, path_in, stuck, walk_alternative, walk_if, walk_later, walk_open, walk_value}
 use Rattle.oer_checker.specs.declared.row.Halt.TheVariants.{Refused}
 use Rattle.oer_checker.proofs.Exits.{at_stop}
+use Rattle.oer_checker.proofs.Joins.{give_got}
 use Rattle.oer_checker.proofs.LineSteps.{additions_end, additions_next, additions_stop, at_inner, bits_stop, both_stop, both_then, by_walk, choice_later, choice_none, choice_root, extension_none, extension_stop, extension_then, fields_end, fields_next, fields_stop, if_not, if_so, inside_ends, inside_left, inside_stop, later_end, later_here, later_next, leaf_arm, no_inner, root_end, root_here, root_next, root_stop, root_then, stays, sticks, tag_stop, tag_then, taken_stop, taken_then, times_end, times_next, times_start, times_stop, type_arm}
 use Rattle.oer_checker.proofs.Sizes.{additions_fall, alternatives_fall, fields_fall, later_fall}
+use Rattle.oer_types.proofs.Shapes.{type_of-BitString, type_of-Integer, type_of-OctetString, type_of-Utf8}
+use Rattle.oer_checker.proofs.Shapes.{type_of-Boolean, type_of-Null, type_of-ObjectId}
 use Rattle.oer_checker.proofs.TypeSteps.{as_choice, as_closed, as_extensible, as_items, as_open, as_sequence}
 use Rattle.oer_checker.proofs.trace.+list.Goals as goal
 
@@ -44,7 +47,7 @@ list_field-returns t c =
 pub list_fields-loop-field-preserved : goal.list_fields-loop-field-preserved
 list_fields-loop-field-preserved t c = (
   omega arith,
-  fields_next c.args.fields.now c.loop-field.field-index c.field-item.result c.args.spot.now.total (path_in c.args.spot.now) (bits_in c.loop-field.left) (bits_in c.presence-is_present.result.1) c.presence-is_present.result.0 _ _ _ _ _ c.loop-field-test.true c.field-item.is c.presence-is_present.ensures.there c.presence-is_present.ensures.left c.loop-field.invariant.1 (rw c.loop-field.invariant.0 at c.in_ok-at.ensures),
+  fields_next c.args.fields.now c.loop-field.field-index c.field-item.result c.args.spot.now.total (path_in c.args.spot.now) (bits_in c.loop-field.left) (bits_in c.presence-is_present.result.1) c.presence-is_present.result.0 _ _ _ c.in_ok-at.at _ c.loop-field-test.true c.field-item.is c.presence-is_present.ensures.there c.presence-is_present.ensures.left c.loop-field.invariant.1 (rw c.loop-field.invariant.0 at c.in_ok-at.ensures),
 )
 
 pub list_fields-returns-in_err-at : goal.list_fields-returns-in_err-at
@@ -70,7 +73,7 @@ list_addition-returns t c =
 pub list_additions-loop-addition-preserved : goal.list_additions-loop-addition-preserved
 list_additions-loop-addition-preserved t c = (
   omega arith,
-  additions_next c.args.additions.now c.loop-addition.addition-index c.addition-item.result c.args.spot.now.total (path_in c.args.spot.now) (bits_in c.loop-addition.left) (bits_in c.later-left.result) c.first-is_present.result _ _ _ _ _ c.loop-addition-test.true c.addition-item.is c.first-is_present.ensures c.later-left.ensures c.loop-addition.invariant.1 (rw c.loop-addition.invariant.0 at c.in_ok-at.ensures),
+  additions_next c.args.additions.now c.loop-addition.addition-index c.addition-item.result c.args.spot.now.total (path_in c.args.spot.now) (bits_in c.loop-addition.left) (bits_in c.later-left.result) c.first-is_present.result _ _ _ c.in_ok-at.at _ c.loop-addition-test.true c.addition-item.is c.first-is_present.ensures c.later-left.ensures c.loop-addition.invariant.1 (rw c.loop-addition.invariant.0 at c.in_ok-at.ensures),
 )
 
 pub list_additions-returns-in_err-at : goal.list_additions-returns-in_err-at
@@ -104,7 +107,7 @@ list_elements-loop-turn-init t c = times_start (λ i. walk_value (type_of c.args
 
 pub list_elements-loop-turn-preserved : goal.list_elements-loop-turn-preserved
 list_elements-loop-turn-preserved t c =
-    times_next (λ i. walk_value (type_of c.args.item.now) c.args.spot.now.total (path_in c.args.spot.now ++ (to_item i ∷ []))) (c.args.count - c.loop-turn.turn) (c.args.count - (c.loop-turn.turn + 1)) c.loop-turn.turn _ _ _ _ _ (omega arith) c.loop-turn.invariant
+    times_next (λ i. walk_value (type_of c.args.item.now) c.args.spot.now.total (path_in c.args.spot.now ++ (to_item i ∷ []))) (c.args.count - c.loop-turn.turn) (c.args.count - (c.loop-turn.turn + 1)) c.loop-turn.turn _ _ _ c.in_ok-at.at _ (omega arith) c.loop-turn.invariant
     (at_inner (walk_value (type_of c.args.item.now)) c.args.spot.now c.in_ok-inner.inner (to_item c.loop-turn.turn) (Ok c.in_ok-at.at) _ _ _ c.in_ok-inner.ensures c.in_ok-at.ensures)
 
 pub list_elements-returns-in_err-inner : goal.list_elements-returns-in_err-inner
@@ -126,6 +129,11 @@ list_open-returns-in_err-count t c = rw (at_stop c.from_residual.result c.in_err
 pub list_open-returns-in_err-end : goal.list_open-returns-in_err-end
 list_open-returns-in_err-end t c = rw (at_stop c.from_residual-in_err-end.result c.in_err-end.field-0.0 c.from_residual-in_err-end.ensures.1)
     (by_walk (Err c.in_err-end.field-0.0) _ _ _ (taken_then (λ x. x) c.args.spot.now _ _ _ c.args.place _ _ _ _ c.sized_length_at-answer.ensures c.in_ok-count.ensures) (inside_stop c.in_ok-count.count _ _ _ (place_of c.in_ok-count.next) c.in_err-end.field-0.0 c.in_err-end.ensures))
+
+pub list_open-returns-then-end-gt0 : goal.list_open-returns-then-end-gt0
+list_open-returns-then-end-gt0 t c =
+    sym (taken_then (λ x. x) c.args.spot.now _ _ _ c.args.place _ _ _ _ c.sized_length_at-answer.ensures c.in_ok-count.ensures)
+    ∙ inside_left c.in_ok-count.count _ _ _ (place_of c.in_ok-count.next) c.in_ok-end.end c.in_ok-end.ensures (omega arith)
 
 pub list_open-returns : goal.list_open-returns
 list_open-returns t c =
@@ -205,6 +213,16 @@ list_choice-returns-in-None t c =
     (tag_then false (root_of xs no_alternatives) c.args.spot.now _ _ c.args.place _ c.tag_at-answer.ensures _ c.in_ok-inner.inner (λ total path. stuck) (Err Refused) _ c.in_ok-tag.ensures c.in_ok-inner.ensures
     (choice_none xs c.args.spot.now.total _ c.in_ok-tag.tag (sym c.if-contains_tag.false ∙ c.contains_tag.ensures)) (sticks _ _))
 
+pub list_choice-returns : goal.list_choice-returns
+list_choice-returns t c =
+    let h = c.requires.is in
+    let xs = c.args.alternatives.now in
+    let ys = c.deref.result.now in
+    let is = as_open c.args.shape.now h.0 c.args.additions.now c.in-Some.additions xs ys h.1 c.in-Some.is h.2 c.deref.ensures.value in
+    type_arm _ _ c.args.spot.now c.list_later.result _ _ _ is
+    (tag_then true (root_of xs (later_of ys)) c.args.spot.now _ _ c.args.place _ c.tag_at-answer.ensures _ c.in_ok-inner.inner (λ total path. walk_later (later_of ys) total path c.in_ok-tag.tag) c.list_later.result _ c.in_ok-tag.ensures c.in_ok-inner.ensures
+    (choice_later xs ys c.args.spot.now.total _ c.in_ok-tag.tag (sym c.if-contains_tag.false ∙ c.contains_tag.ensures)) c.list_later.ensures)
+
 pub list_choice-list_alternative-requires : goal.list_choice-list_alternative-requires
 list_choice-list_alternative-requires t c =
     let h = c.requires.is in
@@ -248,3 +266,32 @@ pub list_later-returns : goal.list_later-returns
 list_later-returns t c =
     let at_it = later_end c.args.alternatives.now c.loop-alternative.alternative-index c.args.spot.now.total (path_in c.args.spot.now) c.args.tag _ c.loop-alternative-test.false c.loop-alternative.invariant.1 in
     by_walk c.list_unknown.result _ _ _ (ap₂ (λ (w : Walker) (ls : List Line). w ls (place_of c.args.place)) at_it c.loop-alternative.invariant.0) c.list_unknown.ensures
+
+-- ---- types without parts
+
+pub list_shape-returns-in-Boolean : goal.list_shape-returns-in-Boolean
+list_shape-returns-in-Boolean t c = leaf_arm _ boolean c.args.spot.now c.list_leaf.result _ _ c.args.place _ refl (ap type_of c.in-Boolean.is ∙ type_of-Boolean) (c.check_boolean.ensures) c.list_leaf.ensures
+
+pub list_shape-returns-in-Null : goal.list_shape-returns-in-Null
+list_shape-returns-in-Null t c = leaf_arm _ null c.args.spot.now c.list_leaf-in-Null.result _ _ c.args.place _ refl (ap type_of c.in-Null.is ∙ type_of-Null) (give_got true (place_of c.args.place)) c.list_leaf-in-Null.ensures
+
+pub list_shape-returns-in-Integer : goal.list_shape-returns-in-Integer
+list_shape-returns-in-Integer t c = leaf_arm _ (integer c.in-Integer.low c.in-Integer.high) c.args.spot.now c.list_leaf-in-Integer.result _ _ c.args.place _ refl (ap type_of c.in-Integer.is ∙ type_of-Integer _ _) (c.check_integer.ensures) c.list_leaf-in-Integer.ensures
+
+pub list_shape-returns-in-BitString : goal.list_shape-returns-in-BitString
+list_shape-returns-in-BitString t c = leaf_arm _ (bit_string c.in-BitString.size) c.args.spot.now c.list_leaf-in-BitString.result _ _ c.args.place _ refl (ap type_of c.in-BitString.is ∙ type_of-BitString _) (c.check_bit_string.ensures) c.list_leaf-in-BitString.ensures
+
+pub list_shape-returns-in-OctetString : goal.list_shape-returns-in-OctetString
+list_shape-returns-in-OctetString t c = leaf_arm _ (octet_string c.in-OctetString.size) c.args.spot.now c.list_leaf-in-OctetString.result _ _ c.args.place _ refl (ap type_of c.in-OctetString.is ∙ type_of-OctetString _) (c.check_octet_string.ensures) c.list_leaf-in-OctetString.ensures
+
+pub list_shape-returns-in-ObjectId : goal.list_shape-returns-in-ObjectId
+list_shape-returns-in-ObjectId t c = leaf_arm _ object_id c.args.spot.now c.list_leaf-in-ObjectId.result _ _ c.args.place _ refl (ap type_of c.in-ObjectId.is ∙ type_of-ObjectId) (c.check_object_id.ensures) c.list_leaf-in-ObjectId.ensures
+
+pub list_shape-returns-in-Utf8 : goal.list_shape-returns-in-Utf8
+list_shape-returns-in-Utf8 t c = leaf_arm _ (utf8_string c.in-Utf8.size) c.args.spot.now c.list_leaf-in-Utf8.result _ _ c.args.place _ refl (ap type_of c.in-Utf8.is ∙ type_of-Utf8 _) (c.check_utf8.ensures) c.list_leaf-in-Utf8.ensures
+
+pub list_shape-list_extensible-requires : goal.list_shape-list_extensible-requires
+list_shape-list_extensible-requires t c =
+    let s = c.in-Sequence in
+    let d = c.decreases in
+    (omega arith, (s.root, c.in-Some.additions, s.is ∙ ap (λ (m : Option (Vec Addition Global)). Sequence s.root m) c.in-Some.is, c.deref-in-Some.ensures.value, c.deref-in-Some-2.ensures.value))
