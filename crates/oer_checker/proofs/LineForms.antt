@@ -52,7 +52,7 @@ unfolding stay
 yields_stay total p old new q le e =
     let same = went_rows old new p q e in
     let here = went_place old new p q e in
-    ([], [], sym same ∙ sym (append-nil old), ap (λ (t : Place). t.input) here, (let l : p.left ≡ q.left = ap (λ (t : Place). t.left) here in l), (refl, refl))
+    ([], [], sym same ∙ sym (append-nil old), ap (λ (t : Place). t.input) here, (let l : p.left ≡ q.left = ap (λ (t : Place). t.left) here in omega (arith, l)), (refl, refl))
 
 further : (total : ℕ) (p r : Place) (b : List ℕ) → length p.input ≤ total → p.input ≡ b ++ r.input → total - length r.input ≡ (total - length p.input) + length b
 further total p r b le e = omega (arith, le, ap length e, length-append b r.input)
@@ -193,18 +193,18 @@ quantity_spells size p y q e =
     let c = a.1.0 in
     (a.0, ((c.0, c.1, c.2, c.3, (c.4.0, c.4.1)), a.1.1), a.2, a.3)
 
-abbrev mutual
+mutual
   pub value_yields : (T : AsnType) → KeepsLimits T → DefaultsFit T → (total : ℕ) (path : List Step) → Yields total (walk_value T total path) (AreLines T path)
   value_yields (sequence fs) wf d total path = yields_row (λ (s : List Bool). s) total path Preamble (preamble (optional fs)) (walk_fields fs total path 0) (λ s p. (length s ≡ optional fs) × IsPreamble s p) (AreFields fs path 0) (preamble_sound (optional fs)) (λ s p q e. fields_yield fs wf d total path 0 s q)
   value_yields (extensible_sequence fs more) wf d total path = yields_row (λ (s : List Bool). s) total path Preamble (preamble (suc (optional fs))) (λ s. walk_both (walk_fields fs total path 0 (later_bits s)) (walk_extension (first_bit s) more total path (walk_additions more total path 0))) (λ s p. (length s ≡ suc (optional fs)) × IsPreamble s p)
       (λ s. AreBoth (AreFields fs path 0 (later_bits s)) (AreExtension (first_bit s) more path (AreAdditions more path 0))) (preamble_sound (suc (optional fs)))
-      (λ s p q e. yields_both total (walk_fields fs total path 0 (later_bits s)) _ (AreFields fs path 0 (later_bits s)) _ (fields_yield fs wf.0 d.0 total path 0 (later_bits s)) (yields_extension total path (first_bit s) more (walk_additions more total path 0) (AreAdditions more path 0) (λ u. additions_yield more wf.1 d.1 total path 0 u)) q)
+      (λ s p q e. yields_both total (walk_fields fs total path 0 (later_bits s)) _ (AreFields fs path 0 (later_bits s)) (AreExtension (first_bit s) more path (AreAdditions more path 0)) (fields_yield fs wf.0 d.0 total path 0 (later_bits s)) (yields_extension total path (first_bit s) more (walk_additions more total path 0) (AreAdditions more path 0) (λ u. additions_yield more wf.1 d.1 total path 0 u)) q)
   value_yields (sequence_of size T) wf d total path = yields_row (λ (y : ℕ × Bool). y.0) total path Quantity (sized_quantity size) (λ y. walk_times (λ i. walk_value T total (path ++ (to_item i ∷ []))) 0 y.0) (λ k q. IsCounted (StandsFor unsigned) k q × (size_fits size k ≡ true))
       (AreTimes (λ i. AreLines T (path ++ (to_item i ∷ []))) 0) (quantity_spells size)
       (λ y p q e. yields_times total (λ i. walk_value T total (path ++ (to_item i ∷ []))) (λ i. AreLines T (path ++ (to_item i ∷ []))) (λ i. value_yields T wf.1 d total (path ++ (to_item i ∷ []))) 0 y.0 q)
   value_yields (choice extensible more) wf d total path = yields_row (λ (t : Tag). t) total path TagRole tag (λ t. walk_chosen extensible more (walk_alternative more total (path ++ (to_chosen ∷ [])) t) (walk_unknown total (path ++ (to_chosen ∷ []))) t) IsTag
       (λ t. AreByTag (has_tag t more) (AreAlternative more (path ++ (to_chosen ∷ [])) t) (AreOpen (path ++ (to_chosen ∷ [])) (IsOne (path ++ (to_chosen ∷ [])) Unknown))) (tag_lawful.sound)
-      (λ t p q e. yields_choose total (has_tag t more) _ _ _ _ (alternative_yields more wf d total (path ++ (to_chosen ∷ [])) t) (yields_allowed total extensible _ _ (yields_unknown total (path ++ (to_chosen ∷ [])))) q)
+      (λ t p q e. yields_choose total (has_tag t more) _ _ (AreAlternative more (path ++ (to_chosen ∷ [])) t) (AreOpen (path ++ (to_chosen ∷ [])) (IsOne (path ++ (to_chosen ∷ [])) Unknown)) (alternative_yields more wf d total (path ++ (to_chosen ∷ [])) t) (yields_allowed total extensible _ (AreOpen (path ++ (to_chosen ∷ [])) (IsOne (path ++ (to_chosen ∷ [])) Unknown)) (yields_unknown total (path ++ (to_chosen ∷ [])))) q)
   value_yields boolean wf d total path = yields_last total path Contents (check_value boolean) (λ b. (v : AsnValue) × IsSpelling boolean v b) (value_sound boolean wf d)
   value_yields null wf d total path = yields_last total path Contents (check_value null) (λ b. (v : AsnValue) × IsSpelling null v b) (value_sound null wf d)
   value_yields (integer low high) wf d total path = yields_last total path Contents (check_value (integer low high)) (λ b. (v : AsnValue) × IsSpelling (integer low high) v b) (value_sound (integer low high) wf d)

@@ -64,7 +64,7 @@ grew_line total path role old p q (b, e) =
     front_is p q b e = ap (take (length p.input - length q.input)) e ∙ take_front b q.input (length p.input - length q.input) (omega (arith, ap length e, length-append b q.input))
       where
         take_front : (b rest : List ℕ) (n : ℕ) → n ≡ length b → take n (b ++ rest) ≡ b
-        take_front b rest n is = take_at b rest n is
+        take_front b rest n is = take_at b rest n (sym is)
 
 -- A walk goes as far as a check, and its lines cover the octets up to there.
 abbrev pub Agree : ℕ → List Line → Place → Outcome Bool → Walk → Type 0
@@ -230,7 +230,7 @@ agree_chosen total extensible more r c d t h k = by (has_tag t more) extensible 
   by false false = agree_stuck total UnknownAlternative
 
 agree_extension : (total : ℕ) (path : List Step) (x : Bool) (more : Additions) (c : List Bool → Walker) → ((s : List Bool) → Agrees total (check_additions more s) (c s)) → Agrees total (check_extension x more (check_additions more)) (walk_extension x more total path c)
-agree_extension total path false more c h = agree_stay total
+agree_extension total path false more c h old p = agree_stay total old p
 agree_extension total path true more c h old p =
     agree_row total path Bitmap (addition_map n) (λ y. walk_both (c y.0) (walk_rest total path n (drop n y.0))) old p (check_extension true more (check_additions more) p) (sound_fronts (addition_map n) _ (map_sound n))
     (λ y q e. (both (check_additions more y.0) (check_unknown (drop n y.0)) q, (y.1, map_then more n p q y.0 y.1 refl e), λ new. agree_both total (check_additions more y.0) (check_unknown (drop n y.0)) (c y.0) (walk_rest total path n (drop n y.0)) (h y.0) (agree_rest total path n (drop n y.0)) new q))
@@ -239,7 +239,7 @@ agree_extension total path true more c h old p =
     n : ℕ
     n = addition_count more
 
-abbrev mutual
+mutual
   pub value_agrees : (T : AsnType) → KeepsLimits T → DefaultsFit T → (total : ℕ) (path : List Step) → Agrees total (check_value T) (walk_value T total path)
   value_agrees (sequence fs) wf d total path old p = agree_row total path Preamble (preamble (optional fs)) (walk_fields fs total path 0) old p (check_value (sequence fs) p) (sound_fronts (preamble (optional fs)) _ (preamble_lawful (optional fs)).sound)
       (λ s q e. (check_fields fs s q, (true, and_all (check_fields fs s q) ∙ sequence_then fs p q s (check_fields fs s q) e refl), λ new. fields_agree fs wf d total path 0 s new q))
@@ -253,15 +253,15 @@ abbrev mutual
   value_agrees (choice extensible more) wf d total path old p = agree_row total path TagRole tag (λ t. walk_chosen extensible more (walk_alternative more total (path ++ (to_chosen ∷ [])) t) (walk_unknown total (path ++ (to_chosen ∷ []))) t) old p (check_value (choice extensible more) p) (sound_fronts tag _ tag_lawful.sound)
       (λ t q e. (check_chosen extensible more (check_alternative more) t q, (true, and_all _ ∙ choice_then extensible more p q t _ e refl), λ new. agree_chosen total extensible more (check_alternative more) _ _ t (alternative_agrees more wf d total (path ++ (to_chosen ∷ [])) t) (agree_octets total (path ++ (to_chosen ∷ []))) new q))
       (λ why rest e. (why, rest, choice_stop extensible more p why rest e))
-  value_agrees boolean wf d total path = leaf_agrees boolean wf d total path
-  value_agrees null wf d total path = leaf_agrees null wf d total path
-  value_agrees (integer low high) wf d total path = leaf_agrees (integer low high) wf d total path
-  value_agrees (enumerated numbers x) wf d total path = leaf_agrees (enumerated numbers x) wf d total path
-  value_agrees (bit_string s) wf d total path = leaf_agrees (bit_string s) wf d total path
-  value_agrees object_id wf d total path = leaf_agrees object_id wf d total path
-  value_agrees (restricted_string kind s) wf d total path = leaf_agrees (restricted_string kind s) wf d total path
-  value_agrees (utf8_string s) wf d total path = leaf_agrees (utf8_string s) wf d total path
-  value_agrees (octet_string s) wf d total path = leaf_agrees (octet_string s) wf d total path
+  value_agrees boolean wf d total path old p = leaf_agrees boolean wf d total path old p
+  value_agrees null wf d total path old p = leaf_agrees null wf d total path old p
+  value_agrees (integer low high) wf d total path old p = leaf_agrees (integer low high) wf d total path old p
+  value_agrees (enumerated numbers x) wf d total path old p = leaf_agrees (enumerated numbers x) wf d total path old p
+  value_agrees (bit_string s) wf d total path old p = leaf_agrees (bit_string s) wf d total path old p
+  value_agrees object_id wf d total path old p = leaf_agrees object_id wf d total path old p
+  value_agrees (restricted_string kind s) wf d total path old p = leaf_agrees (restricted_string kind s) wf d total path old p
+  value_agrees (utf8_string s) wf d total path old p = leaf_agrees (utf8_string s) wf d total path old p
+  value_agrees (octet_string s) wf d total path old p = leaf_agrees (octet_string s) wf d total path old p
 
   fields_agree : (fs : Fields) → FieldsKeepLimits fs → FieldDefaultsFit fs → (total : ℕ) (path : List Step) (i : ℕ) (s : List Bool) → Agrees total (check_fields fs s) (walk_fields fs total path i s)
   fields_agree no_fields wf d total path i s = agree_stay total

@@ -26,7 +26,7 @@ halted_lines ls walk e = sym (ap lines_in e)
 covers_by : (octets : List ℕ) (o : Outcome Bool) (w : Walk) (verdict : Result Verdict ReadFault) → Agree (length octets) [] (at octets most) o w
     → ((v : Verdict) → verdict ≡ Ok v → o ≡ got v.canonical (at (drop v.octets octets) (most - v.octets)))
     → ((e : ReadFault) → verdict ≡ Err e → o ≡ refused e.why (drop e.taken octets)) → Covers octets (lines_in w) verdict
-covers_by octets (got f q) (went ls r) (Ok v) (same, es, is, cover) good bad =
+covers_by octets (got f q) (went ls r) (Ok v) (same, (es, is, cover)) good bad =
     let h = good v refl in
     subst (λ (l : List Line). Cover (length octets) octets l (drop v.octets octets)) (sym is) (subst (λ (p : Place). Cover (length octets) octets es p.input) (place_is f v.canonical q _ h) cover)
   where
@@ -36,7 +36,7 @@ covers_by octets (got f q) (went ls r) (Err e) h good bad = let k = bad e refl i
 covers_by octets (got f q) (halted ls) verdict h good bad = absurd h
 covers_by octets (refused why rest) (went ls r) verdict h good bad = absurd h
 covers_by octets (refused why rest) (halted ls) (Ok v) h good bad = let k = good v refl in absurd (cc)
-covers_by octets (refused why rest) (halted ls) (Err e) (more, es, is, cover) good bad = (more, subst (λ (l : List Line). Cover (length octets) octets l more) (sym is) cover)
+covers_by octets (refused why rest) (halted ls) (Err e) (more, (es, is, cover)) good bad = (more, subst (λ (l : List Line). Cover (length octets) octets l more) (sym is) cover)
 
 pub listing_covers : (T : AsnType) → KeepsLimits T → DefaultsFit T → (octets : List ℕ) (verdict : Result Verdict ReadFault) (ls : List Line) → Answers T octets verdict → ls ≡ rows_of T octets → Covers octets ls verdict
 listing_covers T wf d octets verdict ls e is =
