@@ -1,5 +1,5 @@
 -- The lines of a walk are those of the encoding that it went through.
-use Rattle.std.proofs.Common.{◌≡◌, ℕ, zero, suc, ◌+◌, ◌-◌, ◌≤◌, Bool, true, false, leb, List, [], ◌∷◌, ◌++◌, length, drop, take, arith, refl, sym, ap, ◌∙◌, subst, append_assoc, append-nil, length-append, take_at, leb-true}
+use Rattle.std.proofs.Common.{◌≡◌, ℕ, zero, suc, ◌+◌, ◌-◌, ◌≤◌, Bool, true, false, List, [], ◌∷◌, ◌++◌, length, drop, take, arith, refl, sym, ap, ◌∙◌, subst, append_assoc, append-nil, length-append, take_at, leb-true}
 use Rattle.oer_units.specs.Reader.{Outcome, Place, Reader, at, got, group, refused}
 use Rattle.oer_units.specs.Reading.{tag}
 use Rattle.oer_units.specs.Spelling.{IsCounted, IsLength, IsTag, StandsFor}

@@ -1,28 +1,26 @@
 -- A walk goes as far as the check of the same octets, and its lines cover them.
-use Rattle.std.proofs.Common.{◌≡◌, ℕ, zero, suc, ◌-◌, Bool, true, false, ◌&&◌, leb, List, [], ◌∷◌, ◌++◌, length, drop, take, arith, refl, sym, ap, ap₂, ◌∙◌, subst, append_assoc, append-nil, length-append, take_at, not}
+use Rattle.std.proofs.Common.{◌≡◌, ℕ, zero, suc, ◌-◌, Bool, true, false, ◌&&◌, List, [], ◌∷◌, ◌++◌, length, drop, take, arith, refl, sym, ap, ◌∙◌, subst, append_assoc, append-nil, length-append, take_at, not}
 use Rattle.oer_units.specs.Reader.{Outcome, Place, Reader, at, bind, bounded, choose, give, got, group, guard, refuse, refused, then_read, within}
 use Rattle.oer_units.specs.Reader as reader
-use Rattle.oer_units.specs.Reading.{determinant, tag}
+use Rattle.oer_units.specs.Reading.{tag}
 use Rattle.oer_units.specs.declared.fault.Why.{Why}
-use Rattle.oer_units.specs.declared.fault.Why.TheVariants as reason
-use Rattle.oer_units.specs.declared.fault.Why.TheVariants.{UnknownAddition, UnknownAlternative}
+use Rattle.oer_units.specs.declared.fault.Why.TheVariants.{UnknownAlternative}
 use Rattle.oer_units.specs.declared.tagging.Tag.{Tag}
 use Rattle.oer_units.proofs.TagReaders.{tag_lawful}
 use Rattle.oer_units.proofs.Units.{group_lawful}
 use Rattle.oer_types.specs.AsnType.{Additions, Alternatives, AsnType, Fields, Need, addition, alternative, bit_string, boolean, choice, default, enumerated, extensible_sequence, field, integer, later, may, must, no_additions, no_alternatives, no_fields, null, object_id, octet_string, restricted_string, sequence, sequence_of, utf8_string}
-use Rattle.oer_types.specs.Bits.{all_false, first_bit, later_bits}
+use Rattle.oer_types.specs.Bits.{first_bit, later_bits}
 use Rattle.oer_types.specs.Canonical.{canonical_octets, same_list}
-use Rattle.oer_types.specs.Checking.{and_also, both, check_additions, check_alternative, check_bit, check_by_tag, check_chosen, check_extension, check_fields, check_group, check_octets, check_open, check_times, check_unknown, check_value, is_bitmap, is_least, judge, judged, quantity_octets, unlike}
-use Rattle.oer_types.specs.Constraints.{AdditionsKeepLimits, AlternativesKeepLimits, FieldsKeepLimits, KeepsLimits, addition_count, has_tag, optional, same_tag, size_fits}
+use Rattle.oer_types.specs.Checking.{and_also, both, check_additions, check_alternative, check_by_tag, check_chosen, check_extension, check_fields, check_group, check_octets, check_open, check_times, check_unknown, check_value, judge, judged, unlike}
+use Rattle.oer_types.specs.Constraints.{AdditionsKeepLimits, AlternativesKeepLimits, FieldsKeepLimits, KeepsLimits, addition_count, has_tag, optional, same_tag}
 use Rattle.oer_types.specs.Fits.{AdditionDefaultsFit, AlternativeDefaultsFit, DefaultsFit, FieldDefaultsFit}
 use Rattle.oer_types.specs.Parts.{Step, to_addition, to_chosen, to_component, to_item}
 use Rattle.oer_types.specs.Reading.{preamble}
-use Rattle.oer_types.specs.declared.size.Size.{Size}
 use Rattle.oer_types.proofs.Parts.{preamble_lawful}
 use Rattle.oer_checker.specs.Listing.{Cover}
 use Rattle.oer_checker.specs.Rows.{Line, Walk, Walker, add_line, go_on, halted, inside, leave, leave_at, line, line_at, row, stay, stuck, walk_additions, walk_alternative, walk_both, walk_choose, walk_chosen, walk_extension, walk_fields, walk_if, walk_open, walk_rest, walk_times, walk_unknown, walk_value, went}
 use Rattle.oer_types.specs.SharedSteps.{bits_left, is_there}
-use Rattle.oer_checker.specs.Steps.{addition_map, and_after, between, check_if, check_there, got_both, left_open, sized_length, sized_quantity}
+use Rattle.oer_checker.specs.Steps.{addition_map, and_after, between, check_if, check_there, sized_length, sized_quantity}
 use Rattle.oer_checker.specs.declared.row.Role.{Role}
 use Rattle.oer_checker.specs.declared.row.Role.TheVariants.{Bitmap, Contents, Length, Preamble, Quantity, Tag as TagRole, Unknown}
 use Rattle.oer_checker.proofs.FieldSteps.{by_bit, extensible_stop, extensible_then, field_is, items_stop, items_then, map_stop, map_then, sequence_stop, sequence_then}

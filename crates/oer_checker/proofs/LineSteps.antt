@@ -1,10 +1,9 @@
 -- Walks, one step after another.
-use Rattle.std.proofs.Common.{◌≡◌, ℕ, zero, suc, ◌+◌, ◌-◌, ◌<◌, ◌≤◌, ◌||◌, Bool, true, false, List, [], ◌∷◌, ◌++◌, length, drop, get_or, map, Result, Ok, Err, arith, refl, sym, ap, ap₂, ◌∙◌, subst, drop-cons, add-one, string_bytes}
+use Rattle.std.proofs.Common.{◌≡◌, ℕ, zero, suc, ◌+◌, ◌-◌, ◌<◌, ◌≤◌, ◌||◌, Bool, true, false, List, [], ◌∷◌, ◌++◌, length, drop, get_or, Result, Ok, Err, arith, refl, sym, ap, ap₂, ◌∙◌, subst, drop-cons, add-one}
 use Rattle.std.proofs.lemmas.List.{drop_all}
-use Rattle.oer_units.specs.declared.fault.Why.{Why}
 use Rattle.oer_units.specs.declared.tagging.Tag.{Tag}
-use Rattle.oer_units.specs.Reader.{Outcome, Place, Reader, at, got, refused}
-use Rattle.oer_types.specs.AsnType.{Additions, Alternatives, AsnType, Fields, Need, choice, extensible_sequence, no_alternatives}
+use Rattle.oer_units.specs.Reader.{Outcome, Place, Reader, at}
+use Rattle.oer_types.specs.AsnType.{Additions, Alternatives, AsnType, Fields, choice, extensible_sequence, no_alternatives}
 use Rattle.oer_types.specs.Bits.{first_bit, later_bits}
 use Rattle.oer_types.specs.Constraints.{has_tag, optional, same_tag}
 use Rattle.oer_types.specs.Parts.{Step, to_addition, to_chosen, to_component}
@@ -17,7 +16,7 @@ use Rattle.oer_types.specs.declared.shape.Field.{Field}
 use Rattle.oer_checker.specs.Places.{outcome, place_of}
 use Rattle.oer_types.specs.Checking.{check_value}
 use Rattle.oer_checker.specs.declared.row.Role.TheVariants.{Bitmap, Contents, Preamble, Tag as TagRole}
-use Rattle.oer_checker.specs.Rows.{Line, Lists, Reaches, Takes, Walk, Walker, Walks, add_line, go_on, halted, inside, leave, leave_at, line_at, path_in, row, stay, stuck, walk_additions, walk_alternative, walk_both, walk_choose, walk_chosen, walk_extension, walk_fields, walk_if, walk_later, walk_open, walk_rest, walk_times, walk_unknown, walk_value, went}
+use Rattle.oer_checker.specs.Rows.{Line, Lists, Reaches, Takes, Walk, Walker, Walks, add_line, go_on, halted, inside, leave, leave_at, path_in, row, stay, stuck, walk_additions, walk_alternative, walk_both, walk_choose, walk_chosen, walk_extension, walk_fields, walk_if, walk_later, walk_open, walk_rest, walk_times, walk_unknown, walk_value, went}
 use Rattle.oer_checker.specs.BitView.{bits_in}
 use Rattle.oer_types.specs.SharedSteps.{bits_left, is_there}
 use Rattle.oer_checker.specs.Steps.{addition_map}

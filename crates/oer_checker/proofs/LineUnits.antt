@@ -1,11 +1,10 @@
 -- Units of an encoding: what is read of one is a front, which spells what was read.
-use Rattle.std.proofs.Common.{◌≡◌, ℕ, ◌+◌, ◌≤◌, ◌^◌, Bool, true, false, leb, ltb, List, [], ◌++◌, length, drop, refl, sym, ap, ◌∙◌, subst}
-use Rattle.oer_units.specs.Lawful.{Lawful}
+use Rattle.std.proofs.Common.{◌≡◌, ℕ, ◌+◌, ◌≤◌, ◌^◌, Bool, true, false, leb, ltb, List, ◌++◌, length, drop, refl, sym, ap, ◌∙◌, subst}
 use Rattle.oer_units.specs.Least.{length_octets}
 use Rattle.oer_units.specs.Numbers.{unsigned}
-use Rattle.oer_units.specs.Reader.{Outcome, Place, Reader, bind, bounded, give, got, group, guard, refuse, refused, then_read, within}
+use Rattle.oer_units.specs.Reader.{Outcome, Place, Reader, bind, bounded, give, got, guard, refuse, refused, then_read, within}
 use Rattle.oer_units.specs.Reading.{determinant}
-use Rattle.oer_units.specs.Spelling.{IsCounted, IsLength, StandsFor}
+use Rattle.oer_units.specs.Spelling.{IsCounted, IsLength}
 use Rattle.oer_units.specs.declared.fault.Why.{Why}
 use Rattle.oer_units.specs.declared.fault.Why.TheVariants as reason
 use Rattle.oer_units.specs.declared.fault.Why.TheVariants.{UnknownAddition}

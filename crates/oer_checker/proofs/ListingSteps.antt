@@ -11,8 +11,7 @@ use Rattle.oer_checker.specs.Lines.{AreLines}
 use Rattle.oer_checker.specs.Listing.{AreListed, Cover, Covers, lines_in, rows_of}
 use Rattle.oer_checker.specs.Rows.{Line, Walk, Walks, halted, walk_value, went}
 use Rattle.oer_checker.specs.declared.place.Place as rust_place
-use Rattle.oer_checker.specs.declared.row.Halt.{Halt}
-use Rattle.oer_checker.specs.declared.row.Halt.TheVariants.{Refused, Memory}
+use Rattle.oer_checker.specs.declared.row.Halt.TheVariants.{Refused}
 use Rattle.oer_checker.specs.declared.verdict.Verdict.{Verdict}
 use Rattle.oer_checker.proofs.LineForms.{value_yields}
 use Rattle.oer_checker.proofs.LineLaws.{Agree, value_agrees}

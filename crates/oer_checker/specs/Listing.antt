@@ -1,11 +1,11 @@
 -- What the caller of `rows` learns.
 use Rattle.std.specs.Prelude.{◌≡◌, ℕ, ◌-◌, List, [], ◌∷◌, ◌++◌, length, drop, take, Result, Ok, Err}
-use Rattle.oer_units.specs.Reader.{Place, at}
+use Rattle.oer_units.specs.Reader.{at}
 use Rattle.oer_units.specs.declared.fault.ReadFault.{ReadFault}
 use Rattle.oer_types.specs.AsnType.{AsnType}
 use Rattle.oer_checker.specs.Check.{most}
 use Rattle.oer_checker.specs.Lines.{AreLines}
-use Rattle.oer_checker.specs.Rows.{Line, Walk, halted, line, lines_of, walk_value, went}
+use Rattle.oer_checker.specs.Rows.{Line, Walk, halted, line, walk_value, went}
 use Rattle.oer_checker.specs.declared.verdict.Verdict.{Verdict}
 
 -- the lines that were made

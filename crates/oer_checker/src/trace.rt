@@ -21,7 +21,9 @@ use crate::step::Step;
 use crate::stop::Stop;
 use crate::strings::{check_object_id, check_octet_string, check_text, check_utf8};
 use crate::units::{group_at, tag_at};
-use oer_types::{Addition, Alphabet, Alt, Field, Item, Shape, Size, contains_tag, is_same_tag, optional};
+use oer_types::{
+    Addition, Alphabet, Alt, Field, Item, Shape, Size, contains_tag, is_same_tag, optional,
+};
 use oer_units::Tag;
 
 /// The value of a type without parts.

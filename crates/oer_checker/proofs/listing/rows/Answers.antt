@@ -5,7 +5,7 @@ use Rattle.oer_types.specs.Schema.{the_type}
 use Rattle.oer_types.specs.ShapeView.{type_of}
 use Rattle.oer_checker.specs.Listing.{rows_of}
 use Rattle.oer_checker.specs.Rows.{lines_of}
-use Rattle.oer_checker.proofs.ListingSteps.{halted_lines, listing_covers, listing_listed, went_lines}
+use Rattle.oer_checker.proofs.ListingSteps.{listing_covers, listing_listed}
 use Rattle.oer_checker.proofs.listing.rows.Goals as goal
 
 pub returns-in-Ok-clause-listed : goal.returns-in-Ok-clause-listed

@@ -1,20 +1,20 @@
-use Rattle.std.proofs.Common.{◌≡◌, ◌∙◌, subst, Global, Option, Vec, Some, Ok, Err, ◌-◌, ◌+◌, ◌++◌, ◌∷◌, [], ℕ, Bool, List, true, false, length, arith, rules, refl, sym, ap, ap₂}
-use Rattle.oer_types.specs.AsnType.{AsnType, bit_string, boolean, choice, extensible_sequence, ia5, integer, no_alternatives, null, numeric, object_id, octet_string, printable, restricted_string, sequence, sequence_of, utf8_string, visible}
-use Rattle.oer_types.specs.Parts.{Step, to_addition, to_chosen, to_component, to_item}
-use Rattle.oer_types.specs.ShapeView.{additions_of, fields_of, later_of, need_of, root_of, type_of}
+use Rattle.std.proofs.Common.{◌∙◌, Global, Option, Vec, Some, Ok, Err, ◌-◌, ◌+◌, ◌++◌, ◌∷◌, [], List, true, false, arith, rules, refl, sym, ap, ap₂}
+use Rattle.oer_types.specs.AsnType.{bit_string, boolean, integer, no_alternatives, null, object_id, octet_string, utf8_string}
+use Rattle.oer_types.specs.Parts.{to_addition, to_chosen, to_component, to_item}
+use Rattle.oer_types.specs.ShapeView.{additions_of, fields_of, later_of, root_of, type_of}
 use Rattle.oer_types.specs.declared.shape.Addition.{Addition}
-use Rattle.oer_types.specs.declared.shape.Shape.{Sequence, Shape}
+use Rattle.oer_types.specs.declared.shape.Shape.{Sequence}
 use Rattle.oer_checker.specs.BitView.{bits_in}
 use Rattle.oer_checker.specs.Places.{place_of}
-use Rattle.oer_checker.specs.Rows.{Line, Walker, halted, lines_of, path_in, stuck, walk_alternative, walk_if, walk_later, walk_open, walk_value}
+use Rattle.oer_checker.specs.Rows.{Line, Walker, halted, lines_of, path_in, stuck, walk_alternative, walk_later, walk_open, walk_value}
 use Rattle.oer_checker.specs.declared.row.Halt.TheVariants.{Refused}
 use Rattle.oer_checker.proofs.Exits.{at_stop}
 use Rattle.oer_checker.proofs.Joins.{give_got}
-use Rattle.oer_checker.proofs.LineSteps.{additions_end, additions_next, additions_stop, at_inner, bits_stop, both_stop, both_then, by_walk, choice_later, choice_none, choice_root, extension_none, extension_stop, extension_then, fields_end, fields_next, fields_stop, if_not, if_so, inside_ends, inside_left, inside_stop, later_end, later_here, later_next, leaf_arm, no_inner, root_end, root_here, root_next, root_stop, root_then, stays, sticks, tag_stop, tag_then, taken_stop, taken_then, times_end, times_next, times_start, times_stop, type_arm}
+use Rattle.oer_checker.proofs.LineSteps.{additions_end, additions_next, additions_stop, at_inner, bits_stop, both_stop, both_then, by_walk, choice_later, choice_none, choice_root, extension_none, extension_stop, extension_then, fields_end, fields_next, fields_stop, if_not, if_so, inside_ends, inside_left, inside_stop, later_end, later_here, later_next, leaf_arm, no_inner, root_end, root_here, root_next, root_stop, root_then, sticks, tag_stop, tag_then, taken_stop, taken_then, times_end, times_next, times_start, times_stop, type_arm}
 use Rattle.oer_checker.proofs.Sizes.{additions_fall, alternatives_fall, fields_fall, later_fall}
 use Rattle.oer_types.proofs.Shapes.{type_of-BitString, type_of-Integer, type_of-OctetString, type_of-Utf8}
 use Rattle.oer_checker.proofs.Shapes.{type_of-Boolean, type_of-Null, type_of-ObjectId}
-use Rattle.oer_checker.proofs.TypeSteps.{as_choice, as_closed, as_extensible, as_items, as_open, as_sequence}
+use Rattle.oer_checker.proofs.TypeSteps.{as_choice, as_closed, as_extensible, as_open}
 use Rattle.oer_checker.proofs.trace.+list.Goals as goal
 
 -- ---- one unit, and what follows it

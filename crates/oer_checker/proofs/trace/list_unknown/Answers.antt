@@ -1,5 +1,4 @@
 use Rattle.std.proofs.Common.{◌∙◌, Ok, Err}
-use Rattle.oer_checker.specs.Places.{same}
 use Rattle.oer_checker.specs.Rows.{path_in, row, stay}
 use Rattle.oer_checker.specs.declared.row.Role.TheVariants.{Unknown}
 use Rattle.oer_units.specs.Reader.{group}
