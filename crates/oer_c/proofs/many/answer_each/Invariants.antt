@@ -1,0 +1,14 @@
+use Rattle.std.proofs.Common.{◌≡◌, ◌<◌, ◌≤◌, ℕ, length, get_or}
+use Rattle.oer_types.specs.Schema.{the_type}
+use Rattle.oer_c.specs.Messages.{IsAnswered}
+use Rattle.oer_c.specs.declared.check.Checked.{Checked}
+use Rattle.oer_c.specs.declared.many.Message.{Message}
+use Rattle.oer_c.proofs.many.answer_each.Given as goal
+
+-- those before the index have their answers, and the others are as before
+abbrev pub invariant-loop-at-message : goal.invariant-loop-at-message
+invariant-loop-at-message l = record {
+  room : length l.messages ≤ length l.answers;
+  done : (k : ℕ) (m : Message) (a : Checked) → k < l.message-index → IsAnswered (the_type l.schema) l.octets (get_or l.messages k m) (get_or l.answers k a);
+  kept : (k : ℕ) (a : Checked) → l.message-index ≤ k → get_or l.answers k a ≡ get_or l.fn.answers k a;
+}
