@@ -6,9 +6,8 @@ use Rattle.oer_c.specs.declared.many.Message.{Message}
 use Rattle.oer_c.proofs.many.answer_each.Given as goal
 
 -- those before the index have their answers, and the others are as before
-abbrev pub invariant-loop-at-message : goal.invariant-loop-at-message
-invariant-loop-at-message l = record {
-  room : length l.messages ≤ length l.answers;
-  done : (k : ℕ) (m : Message) (a : Checked) → k < l.message-index → IsAnswered (the_type l.schema) l.octets (get_or l.messages k m) (get_or l.answers k a);
-  kept : (k : ℕ) (a : Checked) → l.message-index ≤ k → get_or l.answers k a ≡ get_or l.fn.answers k a;
+abbrev pub invariant-loop-at : goal.invariant-loop-at
+invariant-loop-at l = record {
+  done : (k : ℕ) (m : Message) (a : Checked) → k < l.at → IsAnswered (the_type l.initial.schema) l.initial.octets (get_or l.initial.messages k m) (get_or l.answers k a);
+  kept : (k : ℕ) (a : Checked) → l.at ≤ k → get_or l.answers k a ≡ get_or l.initial.answers k a;
 }
