@@ -55,12 +55,7 @@ fn answer_each(schema: &Schema, octets: &[u8], messages: &[Message], answers: &m
     }
 }
 
-fn answer_all(
-    schema: &Schema,
-    octets: &[u8],
-    messages: &[Message],
-    answers: &mut [Checked],
-) -> u32
+fn answer_all(schema: &Schema, octets: &[u8], messages: &[Message], answers: &mut [Checked]) -> u32
     ensures { AnswersAll (the_type schema.now) octets.now messages.now answers.old answers.new result }
 {
     if answers.len() < messages.len() {

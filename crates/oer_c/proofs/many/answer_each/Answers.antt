@@ -1,7 +1,5 @@
-use Rattle.std.proofs.Common.{◌<◌, ◌≤◌, ℕ, length, rules, arith}
+use Rattle.std.proofs.Common.{◌<◌, length, rules, arith}
 use Rattle.oer_types.specs.Schema.{the_type}
-use Rattle.oer_c.specs.declared.check.Checked.{Checked}
-use Rattle.oer_c.specs.declared.many.Message.{Message}
 use Rattle.oer_c.proofs.Answered.{kept_after, one_more}
 use Rattle.oer_c.proofs.many.answer_each.Goals as goal
 

@@ -1,4 +1,4 @@
-use Rattle.std.proofs.Common.{◌≡◌, ◌<◌, ◌≤◌, ℕ, length, get_or}
+use Rattle.std.proofs.Common.{◌≡◌, ◌<◌, ◌≤◌, ℕ, get_or}
 use Rattle.oer_types.specs.Schema.{the_type}
 use Rattle.oer_c.specs.Messages.{IsAnswered}
 use Rattle.oer_c.specs.declared.check.Checked.{Checked}
