@@ -226,7 +226,7 @@ class Calls(unittest.TestCase):
         for count in (100, 200, 3000, 3):
             octets = bytes([2, count // 256, count % 256]) + b"\xff" * count
             json = types.to_json("A", octets)
-            self.assertEqual((len(json.text), json.read), (count * 35 + 1, len(octets)))
+            self.assertEqual((len(json.text), json.read), (count * 36 + 1, len(octets)))
             self.assertEqual(types.from_json("A", json.text)[-count:], b"\xff" * count)
             self.assertLessEqual(len(types._room or b""), oer._KEPT)
 

@@ -135,6 +135,7 @@ impl fmt::Display for Error {
             Error::NoStep => out.write_str("the type has no such step"),
             Error::Absent => out.write_str("the part is absent"),
             Error::NoJson => out.write_str("not JSON"),
+            Error::Outside => out.write_str("the message is not all in the octets"),
             Error::Unknown { status, why } => write!(out, "status {status}, reason {why}"),
         }
     }
