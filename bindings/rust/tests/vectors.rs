@@ -220,7 +220,7 @@ fn long_json_is_made_with_a_second_buffer() {
     let types = types_of(b"SEQUENCE OF SEQUENCE {a-long-name-of-a-component BOOLEAN}");
     let octets = [&[1, 100][..], &[0xff; 100]].concat();
     let json = types.to_json("A", &octets).unwrap();
-    assert_eq!((json.text.len(), json.read), (100 * 35 + 1, octets.len()));
+    assert_eq!((json.text.len(), json.read), (100 * 36 + 1, octets.len()));
     assert_eq!(types.from_json("A", json.text), Ok(octets));
 }
 
