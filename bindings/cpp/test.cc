@@ -395,7 +395,7 @@ static void test_growth() {
     bytes octets = { 1, 100 };
     octets.insert(octets.end(), 100, 0xff);
     oer::result<oer::text> json = types.to_json("A", octets);
-    EXPECT(json.value().size() == 100 * 35 + 1 && json.value().read() == octets.size(), "JSON");
+    EXPECT(json.value().size() == 100 * 36 + 1 && json.value().read() == octets.size(), "JSON");
     EXPECT(copy(types.from_json("A", json.value()).value()) == octets, "octets");
 }
 
