@@ -1,5 +1,5 @@
 -- A unit that was read at a place.
-use Rattle.std.proofs.Common.{◌≡◌, ◌≢◌, ℕ, ◌+◌, ◌-◌, ◌≤◌, true, false, List, [], ◌∷◌, ◌++◌, length, drop, Option, Some, None, Result, Ok, Err, arith, refl, sym, ap, ap₂, ◌∙◌, subst, length-append}
+use Rattle.std.proofs.Common.{◌≡◌, ◌≢◌, ℕ, ◌+◌, ◌-◌, ◌≤◌, true, false, List, [], ◌∷◌, ◌++◌, length, drop, take, Option, Some, None, Result, Ok, Err, arith, refl, sym, ap, ap₂, ◌∙◌, subst, length-append}
 use Rattle.std.specs.Prelude.{IfErr, OnOk}
 use Rattle.std.specs.Borrow.{GName}
 use Rattle.oer_units.specs.declared.fault.Why.{Why}
@@ -21,6 +21,7 @@ use Rattle.oer_units.specs.declared.width.Width.TheVariants.{One, Two, Four, Eig
 use Rattle.oer_units.specs.Reading.{subidentifier}
 use Rattle.oer_checker.specs.Plain.{is_plain}
 use Rattle.oer_checker.specs.Steps.{subidentifier_size}
+use Rattle.oer_checker.proofs.BitLists.{take_all}
 use Rattle.oer_checker.proofs.Joins.{bind_got, bind_stop, give_got}
 
 -- what is known of what was read as r reads, from the octets xs under a limit n
@@ -129,3 +130,9 @@ width_few One = omega arith
 width_few Two = omega arith
 width_few Four = omega arith
 width_few Eight = omega arith
+
+-- ---- the only octet that was asked for
+
+pub one_pulled : (xs : List ℕ) → xs ≡ take 1 (take 1 xs) ++ take (length xs - 1) (drop 1 xs)
+one_pulled [] = refl
+one_pulled (x ∷ xs) = ap (λ (l : List ℕ). x ∷ l) (sym (take_all (length (x ∷ xs) - 1) xs (omega arith)))

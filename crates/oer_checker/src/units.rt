@@ -35,7 +35,7 @@ impl<'a> Source for Octets<'a> {
         if into.len() != 1 || self.rest.is_empty() {
             return self.rest.read(into);
         }
-        into[0] = self.rest[0];
+        into.copy_from_slice(&self.rest[..1]);
         self.rest = &self.rest[1..];
         Ok(1)
     }

@@ -104,12 +104,12 @@ fn read_choice<R: Source>(
 {
     let tag = tag(w)?;
     let found = read_alternative(root, alloc, tag, w)?;
-    if let Some(value) = found {
-        return Ok(value);
-    }
-    match additions {
-        Some(additions) => read_later_alternative(additions, alloc, tag, w),
-        None => Err(w.fault(Why::UnknownAlternative)),
+    match found {
+        Some(value) => Ok(value),
+        None => match additions {
+            Some(additions) => read_later_alternative(additions, alloc, tag, w),
+            None => Err(w.fault(Why::UnknownAlternative)),
+        },
     }
 }
 

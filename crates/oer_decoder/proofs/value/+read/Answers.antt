@@ -1,4 +1,4 @@
-use Rattle.std.proofs.Common.{map, length, ◌-◌, ◌+◌, Ok, Err, arith, refl, rules, sym, ap, add-one}
+use Rattle.std.proofs.Common.{◌∙◌, Option, Some, Vec, Global, map, length, ◌-◌, ◌+◌, Ok, Err, arith, refl, rules, sym, ap, add-one}
 use Rattle.std.proofs.lemmas.Grind.{common_steps}
 use Rattle.oer_units.specs.Reading.{open_type}
 use Rattle.oer_units.proofs.ReadExits.{at_exit}
@@ -10,7 +10,9 @@ use Rattle.oer_types.specs.ShapeView.{additions_of, fields_of, later_of, type_of
 use Rattle.oer_types.specs.ValueView.{places_of, unknown_of, value_of}
 use Rattle.oer_types.proofs.Shapes.{type_of-Choice, type_of-Ia5, type_of-Numeric, type_of-Printable, type_of-Sequence, type_of-Visible}
 use Rattle.oer_types.proofs.Values.{value_of-List, value_of-Seq}
-use Rattle.oer_writer.proofs.Sizes.{additions_fall, later_fall}
+use Rattle.oer_writer.proofs.Sizes.{additions_fall, fields_fall, later_fall}
+use Rattle.oer_types.specs.declared.shape.Addition.{Addition}
+use Rattle.oer_types.specs.declared.shape.Shape.{Sequence}
 use Rattle.oer_decoder.specs.MarksView.{bits_in}
 use Rattle.oer_decoder.specs.Starts.{added_of, start_of}
 use Rattle.oer_decoder.proofs.Extensions.{extensible_stop, extensible_then, extension_known, extension_none, extension_stop, extension_then, rest_then}
@@ -301,12 +303,13 @@ pub read_shape-read_extensible-requires : goal.read_shape-read_extensible-requir
 read_shape-read_extensible-requires g t c κs within =
     let s = c.in-Sequence in
     let d = c.decreases in
-    (omega arith, ((s.root, c.in-Some.additions, s.is ∙ ap (λ (m : Option (Vec Addition Global)). Sequence s.root m) c.in-Some.is, c.deref-in-Some.ensures.value, c.deref-in-Some-2.ensures.value), within))
+    (omega arith, (within, (s.root, c.in-Some.additions, s.is ∙ ap (λ (m : Option (Vec Addition Global)). Sequence s.root m) c.in-Some.is, c.deref-in-Some.ensures.value, c.deref-in-Some-2.ensures.value)))
 
 pub read_extensible-read_root-requires : goal.read_extensible-read_root-requires
 read_extensible-read_root-requires g t c κs within =
     let h = c.requires.is in
-    (fields_fall c.args.shape.now h.0 h.1 c.args.root.now _ _ t h.2 h.3 (omega arith) c.decreases, within)
+    let smaller = fields_fall c.args.shape.now h.0 (Some h.1) _ h.2 refl in
+    (rw h.3 (omega (arith, smaller, c.decreases)), within)
 
 pub read_extensible-read_rest-requires : goal.read_extensible-read_rest-requires
 read_extensible-read_rest-requires g t c κs within =
@@ -332,7 +335,7 @@ pub read_shape-read_choice-requires : goal.read_shape-read_choice-requires
 read_shape-read_choice-requires g t c κs within =
     let s = c.in-Choice in
     let d = c.decreases in
-    (omega arith, ((s.root, s.is, c.deref-in-Choice.ensures.value), within))
+    (omega arith, (within, (s.root, s.is, c.deref-in-Choice.ensures.value)))
 
 pub read_choice-read_later_alternative-requires : goal.read_choice-read_later_alternative-requires
 read_choice-read_later_alternative-requires g t c κs within =
@@ -352,22 +355,22 @@ read_choice-returns-in_err-found g t c =
     rw (at_exit c.from_residual-in_err-found.result c.in_err-found.field-0.0 c.from_residual-in_err-found.ensures.1, h.1, type_of-Choice, choice_with-is)
     (choice_refused (has_marker c.args.additions.now) h.0.items (later_of (more_of c.args.additions.now)) _ _ _ c.in_ok-tag.tag _ c.in_ok-tag.ensures.reads (rw h.2 at c.in_err-found.ensures))
 
-pub read_choice-returns-in-Some-found : goal.read_choice-returns-in-Some-found
-read_choice-returns-in-Some-found g t c =
+pub read_choice-returns-in-Some : goal.read_choice-returns-in-Some
+read_choice-returns-in-Some g t c =
     let h = c.requires.is in
     rw (h.1, type_of-Choice, choice_with-is)
-    (choice_found (has_marker c.args.additions.now) h.0.items (later_of (more_of c.args.additions.now)) _ _ _ c.in_ok-tag.tag (value_of c.in-Some-found.value) c.in_ok-tag.ensures.reads (rw (h.2, c.in-Some-found.is) at c.in_ok-found.ensures))
+    (choice_found (has_marker c.args.additions.now) h.0.items (later_of (more_of c.args.additions.now)) _ _ _ c.in_ok-tag.tag (value_of c.in-Some.value) c.in_ok-tag.ensures.reads (rw (h.2, c.in-Some.is) at c.in_ok-found.ensures))
 
 pub read_choice-returns-in-Some-additions : goal.read_choice-returns-in-Some-additions
 read_choice-returns-in-Some-additions g t c =
     let h = c.requires.is in
     rw (h.1, c.in-Some-additions.is, type_of-Choice)
     (choice_later h.0.items c.in-Some-additions.additions.items _ _ _ _ c.in_ok-tag.tag _ c.in_ok-tag.ensures.reads
-    (rw (h.2, c.in-None-found.is) at c.in_ok-found.ensures) (rw c.deref.ensures.value at c.read_later_alternative.ensures))
+    (rw (h.2, c.in-None.is) at c.in_ok-found.ensures) (rw c.deref.ensures.value at c.read_later_alternative.ensures))
 
 pub read_choice-returns-in-None-additions : goal.read_choice-returns-in-None-additions
 read_choice-returns-in-None-additions g t c =
     let h = c.requires.is in
     rw (h.1, c.in-None-additions.is, type_of-Choice)
     (choice_none h.0.items _ _ _ c.in_ok-tag.tag _ c.in_ok-tag.ensures.reads
-    (rw (h.2, c.in-None-found.is) at c.in_ok-found.ensures) c.fault.ensures.why c.fault.ensures.taken)
+    (rw (h.2, c.in-None.is) at c.in_ok-found.ensures) c.fault.ensures.why c.fault.ensures.taken)
