@@ -58,6 +58,9 @@ static void put_layouts(void) {
     PLACE(oer_checked, why);
     PLACE(oer_checked, octets);
     PLACE(oer_checked, canonical);
+    printf("\nlayout\toer_message\t%u", (unsigned)sizeof(oer_message));
+    PLACE(oer_message, at);
+    PLACE(oer_message, length);
     printf("\nlayout\toer_written\t%u", (unsigned)sizeof(oer_written));
     PLACE(oer_written, status);
     PLACE(oer_written, why);

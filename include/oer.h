@@ -60,7 +60,8 @@ enum oer_status {
                          one to an addition that the type doesn't know and that isn't there; or it
                          goes on from a part that the type doesn't know */
     OER_ABSENT = 8,   /* the path leads to a component or a known addition that is absent */
-    OER_NO_JSON = 9   /* the text is not JSON, or not UTF-8 */
+    OER_NO_JSON = 9,  /* the text is not JSON, or not UTF-8 */
+    OER_OUTSIDE = 10  /* the message is not all in the octets */
 };
 
 /* Why octets are rejected: `why` of oer_checked and of oer_written at OER_REJECTED, except in
@@ -136,13 +137,20 @@ typedef struct oer_parsed {
 
 /* What a check answers. */
 typedef struct oer_checked {
-    uint32_t status;    /* OER_OK, OER_REJECTED, OER_NO_TYPES or OER_UNNAMED */
+    uint32_t status;    /* OER_OK, OER_REJECTED, OER_NO_TYPES or OER_UNNAMED; of oer_check_many
+                           OER_OK, OER_REJECTED or OER_OUTSIDE */
     uint32_t why;       /* at OER_REJECTED the reason, an enum oer_reason; else 0 */
     uint64_t octets;    /* at OER_OK how many octets the encoding has; at OER_REJECTED how many had
                            been looked at when it was rejected; else 0 */
     uint32_t canonical; /* at OER_OK 1 where the encoding is canonical, 0 where it is another one;
                            else 0 */
 } oer_checked;
+
+/* Where a message is in octets. */
+typedef struct oer_message {
+    size_t at;     /* the place of its first octet */
+    size_t length; /* how many octets it has */
+} oer_message;
 
 /* What a call answers that writes into a buffer. */
 typedef struct oer_written {
@@ -170,6 +178,16 @@ void oer_types_free(oer_types *types);
  * follows it is not looked at: compare `octets` of the answer with octets_length. */
 oer_checked oer_check(oer_types *types, const char *name, size_t name_length,
                       const uint8_t *octets, size_t octets_length);
+
+/* Checks each message as oer_check does. A message is a part of the octets; messages may overlap. Its
+ * answer has its place among the answers. That has the status of oer_check, or OER_OUTSIDE where the
+ * message is not all in the octets. No memory is taken. Answers past the messages stay as they are, and
+ * so do all where the status isn't OER_OK.
+ * OER_OK, OER_NO_TYPES, OER_UNNAMED, OER_ROOM: there are fewer answers than messages. */
+uint32_t oer_check_many(oer_types *types, const char *name, size_t name_length,
+                        const uint8_t *octets, size_t octets_length,
+                        const oer_message *messages, size_t messages_length,
+                        oer_checked *answers, size_t answers_length);
 
 /* Writes the canonical octets (Canonical-OER) of the value whose encoding, of at most `limit` octets,
  * is at the front of the octets. What follows it is not looked at.

@@ -132,7 +132,7 @@ public:
 
 private:
     static T *nothing() noexcept {
-        static typename std::remove_const<T>::type element = 0;
+        static typename std::remove_const<T>::type element = {};
         return &element;
     }
 
@@ -230,6 +230,9 @@ struct checked {
     /* Whether it is the canonical one. */
     bool canonical;
 };
+
+/* Where a message is in octets: its place and its length. */
+typedef oer_message message;
 
 /* What a call answers that writes into a buffer of the caller's. */
 struct written {
@@ -354,7 +357,25 @@ public:
      * follows it is not looked at: compare `octets` of the answer with the size. It takes no memory.
      *   OER_REJECTED  they don't: `why` is an oer_reason, `place` how many had been looked at */
     result<checked> check(text_in name, octets_in given) noexcept {
-        oer_checked answer = oer_check(&held_, name.data(), name.size(), given.data(), given.size());
+        return checked_of(oer_check(&held_, name.data(), name.size(), given.data(), given.size()));
+    }
+
+    /* Checks each message as check() does. A message is a part of the octets; messages may overlap. Its
+     * answer is at its place among the answers: checked_of() of it is what check() returns, or the error
+     * has OER_OUTSIDE where the message is not all in the octets. It takes no memory. The answer is how
+     * many messages there are; answers past these stay as they are.
+     *   OER_ROOM     there are fewer answers than messages: `needed` says how many there have to be */
+    result<std::size_t> check_many(text_in name, octets_in given, slice<const message> messages,
+                                   slice<oer_checked> answers) noexcept {
+        std::uint32_t status = oer_check_many(&held_, name.data(), name.size(), given.data(), given.size(),
+                                              messages.data(), messages.size(), answers.data(), answers.size());
+        std::size_t count = messages.size();
+        if (status == OER_OK) return result<std::size_t>(std::move(count));
+        return result<std::size_t>(fault(status, 0, 0, status == OER_ROOM ? count : 0, subject::octets));
+    }
+
+    /* What an answer of check_many() says. */
+    static result<checked> checked_of(const oer_checked &answer) noexcept {
         if (answer.status == OER_OK) {
             checked found = { answer.octets, answer.canonical != 0 };
             return result<checked>(std::move(found));
@@ -503,7 +524,7 @@ const char *at(const char *const (&table)[N], std::uint32_t number) noexcept {
 
 inline const char *status(std::uint32_t number) noexcept {
     static const char *const table[] = { "Ok",   "Rejected", "NoTypes",    "Unnamed", "Memory",
-                                         "Room", "NoPath",  "NoStep", "Absent",  "NoJson" };
+                                         "Room", "NoPath",  "NoStep", "Absent",  "NoJson", "Outside" };
     return at(table, number);
 }
 

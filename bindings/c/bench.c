@@ -1,8 +1,9 @@
 /* Calls to be measured: bench FOLDER CALL TURNS
  *
- * FOLDER is examples/ieee1609dot2; CALL is read, check, canon, part, show or make; and the call is made
- * TURNS times, with the certificate of a roadside unit in its basic form, and types that were read once;
- * read reads the types. The cost of a turn is the difference of two runs, by the turns between them. */
+ * FOLDER is examples/ieee1609dot2; CALL is read, check, many, canon, part, show or make; and the call is
+ * made TURNS times, with the certificate of a roadside unit in its basic form, and types that were read
+ * once. read reads the types, and many checks the certificate MANY times in one call. The cost of a turn
+ * is the difference of two runs, by the turns between them (bench/calls). */
 #include "oer.h"
 
 #include <stdio.h>
@@ -31,48 +32,91 @@ static uint8_t digit(char c) {
     return (uint8_t)(c <= '9' ? c - '0' : c - 'a' + 10);
 }
 
-int main(int count, char **words) {
-    oer_types types = OER_TYPES_NONE;
-    uint8_t octets[1024], out[4096];
+#define MANY 100
+
+/* What the calls are given, and where they write. */
+struct given {
+    oer_types types;
+    const char *text;
+    size_t text_length;
+    uint8_t octets[1024];
+    size_t length;
     char json[8192];
-    size_t length = 0, text_length, digits_length;
-    long turn, turns, good = 0;
-    char *text, *digits;
+    size_t json_length;
+    uint8_t out[8192];
+    oer_message messages[MANY];
+    oer_checked answers[MANY];
+};
+
+#define NAME "Certificate", 11
+
+static uint32_t read_types(struct given *g) {
+    return oer_types_read(&g->types, g->text, g->text_length).status;
+}
+
+static uint32_t check(struct given *g) {
+    return oer_check(&g->types, NAME, g->octets, g->length).status;
+}
+
+static uint32_t many(struct given *g) {
+    return oer_check_many(&g->types, NAME, g->octets, g->length, g->messages, MANY, g->answers, MANY);
+}
+
+static uint32_t canon(struct given *g) {
+    return oer_canon(&g->types, NAME, g->octets, g->length, OER_NO_LIMIT, g->out, sizeof g->out).status;
+}
+
+static uint32_t part(struct given *g) {
+    return oer_part(&g->types, NAME, g->octets, g->length, "c3", 2, g->out, sizeof g->out).status;
+}
+
+static uint32_t show(struct given *g) {
+    return oer_to_json(&g->types, NAME, g->octets, g->length, OER_NO_LIMIT, (char *)g->out, sizeof g->out).status;
+}
+
+static uint32_t make(struct given *g) {
+    return oer_from_json(&g->types, NAME, g->json, g->json_length, g->out, sizeof g->out).status;
+}
+
+static const struct {
+    const char *name;
+    uint32_t (*call)(struct given *g);
+} calls[] = {
+    { "read", read_types }, { "check", check }, { "many", many }, { "canon", canon },
+    { "part", part },       { "show", show },   { "make", make },
+};
+
+/* Reads the types and the certificate, and makes its JSON. */
+static int prepare(struct given *g, const char *folder) {
+    size_t i, digits_length;
+    char *digits = contents(folder, "certificate-rsu-basic.hex", &digits_length);
     oer_written shown;
-    if (count != 4) {
-        puts("usage: bench FOLDER CALL TURNS");
+    memset(g, 0, sizeof *g);
+    g->text = contents(folder, "types.asn", &g->text_length);
+    for (; digits[2 * g->length] > ' ' && digits[2 * g->length + 1] > ' '; g->length++)
+        g->octets[g->length] = (uint8_t)(digit(digits[2 * g->length]) * 16 + digit(digits[2 * g->length + 1]));
+    free(digits);
+    for (i = 0; i < MANY; i++) g->messages[i].length = g->length;
+    if (read_types(g) != OER_OK) return 0;
+    shown = oer_to_json(&g->types, NAME, g->octets, g->length, OER_NO_LIMIT, g->json, sizeof g->json);
+    g->json_length = (size_t)shown.written;
+    return shown.status == OER_OK;
+}
+
+int main(int count, char **words) {
+    static struct given given;
+    size_t i, chosen = sizeof calls / sizeof *calls;
+    long turn, turns, good = 0;
+    for (i = 0; count == 4 && i < sizeof calls / sizeof *calls; i++)
+        if (strcmp(words[2], calls[i].name) == 0) chosen = i;
+    if (chosen == sizeof calls / sizeof *calls) {
+        puts("usage: bench FOLDER read|check|many|canon|part|show|make TURNS");
         return 2;
     }
     turns = atol(words[3]);
-    text = contents(words[1], "types.asn", &text_length);
-    digits = contents(words[1], "certificate-rsu-basic.hex", &digits_length);
-    for (; digits[2 * length] > ' ' && digits[2 * length + 1] > ' '; length++)
-        octets[length] = (uint8_t)(digit(digits[2 * length]) * 16 + digit(digits[2 * length + 1]));
-    if (oer_types_read(&types, text, text_length).status != OER_OK) return 1;
-    shown = oer_to_json(&types, "Certificate", 11, octets, length, OER_NO_LIMIT, json, sizeof json);
-    if (shown.status != OER_OK) return 1;
-    for (turn = 0; turn < turns; turn++) {
-        uint32_t status = OER_REJECTED;
-        switch (words[2][0]) {
-        case 'r': status = oer_types_read(&types, text, text_length).status; break;
-        case 'p': status = oer_part(&types, "Certificate", 11, octets, length, "c3", 2, out, sizeof out).status; break;
-        case 's':
-            status = oer_to_json(&types, "Certificate", 11, octets, length, OER_NO_LIMIT, json, sizeof json).status;
-            break;
-        case 'm':
-            status = oer_from_json(&types, "Certificate", 11, json, (size_t)shown.written, out, sizeof out).status;
-            break;
-        case 'c':
-            status = words[2][1] == 'h'
-                ? oer_check(&types, "Certificate", 11, octets, length).status
-                : oer_canon(&types, "Certificate", 11, octets, length, OER_NO_LIMIT, out, sizeof out).status;
-            break;
-        default: break;
-        }
-        good += status == OER_OK;
-    }
-    oer_types_free(&types);
-    free(text);
-    free(digits);
+    if (!prepare(&given, words[1])) return 1;
+    for (turn = 0; turn < turns; turn++) good += calls[chosen].call(&given) == OER_OK;
+    oer_types_free(&given.types);
+    free((void *)given.text);
     return good != turns;
 }

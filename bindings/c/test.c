@@ -181,6 +181,60 @@ static void test_vector(const struct vector *vector) {
     EXPECT(are_all(out, 0, sizeof out, 0xcc), vector->given);
 }
 
+/* That an answer of many is that of the message alone. */
+static int is_answer(oer_types *types, const struct octets *given, oer_message message, oer_checked answer) {
+    oer_checked alone;
+    if (message.at > given->length || message.length > given->length - message.at)
+        return answer.status == OER_OUTSIDE && answer.why == 0 && answer.octets == 0 && answer.canonical == 0;
+    alone = oer_check(types, "A", 1, given->at + message.at, message.length);
+    return alone.status == answer.status && alone.why == answer.why && alone.octets == answer.octets &&
+        alone.canonical == answer.canonical;
+}
+
+/* That the answers from `from` on are as they were made. */
+static int are_kept(const oer_checked *answers, size_t from, size_t to) {
+    for (; from < to; from++)
+        if (answers[from].status != 77 || answers[from].octets != 77) return 0;
+    return 1;
+}
+
+/* The octets of the vector as messages: all of them, each front, each rest, and some that aren't all there. */
+static void test_many(const struct vector *vector) {
+    static oer_message messages[64];
+    static oer_checked answers[COUNT(messages) + 2];
+    oer_types types = types_of(vector->type);
+    struct octets given = from_hex(vector->given);
+    size_t count = 0, i;
+    for (i = 0; i <= given.length && count < 40; i++) {
+        messages[count].at = 0;
+        messages[count++].length = i;
+        messages[count].at = i;
+        messages[count++].length = given.length - i;
+    }
+    for (i = 1; i <= 2; i++) {
+        messages[count].at = i;
+        messages[count++].length = given.length;
+        messages[count].at = given.length + i;
+        messages[count++].length = 0;
+        messages[count].at = (size_t)-1;
+        messages[count++].length = i;
+        messages[count].at = i;
+        messages[count++].length = (size_t)-1;
+    }
+    for (i = 0; i < COUNT(answers); i++) {
+        answers[i].status = 77;
+        answers[i].octets = 77;
+    }
+    EXPECT(oer_check_many(&types, "A", 1, given.at, given.length, messages, count, answers, count - 1) == OER_ROOM, vector->given);
+    EXPECT(oer_check_many(&types, "B", 1, given.at, given.length, messages, count, answers, count) == OER_UNNAMED, vector->given);
+    EXPECT(are_kept(answers, 0, COUNT(answers)), vector->given);
+    EXPECT(oer_check_many(&types, "A", 1, given.at, given.length, messages, count, answers, COUNT(answers)) == OER_OK, vector->given);
+    for (i = 0; i < count; i++) EXPECT(is_answer(&types, &given, messages[i], answers[i]), vector->given);
+    EXPECT(are_kept(answers, count, COUNT(answers)), vector->given);
+    oer_types_free(&types);
+    EXPECT(oer_check_many(&types, "A", 1, given.at, given.length, messages, count, answers, count) == OER_NO_TYPES, vector->given);
+}
+
 /* A text that is rejected leaves the types from before. */
 static void test_rejected_text(const struct rejected_text *row) {
     oer_types types = OER_TYPES_NONE;
@@ -379,6 +433,8 @@ static void test_layout(void) {
     EXPECT(sizeof(oer_checked) == 24 && offsetof(oer_checked, status) == 0, "oer_checked");
     EXPECT(offsetof(oer_checked, why) == 4 && offsetof(oer_checked, octets) == 8, "oer_checked");
     EXPECT(offsetof(oer_checked, canonical) == 16, "oer_checked");
+    EXPECT(sizeof(oer_message) == 16 && offsetof(oer_message, at) == 0, "oer_message");
+    EXPECT(offsetof(oer_message, length) == 8, "oer_message");
     EXPECT(sizeof(oer_written) == 24 && offsetof(oer_written, status) == 0, "oer_written");
     EXPECT(offsetof(oer_written, why) == 4 && offsetof(oer_written, octets) == 8, "oer_written");
     EXPECT(offsetof(oer_written, written) == 16, "oer_written");
@@ -392,7 +448,10 @@ int main(int count, char **words) {
         return 2;
     }
     test_layout();
-    for (i = 0; i < COUNT(vectors); i++) test_vector(&vectors[i]);
+    for (i = 0; i < COUNT(vectors); i++) {
+        test_vector(&vectors[i]);
+        if (vectors[i].task == CHECK) test_many(&vectors[i]);
+    }
     for (i = 0; i < COUNT(rejected_texts); i++) test_rejected_text(&rejected_texts[i]);
     test_kept_types();
     test_certificate(words[1]);

@@ -273,6 +273,36 @@ static void test_vector(const vector &row) {
     EXPECT(is_only(call(none, "A", row).error, OER_NO_TYPES), "before types are read");
 }
 
+// Each message has the answer that it has alone; one that isn't all in the octets has none.
+static void test_many(const vector &row) {
+    oer::types types = types_of(row.type);
+    bytes given = from_hex(row.given);
+    std::size_t size = given.size(), most = static_cast<std::size_t>(-1);
+    const std::array<oer::message, 7> messages = { { { 0, size }, { 0, size / 2 }, { size, 0 }, { 1, size },
+                                                     { size + 1, 0 }, { most, 1 }, { 0, most } } };
+    std::array<oer_checked, 8> answers = {};
+    answers[7].status = 77;
+    oer::result<std::size_t> made = types.check_many("A", given, messages, answers);
+    EXPECT(made.ok() && made.value() == messages.size() && answers[7].status == 77, row.given);
+    for (std::size_t i = 0; i < messages.size(); i++) {
+        oer::result<oer::checked> answer = oer::types::checked_of(answers[i]);
+        if (i >= 3) {
+            EXPECT(is_only(answer.error(), OER_OUTSIDE), row.given);
+            continue;
+        }
+        ::answer found = of(answer), alone = of(types.check("A", oer::octets_in(given.data() + messages[i].at, messages[i].length)));
+        EXPECT(found.error.status == alone.error.status && found.error.why == alone.error.why, row.given);
+        EXPECT(found.error.place == alone.error.place, row.given);
+        EXPECT(found.read == alone.read && found.size == alone.size, row.given);
+    }
+    made = types.check_many("A", given, messages, oer::slice<oer_checked>(answers.data(), 6));
+    EXPECT(made.error().status == OER_ROOM && made.error().needed == 7, row.given);
+    EXPECT(types.check_many("A", given, oer::slice<const oer::message>(), oer::slice<oer_checked>()).ok(), row.given);
+    EXPECT(is_only(types.check_many("B", given, messages, answers).error(), OER_UNNAMED), row.given);
+    types.free();
+    EXPECT(is_only(types.check_many("A", given, messages, answers).error(), OER_NO_TYPES), row.given);
+}
+
 // Where an allocation fails, the header and the library say so, and the types are as before.
 static void test_memory(const vector &row) {
     oer::types types = types_of(row.type);
@@ -365,8 +395,7 @@ static void test_growth() {
     bytes octets = { 1, 100 };
     octets.insert(octets.end(), 100, 0xff);
     oer::result<oer::text> json = types.to_json("A", octets);
-    std::size_t element = std::string("{\"a-long-name-of-a-component\":true},").size();
-    EXPECT(json.value().size() == 100 * element + 1 && json.value().read() == octets.size(), "JSON");
+    EXPECT(json.value().size() == 100 * 36 + 1 && json.value().read() == octets.size(), "JSON");
     EXPECT(copy(types.from_json("A", json.value()).value()) == octets, "octets");
 }
 
@@ -416,7 +445,7 @@ static void test_numbers(const std::string &file) {
         words >> name >> number;
         EXPECT(name.compare(0, 4, "OER_") == 0, name);
         name = name.substr(4);
-        bool status = statuses <= OER_NO_JSON;
+        bool status = statuses <= OER_OUTSIDE;
         oer::subject of = oer::subject::octets;
         if (name.compare(0, 5, "TEXT_") == 0) of = oer::subject::definitions;
         if (name.compare(0, 5, "JSON_") == 0) of = oer::subject::json;
@@ -426,7 +455,7 @@ static void test_numbers(const std::string &file) {
         statuses += status;
         tested++;
     }
-    EXPECT(tested == 50, std::to_string(tested) + " numbers");
+    EXPECT(tested == 51, std::to_string(tested) + " numbers");
     EXPECT(name_of(OER_REJECTED, 0, oer::subject::octets) == "UNKNOWN", "no reason");
     EXPECT(name_of(OER_REJECTED, 99, oer::subject::json) == "UNKNOWN", "no reason");
     EXPECT(name_of(99, 0, oer::subject::json) == "UNKNOWN", "no status");
@@ -503,7 +532,10 @@ int main(int count, char **words) {
         std::puts("usage: test FOLDER STRINGS TABLE");
         return 2;
     }
-    for (const vector &row : vectors) test_vector(row);
+    for (const vector &row : vectors) {
+        test_vector(row);
+        if (row.task == CHECK) test_many(row);
+    }
     for (const vector &row : vectors) test_memory(row);
     for (const rejected_text &row : rejected_texts) test_rejected_text(row);
     test_kept_types();

@@ -28,12 +28,12 @@ import os
 import threading
 import warnings
 from types import TracebackType
-from typing import Any, Callable, Dict, NamedTuple, Optional, Tuple, Type, Union
+from typing import Any, Callable, Dict, List, NamedTuple, Optional, Sequence, Tuple, Type, Union
 
 __all__ = [
     "VERSION_NUMBER", "version", "Types", "Checked", "Canonical", "Json", "Reason", "TextReason", "JsonReason",
     "Error", "Rejected", "OctetsRejected", "DefinitionsRejected", "JsonRejected", "NoTypes", "Unnamed",
-    "OutOfMemory", "NoPath", "NoStep", "Absent", "NotJson", "WrongThread",
+    "OutOfMemory", "NoPath", "NoStep", "Absent", "NotJson", "Outside", "WrongThread",
 ]
 
 VERSION_NUMBER = 100
@@ -172,6 +172,10 @@ class NotJson(Error):
     """The text is not JSON, or not UTF-8."""
 
 
+class Outside(Error):
+    """The message is not all in the octets."""
+
+
 class WrongThread(Error):
     """A call on a Types from another thread than the one that made it."""
 
@@ -205,7 +209,7 @@ class Json(NamedTuple):
 
 # ---- the calls, as oer.h has them
 
-_OK, _REJECTED, _NO_TYPES, _UNNAMED, _MEMORY, _ROOM, _NO_PATH, _NO_STEP, _ABSENT, _NO_JSON = range(10)
+_OK, _REJECTED, _NO_TYPES, _UNNAMED, _MEMORY, _ROOM, _NO_PATH, _NO_STEP, _ABSENT, _NO_JSON, _OUTSIDE = range(11)
 _NO_LIMIT = 2**64 - 1
 _KEPT = 65536  # a buffer of more octets is not kept for the next call
 
@@ -221,6 +225,10 @@ class _Parsed(ctypes.Structure):
 class _Checked(ctypes.Structure):
     _fields_ = [("status", ctypes.c_uint32), ("why", ctypes.c_uint32), ("octets", ctypes.c_uint64),
                 ("canonical", ctypes.c_uint32)]
+
+
+class _Message(ctypes.Structure):
+    _fields_ = [("at", ctypes.c_size_t), ("length", ctypes.c_size_t)]
 
 
 class _Written(ctypes.Structure):
@@ -256,6 +264,7 @@ def _load() -> ctypes.CDLL:
         "oer_types_read": ([handle] + given, _Parsed),
         "oer_types_free": ([handle], None),
         "oer_check": ([handle] + given + given, _Checked),
+        "oer_check_many": ([handle] + given + given + [ctypes.c_void_p, size] + out, ctypes.c_uint32),
         "oer_canon": ([handle] + given + given + [limit] + out, _Written),
         "oer_part": ([handle] + given + given + given + out, _Written),
         "oer_to_json": ([handle] + given + given + [limit] + out, _Written),
@@ -277,7 +286,7 @@ def version() -> int:
 
 _ERRORS: Dict[int, Type[Error]] = {
     _NO_TYPES: NoTypes, _UNNAMED: Unnamed, _MEMORY: OutOfMemory, _NO_PATH: NoPath, _NO_STEP: NoStep,
-    _ABSENT: Absent, _NO_JSON: NotJson,
+    _ABSENT: Absent, _NO_JSON: NotJson, _OUTSIDE: Outside,
 }
 
 
@@ -356,9 +365,26 @@ class Types:
         self._own()
         named, given = _text(name), _octets(octets)
         answer = _library.oer_check(self._at, named, len(named), given, len(given))
-        if answer.status == _OK:
-            return Checked(answer.octets, bool(answer.canonical))
-        raise self._rejection(answer, answer.octets)
+        found = self._checked(answer)
+        if isinstance(found, Error):
+            raise found
+        return found
+
+    def check_many(self, name: Text, octets: Octets,
+                   messages: Sequence[Tuple[int, int]]) -> List[Union[Checked, Error]]:
+        """Checks each message as check() does, in one call. A message is the place of its first octet and
+        its length; messages may overlap. Returns their answers in their order: what check() returns, or the
+        exception that it raises, or Outside where the message is not all in the octets.
+        """
+        self._own()
+        named, given = _text(name), _octets(octets)
+        places = (_Message * len(messages))(*messages)
+        answers = (_Checked * len(messages))()
+        status = _library.oer_check_many(
+            self._at, named, len(named), given, len(given), places, len(places), answers, len(answers))
+        if status != _OK:
+            raise _error(status)
+        return [self._checked(answer) for answer in answers]
 
     def canon(self, name: Text, octets: Octets, limit: Optional[int] = None) -> Canonical:
         """The canonical octets (Canonical-OER) of the value whose encoding, of at most `limit` octets, is at
@@ -426,6 +452,12 @@ class Types:
         """Raises WrongThread in another thread than the one that made the types."""
         if threading.get_ident() != self._thread:
             raise WrongThread("the types belong to another thread")
+
+    def _checked(self, answer: Any) -> Union[Checked, Error]:
+        """What a check returns, or the exception that it raises."""
+        if answer.status == _OK:
+            return Checked(answer.octets, bool(answer.canonical))
+        return self._rejection(answer, answer.octets)
 
     def _rejection(self, answer: Any, place: int) -> Error:
         """The exception of an answer about octets that is not OK."""

@@ -125,6 +125,24 @@ class Calls(unittest.TestCase):
                 for name in ("B", "", b"\xff"):
                     self.assertEqual(self.raised(lambda: row.call(types, name)), (oer.Unnamed, None, None))
 
+    def test_many(self) -> None:
+        for row in (row for row in VECTORS if row.task == "check"):
+            size = len(row.given)
+            messages = [(0, size), (0, size // 2), (size // 2, size - size // 2), (size, 0)]
+            outside = [(1, size), (size + 1, 0), (2**64 - 1, 1), (0, 2**64 - 1)]
+            with self.subTest(row=row), types_of(row.kind) as types:
+                answers = types.check_many("A", row.given, messages + outside)
+                self.assertEqual([type(answer) for answer in answers[4:]], [oer.Outside] * 4)
+                for (at, length), answer in zip(messages, answers):
+                    part = row.given[at:at + length]
+                    if isinstance(answer, oer.Error):
+                        alone = self.raised(lambda: types.check("A", part))
+                        self.assertEqual((type(answer), answer.reason, answer.place), alone)
+                    else:
+                        self.assertEqual(answer, types.check("A", part))
+                self.assertEqual(self.raised(lambda: types.check_many("B", row.given, [])), (oer.Unnamed, None, None))
+            self.assertEqual(self.raised(lambda: types.check_many("A", row.given, [])), (oer.NoTypes, None, None))
+
     def test_calls_without_types(self) -> None:
         for row in VECTORS:
             with self.subTest(row=row):
@@ -208,8 +226,7 @@ class Calls(unittest.TestCase):
         for count in (100, 200, 3000, 3):
             octets = bytes([2, count // 256, count % 256]) + b"\xff" * count
             json = types.to_json("A", octets)
-            element = len('{"a-long-name-of-a-component":true},')
-            self.assertEqual((len(json.text), json.read), (count * element + 1, len(octets)))
+            self.assertEqual((len(json.text), json.read), (count * 36 + 1, len(octets)))
             self.assertEqual(types.from_json("A", json.text)[-count:], b"\xff" * count)
             self.assertLessEqual(len(types._room or b""), oer._KEPT)
 
@@ -252,7 +269,7 @@ class Header(unittest.TestCase):
         found = {"OER_" + reason.name: reason.value for reason in oer.Reason}
         found.update({"OER_TEXT_" + reason.name: reason.value for reason in oer.TextReason})
         found.update({"OER_JSON_" + reason.name: reason.value for reason in oer.JsonReason})
-        statuses = "OK REJECTED NO_TYPES UNNAMED MEMORY ROOM NO_PATH NO_STEP ABSENT NO_JSON".split()
+        statuses = "OK REJECTED NO_TYPES UNNAMED MEMORY ROOM NO_PATH NO_STEP ABSENT NO_JSON OUTSIDE".split()
         found.update({"OER_" + name: getattr(oer, "_" + name) for name in statuses})
         self.assertEqual(found, {name: int(number) for name, number in rows("number")})
 
@@ -261,7 +278,7 @@ class Header(unittest.TestCase):
             return f"{field.offset}+{field.size}"
 
         structs = {"oer_types": oer._Types, "oer_parsed": oer._Parsed, "oer_checked": oer._Checked,
-                   "oer_written": oer._Written}
+                   "oer_message": oer._Message, "oer_written": oer._Written}
         found = [
             [name, str(ctypes.sizeof(struct))] + [place(getattr(struct, field[0])) for field in struct._fields_]
             for name, struct in structs.items()

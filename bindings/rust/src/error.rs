@@ -48,6 +48,8 @@ pub enum Error {
     Absent,
     /// The text is not JSON, or not UTF-8.
     NoJson,
+    /// The message is not all in the octets.
+    Outside,
     /// A status or reason that this crate doesn't know. No library of the version that the crate was
     /// made for answers it.
     Unknown {
@@ -89,6 +91,7 @@ impl Error {
             sys::NO_STEP => Error::NoStep,
             sys::ABSENT => Error::Absent,
             sys::NO_JSON => Error::NoJson,
+            sys::OUTSIDE => Error::Outside,
             _ => Error::Unknown { status, why },
         }
     }
@@ -132,6 +135,7 @@ impl fmt::Display for Error {
             Error::NoStep => out.write_str("the type has no such step"),
             Error::Absent => out.write_str("the part is absent"),
             Error::NoJson => out.write_str("not JSON"),
+            Error::Outside => out.write_str("the message is not all in the octets"),
             Error::Unknown { status, why } => write!(out, "status {status}, reason {why}"),
         }
     }

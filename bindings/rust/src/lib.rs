@@ -50,7 +50,7 @@ use std::borrow::Cow;
 use std::cell::UnsafeCell;
 use std::fmt;
 use std::marker::PhantomData;
-use std::ops::Deref;
+use std::ops::{Deref, Range};
 use std::os::raw::c_char;
 
 /// A limit that rejects nothing.
@@ -220,9 +220,51 @@ impl Types {
         let answer = unsafe {
             sys::oer_check(self.held.get(), name.as_ptr().cast(), name.len(), octets.as_ptr(), octets.len())
         };
-        match answer.status {
-            sys::OK => Ok(Checked { octets: answer.octets as usize, canonical: answer.canonical != 0 }),
-            status => Err(Error::of_octets(status, answer.why, answer.octets, 0)),
+        checked(&answer)
+    }
+
+    /// Checks each message as [`Types::check`] does, in one call. A message is a range of the octets, and
+    /// ranges may overlap. Returns the answers in the order of the messages.
+    ///
+    /// # Errors
+    ///
+    /// [`Error::Memory`]. Of a message: [`Error::Octets`], and [`Error::Outside`] if it isn't all in the
+    /// octets.
+    ///
+    /// ```
+    /// let types = oer::Types::parse("A ::= BOOLEAN")?;
+    /// let answers = types.check_many("A", &[0xff, 0x01], &[0..1, 1..2, 2..3])?;
+    /// assert_eq!(answers[1], Ok(oer::Checked { octets: 1, canonical: false }));
+    /// assert_eq!(answers[2], Err(oer::Error::Outside));
+    /// # Ok::<(), oer::Error>(())
+    /// ```
+    pub fn check_many(
+        &self,
+        name: impl AsRef<[u8]>,
+        octets: &[u8],
+        messages: &[Range<usize>],
+    ) -> Result<Vec<Result<Checked, Error>>, Error> {
+        let name = name.as_ref();
+        let places = each(messages, |range| sys::OerMessage { at: range.start, length: range.len() })?;
+        let none = sys::OerChecked { status: 0, why: 0, octets: 0, canonical: 0 };
+        let mut answers = each(messages, |_| none)?;
+        // SAFETY: as in `check`; `answers` is borrowed mutably, so that it overlaps nothing.
+        let status = unsafe {
+            sys::oer_check_many(
+                self.held.get(),
+                name.as_ptr().cast(),
+                name.len(),
+                octets.as_ptr(),
+                octets.len(),
+                places.as_ptr(),
+                places.len(),
+                answers.as_mut_ptr(),
+                answers.len(),
+            )
+        };
+        match status {
+            sys::OK => each(&answers, checked),
+            status => Err(Error::of_octets(status, 0, 0, 0)),
         }
     }
 
@@ -480,6 +522,22 @@ const _: fn() = || {
     impl<T: ?Sized + Send> Unless<u16> for T {}
     <Types as Unless<_>>::holds();
 };
+
+/// What a check answers.
+fn checked(answer: &sys::OerChecked) -> Result<Checked, Error> {
+    match answer.status {
+        sys::OK => Ok(Checked { octets: answer.octets as usize, canonical: answer.canonical != 0 }),
+        status => Err(Error::of_octets(status, answer.why, answer.octets, 0)),
+    }
+}
+
+/// What is made of each, or [`Error::Memory`].
+fn each<T, U>(from: &[T], make: impl Fn(&T) -> U) -> Result<Vec<U>, Error> {
+    let mut made = Vec::new();
+    made.try_reserve_exact(from.len()).map_err(|_| Error::Memory)?;
+    made.extend(from.iter().map(make));
+    Ok(made)
+}
 
 /// What a call answers that reads octets and writes.
 fn written(answer: sys::OerWritten) -> Result<Written, Error> {

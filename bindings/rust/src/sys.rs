@@ -16,6 +16,13 @@ pub struct OerParsed {
 }
 
 #[repr(C)]
+pub struct OerMessage {
+    pub at: usize,
+    pub length: usize,
+}
+
+#[repr(C)]
+#[derive(Clone, Copy)]
 pub struct OerChecked {
     pub status: u32,
     pub why: u32,
@@ -41,6 +48,7 @@ pub const NO_PATH: u32 = 6;
 pub const NO_STEP: u32 = 7;
 pub const ABSENT: u32 = 8;
 pub const NO_JSON: u32 = 9;
+pub const OUTSIDE: u32 = 10;
 
 extern "C" {
     pub fn oer_version() -> u32;
@@ -53,6 +61,17 @@ extern "C" {
         octets: *const u8,
         octets_length: usize,
     ) -> OerChecked;
+    pub fn oer_check_many(
+        types: *mut OerTypes,
+        name: *const c_char,
+        name_length: usize,
+        octets: *const u8,
+        octets_length: usize,
+        messages: *const OerMessage,
+        messages_length: usize,
+        answers: *mut OerChecked,
+        answers_length: usize,
+    ) -> u32;
     pub fn oer_canon(
         types: *mut OerTypes,
         name: *const c_char,
@@ -125,6 +144,7 @@ mod tests {
             ("oer_types", layout!(OerTypes, at_, full_)),
             ("oer_parsed", layout!(OerParsed, status, why, place)),
             ("oer_checked", layout!(OerChecked, status, why, octets, canonical)),
+            ("oer_message", layout!(OerMessage, at, length)),
             ("oer_written", layout!(OerWritten, status, why, octets, written)),
         ];
         let wanted = crate::table::rows("layout");

@@ -118,6 +118,22 @@ fn vectors_are_answered() {
 }
 
 #[test]
+fn many_are_answered_as_one() {
+    for row in vectors().iter().filter(|row| row.task == "check") {
+        let (types, size) = (row.types(), row.given.len());
+        let messages = [0..size, 0..size / 2, size / 2..size, size..size];
+        let answers = types.check_many("A", &row.given, &messages).unwrap();
+        for (message, answer) in messages.iter().zip(&answers) {
+            assert_eq!(*answer, types.check("A", &row.given[message.clone()]), "{message:?} of {:02x?}", row.given);
+        }
+        let outside = [1..size + 1, size + 1..size + 1, usize::MAX..usize::MAX, 0..usize::MAX];
+        assert_eq!(types.check_many("A", &row.given, &outside), Ok(vec![Err(Error::Outside); 4]));
+        assert_eq!(types.check_many("B", &row.given, &messages), Err(Error::Unnamed));
+        assert_eq!(Types::new().check_many("A", &row.given, &messages), Err(Error::NoTypes));
+    }
+}
+
+#[test]
 fn buffers_are_filled_or_kept() {
     for row in vectors().iter().filter(|row| row.task != "check") {
         let types = row.types();
@@ -173,7 +189,7 @@ fn spelt(name: &str) -> String {
 #[test]
 fn numbers_are_those_of_the_header() {
     let rows = table::rows("number");
-    for row in &rows[10..] {
+    for row in &rows[11..] {
         let (name, number) = (row[0].strip_prefix("OER_").unwrap(), row[1].parse().unwrap());
         let (found, name) = match (name.strip_prefix("TEXT_"), name.strip_prefix("JSON_")) {
             (Some(name), _) => (TextReason::from_number(number).map(|why| (why.name(), why.number())), name),
@@ -183,7 +199,7 @@ fn numbers_are_those_of_the_header() {
         let (found, again) = found.unwrap();
         assert_eq!((found.to_lowercase(), again), (spelt(name), number));
     }
-    assert_eq!(rows.len(), 50);
+    assert_eq!(rows.len(), 51);
     assert_eq!((Reason::from_number(2), TextReason::from_number(1), JsonReason::from_number(7)), (None, None, None));
     assert_eq!(table::rows("version")[0][0], oer::version().to_string());
 }
@@ -204,8 +220,7 @@ fn long_json_is_made_with_a_second_buffer() {
     let types = types_of(b"SEQUENCE OF SEQUENCE {a-long-name-of-a-component BOOLEAN}");
     let octets = [&[1, 100][..], &[0xff; 100]].concat();
     let json = types.to_json("A", &octets).unwrap();
-    let element = r#"{"a-long-name-of-a-component":true},"#.len();
-    assert_eq!((json.text.len(), json.read), (100 * element + 1, octets.len()));
+    assert_eq!((json.text.len(), json.read), (100 * 36 + 1, octets.len()));
     assert_eq!(types.from_json("A", json.text), Ok(octets));
 }
 

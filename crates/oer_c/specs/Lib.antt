@@ -3,6 +3,7 @@ pub mod Reasons
 pub mod Naming
 pub mod Definitions
 pub mod Checking
+pub mod Messages
 pub mod Buffers
 pub mod Rewriting
 pub mod Parts

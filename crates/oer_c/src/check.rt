@@ -29,8 +29,8 @@ pub struct Checked {
 
 const _: () = prove!(size_of::<Checked>() == 24);
 
-// A status and nothing else.
-fn only(status: u32) -> Checked
+/// A status and nothing else.
+pub(crate) fn only(status: u32) -> Checked
     ensures { result ≡ only status }
 {
     Checked {
@@ -41,8 +41,8 @@ fn only(status: u32) -> Checked
     }
 }
 
-// What `check` answers, in numbers.
-fn judged(schema: &Schema, octets: &[u8]) -> Checked
+/// What `check` answers, in numbers.
+pub(crate) fn judged(schema: &Schema, octets: &[u8]) -> Checked
     ensures { IsChecked (the_type schema.now) octets.now result }
 {
     match check(schema, octets) {

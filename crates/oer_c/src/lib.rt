@@ -9,6 +9,7 @@ mod definitions;
 mod handle;
 mod held;
 mod make;
+mod many;
 mod naming;
 mod part;
 mod raw_box;

@@ -29,3 +29,6 @@ pub const ABSENT: u32 = 8;
 
 /// The text is not JSON.
 pub const NO_JSON: u32 = 9;
+
+/// The message is not all in the octets.
+pub const OUTSIDE: u32 = 10;

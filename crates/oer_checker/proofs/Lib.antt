@@ -23,3 +23,8 @@ mod TagParts
 mod Leading
 mod Digits
 mod Paths
+mod LineSteps
+mod LineUnits
+mod LineLaws
+mod LineForms
+mod ListingSteps

@@ -55,7 +55,7 @@ later_value (a ∷ xs) after t e = later_step (same_tag a.tag t) (has_tag t (roo
 abbrev after_tag : Bool → Alternatives → Tag → Reader Bool
 after_tag extensible more t = check_chosen extensible more (check_alternative more) t
 
-choice_then : (extensible : Bool) (more : Alternatives) (p q : Place) (t : Tag) (o : Outcome Bool) → got t q ≡ tag p → o ≡ after_tag extensible more t q → o ≡ check_value (choice extensible more) p
+pub choice_then : (extensible : Bool) (more : Alternatives) (p q : Place) (t : Tag) (o : Outcome Bool) → got t q ≡ tag p → o ≡ after_tag extensible more t q → o ≡ check_value (choice extensible more) p
 unfolding check_choice
 choice_then extensible more p q t o e h = bind_got tag (after_tag extensible more) p q t o e h
 

@@ -10,3 +10,6 @@ pub mod Handing
 pub mod Path
 pub mod Encoding
 pub mod AtMostOne
+pub mod Rows
+pub mod Lines
+pub mod Listing

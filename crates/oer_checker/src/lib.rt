@@ -1,5 +1,5 @@
 //! Encodings (X.696, Basic-OER) checked without making their values: how long they are, whether they
-//! are canonical, and where their parts stand. Only `read_path` allocates.
+//! are canonical, where their parts stand, and what each octet is. Only `read_path` and `rows` allocate.
 #![tactic(auto)]
 
 mod bit_strings;
@@ -12,13 +12,17 @@ mod front;
 mod handing;
 pub mod laws;
 mod lengths;
+mod listing;
 mod numbers;
 mod parts;
 mod path;
 mod place;
+mod row;
+mod spot;
 mod step;
 mod stop;
 mod strings;
+mod trace;
 mod units;
 mod value;
 mod verdict;
@@ -28,6 +32,8 @@ pub use encoding::Encoding;
 pub use fault::PartFault;
 pub use front::check;
 pub use handing::part;
+pub use listing::rows;
 pub use path::{PathFault, read_path};
+pub use row::{Listing, Role, Row};
 pub use step::Step;
 pub use verdict::Verdict;

@@ -4,5 +4,7 @@
 //! both are under one name.
 #![tactic(auto)]
 
-pub use oer_checker::{Encoding, PartFault, PathFault, Step, Verdict, check, part, read_path};
+pub use oer_checker::{
+    Encoding, Listing, PartFault, PathFault, Role, Row, Step, Verdict, check, part, read_path, rows,
+};
 pub use oer_decoder::{RewriteFault, laws, read, read_with_length, rewrite};

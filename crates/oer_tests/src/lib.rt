@@ -10,6 +10,8 @@ mod encodings;
 #[cfg(test)]
 mod refusals;
 #[cfg(test)]
+mod rows;
+#[cfg(test)]
 mod shared;
 #[cfg(test)]
 mod sinks;
