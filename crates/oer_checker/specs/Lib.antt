@@ -13,3 +13,5 @@ pub mod AtMostOne
 pub mod Rows
 pub mod Lines
 pub mod Listing
+pub mod Offsets
+pub mod Ranges
