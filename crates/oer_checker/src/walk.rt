@@ -38,6 +38,7 @@ pub(crate) struct Piece<'s, 'a> {
 }
 
 /// The content of an open type.
+#[derive(Clone, Copy)]
 struct Content<'a> {
     octets: &'a [u8],
     /// How many octets there are from their first on.

@@ -10,11 +10,11 @@ step_into-requires-clause-checked c =
     let is = ap (option_map (λ s. type_of s.now)) c.in-Some.is in
     spelt_checked (type_of c.in-Some.shape.now) c.args.self.octets.now (subst (λ V. CanSplit V c.args.self.octets.now) is c.requires)
 
-pub returns-in-Some-step_into : goal.returns-in-Some-step_into
-returns-in-Some-step_into c =
+pub returns-in-Some-step_into-clause-found : goal.returns-in-Some-step_into-clause-found
+returns-in-Some-step_into-clause-found c =
     let is = ap (option_map (λ s. type_of s.now)) c.in-Some.is in
     let p = c.in-Some-step_into.piece in
     let T = type_of c.in-Some.shape.now in
     let b = c.args.self.octets.now in
-    let e = found_step (type_in c.args.self) T b (step_of c.args.step) (type_in p) p.octets.now is (c.in-Some-step_into.ensures (nothing_at (knows T (step_of c.args.step)))) in
+    let e = found_step (type_in c.args.self) T b (step_of c.args.step) (type_in p) p.octets.now is (c.in-Some-step_into.ensures.found (nothing_at (knows T (step_of c.args.step)))) in
     (e, found_splits (type_in c.args.self) b (step_of c.args.step) (type_in p) p.octets.now c.requires e)
