@@ -28,3 +28,4 @@ mod LineUnits
 mod LineLaws
 mod LineForms
 mod ListingSteps
+mod Standing

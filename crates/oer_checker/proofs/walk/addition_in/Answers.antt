@@ -8,6 +8,7 @@ use Rattle.oer_checker.specs.Places.{place_of}
 use Rattle.oer_checker.proofs.FieldSteps.{addition_defaults, addition_limits}
 use Rattle.oer_checker.proofs.Finds.{addition_absent, addition_defaults_front, addition_found, additions_front, is_read, is_unread, no_refusal, nth, parted, same_end, unknown_look}
 use Rattle.oer_checker.proofs.Walks.{addition_entry}
+use Rattle.oer_checker.proofs.Standing.{addition_stands, beyond_stands}
 use Rattle.oer_checker.proofs.walk.addition_in.Goals as goal
 
 pub returns-then-not-first-clause-found : goal.returns-then-not-first-clause-found
@@ -84,3 +85,11 @@ returns-clause-found c =
     let there = sym c.if-not-first.false ∙ c.first.ensures ∙ ap first_bit c.skip.ensures in
     let ends = same_end _ o.0 (place_of c.in-Ok-check_additions.start) _ o.1 c.in-Ok-check_additions.ensures in
     is_read _ (addition_entry x c.args.index (first_bit (drop c.args.index s))) o.0 (place_of c.in-Ok-check_additions.start) _ _ there o.2 ends c.in-Some.ensures.read
+
+pub returns-then-index-additions-clause-stands : goal.returns-then-index-additions-clause-stands
+returns-then-index-additions-clause-stands c =
+    beyond_stands c.args.additions.now c.args.index (bits_in c.args.bits) (place_of c.args.place) (place_of c.in-Ok.next) _ c.unknown_in.result c.requires.limits c.requires.defaults c.if-index-additions.true c.in-Ok.ensures c.unknown_in.ensures.stands
+
+pub returns-clause-stands : goal.returns-clause-stands
+returns-clause-stands c =
+    addition_stands c.args.additions.now c.args.index (bits_in c.args.bits) (place_of c.args.place) (place_of c.in-Ok-check_additions.start) _ _ _ c.requires.limits c.requires.defaults c.if-index-additions.false c.in-Ok-check_additions.ensures c.in-Some.ensures.stands

@@ -1,4 +1,4 @@
-use Rattle.std.proofs.Common.{◌∙◌, ◌+◌, add-one, ap, length, refl, sym}
+use Rattle.std.proofs.Common.{◌∙◌, ◌+◌, add-one, ap, length, refl, sym, subst}
 use Rattle.oer_types.specs.AsnType.{extensible_sequence}
 use Rattle.oer_types.specs.Bits.{first_bit}
 use Rattle.oer_types.specs.Checking.{check_value}
@@ -12,6 +12,9 @@ use Rattle.oer_checker.proofs.Inside.{extension_checked, extension_look, marks_c
 use Rattle.oer_checker.proofs.PartSteps.{has_step, no_such}
 use Rattle.oer_checker.proofs.ShapeCases.{not_sequence}
 use Rattle.oer_checker.proofs.TypeSteps.{as_extensible, as_sequence, by_type}
+use Rattle.oer_types.specs.Constraints.{KeepsLimits}
+use Rattle.oer_types.specs.Fits.{DefaultsFit}
+use Rattle.oer_checker.proofs.Standing.{added_stands}
 use Rattle.oer_checker.proofs.walk.addition_of.Goals as goal
 
 pub returns-in_default-clause-found : goal.returns-in_default-clause-found
@@ -90,3 +93,17 @@ returns-clause-found c =
     λ o. c.addition_in.ensures.found o
     ∙ marks_look xs (first_bit (bits_in c.in-Ok.bits)) (place_of c.in-Ok-check_fields.next) (place_of c.in-Ok-addition_map.next) (bits_in c.in-Ok-addition_map.bits) c.in-Ok-addition_map.field-0-0-1 set c.in-Ok-addition_map.ensures.bits (to_addition c.args.index) o
     ∙ look c.args.index o
+
+pub returns-clause-stands : goal.returns-clause-stands
+returns-clause-stands c =
+    let s = c.in-Sequence in
+    let T = type_of c.args.shape.now in
+    let fs = c.deref-fields.result.now in
+    let xs = c.deref-additions.result.now in
+    let is = as_extensible c.args.shape.now s.root s.additions c.in-Some.additions fs xs s.is c.in-Some.is c.deref-fields.ensures.value c.deref-additions.ensures.value in
+    let many = ap (λ k. k + 1) c.optional.ensures.is ∙ add-one (optional (fields_of fs)) in
+    let set = sym c.first.ensures ∙ c.if-not-first.false in
+    let w = (subst KeepsLimits is c.requires.limits).0 in
+    let d = (subst DefaultsFit is c.requires.defaults).0 in
+    added_stands T fs xs is c.args.index (c.optional.result + 1) (length xs) (place_of c.args.place) (place_of c.in-Ok.next) (place_of c.in-Ok-check_fields.next) (place_of c.in-Ok-addition_map.next) (bits_in c.in-Ok.bits) (bits_in c.later.result) (bits_in c.in-Ok-addition_map.bits) c.in-Ok-check_fields.field-0-0 c.in-Ok-addition_map.field-0-0-1 c.addition_in.result w d
+    many c.in-Ok.ensures set c.later.ensures c.in-Ok-check_fields.ensures c.in-Ok-addition_map.ensures.bits c.addition_in.ensures.stands

@@ -11,6 +11,7 @@ use Rattle.oer_checker.proofs.ShapeCases.{not_choice}
 use Rattle.oer_checker.proofs.TagParts.{alone_found, alone_missing, foreign_part, later_part, root_part}
 use Rattle.oer_checker.proofs.TagSteps.{choice_none, choice_stop, later_defaults, later_limits, root_defaults, root_limits}
 use Rattle.oer_checker.proofs.TypeSteps.{as_choice, as_closed, as_open, by_type, choice_defaults, choice_limits, open_defaults, open_limits}
+use Rattle.oer_checker.proofs.Standing.{open_alternative_stands, root_alternative_stands}
 use Rattle.oer_checker.proofs.walk.alternative_of.Goals as goal
 
 pub returns-in_default-clause-found : goal.returns-in_default-clause-found
@@ -114,3 +115,31 @@ returns-in-Some-counted_at-clause-found c =
     let ys = c.deref-2.result.now in
     let is = as_open c.args.shape.now s.root s.additions c.in-Some-additions.additions xs ys s.is c.in-Some-additions.is c.deref.ensures.value c.deref-2.ensures.value in
     λ o. alone_found None counted_octets (place_of c.in-Ok.next) _ c.in-Some-counted_at.ensures.read o ∙ foreign_part T _ xs ys is (place_of c.args.place) (place_of c.in-Ok.next) c.in-Ok.tag c.in-Ok.ensures c.in_default-with_tag.ensures c.in-None.ensures o
+
+pub returns-in-Some-clause-stands : goal.returns-in-Some-clause-stands
+returns-in-Some-clause-stands c =
+    let s = c.in-Choice in
+    let T = type_of c.args.shape.now in
+    let xs = c.deref.result.now in
+    let k = as_choice c.args.shape.now s.root s.additions xs s.is c.deref.ensures.value in
+    let a = c.in-Some.alternative.now in
+    let (i, less, at, same, before) = c.in-Some.ensures in
+    let w = root_limits xs i a less at (choice_limits c.args.shape.now s.root s.additions xs s.is c.deref.ensures.value c.requires.limits) in
+    let d = root_defaults xs i a less at (choice_defaults c.args.shape.now s.root s.additions xs s.is c.deref.ensures.value c.requires.defaults) in
+    root_alternative_stands T k.extensible xs k.after k.is (place_of c.args.place) (place_of c.in-Ok.next) c.in-Ok.tag a _ _ i w d c.in-Ok.ensures less at same before c.in-Some-encoding_at.ensures refl
+
+pub returns-in-Some-content_at-clause-stands : goal.returns-in-Some-content_at-clause-stands
+returns-in-Some-content_at-clause-stands c =
+    let s = c.in-Choice in
+    let xs = c.deref.result.now in
+    let ys = c.deref-2.result.now in
+    let is = as_open c.args.shape.now s.root s.additions c.in-Some-additions.additions xs ys s.is c.in-Some-additions.is c.deref.ensures.value c.deref-2.ensures.value in
+    open_alternative_stands (type_of c.args.shape.now) xs ys is (place_of c.args.place) (place_of c.in-Ok.next) c.in-Ok.tag _ _ c.in-Ok.ensures c.in_default-with_tag.ensures c.in-Some-content_at.ensures.stands
+
+pub returns-in-Some-counted_at-clause-stands : goal.returns-in-Some-counted_at-clause-stands
+returns-in-Some-counted_at-clause-stands c =
+    let s = c.in-Choice in
+    let xs = c.deref.result.now in
+    let ys = c.deref-2.result.now in
+    let is = as_open c.args.shape.now s.root s.additions c.in-Some-additions.additions xs ys s.is c.in-Some-additions.is c.deref.ensures.value c.deref-2.ensures.value in
+    open_alternative_stands (type_of c.args.shape.now) xs ys is (place_of c.args.place) (place_of c.in-Ok.next) c.in-Ok.tag _ _ c.in-Ok.ensures c.in_default-with_tag.ensures c.in-Some-counted_at.ensures.stands

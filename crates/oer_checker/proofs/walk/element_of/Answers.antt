@@ -1,4 +1,4 @@
-use Rattle.std.proofs.Common.{◌∙◌, ap, refl, sym}
+use Rattle.std.proofs.Common.{◌∙◌, ap, refl, sym, subst}
 use Rattle.oer_types.specs.AsnType.{sequence_of}
 use Rattle.oer_types.specs.Checking.{check_value}
 use Rattle.oer_types.specs.Parts.{to_item}
@@ -12,6 +12,9 @@ use Rattle.oer_checker.proofs.PartSteps.{no_such}
 use Rattle.oer_checker.proofs.ShapeCases.{not_list}
 use Rattle.oer_checker.proofs.TypeSteps.{as_items, by_type}
 use Rattle.oer_checker.proofs.Walks.{item_entry}
+use Rattle.oer_types.specs.Constraints.{KeepsLimits}
+use Rattle.oer_types.specs.Fits.{DefaultsFit}
+use Rattle.oer_checker.proofs.Standing.{item_stands}
 use Rattle.oer_checker.proofs.walk.element_of.Goals as goal
 
 pub returns-in_default-clause-found : goal.returns-in_default-clause-found
@@ -61,3 +64,12 @@ returns-clause-found c =
     let ends = same_end _ f.0 (place_of c.in-Ok-check_elements.start) _ f.1 c.in-Ok-check_elements.ensures in
     λ o. is_read _ (item_entry T c.args.index) f.0 (place_of c.in-Ok-check_elements.start) _ _ refl f.2 ends c.in-Some.ensures o
     ∙ list_look (type_of c.args.shape.now) s.size T is (place_of c.args.place) (place_of c.in-Ok.next) c.in-Ok.count c.in-Ok.field-0-0-1 c.in-Ok.ensures (to_item c.args.index) o
+
+pub returns-clause-stands : goal.returns-clause-stands
+returns-clause-stands c =
+    let s = c.in-SequenceOf in
+    let T = type_of c.deref-item.result.now in
+    let is = as_items c.args.shape.now s.size s.item s.is ∙ ap (λ (i : Shape). sequence_of s.size (type_of i)) (sym c.deref-item.ensures) in
+    let w = (subst KeepsLimits is c.requires.limits).1 in
+    let d = subst DefaultsFit is c.requires.defaults in
+    item_stands (type_of c.args.shape.now) s.size T is w d c.args.index c.in-Ok.count (place_of c.args.place) (place_of c.in-Ok.next) (place_of c.in-Ok-check_elements.start) c.in-Ok.field-0-0-1 _ _ _ c.in-Ok.ensures c.in-Ok-check_elements.ensures c.in-Some.ensures refl
