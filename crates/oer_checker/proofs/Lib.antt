@@ -29,3 +29,4 @@ mod LineLaws
 mod LineForms
 mod ListingSteps
 mod Standing
+mod Ranging
