@@ -1,18 +1,21 @@
 -- Where that stands to which a path leads: from one step to the whole path, and to the octets of the caller.
-use Rattle.std.proofs.Common.{◌≡◌, arith, add-one, ℕ, zero, suc, ◌+◌, ◌-◌, ◌<◌, ◌≤◌, List, [], ◌∷◌, ◌++◌, length, take, drop, get_or, slice_range, Option, Some, None, Ok, refl, sym, ap, ap₂, ◌∙◌, subst, append_assoc, length-append, append-nil, drop-cons}
+use Rattle.std.proofs.Common.{◌≡◌, arith, add-one, ℕ, zero, suc, ◌+◌, ◌-◌, ◌<◌, ◌≤◌, Bool, List, [], ◌∷◌, ◌++◌, length, take, drop, get_or, slice_range, Option, Some, None, Result, Ok, Err, IfOk, refl, sym, ap, ap₂, ◌∙◌, subst, append_assoc, length-append, append-nil, drop-cons}
 use Rattle.std.proofs.lemmas.List.{take_at}
-use Rattle.oer_units.specs.Reader.{at}
+use Rattle.oer_units.specs.Reader.{Outcome, at, got, refused}
 use Rattle.oer_types.specs.AsnType.{AsnType}
 use Rattle.oer_types.specs.Parts as plain
 use Rattle.oer_types.specs.Parts.{Answer, LeadsTo, absent_part, find_part, found, go_on, knows, lookup, no_such_step, nothing_at, parts_in, read_parts}
 use Rattle.oer_types.proofs.Finding.{found_is, same_found}
 use Rattle.oer_checker.specs.Check.{Tells}
+use Rattle.oer_checker.specs.Handing.{AgreesWith}
 use Rattle.oer_checker.specs.Offsets.{IsBefore, StandsAt}
 use Rattle.oer_checker.specs.Ranges.{IsWithin, LeadsFrom}
 use Rattle.oer_checker.specs.Walk.{CanSplit, IsAfter, StandsBy, path_of, step_of, type_in}
+use Rattle.oer_checker.specs.declared.fault.PartFault.{PartFault}
 use Rattle.oer_checker.specs.declared.step.Step.{Step}
 use Rattle.oer_checker.specs.declared.verdict.Verdict.{Verdict}
 use Rattle.oer_checker.specs.declared.walk.Piece.{Piece}
+use Rattle.oer_checker.proofs.BitLists.{drop_past}
 
 -- one step
 pub step_stands : (V : Option AsnType) (T : AsnType) (b : List ℕ) (step : plain.Step) (p : Piece) → V ≡ Some T → CanSplit V b → find_part V b (step ∷ []) ≡ found (type_in p) p.octets.now → IsAfter (IsBefore T step) (at b (length b)) p.octets.now p.rest → StandsBy V b step p
@@ -51,15 +54,9 @@ reached_next V whole all path i n o W b p less by reached U s k w =
 -- at the end of the path
 pub reached_end : (V : Option AsnType) (whole : List ℕ) (all : List plain.Step) (path : List Step) (i n : ℕ) (W : Option AsnType) (b : List ℕ) → length path ≤ i → Reached V whole all n W b (path_of (drop i path)) → (U : Option AsnType) × StandsAt V whole all U b n
 reached_end V whole all path i n W b more reached =
-    let none : drop i path ≡ [] = none_left path i more in
+    let none : drop i path ≡ [] = drop_past i path more in
     let here : StandsAt W b (path_of (drop i path)) W b 0 = subst (λ (l : List Step). StandsAt W b (path_of l) W b 0) (sym none) (refl, refl, refl) in
     (W, subst (λ (j : ℕ). StandsAt V whole all W b j) (let e : n + 0 ≡ n = omega arith in e) (reached W b 0 here))
-  where
-    none_left : (path : List Step) (i : ℕ) → length path ≤ i → drop i path ≡ []
-    none_left [] zero le = refl
-    none_left [] (suc i) le = refl
-    none_left (x ∷ path) zero le = absurd (omega arith)
-    none_left (x ∷ path) (suc i) le = none_left path i (omega arith)
 
 -- what is found from there on
 found_then : (W : Option AsnType) (b : List ℕ) (step : plain.Step) (V : Option AsnType) (c : List ℕ) (path : List plain.Step) → find_part W b (step ∷ []) ≡ found V c → find_part V c path ≡ find_part W b (step ∷ path)
@@ -89,6 +86,15 @@ pub leads_from : (T : AsnType) (octets : List ℕ) (verdict : Verdict) (path : L
 leads_from T octets verdict path s n (b, rest, split, size, encoded, flags) (U, h) =
     let front : take verdict.octets octets ≡ b = ap (λ (l : List ℕ). take verdict.octets l) split ∙ take_at b rest verdict.octets (sym size) in
     (b, rest, split, encoded, (U, subst (λ (l : List ℕ). StandsAt (Some T) l path U s n) front h))
+
+pub leads_if : {A : Type 0} (f : A → List ℕ) (n : A → ℕ) (T : AsnType) (octets : List ℕ) (verdict : Verdict) (path : List plain.Step) (result : Result A PartFault) → Tells T octets (Ok verdict) → IfOk result (λ r. IsWithin (Some T) (take verdict.octets octets) path (f r) (n r)) → IfOk result (λ r. LeadsFrom T octets path (f r) (n r))
+leads_if f n T octets verdict path (Ok r) told h = leads_from T octets verdict path (f r) (n r) told h
+leads_if f n T octets verdict path (Err e) told h = tt
+
+-- the same octets, seen in another way
+pub agrees_other : {A B : Type 0} (f : A → List ℕ) (g : B → List ℕ) (T : AsnType) (octets : List ℕ) (path : List plain.Step) (a : A) (b : B) → g b ≡ f a → (o : Outcome Bool) → AgreesWith f octets path T o (Ok a) → AgreesWith g octets path T o (Ok b)
+agrees_other f g T octets path a b same (got canonical q) (U, e) = (U, e ∙ ap (found U) (sym same))
+agrees_other f g T octets path a b same (refused why rest) h = absurd h
 
 -- the range names what stands there
 module _ (T : AsnType) (octets : List ℕ) (path : List plain.Step) (s : List ℕ) (n : ℕ) (leads : LeadsFrom T octets path s n) where

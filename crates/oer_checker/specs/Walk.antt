@@ -78,4 +78,5 @@ Stands F p (Some x) = IsAfter F p x.octets.now x.rest
 
 -- where that stands to which the step leads
 abbrev pub StandsBy : Option AsnType → List ℕ → plain.Step → Piece → Type 0
-StandsBy V b step p = StandsAt V b (step ∷ []) (type_in p) p.octets.now (length b - p.rest) × (length p.octets.now ≤ p.rest) × (p.rest ≤ length b)
+StandsBy V b step p = StandsAt V b (step ∷ []) (type_in p) p.octets.now (length b - p.rest) × (length p.octets.now ≤ p.rest)
+    × (p.rest ≤ length b)
