@@ -9,8 +9,8 @@ use Rattle.oer_types.proofs.Finding.{found_is, same_found}
 use Rattle.oer_checker.specs.Check.{Tells}
 use Rattle.oer_checker.specs.Handing.{AgreesWith}
 use Rattle.oer_checker.specs.Offsets.{IsBefore, StandsAt}
-use Rattle.oer_checker.specs.Ranges.{IsWithin, LeadsFrom}
-use Rattle.oer_checker.specs.Walk.{CanSplit, IsAfter, StandsBy, path_of, step_of, type_in}
+use Rattle.oer_checker.specs.Ranges.{LeadsFrom}
+use Rattle.oer_checker.specs.Walk.{CanSplit, IsAfter, IsWithin, StandsBy, path_of, step_of, type_in}
 use Rattle.oer_checker.specs.declared.fault.PartFault.{PartFault}
 use Rattle.oer_checker.specs.declared.step.Step.{Step}
 use Rattle.oer_checker.specs.declared.verdict.Verdict.{Verdict}

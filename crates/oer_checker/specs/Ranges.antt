@@ -17,9 +17,3 @@ LeadsFrom T octets path s n = Begins T octets (λ b. (U : Option AsnType) × Sta
 -- It is a range of the octets, and the part stands there.
 abbrev pub Lies : AsnType → List ℕ → List plain.Step → Range ℕ → Type 0
 Lies T octets path r = (r.start ≤ r.end) × (r.end ≤ length octets) × LeadsFrom T octets path (octets_in_range octets r) r.start
-
--- ---- what the code does
-
--- The path leads to s in the octets b, before which so many of them stand.
-abbrev pub IsWithin : Option AsnType → List ℕ → List plain.Step → List ℕ → ℕ → Type 0
-IsWithin T b path s n = (U : Option AsnType) × StandsAt T b path U s n

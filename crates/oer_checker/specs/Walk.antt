@@ -80,3 +80,7 @@ Stands F p (Some x) = IsAfter F p x.octets.now x.rest
 abbrev pub StandsBy : Option AsnType → List ℕ → plain.Step → Piece → Type 0
 StandsBy V b step p = StandsAt V b (step ∷ []) (type_in p) p.octets.now (length b - p.rest) × (length p.octets.now ≤ p.rest)
     × (p.rest ≤ length b)
+
+-- The path leads to s in the octets b, before which n of them stand.
+abbrev pub IsWithin : Option AsnType → List ℕ → List plain.Step → List ℕ → ℕ → Type 0
+IsWithin T b path s n = (U : Option AsnType) × StandsAt T b path U s n

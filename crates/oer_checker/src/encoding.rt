@@ -5,8 +5,8 @@ ghost use Rattle.oer_types.specs.Schema.{the_type};
 ghost use Rattle.oer_checker.specs.AtMostOne.{IsFound-prop};
 ghost use Rattle.oer_checker.specs.Check.{Answers, Finds, IsFound, IsOfOctets, Tells};
 ghost use Rattle.oer_checker.specs.Handing.{Agrees, AnswersPart, Follows, Hands, IsOfPath};
-ghost use Rattle.oer_checker.specs.Ranges.{IsWithin, LeadsFrom, Lies, octets_in_range};
-ghost use Rattle.oer_checker.specs.Walk.{CanSplit, path_of, type_in};
+ghost use Rattle.oer_checker.specs.Ranges.{LeadsFrom, Lies, octets_in_range};
+ghost use Rattle.oer_checker.specs.Walk.{CanSplit, IsWithin, path_of, type_in};
 
 use crate::fault::PartFault;
 use crate::front::check;

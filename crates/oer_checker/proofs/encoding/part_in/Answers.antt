@@ -6,8 +6,7 @@ use Rattle.oer_types.specs.Schema.{the_type}
 use Rattle.oer_types.specs.ShapeView.{type_of}
 use Rattle.oer_types.proofs.Packing.{octets_from}
 use Rattle.oer_checker.specs.Handing.{Agrees}
-use Rattle.oer_checker.specs.Ranges.{IsWithin}
-use Rattle.oer_checker.specs.Walk.{CanSplit, path_of}
+use Rattle.oer_checker.specs.Walk.{CanSplit, IsWithin, path_of}
 use Rattle.oer_checker.proofs.FrontSteps.{found_again, front_splits}
 use Rattle.oer_checker.proofs.Leading.{follows, hands}
 use Rattle.oer_checker.proofs.Ranging.{leads_if}
