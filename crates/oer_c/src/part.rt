@@ -16,6 +16,7 @@ use oer_types::Schema;
 use std::alloc::Global;
 
 // The part is put into the buffer.
+#[tactic(auto, using(crate::proofs::Locating::unread))]
 fn copied(alloc: Global, schema: &Schema, octets: &[u8], path: &[u8], out: &mut [u8]) -> Written
     ensures { IsCopied (the_type schema.now) octets.now path.now out.old out.new result }
 {

@@ -61,7 +61,8 @@ fn rejected(fault: ReadFault) -> Located
 }
 
 // Where the part is in the octets.
-fn located(alloc: Global, schema: &Schema, octets: &[u8], path: &[u8]) -> Located
+#[tactic(auto, using(crate::proofs::Locating::unread, crate::proofs::Locating::lies_there))]
+fn locate(alloc: Global, schema: &Schema, octets: &[u8], path: &[u8]) -> Located
     ensures { IsLocated (the_type schema.now) octets.now path.now result }
 {
     let steps = match steps_of(alloc, path) {
@@ -87,7 +88,7 @@ fn named(alloc: Global, types: &Types, name: &[u8], octets: &[u8], path: &[u8]) 
     ensures { ByName (Some types.now) name.now (λ T. IsLocated T octets.now path.now result) (λ status. result ≡ nowhere status 0 0) }
 {
     match find_type(types, name) {
-        Some(schema) => located(alloc, schema, octets, path),
+        Some(schema) => locate(alloc, schema, octets, path),
         None => only(UNNAMED),
     }
 }
