@@ -1,4 +1,4 @@
-use Rattle.std.proofs.Common.{List, sym, subst}
+use Rattle.std.proofs.Common.{List, subst}
 use Rattle.oer_types.specs.Schema.{the_type}
 use Rattle.oer_checker.specs.Ranges.{Lies}
 use Rattle.oer_checker.specs.Walk.{path_of}
