@@ -13,5 +13,9 @@ mod show;
 mod type_text;
 mod value;
 
+pub use check::judged;
+pub use fault::Fault;
 pub use gathering::{GatherFault, gather};
-pub use program::{put_all, run};
+pub use octets::{all_octets, spelt};
+pub use program::{put_all, refused, report, run};
+pub use type_text::{TypeText, definitions, named_type, one_type, type_text};
