@@ -3,7 +3,7 @@
 use crate::bits::{Bitmap, preamble_bits};
 use crate::entry::{Entry, What};
 use crate::frame::Frame;
-use crate::leaf::{is_default, leaf};
+use crate::leaf::{is_default, leaf_of};
 use crate::text::{kind_of, names_text, path_text};
 use crate::trail::{go_on, go_to};
 use crate::units::{length_in, other_length, other_quantity, quantity_in, tag_in};
@@ -111,7 +111,7 @@ fn contents<'a>(
     let Some(shape) = frame.shape else {
         return Ok(Meaning::plain(What::Value(Json::Null)));
     };
-    let leaf = leaf(alloc, shape, octets)?;
+    let leaf = leaf_of(alloc, shape, octets)?;
     Ok(Meaning {
         what: What::Value(leaf.json),
         canonical: leaf.canonical,
@@ -119,7 +119,7 @@ fn contents<'a>(
 }
 
 // What the row of a part says.
-fn meaning<'a>(
+fn meaning_of<'a>(
     alloc: Global,
     frame: Frame<'a>,
     role: Role,
@@ -205,7 +205,7 @@ fn row_entry<'a>(
     row: &Row<'a>,
     octets: &[u8],
 ) -> Result<Entry<'a>, AllocError> {
-    let meaning = meaning(alloc, frame, row.role, row.octets)?;
+    let meaning = meaning_of(alloc, frame, row.role, row.octets)?;
     let mut entry = entry(alloc, frames, row.offset, row.octets, meaning.what)?;
     entry.canonical = meaning.canonical;
     entry.is_default = begins_default(alloc, frame, octets_from(octets, row.offset))?;

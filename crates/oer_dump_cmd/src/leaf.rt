@@ -128,7 +128,7 @@ fn plain_leaf(alloc: Global, shape: &Shape, octets: &[u8]) -> Result<Leaf, Alloc
 }
 
 /// The value without parts that the octets are.
-pub(crate) fn leaf(alloc: Global, shape: &Shape, octets: &[u8]) -> Result<Leaf, AllocError> {
+pub(crate) fn leaf_of(alloc: Global, shape: &Shape, octets: &[u8]) -> Result<Leaf, AllocError> {
     match shape {
         Shape::Enumerated { items, .. } => item_leaf(alloc, items, octets),
         _ => plain_leaf(alloc, shape, octets),

@@ -38,7 +38,7 @@ fn refusal_line(
 }
 
 // What is printed of octets.
-fn page(
+fn octets_page(
     alloc: Global,
     schema: &Schema,
     octets: &[u8],
@@ -65,7 +65,7 @@ fn page_of<'a, R: Read>(
 ) -> Result<Page, Fault<'a>> {
     let spelt = spelt(alloc, options.hex)?;
     let octets = all_octets(alloc, spelt, input, options.limit)?;
-    match page(alloc, schema, octets.as_slice(), options.form) {
+    match octets_page(alloc, schema, octets.as_slice(), options.form) {
         Ok(page) => Ok(page),
         Err(_) => Err(Fault::Memory),
     }

@@ -151,7 +151,7 @@ fn next_in_choice(frame: Frame<'_>) -> Next {
 }
 
 // What comes next in the part.
-fn next(frame: Frame<'_>) -> Next {
+fn next_of(frame: Frame<'_>) -> Next {
     match frame.shape {
         Some(Shape::Sequence { root, additions }) => next_in_sequence(frame, root, additions),
         Some(Shape::SequenceOf { .. }) => next_element(frame),
@@ -168,7 +168,7 @@ pub(crate) fn go_on<'a>(frames: &mut Vec<Frame<'a>>, offset: usize) -> Result<()
             return Ok(());
         };
         let frame = *frame;
-        match next(frame) {
+        match next_of(frame) {
             Next::Here => return Ok(()),
             Next::Inside(step) => return enter(frames, step),
             Next::After => {}
