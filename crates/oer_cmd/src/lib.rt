@@ -10,7 +10,7 @@ mod octets;
 mod part;
 mod program;
 mod show;
-mod type_text;
+pub mod type_text;
 mod value;
 
 pub use check::judged;
@@ -18,4 +18,3 @@ pub use fault::Fault;
 pub use gathering::{GatherFault, gather};
 pub use octets::{all_octets, spelt};
 pub use program::{put_all, refused, report, run};
-pub use type_text::{TypeText, definitions, named_type, one_type, type_text};

@@ -119,14 +119,16 @@ fn names_within(alloc: Global, names: &str, room: usize) -> Result<String, Alloc
     Ok(text)
 }
 
-// How many octets are left out where so many characters of the line's value are shown.
-fn left_out(line: &Line, shown: &str) -> usize {
-    let left = line.value.len().saturating_sub(shown.len());
-    if line.is_digits {
-        left.saturating_sub(1) / 2
+// How many octets are left out where so many octets of the line's value are shown. The quotation mark
+// at the end is none of them.
+fn left_out(line: &Line, shown: usize) -> usize {
+    let left = line.value.len().saturating_sub(shown);
+    let left = if line.value.starts_with('"') {
+        left.saturating_sub(1)
     } else {
         left
-    }
+    };
+    if line.is_digits { left / 2 } else { left }
 }
 
 // Appends the value, of which a longer one than so many characters is cut, and says how many octets
@@ -149,7 +151,7 @@ fn push_value(
     for character in value.chars().take(keep) {
         shown.push(character)?;
     }
-    let left = left_out(line, shown.as_str());
+    let left = left_out(line, shown.len());
     text.push_str(shown.as_str())?;
     text.push_str(format!(in alloc; "..+{left}")?.as_str())
 }

@@ -4,10 +4,8 @@ use crate::entries::{Place, entries_of};
 use crate::json::json_of;
 use crate::layout::text_of;
 use crate::options::{Form, Options, parsed};
-use oer_cmd::{
-    Fault, TypeText, all_octets, definitions, judged, named_type, one_type, put_all, refused, report,
-    spelt, type_text,
-};
+use oer_cmd::type_text::{TypeText, definitions, named_type, one_type, type_text};
+use oer_cmd::{Fault, all_octets, judged, put_all, refused, report, spelt};
 use oer_types::Schema;
 use std::alloc::{AllocError, Global};
 use std::io::{Read, Write};
