@@ -1,6 +1,10 @@
 //! The command.
+ghost use Rattle.std.specs.Prelude.{◌≡◌, ◌≤◌, ◌⊎◌, IfOk, IsSome, None, string_bytes};
+ghost use Rattle.std.specs.Io.KnownBytes.{Appends, Keeps};
+ghost use Rattle.oer_types.specs.Schema.{the_type};
+ghost use Rattle.oer_cmd.specs.Run.{IsEncoding};
 
-use crate::entries::{Place, entries_of};
+use crate::entries::{Entries, Place, entries_of};
 use crate::json::json_of;
 use crate::layout::text_of;
 use crate::options::{Form, Options, parsed};
@@ -36,22 +40,33 @@ fn refusal_line(
 }
 
 // What is printed of octets.
-fn octets_page(
+fn octets_page<'a>(
     alloc: Global,
-    schema: &Schema,
-    octets: &[u8],
+    schema: &'a Schema,
+    octets: &'a [u8],
     form: Form,
-) -> Result<Page, AllocError> {
-    let found = entries_of(alloc, schema, octets)?;
+) -> Result<Page, AllocError>
+    ensures accepted { IfOk result (λ page. page.refusal ≡ None → IsEncoding (the_type schema.now) octets.now) }
+    ensures rejected { IfOk result (λ page. IsSome page.refusal → IsEncoding (the_type schema.now) octets.now → ⊥) }
+{
+    let Entries { entries, place } = entries_of(alloc, schema, octets)?;
     let text = match form {
-        Form::Text { width } => text_of(alloc, found.entries.as_slice(), width)?,
-        Form::Json => json_of(alloc, found.entries)?,
+        Form::Text { width } => text_of(alloc, entries.as_slice(), width)?,
+        Form::Json => json_of(alloc, entries)?,
     };
-    let refusal = match judged(schema, octets) {
-        Ok(_) => None,
-        Err(fault) => Some(refusal_line(alloc, fault, found.place)?),
-    };
-    Ok(Page { text, refusal })
+    match judged(schema, octets) {
+        Ok(_) => Ok(Page {
+            text,
+            refusal: None,
+        }),
+        Err(fault) => {
+            let line = refusal_line(alloc, fault, place)?;
+            Ok(Page {
+                text,
+                refusal: Some(line),
+            })
+        }
+    }
 }
 
 // What is printed of a value of the type.
@@ -94,7 +109,12 @@ fn print<W: Write, E: Write>(
     page: &Page,
     output: &mut W,
     errors: &mut E,
-) -> u8 {
+) -> u8
+    ensures accepted { result ≡ 0 → page.now.refusal ≡ None }
+    ensures printed { result ≤ 1 → Appends (W.contents output.old) (W.contents output.new) (string_bytes page.now.text) }
+    ensures rejected { result ≡ 1 → IsSome page.now.refusal }
+    ensures statuses { (result ≡ 0) ⊎ (result ≡ 1) ⊎ (result ≡ 3) }
+{
     if !put_all(page.text.as_bytes(), output) || output.flush().is_err() {
         return report(alloc, Fault::Output, errors);
     }
@@ -106,14 +126,18 @@ fn print<W: Write, E: Write>(
 }
 
 /// Runs the command: `words` are the arguments, the program's name first. Returns the status of the
-/// program.
+/// program: 0 where the octets are one encoding of the type and all is printed, or help is; 1 where they
+/// are rejected; 2 where the arguments are; 3 where the machine fails.
 pub fn run<R: Read, W: Write, E: Write>(
     alloc: Global,
     words: &[String],
     input: &mut R,
     output: &mut W,
     errors: &mut E,
-) -> u8 {
+) -> u8
+    ensures statuses { result ≤ 3 }
+    ensures quiet { result ≡ 2 → Keeps (W.contents output.old) (W.contents output.new) }
+{
     let options = match parsed(alloc, words) {
         Ok(options) => options,
         Err(error) => return refused(alloc, &error, output, errors),
