@@ -37,6 +37,7 @@ Documents, in the source: docs/COMMAND.md (this program), docs/NOTATION.md
 
 pub const LIMIT: &str = "How many octets there may be";
 
-pub const WIDTH: &str = "How many characters a line may have; 0 cuts nothing";
+pub const WIDTH: &str = "How many characters a line may have, 0
+for no bound";
 
 pub const JSON: &str = "Print one JSON array, of an object for each line";

@@ -7,7 +7,7 @@ const KINDS: &[(&str, &str, &str)] = &[
     ("BOOLEAN", "ff", "0  1  -  -  BOOLEAN  true"),
     ("NULL", "", "0  0  -  -  NULL  null"),
     ("INTEGER", "0105", "0  2  -  -  INTEGER  5"),
-    ("INTEGER", "090080000000000000000000", "0  10  -  -  INTEGER  \"9223372036854775808\""),
+    ("INTEGER", "09008000000000000000", "0  10  -  -  INTEGER  \"9223372036854775808\""),
     ("ENUMERATED {a, b}", "01", "0  1  -  -  ENUMERATED  \"b\""),
     ("ENUMERATED {a, ...}", "07", "0  1  -  -  ENUMERATED  7"),
     ("BIT STRING", "0204a0", "0  3  -  -  BIT STRING  \"1010\""),
@@ -83,7 +83,7 @@ const BASIC: &[(&str, &str, &str)] = &[
     ("OCTET STRING", "810161", "0  3  -  -  OCTET STRING  \"61\" -- basic 810161, canonical 0161"),
     ("OBJECT IDENTIFIER", "81022a03", "0  4  -  -  OBJECT IDENTIFIER  \"1.2.3\" -- basic 81022a03, canonical 022a03"),
     ("UTF8String", "8102c3a9", "0  4  -  -  UTF8String  \"é\" -- basic 8102c3a9, canonical 02c3a9"),
-    ("OCTET STRING", "81080001020304050607", "0  10  -  -  OCTET STRING  \"0001020304050607\" -- basic 8108000102030405..+2, canonical 0800010203040506..+1"),
+    ("OCTET STRING", "81080001020304050607", "0  10  -  -  OCTET STRING  \"000102..+5 -- basic 8108000102030405..+2, canonical 0800010203040506..+1"),
     ("SEQUENCE OF BOOLEAN", "02000101", "
 0  3  -   -  SEQUENCE OF  quantity 1 -- basic 020001, canonical 0101
 3  1  i0  0  BOOLEAN      true -- basic 01, canonical ff"),

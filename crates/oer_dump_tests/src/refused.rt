@@ -67,13 +67,13 @@ const REFUSED: &[(&str, &str, &str, &str)] = &[
 2  1  v  b  OCTET STRING  \"03\" -- rejected", "Window at 3, in v, b"),
     ("CHOICE {a NULL, ..., b OCTET STRING}", "82", "0  1  -  -  CHOICE  tag [2] #c2", "End at 1, in v, #c2"),
     ("SEQUENCE {s SEQUENCE {b BOOLEAN}, t SEQUENCE OF CHOICE {n INTEGER (0..9)}}", "ff0102800580", "
-0  0  -          -      SEQUENCE     preamble
-0  0  c0         s      SEQUENCE     preamble
-0  1  c0.c0      s.b    BOOLEAN      true
-1  2  c1         t      SEQUENCE OF  quantity 2
-3  1  c1.i0      t.0    CHOICE       tag [0] n
-4  1  c1.i0.v    t.0.n  INTEGER      5
-5  1  c1.i1      t.1    CHOICE       tag [0] n", "End at 6, in c1.i1.v, t.1.n"),
+0  0  -        -      SEQUENCE     preamble
+0  0  c0       s      SEQUENCE     preamble
+0  1  c0.c0    s.b    BOOLEAN      true
+1  2  c1       t      SEQUENCE OF  quantity 2
+3  1  c1.i0    t.0    CHOICE       tag [0] n
+4  1  c1.i0.v  t.0.n  INTEGER      5
+5  1  c1.i1    t.1    CHOICE       tag [0] n", "End at 6, in c1.i1.v, t.1.n"),
 ];
 
 #[test]
@@ -89,9 +89,10 @@ fn unknown_addition(rt: HostRuntime) -> Result<(), Fail> {
     let alloc = rt.alloc();
     let zeros = "00".repeat(alloc, 8192)?;
     let hex = format!(in alloc; "--hex=8082200207{zeros}80")?;
-    // A preamble, and a bitmap of 65,537 bits, of which the last is set.
+    // A preamble, and a bitmap of 65,537 bits, of which the last is set. At this width there is room for 7 of
+    // its 8,197 octets.
     let lines = "0     1  -  -  SEQUENCE  preamble ...=1
-1  8197  -  -  SEQUENCE  \"822002070..+8193 -- rejected\n";
+1  8197  -  -  SEQUENCE  \"82200207000000..+8190 -- rejected\n";
     let words = ["--type=SEQUENCE {...}", "--width=61", hex.as_str()];
     expect(alloc, &words, (1, lines, "oer: UnknownAddition at 8198, in the whole\n"))
 }
