@@ -11,8 +11,8 @@ pub const ABOUT: &str = "Print what each octet of an encoding is";
 pub const NOTES: &str = "A line has the offset of some octets, their number, the path to their part (as
 \"oer part\" takes it), its names, the kind of its type, and the value of a part
 without parts, as \"oer show\" prints it. Other lines are for what stands between
-parts: preamble, bitmap, quantity, tag, length. Behind \"--\" stands what canonical
-octets have in place of these. \"..+N\" stands for N that are left out.
+parts: preamble, bitmap, quantity, tag, length. Behind \"--\" stands what
+canonical octets have in place of these. \"..+N\" stands for N that are left out.
 
 Examples:
   $ oer-dump --type \"SEQUENCE OF BOOLEAN\" --hex 0102ff00
