@@ -13,3 +13,4 @@ pub mod AtMostOne
 pub mod Rows
 pub mod Lines
 pub mod Listing
+pub mod Naming
