@@ -28,3 +28,5 @@ mod LineUnits
 mod LineLaws
 mod LineForms
 mod ListingSteps
+mod LinePaths
+mod LineNames
