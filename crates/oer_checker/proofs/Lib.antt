@@ -29,4 +29,6 @@ mod LineLaws
 mod LineForms
 mod ListingSteps
 mod LinePaths
+mod LineParts
+mod LineSplits
 mod LineNames
