@@ -31,4 +31,5 @@ mod ListingSteps
 mod LinePaths
 mod LineParts
 mod LineSplits
+mod Distinct
 mod LineNames
