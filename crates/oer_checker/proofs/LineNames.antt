@@ -89,8 +89,8 @@ find_group path n (part t W x ∷ parts) ls step V c (front, mine, after, m, e, 
     )
 
     by : (b : Bool) → same_step t step ≡ b → (lookup no_such_step step parts ≡ found V c → Piece q U w (m + length x) after) → Piece q U w n ls
-    by true it then = here (same_is t step it) (sym (ap (λ (b : Bool). if b then found W x else lookup no_such_step step parts) it) ∙ look)
-    by false it then = beyond it (then (sym (ap (λ (b : Bool). if b then found W x else lookup no_such_step step parts) it) ∙ look))
+    by true it onward = here (same_is t step it) (sym (ap (λ (b : Bool). if b then found W x else lookup no_such_step step parts) it) ∙ look)
+    by false it onward = beyond it (onward (sym (ap (λ (b : Bool). if b then found W x else lookup no_such_step step parts) it) ∙ look))
 
 names_at : (rest : List Step) (V : Option AsnType) (path : List Step) (n : ℕ) (ls : List Line) (b : List ℕ) → Kept V → ArePart V path n ls b → (U : Option AsnType) (w : List ℕ) → Within V b rest U w → Piece (path ++ rest) U w n ls
 names_at [] V path n ls b k a U w (u, e) =
@@ -197,8 +197,8 @@ groups_lead T b path step rest n (part t W x ∷ parts) ls (front, mine, after, 
     missed is_it V c look = let no : no_such_step ≡ found V c = sym (fresh_lookup no_such_step step parts (subst (λ (s : Step). Fresh s parts) is_it fresh)) ∙ look in cc
 
     by : (b' : Bool) → same_step t step ≡ b' → (((V : Option AsnType) (c : List ℕ) → lookup no_such_step step parts ≡ found V c → LeadsTo T b step V c) → Every P after) → Every P (front ++ (mine ++ after))
-    by true it then = joined (here it) (then (λ V c look. absurd (missed (same_is t step it) V c look)))
-    by false it then = joined (beyond it) (then (λ V c look. lead V c (ap (λ (b : Bool). if b then found W x else lookup no_such_step step parts) it ∙ look)))
+    by true it onward = joined (here it) (onward (λ V c look. absurd (missed (same_is t step it) V c look)))
+    by false it onward = joined (beyond it) (onward (λ V c look. lead V c (ap (λ (b : Bool). if b then found W x else lookup no_such_step step parts) it ∙ look)))
 
 leads_at : (rest : List Step) (V : Option AsnType) (path : List Step) (n : ℕ) (ls : List Line) (b : List ℕ) → Kept V → ArePart V path n ls b → Every (Leads V b path rest) ls
 leads_at [] V path n ls b k a = every_of (Leads V b path []) ls (λ l e. (V, b, (refl, refl)))
