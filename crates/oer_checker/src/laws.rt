@@ -7,8 +7,9 @@ pub fn one_path()
     ensures { OnePath }
 {}
 
-/// The path of each row leads to a part of the encoding, and each path that leads to a part has rows, which
-/// are together those of the part and of the parts in it: their octets are just the octets of the part.
+/// Rows name parts. The path of each row of an encoding leads to a part of it. Each path that leads to a
+/// part names rows, its own and those of the parts in it: they stand together, and have just the octets of
+/// the part. The length of the open type (X.696, 30) that holds the part is not among them.
 pub fn naming_parts()
     ensures { NamesParts }
 {}
