@@ -33,3 +33,5 @@ mod LineParts
 mod LineSplits
 mod Distinct
 mod LineNames
+mod Standing
+mod Ranging

@@ -14,3 +14,5 @@ pub mod Rows
 pub mod Lines
 pub mod Listing
 pub mod Naming
+pub mod Offsets
+pub mod Ranges
