@@ -18,7 +18,7 @@ use Rattle.oer_checker.specs.Rows.{Line, line}
 use Rattle.oer_checker.specs.declared.row.Role.{Role}
 use Rattle.oer_checker.specs.declared.row.Role.TheVariants.{Bitmap, Contents, Length, Preamble, Quantity, Tag as TagRole, Unknown as Unread}
 use Rattle.oer_checker.proofs.LineParts.{additions_fine, fields_fine, part_fine}
-use Rattle.oer_checker.proofs.LinePaths.{Every, IsFront, IsOwn, every_both, every_map, octets_both}
+use Rattle.oer_checker.proofs.LinePaths.{Every, IsFront, IsOwn, counted_both, every_both, every_map}
 
 abbrev pub Kept : Option AsnType → Type 0
 Kept None = Unit {0}
@@ -39,9 +39,6 @@ Groups path n (part step V c ∷ parts) ls = (front : List Line) × (mine : List
 abbrev Piece : List Step → Step → Option AsnType → ℕ → List Line → List ℕ → List ℕ → Type 0
 Piece path step V n ks c w = (front : List Line) × (mine : List Line) × (m : ℕ) × (ks ≡ front ++ mine) × Every (IsOutside path step) front
     × (m ≡ n + length (octets_of_lines front)) × (m + length w ≡ n + length c) × Kept V × ArePart V (path ++ (step ∷ [])) m mine w
-
-counted_both : (xs ys : List Line) → length (octets_of_lines (xs ++ ys)) ≡ length (octets_of_lines xs) + length (octets_of_lines ys)
-counted_both xs ys = ap length (octets_both xs ys) ∙ length-append (octets_of_lines xs) (octets_of_lines ys)
 
 groups_front : (path : List Step) (n : ℕ) (parts : List Part) (os ls : List Line) → Every (IsOwn path) os → Groups path (n + length (octets_of_lines os)) parts ls → Groups path n parts (os ++ ls)
 groups_front path n [] os ls o g = every_both (IsOwn path) os ls o g
