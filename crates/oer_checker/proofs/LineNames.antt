@@ -1,17 +1,17 @@
 -- Rows name parts: a path that leads to a part has lines, and the path of a line leads to a part.
-use Rattle.std.proofs.Common.{◌≡◌, ◌⊎◌, inl, inr, ⊎_elim, ℕ, zero, suc, ◌+◌, Bool, true, false, List, [], ◌∷◌, ◌++◌, length, Option, Some, None, if◌then◌else◌, arith, refl, sym, ap, ap₂, ◌∙◌, subst, append_assoc, append-nil, length-append}
+use Rattle.std.proofs.Common.{◌≡◌, inl, inr, ⊎_elim, ℕ, ◌+◌, Bool, true, false, List, [], ◌∷◌, ◌++◌, length, Option, Some, None, if◌then◌else◌, arith, refl, sym, ap, ◌∙◌, subst, append_assoc, append-nil}
 use Rattle.std.proofs.lemmas.List.Elements.{All-contains, All-from_recursion}
 use Rattle.oer_types.specs.AsnType.{AsnType, bit_string, boolean, choice, enumerated, extensible_sequence, integer, null, object_id, octet_string, restricted_string, sequence, sequence_of, utf8_string}
 use Rattle.oer_types.specs.Parts.{LeadsTo, Part, Step, Within, found, lookup, no_such_step, part, same_step}
 use Rattle.oer_types.proofs.Finding.{led_to, same_found}
-use Rattle.oer_checker.specs.Lines.{AreLines, StartWith}
+use Rattle.oer_checker.specs.Lines.{AreLines}
 use Rattle.oer_checker.specs.Naming.{ArePart, Names, NamesParts, lines_of_part, octets_of_lines}
 use Rattle.oer_checker.specs.Rows.{Line, line}
 use Rattle.oer_checker.specs.declared.row.Role.{Role}
 use Rattle.oer_checker.specs.declared.row.Role.TheVariants.{Contents, Preamble, Quantity, Tag as TagRole, Unknown}
 use Rattle.oer_checker.proofs.Distinct.{Distinct, Fresh, fresh_lookup, split_distinct}
 use Rattle.oer_checker.proofs.LineParts.{part_fine}
-use Rattle.oer_checker.proofs.LinePaths.{Every, IsFront, IsIn, IsOut, IsOwn, counted_both, every_both, every_map, front_out, inner_at, next_is, not_longer, other_out, own_out, path_at, picked, same_is, same_self, step_on}
+use Rattle.oer_checker.proofs.LinePaths.{Every, IsIn, IsOut, IsOwn, counted_both, every_both, every_map, front_out, inner_at, next_is, not_longer, other_out, own_out, path_at, picked, same_is, same_self, step_on}
 use Rattle.oer_checker.proofs.LineSplits.{Groups, IsOutside, Kept, value_sorted}
 
 other_way : (x y : Step) → same_step x y ≡ false → same_step y x ≡ false

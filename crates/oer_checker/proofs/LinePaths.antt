@@ -1,8 +1,8 @@
 -- Paths that go on from others, and the lines of a part.
-use Rattle.std.proofs.Common.{◌≡◌, ℕ, ◌+◌, Bool, true, false, not, ◌&&◌, List, [], ◌∷◌, ◌++◌, refl, sym, ap, ap₂, ◌∙◌, subst, append_assoc, append-nil, cond, length, length-append}
+use Rattle.std.proofs.Common.{◌≡◌, ℕ, ◌+◌, Bool, true, false, not, ◌&&◌, List, [], ◌∷◌, ◌++◌, refl, sym, ap, ap₂, ◌∙◌, append_assoc, append-nil, cond, length, length-append}
 use Rattle.std.proofs.lemmas.Bool.{eqb-true, eq-eqb}
 use Rattle.std.proofs.lemmas.List.{append_cancel_left}
-use Rattle.std.specs.List.{AllByRecursion, filter}
+use Rattle.std.specs.List.{AllByRecursion}
 use Rattle.oer_types.specs.Parts.{Step, same_step, to_addition, to_chosen, to_component, to_item}
 use Rattle.oer_checker.specs.Naming.{starts_with, is_length, is_of, lines_of_part, octets_of_lines}
 use Rattle.oer_checker.specs.Rows.{Line, line}
