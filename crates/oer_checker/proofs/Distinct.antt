@@ -3,11 +3,11 @@ use Rattle.std.proofs.Common.{◌≡◌, inl, inr, ℕ, zero, suc, ◌+◌, ◌<
 use Rattle.std.proofs.lemmas.Bool.{ne_eqb}
 use Rattle.oer_units.specs.Spelling.{IsCounted}
 use Rattle.oer_units.specs.declared.tagging.Tag.{Tag}
-use Rattle.oer_types.specs.AsnType.{Additions, Alternatives, AsnType, Fields, Need, addition, alternative, bit_string, boolean, choice, default, enumerated, extensible_sequence, field, integer, later, may, must, no_additions, no_alternatives, no_fields, null, object_id, octet_string, restricted_string, sequence, sequence_of, utf8_string}
+use Rattle.oer_types.specs.AsnType.{Additions, Alternatives, AsnType, Fields, addition, alternative, bit_string, boolean, choice, default, enumerated, extensible_sequence, field, integer, later, may, must, no_additions, no_alternatives, no_fields, null, object_id, octet_string, restricted_string, sequence, sequence_of, utf8_string}
 use Rattle.oer_types.specs.Bits.{first_bit, later_bits}
 use Rattle.oer_types.specs.Constraints.{addition_count, same_tag}
 use Rattle.oer_types.specs.Encoding.{IsItself}
-use Rattle.oer_types.specs.Parts.{AloneByTag, Answer, Holds, IsAlone, IsSplit, Part, SplitsAdditions, SplitsAlternative, SplitsExtension, SplitsFields, SplitsItems, SplitsUnknown, Starts, StartsByBit, Step, field_count, found, lookup, part, same_step, to_addition, to_chosen, to_component, to_item}
+use Rattle.oer_types.specs.Parts.{AloneByTag, Answer, Holds, IsAlone, IsSplit, Part, SplitsAdditions, SplitsAlternative, SplitsExtension, SplitsFields, SplitsItems, SplitsUnknown, Starts, StartsByBit, Step, field_count, found, lookup, part, same_step, to_addition, to_component, to_item}
 use Rattle.oer_checker.proofs.LinePaths.{Every, every_both}
 
 abbrev pub step_of : Part → Step
@@ -59,8 +59,8 @@ two_kinds : (i k l m : ℕ) (p q : List Part) → Rising to_component i k p → 
 two_kinds i k l m [] q h g = rising_distinct to_addition (λ x y. refl) l m q g
 two_kinds i k l m (part step V c ∷ p) q (j, is, at, h) g = (
   every_both (λ x. same_step (step_of x) step ≡ false) p q
-  (subst (λ (s : Step). Fresh s p) (sym is) (rising_fresh to_component (λ x y. refl) (suc j) j k p (omega arith) h))
-  (subst (λ (s : Step). Fresh s q) (sym is) (never_both j l m q g)),
+      (subst (λ (s : Step). Fresh s p) (sym is) (rising_fresh to_component (λ x y. refl) (suc j) j k p (omega arith) h))
+      (subst (λ (s : Step). Fresh s q) (sym is) (never_both j l m q g)),
   two_kinds (suc j) k l m p q h g,
 )
 

@@ -1,17 +1,17 @@
 -- Rows name parts: a path that leads to a part has lines, and the path of a line leads to a part.
-use Rattle.std.proofs.Common.{◌≡◌, ◌⊎◌, inl, inr, ⊎_elim, ℕ, zero, suc, ◌+◌, Bool, true, false, List, [], ◌∷◌, ◌++◌, length, Option, Some, None, if◌then◌else◌, arith, refl, sym, ap, ap₂, ◌∙◌, subst, append_assoc, append-nil, length-append}
+use Rattle.std.proofs.Common.{◌≡◌, inl, inr, ⊎_elim, ℕ, ◌+◌, Bool, true, false, List, [], ◌∷◌, ◌++◌, length, Option, Some, None, if◌then◌else◌, arith, refl, sym, ap, ◌∙◌, subst, append_assoc, append-nil}
 use Rattle.std.proofs.lemmas.List.Elements.{All-contains, All-from_recursion}
 use Rattle.oer_types.specs.AsnType.{AsnType, bit_string, boolean, choice, enumerated, extensible_sequence, integer, null, object_id, octet_string, restricted_string, sequence, sequence_of, utf8_string}
 use Rattle.oer_types.specs.Parts.{LeadsTo, Part, Step, Within, found, lookup, no_such_step, part, same_step}
 use Rattle.oer_types.proofs.Finding.{led_to, same_found}
-use Rattle.oer_checker.specs.Lines.{AreLines, StartWith}
+use Rattle.oer_checker.specs.Lines.{AreLines}
 use Rattle.oer_checker.specs.Naming.{ArePart, Names, NamesParts, lines_of_part, octets_of_lines}
 use Rattle.oer_checker.specs.Rows.{Line, line}
 use Rattle.oer_checker.specs.declared.row.Role.{Role}
 use Rattle.oer_checker.specs.declared.row.Role.TheVariants.{Contents, Preamble, Quantity, Tag as TagRole, Unknown}
 use Rattle.oer_checker.proofs.Distinct.{Distinct, Fresh, fresh_lookup, split_distinct}
 use Rattle.oer_checker.proofs.LineParts.{part_fine}
-use Rattle.oer_checker.proofs.LinePaths.{Every, IsFront, IsIn, IsOut, IsOwn, every_both, every_map, front_out, inner_at, next_is, not_longer, octets_both, other_out, own_out, path_at, picked, same_is, same_self, step_on}
+use Rattle.oer_checker.proofs.LinePaths.{Every, IsIn, IsOut, IsOwn, counted_both, every_both, every_map, front_out, inner_at, next_is, not_longer, other_out, own_out, path_at, picked, same_is, same_self, step_on}
 use Rattle.oer_checker.proofs.LineSplits.{Groups, IsOutside, Kept, value_sorted}
 
 other_way : (x y : Step) → same_step x y ≡ false → same_step y x ≡ false
@@ -21,14 +21,11 @@ other_way x y e = by (same_step y x) refl
     by true is = let same : same_step x x ≡ false = ap (same_step x) (sym (same_is y x is)) ∙ e in sym (same_self x) ∙ same
     by false is = refl
 
-counted_both : (xs ys : List Line) → length (octets_of_lines (xs ++ ys)) ≡ length (octets_of_lines xs) + length (octets_of_lines ys)
-counted_both xs ys = ap length (octets_both xs ys) ∙ length-append (octets_of_lines xs) (octets_of_lines ys)
-
 -- ---- a path that leads to a part has its lines
 
--- among the lines from n on: in front, those of the part, from m on, and after them
-abbrev Piece : List Step → Option AsnType → List ℕ → ℕ → List Line → Type 0
-Piece path U w n ls = (front : List Line) × (mine : List Line) × (after : List Line) × (m : ℕ) × (ls ≡ front ++ (mine ++ after))
+-- among the lines, from n on, those of the part at the path stand together, from m on
+abbrev Stands : List Step → Option AsnType → List ℕ → ℕ → List Line → Type 0
+Stands path U w n ls = (front : List Line) × (mine : List Line) × (after : List Line) × (m : ℕ) × (ls ≡ front ++ (mine ++ after))
     × (m ≡ n + length (octets_of_lines front)) × ArePart U path m mine w × Every (IsOut path) front × Every (IsOut path) after
 
 outside_out : (path : List Step) (step other : Step) (rest : List Step) (l : Line) → IsOutside path step l → IsOut (path ++ (other ∷ rest)) l
@@ -49,7 +46,7 @@ groups_out path n (part step V c ∷ parts) ls other rest (front, mine, after, m
     (every_both (IsOut (path ++ (other ∷ rest))) mine after (others_out path step other rest V m mine c (other_way step other h.0) a) (groups_out path (m + length c) parts after other rest g h.1)))
 
 find_group : (path : List Step) (n : ℕ) (parts : List Part) (ls : List Line) (step : Step) (V : Option AsnType) (c : List ℕ) → Groups path n parts ls → Distinct parts → lookup no_such_step step parts ≡ found V c → (rest : List Step) (U : Option AsnType) (w : List ℕ)
-    → ((m : ℕ) (mine : List Line) → Kept V → ArePart V (path ++ (step ∷ [])) m mine c → Piece (path ++ (step ∷ rest)) U w m mine) → Piece (path ++ (step ∷ rest)) U w n ls
+    → ((m : ℕ) (mine : List Line) → Kept V → ArePart V (path ++ (step ∷ [])) m mine c → Stands (path ++ (step ∷ rest)) U w m mine) → Stands (path ++ (step ∷ rest)) U w n ls
 find_group path n [] ls step V c g h look rest U w next = absurd (cc)
 find_group path n (part t W x ∷ parts) ls step V c (front, mine, after, m, e, f, is, k, a, g) (fresh, h) look rest U w next =
     by (same_step t step) refl (λ later. find_group path (m + length x) parts after step V c g h later rest U w next)
@@ -60,7 +57,7 @@ find_group path n (part t W x ∷ parts) ls step V c (front, mine, after, m, e, 
     outer : Every (IsOut q) front
     outer = every_map (IsOutside path t) (IsOut q) front (outside_out path t step rest) f
 
-    here : t ≡ step → found W x ≡ found V c → Piece q U w n ls
+    here : t ≡ step → found W x ≡ found V c → Stands q U w n ls
     here is_it same =
         let both = same_found W V x c same in
         let (f2, mine2, a2, m2, e2, is2, b, o, p) = next m mine (subst Kept both.0 k) (subst (λ s. ArePart V (path ++ (s ∷ [])) m mine c) is_it (subst (λ u. ArePart V (path ++ (t ∷ [])) m mine u) both.1 (subst (λ u. ArePart u (path ++ (t ∷ [])) m mine x) both.0 a))) in (
@@ -75,7 +72,7 @@ find_group path n (part t W x ∷ parts) ls step V c (front, mine, after, m, e, 
           every_both (IsOut q) a2 after p (groups_out path (m + length x) parts after step rest g (subst (λ s. Fresh s parts) is_it fresh)),
         )
 
-    beyond : same_step t step ≡ false → Piece q U w (m + length x) after → Piece q U w n ls
+    beyond : same_step t step ≡ false → Stands q U w (m + length x) after → Stands q U w n ls
     beyond other (f2, mine2, a2, m2, e2, is2, b, o, p) = (
       front ++ (mine ++ f2),
       mine2,
@@ -88,24 +85,21 @@ find_group path n (part t W x ∷ parts) ls step V c (front, mine, after, m, e, 
       p,
     )
 
-    by : (b : Bool) → same_step t step ≡ b → (lookup no_such_step step parts ≡ found V c → Piece q U w (m + length x) after) → Piece q U w n ls
+    by : (b : Bool) → same_step t step ≡ b → (lookup no_such_step step parts ≡ found V c → Stands q U w (m + length x) after) → Stands q U w n ls
     by true it onward = here (same_is t step it) (sym (ap (λ (b : Bool). if b then found W x else lookup no_such_step step parts) it) ∙ look)
     by false it onward = beyond it (onward (sym (ap (λ (b : Bool). if b then found W x else lookup no_such_step step parts) it) ∙ look))
 
-names_at : (rest : List Step) (V : Option AsnType) (path : List Step) (n : ℕ) (ls : List Line) (b : List ℕ) → Kept V → ArePart V path n ls b → (U : Option AsnType) (w : List ℕ) → Within V b rest U w → Piece (path ++ rest) U w n ls
+names_at : (rest : List Step) (V : Option AsnType) (path : List Step) (n : ℕ) (ls : List Line) (b : List ℕ) → Kept V → ArePart V path n ls b → (U : Option AsnType) (w : List ℕ) → Within V b rest U w → Stands (path ++ rest) U w n ls
 names_at [] V path n ls b k a U w (u, e) =
     ([], ls, [], n, sym (append-nil ls), omega arith, subst (λ (p : List Step). ArePart U p n ls w) (sym (append-nil path)) (subst (λ (W : Option AsnType). ArePart W path n ls w) (sym u) (subst (λ (x : List ℕ). ArePart V path n ls x) (sym e) a)), tt, tt)
 names_at (step ∷ rest) None path n ls b k a U w within = absurd within
 names_at (step ∷ rest) (Some T) path n ls b (wf, d) a U w (V, c, leads, within) =
     let (v, parts, s, q, g) = value_sorted T wf d path n ls b a in
     find_group path n parts ls step V c g (split_distinct T parts b q) (led_to T wf d b parts q step V c leads) rest U w
-    (λ m mine k x. subst (λ (p : List Step). Piece p U w m mine) (step_on path step rest) (names_at rest V (path ++ (step ∷ [])) m mine c k x U w within))
+    (λ m mine k x. subst (λ (p : List Step). Stands p U w m mine) (step_on path step rest) (names_at rest V (path ++ (step ∷ [])) m mine c k x U w within))
 
 abbrev First : List Step → ℕ → List Line → Type 0
 First path n ls = (role : Role) × (c : List ℕ) × (more : List Line) × (ls ≡ line n path role c ∷ more)
-
-start_first : {A : Type 0} (path : List Step) (role : Role) (Spells : A → List ℕ → Type 0) (R : A → ℕ → List Line → List ℕ → Type 0) (n : ℕ) (ls : List Line) (b : List ℕ) → StartWith path role Spells R n ls b → First path n ls
-start_first path role Spells R n ls b (x, c, d, ms, e, is, s, r) = (role, c, ms, is)
 
 value_first : (T : AsnType) (path : List Step) (n : ℕ) (ls : List Line) (b : List ℕ) → AreLines T path n ls b → First path n ls
 value_first (sequence fs) path n ls b (x, c, d, ms, e, is, s, r) = (Preamble, c, ms, is)
@@ -126,7 +120,7 @@ part_first : (V : Option AsnType) (path : List Step) (n : ℕ) (ls : List Line) 
 part_first None path n ls b is = (Unknown, b, [], is)
 part_first (Some T) path n ls b a = value_first T path n ls b a
 
-named : (path : List Step) (U : Option AsnType) (w : List ℕ) (ls : List Line) → Piece path U w 0 ls → Names ls path U w
+named : (path : List Step) (U : Option AsnType) (w : List ℕ) (ls : List Line) → Stands path U w 0 ls → Names ls path U w
 named path U w ls (front, mine, after, m, e, is, a, f, p) =
     let fine = part_fine U path m mine w a in
     let same : lines_of_part path ls ≡ mine = ap (lines_of_part path) e ∙ picked path front mine after f fine.1 p in

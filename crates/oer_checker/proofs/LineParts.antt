@@ -1,21 +1,20 @@
 -- The lines of an encoding, by its parts.
-use Rattle.std.proofs.Common.{◌≡◌, ◌⊎◌, inl, inr, ℕ, zero, suc, ◌+◌, Bool, true, false, List, [], ◌∷◌, ◌++◌, length, drop, Option, Some, None, arith, refl, sym, ap, ap₂, ◌∙◌, subst, append_assoc, append-nil, length-append}
-use Rattle.oer_units.specs.Spelling.{IsCounted, IsLength, IsTag}
+use Rattle.std.proofs.Common.{◌≡◌, ℕ, zero, suc, ◌+◌, Bool, true, false, List, [], ◌∷◌, ◌++◌, length, drop, Option, Some, None, refl, sym, ap, ap₂, ◌∙◌, subst, append-nil}
+use Rattle.oer_units.specs.Spelling.{IsLength, IsTag}
 use Rattle.oer_units.specs.declared.tagging.Tag.{Tag}
-use Rattle.oer_types.specs.AsnType.{Additions, Alternatives, AsnType, Fields, Need, addition, alternative, bit_string, boolean, choice, default, enumerated, extensible_sequence, field, integer, later, may, must, no_additions, no_alternatives, no_fields, null, object_id, octet_string, restricted_string, sequence, sequence_of, utf8_string}
-use Rattle.oer_types.specs.AsnValue.{AsnValue, Places, Unknown, absent, chosen, foreign, items, no_places, present, seq, unknown}
-use Rattle.oer_types.specs.Bits.{IsPreamble, all_false, first_bit, later_bits}
-use Rattle.oer_types.specs.Constraints.{AdditionsKeepLimits, AlternativesKeepLimits, FieldsKeepLimits, KeepsLimits, addition_count, has_tag, optional, same_tag, size_fits}
-use Rattle.oer_types.specs.Encoding.{ByBit, ByTag, IsItself, IsSpelling, SpellsAdditions, SpellsAlternative, SpellsBitmap, SpellsExtension, SpellsFields, SpellsUnknown}
-use Rattle.oer_types.specs.Fits.{AdditionDefaultsFit, AlternativeDefaultsFit, DefaultsFit, FieldDefaultsFit, all_absent, listed}
-use Rattle.oer_types.specs.Parts.{AloneByTag, Holds, IsAlone, IsSplit, Part, SplitsAdditions, SplitsAlternative, SplitsExtension, SplitsFields, SplitsItems, SplitsUnknown, StartsByBit, Step, part, to_addition, to_chosen, to_component, to_item}
+use Rattle.oer_types.specs.AsnType.{Additions, Alternatives, AsnType, Fields, addition, alternative, bit_string, boolean, choice, enumerated, extensible_sequence, field, integer, later, no_additions, no_alternatives, no_fields, null, object_id, octet_string, restricted_string, sequence, sequence_of, utf8_string}
+use Rattle.oer_types.specs.AsnValue.{AsnValue}
+use Rattle.oer_types.specs.Bits.{all_false, first_bit, later_bits}
+use Rattle.oer_types.specs.Constraints.{addition_count, has_tag, same_tag}
+use Rattle.oer_types.specs.Encoding.{IsSpelling, SpellsBitmap}
+use Rattle.oer_types.specs.Parts.{Step, to_addition, to_chosen, to_component, to_item}
 use Rattle.oer_types.specs.SharedSteps.{bits_left, is_there}
 use Rattle.oer_checker.specs.Lines.{AreAdditions, AreAlternative, AreBoth, AreEither, AreExtension, AreFields, AreIf, AreLines, AreNever, AreNone, AreOpen, AreRest, AreTimes, AreUnknown, IsOne, StartWith}
 use Rattle.oer_checker.specs.Naming.{ArePart, is_length, octets_of_lines}
 use Rattle.oer_checker.specs.Rows.{Line, line}
 use Rattle.oer_checker.specs.declared.row.Role.{Role}
 use Rattle.oer_checker.specs.declared.row.Role.TheVariants.{Bitmap, Contents, Length, Preamble, Quantity, Tag as TagRole, Unknown as Unread}
-use Rattle.oer_checker.proofs.LinePaths.{Every, IsFront, IsIn, IsOwn, below_in, every_both, every_map, inner_in, octets_both, own_in}
+use Rattle.oer_checker.proofs.LinePaths.{Every, IsIn, below_in, every_both, every_map, inner_in, octets_both, own_in}
 
 -- ---- the lines are those of the octets, and of the part
 

@@ -1,10 +1,10 @@
 -- Paths that go on from others, and the lines of a part.
-use Rattle.std.proofs.Common.{◌≡◌, ℕ, zero, suc, Bool, true, false, not, ◌&&◌, List, [], ◌∷◌, ◌++◌, refl, sym, ap, ap₂, ◌∙◌, subst, append_assoc, append-nil, cond}
+use Rattle.std.proofs.Common.{◌≡◌, ℕ, ◌+◌, Bool, true, false, not, ◌&&◌, List, [], ◌∷◌, ◌++◌, refl, sym, ap, ap₂, ◌∙◌, append_assoc, append-nil, cond, length, length-append}
 use Rattle.std.proofs.lemmas.Bool.{eqb-true, eq-eqb}
 use Rattle.std.proofs.lemmas.List.{append_cancel_left}
-use Rattle.std.specs.List.{AllByRecursion, filter}
+use Rattle.std.specs.List.{AllByRecursion}
 use Rattle.oer_types.specs.Parts.{Step, same_step, to_addition, to_chosen, to_component, to_item}
-use Rattle.oer_checker.specs.Naming.{goes_on, is_length, is_of, lines_of_part, octets_of_lines}
+use Rattle.oer_checker.specs.Naming.{starts_with, is_length, is_of, lines_of_part, octets_of_lines}
 use Rattle.oer_checker.specs.Rows.{Line, line}
 use Rattle.oer_checker.specs.declared.row.Role.{Role}
 
@@ -51,24 +51,24 @@ and_no true = refl
 and_no false = refl
 
 -- what two paths have in front makes no difference
-goes_past : (path xs ys : List Step) → goes_on (path ++ xs) (path ++ ys) ≡ goes_on xs ys
+goes_past : (path xs ys : List Step) → starts_with (path ++ xs) (path ++ ys) ≡ starts_with xs ys
 goes_past [] xs ys = refl
-goes_past (x ∷ path) xs ys = ap (λ b. b && goes_on (path ++ xs) (path ++ ys)) (same_self x) ∙ goes_past path xs ys
+goes_past (x ∷ path) xs ys = ap (λ b. b && starts_with (path ++ xs) (path ++ ys)) (same_self x) ∙ goes_past path xs ys
 
-goes_here : (path ys : List Step) → goes_on path (path ++ ys) ≡ true
+goes_here : (path ys : List Step) → starts_with path (path ++ ys) ≡ true
 goes_here [] ys = refl
-goes_here (x ∷ path) ys = ap (λ b. b && goes_on path (path ++ ys)) (same_self x) ∙ goes_here path ys
+goes_here (x ∷ path) ys = ap (λ b. b && starts_with path (path ++ ys)) (same_self x) ∙ goes_here path ys
 
-goes_back : (path : List Step) (x : Step) (xs : List Step) → goes_on (path ++ (x ∷ xs)) path ≡ false
+goes_back : (path : List Step) (x : Step) (xs : List Step) → starts_with (path ++ (x ∷ xs)) path ≡ false
 goes_back [] x xs = refl
 goes_back (y ∷ path) x xs = ap (λ b. same_step y y && b) (goes_back path x xs) ∙ and_no (same_step y y)
 
-goes_rest : (front path : List Step) → goes_on front path ≡ true → (rest : List Step) × (path ≡ front ++ rest)
+goes_rest : (front path : List Step) → starts_with front path ≡ true → (rest : List Step) × (path ≡ front ++ rest)
 goes_rest [] path e = (path, refl)
 goes_rest (x ∷ front) [] e = absurd (cc)
 goes_rest (x ∷ front) (y ∷ path) e =
-    let h = goes_rest front path (and_right (same_step x y) (goes_on front path) e) in
-    (h.0, ap₂ (λ (s : Step) (l : List Step). s ∷ l) (sym (same_is x y (and_left (same_step x y) (goes_on front path) e))) h.1)
+    let h = goes_rest front path (and_right (same_step x y) (starts_with front path) e) in
+    (h.0, ap₂ (λ (s : Step) (l : List Step). s ∷ l) (sym (same_is x y (and_left (same_step x y) (starts_with front path) e))) h.1)
 
 pub step_on : (path : List Step) (step : Step) (rest : List Step) → (path ++ (step ∷ [])) ++ rest ≡ path ++ (step ∷ rest)
 step_on path step rest = append_assoc path (step ∷ []) rest
@@ -97,27 +97,27 @@ IsOut path l = is_of path l ≡ false
 
 pub own_in : (path : List Step) (l : Line) → IsOwn path l → IsIn path l
 own_in path (line n at role c) (e, f) =
-    ap (λ (b : Bool). goes_on path at && not (b && goes_on at path)) f ∙ and_yes (goes_on path at) (ap (goes_on path) (e ∙ sym (append-nil path)) ∙ goes_here path [])
+    ap (λ (b : Bool). starts_with path at && not (b && starts_with at path)) f ∙ and_yes (starts_with path at) (ap (starts_with path) (e ∙ sym (append-nil path)) ∙ goes_here path [])
   where
     and_yes : (b : Bool) → b ≡ true → (b && true) ≡ true
     and_yes true g = refl
     and_yes false g = g
 
-pub not_on : (path : List Step) (l : Line) → goes_on path (path_at l) ≡ false → IsOut path l
-not_on path (line n at role c) e = ap (λ (b : Bool). b && not (is_length role && goes_on at path)) e
+pub not_on : (path : List Step) (l : Line) → starts_with path (path_at l) ≡ false → IsOut path l
+not_on path (line n at role c) e = ap (λ (b : Bool). b && not (is_length role && starts_with at path)) e
 
 pub own_out : (path : List Step) (step : Step) (rest : List Step) (l : Line) → IsOwn path l → IsOut (path ++ (step ∷ rest)) l
-own_out path step rest l (e, f) = not_on (path ++ (step ∷ rest)) l (ap (goes_on (path ++ (step ∷ rest))) e ∙ goes_back path step rest)
+own_out path step rest l (e, f) = not_on (path ++ (step ∷ rest)) l (ap (starts_with (path ++ (step ∷ rest))) e ∙ goes_back path step rest)
 
 -- a line of a part that a step leads to
 pub below_in : (path : List Step) (step : Step) (rest : List Step) (l : Line) → path_at l ≡ path ++ (step ∷ rest) → IsIn path l
 below_in path step rest (line n at role c) e =
-    ap (λ (b : Bool). b && not (is_length role && goes_on at path)) (ap (goes_on path) e ∙ goes_here path (step ∷ rest))
-    ∙ ap (λ (b : Bool). not (is_length role && b)) (ap (λ (p : List Step). goes_on p path) e ∙ goes_back path step rest)
+    ap (λ (b : Bool). b && not (is_length role && starts_with at path)) (ap (starts_with path) e ∙ goes_here path (step ∷ rest))
+    ∙ ap (λ (b : Bool). not (is_length role && b)) (ap (λ (p : List Step). starts_with p path) e ∙ goes_back path step rest)
     ∙ ap not (and_no (is_length role))
 
 pub in_at : (path : List Step) (l : Line) → IsIn path l → (rest : List Step) × (path_at l ≡ path ++ rest)
-in_at path (line n at role c) e = goes_rest path at (and_left (goes_on path at) (not (is_length role && goes_on at path)) e)
+in_at path (line n at role c) e = goes_rest path at (and_left (starts_with path at) (not (is_length role && starts_with at path)) e)
 
 pub inner_at : (path : List Step) (step : Step) (l : Line) → IsIn (path ++ (step ∷ [])) l → (rest : List Step) × (path_at l ≡ path ++ (step ∷ rest))
 inner_at path step l e = let h = in_at (path ++ (step ∷ [])) l e in (h.0, h.1 ∙ step_on path step h.0)
@@ -126,17 +126,17 @@ pub inner_in : (path : List Step) (step : Step) (l : Line) → IsIn (path ++ (st
 inner_in path step l e = let h = inner_at path step l e in below_in path step h.0 l h.1
 
 pub other_out : (path : List Step) (step other : Step) (rest more : List Step) (l : Line) → path_at l ≡ path ++ (step ∷ more) → same_step other step ≡ false → IsOut (path ++ (other ∷ rest)) l
-other_out path step other rest more l e f = not_on (path ++ (other ∷ rest)) l (ap (goes_on (path ++ (other ∷ rest))) e ∙ goes_past path (other ∷ rest) (step ∷ more) ∙ ap (λ (b : Bool). b && goes_on rest more) f)
+other_out path step other rest more l e f = not_on (path ++ (other ∷ rest)) l (ap (starts_with (path ++ (other ∷ rest))) e ∙ goes_past path (other ∷ rest) (step ∷ more) ∙ ap (λ (b : Bool). b && starts_with rest more) f)
 
 pub front_out : (path : List Step) (step other : Step) (rest : List Step) (l : Line) → IsFront (path ++ (step ∷ [])) l → IsOut (path ++ (other ∷ rest)) l
 front_out path step other rest l (e, f) = by (same_step other step) refl
   where
     longer : (tail : List Step) (m : Line) → IsFront (path ++ (other ∷ [])) m → IsOut (path ++ (other ∷ tail)) m
     longer [] (line n at role c) (g, h) =
-        ap (λ (p : List Step). goes_on (path ++ (other ∷ [])) p && not (is_length role && goes_on p (path ++ (other ∷ [])))) g
-        ∙ ap (λ (b : Bool). goes_on (path ++ (other ∷ [])) (path ++ (other ∷ [])) && not (b && goes_on (path ++ (other ∷ [])) (path ++ (other ∷ [])))) h
+        ap (λ (p : List Step). starts_with (path ++ (other ∷ [])) p && not (is_length role && starts_with p (path ++ (other ∷ [])))) g
+        ∙ ap (λ (b : Bool). starts_with (path ++ (other ∷ [])) (path ++ (other ∷ [])) && not (b && starts_with (path ++ (other ∷ [])) (path ++ (other ∷ [])))) h
         ∙ ap (λ (b : Bool). b && not b) (goes_past path (other ∷ []) (other ∷ []) ∙ ap (λ (b : Bool). b && true) (same_self other))
-    longer (x ∷ tail) m (g, h) = not_on (path ++ (other ∷ (x ∷ tail))) m (ap (goes_on (path ++ (other ∷ (x ∷ tail)))) g ∙ goes_past path (other ∷ (x ∷ tail)) (other ∷ []) ∙ and_no (same_step other other))
+    longer (x ∷ tail) m (g, h) = not_on (path ++ (other ∷ (x ∷ tail))) m (ap (starts_with (path ++ (other ∷ (x ∷ tail)))) g ∙ goes_past path (other ∷ (x ∷ tail)) (other ∷ []) ∙ and_no (same_step other other))
 
     by : (b : Bool) → same_step other step ≡ b → IsOut (path ++ (other ∷ rest)) l
     by true is = longer rest l (e ∙ ap (λ (s : Step). path ++ (s ∷ [])) (sym (same_is other step is)), f)
@@ -168,6 +168,9 @@ picked path front mine after f m a =
 pub octets_both : (xs ys : List Line) → octets_of_lines (xs ++ ys) ≡ octets_of_lines xs ++ octets_of_lines ys
 octets_both [] ys = refl
 octets_both (line n path role c ∷ xs) ys = ap (λ (w : List ℕ). c ++ w) (octets_both xs ys) ∙ sym (append_assoc c (octets_of_lines xs) (octets_of_lines ys))
+
+pub counted_both : (xs ys : List Line) → length (octets_of_lines (xs ++ ys)) ≡ length (octets_of_lines xs) + length (octets_of_lines ys)
+counted_both xs ys = ap length (octets_both xs ys) ∙ length-append (octets_of_lines xs) (octets_of_lines ys)
 
 -- a path isn't longer than itself
 pub not_longer : (path : List Step) (step : Step) (rest : List Step) → path ≡ path ++ (step ∷ rest) → ⊥

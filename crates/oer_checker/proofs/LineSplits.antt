@@ -1,24 +1,23 @@
 -- Lines spell a value, and go with the parts into which its encoding splits.
-use Rattle.std.proofs.Common.{◌≡◌, ◌⊎◌, inl, inr, ℕ, zero, suc, ◌+◌, Bool, true, false, List, [], ◌∷◌, ◌++◌, length, drop, Option, Some, None, arith, refl, sym, ap, ap₂, ◌∙◌, subst, append_assoc, append-nil, length-append}
+use Rattle.std.proofs.Common.{◌≡◌, ◌⊎◌, inl, inr, ℕ, zero, suc, ◌+◌, Bool, true, false, List, [], ◌∷◌, ◌++◌, length, drop, Option, Some, None, arith, refl, sym, ap, ◌∙◌, subst, append_assoc, append-nil, length-append}
 use Rattle.oer_units.specs.Numbers.{unsigned}
-use Rattle.oer_units.specs.Spelling.{IsCounted, IsJoined, IsLength, IsTag, StandsFor}
+use Rattle.oer_units.specs.Spelling.{IsCounted, IsJoined, IsLength, StandsFor}
 use Rattle.oer_units.specs.declared.tagging.Tag.{Tag}
-use Rattle.oer_types.specs.AsnType.{Additions, Alternatives, AsnType, Fields, Need, addition, alternative, bit_string, boolean, choice, default, enumerated, extensible_sequence, field, integer, later, may, must, no_additions, no_alternatives, no_fields, null, object_id, octet_string, restricted_string, sequence, sequence_of, utf8_string}
+use Rattle.oer_types.specs.AsnType.{Additions, Alternatives, AsnType, Fields, addition, alternative, bit_string, boolean, choice, default, enumerated, extensible_sequence, field, integer, later, may, must, no_additions, no_alternatives, no_fields, null, object_id, octet_string, restricted_string, sequence, sequence_of, utf8_string}
 use Rattle.oer_types.specs.AsnValue.{AsnValue, Places, Unknown, absent, chosen, foreign, items, no_places, present, seq, unknown}
-use Rattle.oer_types.specs.Bits.{IsPreamble, all_false, first_bit, later_bits}
+use Rattle.oer_types.specs.Bits.{first_bit, later_bits}
 use Rattle.oer_types.specs.Constraints.{AdditionsKeepLimits, AlternativesKeepLimits, FieldsKeepLimits, KeepsLimits, addition_count, has_tag, optional, same_tag, size_fits}
-use Rattle.oer_types.specs.Encoding.{ByBit, ByTag, IsItself, IsSpelling, SpellsAdditions, SpellsAlternative, SpellsBitmap, SpellsChosen, SpellsExtension, SpellsFields, SpellsUnknown}
+use Rattle.oer_types.specs.Encoding.{ByBit, ByTag, IsItself, IsSpelling, SpellsAdditions, SpellsAlternative, SpellsChosen, SpellsExtension, SpellsFields, SpellsUnknown}
 use Rattle.oer_types.specs.Fits.{AdditionDefaultsFit, AlternativeDefaultsFit, DefaultsFit, FieldDefaultsFit, all_absent, listed}
 use Rattle.oer_types.specs.Parts.{AloneByTag, Holds, IsAlone, IsSplit, Part, SplitsAdditions, SplitsAlternative, SplitsExtension, SplitsFields, SplitsItems, SplitsUnknown, StartsByBit, Step, part, to_addition, to_chosen, to_component, to_item}
-use Rattle.oer_types.specs.SharedSteps.{bits_left, is_there}
 use Rattle.oer_types.specs.declared.size.Size.{Size}
-use Rattle.oer_checker.specs.Lines.{AreAdditions, AreAlternative, AreBoth, AreEither, AreExtension, AreFields, AreIf, AreLines, AreNever, AreNone, AreOpen, AreRest, AreTimes, AreUnknown, IsOne, StartWith}
+use Rattle.oer_checker.specs.Lines.{AreAdditions, AreAlternative, AreBoth, AreEither, AreExtension, AreFields, AreIf, AreLines, AreNever, AreNone, AreOpen, AreRest, AreTimes, AreUnknown, IsOne}
 use Rattle.oer_checker.specs.Naming.{ArePart, is_length, octets_of_lines}
 use Rattle.oer_checker.specs.Rows.{Line, line}
 use Rattle.oer_checker.specs.declared.row.Role.{Role}
-use Rattle.oer_checker.specs.declared.row.Role.TheVariants.{Bitmap, Contents, Length, Preamble, Quantity, Tag as TagRole, Unknown as Unread}
+use Rattle.oer_checker.specs.declared.row.Role.TheVariants.{Bitmap, Contents, Length, Preamble, Quantity, Tag as TagRole}
 use Rattle.oer_checker.proofs.LineParts.{additions_fine, fields_fine, part_fine}
-use Rattle.oer_checker.proofs.LinePaths.{Every, IsFront, IsOwn, every_both, every_map, octets_both}
+use Rattle.oer_checker.proofs.LinePaths.{Every, IsFront, IsOwn, counted_both, every_both, every_map}
 
 abbrev pub Kept : Option AsnType → Type 0
 Kept None = Unit {0}
@@ -39,9 +38,6 @@ Groups path n (part step V c ∷ parts) ls = (front : List Line) × (mine : List
 abbrev Piece : List Step → Step → Option AsnType → ℕ → List Line → List ℕ → List ℕ → Type 0
 Piece path step V n ks c w = (front : List Line) × (mine : List Line) × (m : ℕ) × (ks ≡ front ++ mine) × Every (IsOutside path step) front
     × (m ≡ n + length (octets_of_lines front)) × (m + length w ≡ n + length c) × Kept V × ArePart V (path ++ (step ∷ [])) m mine w
-
-counted_both : (xs ys : List Line) → length (octets_of_lines (xs ++ ys)) ≡ length (octets_of_lines xs) + length (octets_of_lines ys)
-counted_both xs ys = ap length (octets_both xs ys) ∙ length-append (octets_of_lines xs) (octets_of_lines ys)
 
 groups_front : (path : List Step) (n : ℕ) (parts : List Part) (os ls : List Line) → Every (IsOwn path) os → Groups path (n + length (octets_of_lines os)) parts ls → Groups path n parts (os ++ ls)
 groups_front path n [] os ls o g = every_both (IsOwn path) os ls o g
@@ -71,7 +67,7 @@ groups_join path n j (part step V c ∷ p) q ls ms (front, mine, after, m, e, f,
   k,
   a,
   groups_join path (m + length c) j p q after ms g
-  (omega (arith, at, is, ap (λ (l : List Line). length (octets_of_lines l)) e, counted_both front (mine ++ after), counted_both mine after, ap length (part_fine V (path ++ (step ∷ [])) m mine c a).0)) h,
+      (omega (arith, at, is, ap (λ (l : List Line). length (octets_of_lines l)) e, counted_both front (mine ++ after), counted_both mine after, ap length (part_fine V (path ++ (step ∷ [])) m mine c a).0)) h,
 )
 
 piece_then : (path : List Step) (step : Step) (V : Option AsnType) (n : ℕ) (ks ms : List Line) (c w : List ℕ) (parts : List Part) → Piece path step V n ks c w → Groups path (n + length c) parts ms → Groups path n (part step V w ∷ parts) (ks ++ ms)
@@ -224,8 +220,8 @@ extension_sorted true more path f n ls b (s, m, d, ms, e, is, (map, low), (a, u,
       (s, m, a, u, whole, map, low, s2, s3),
       (s, m, p, p2, a, u, refl, whole, map, q, q2),
       own_then path Bitmap n ls ms m (p ++ p2) refl is
-      (subst (Groups path (n + length m) (p ++ p2)) (sym is2)
-      (groups_join path (n + length m) ((n + length m) + length a) p p2 ks ns g (ap (λ (w : List ℕ). (n + length m) + length w) (sym (additions_fine more path 0 s (n + length m) ks a r).0)) g2)),
+          (subst (Groups path (n + length m) (p ++ p2)) (sym is2)
+          (groups_join path (n + length m) ((n + length m) + length a) p p2 ks ns g (ap (λ (w : List ℕ). (n + length m) + length w) (sym (additions_fine more path 0 s (n + length m) ks a r).0)) g2)),
     )
 
 -- ---- a value
@@ -244,8 +240,8 @@ extensible_sorted fs more path f g n ls b (x ∷ s, p, d, ms, e, is, (len, pre),
       (root, added.0, added.1, x, s, p, r, a, refl, whole, many, pre, s2, s3),
       (x, s, p, r, a, parts, parts2, refl, whole, many, pre, q, q2),
       own_then path Preamble n ls ms p (parts ++ parts2) refl is
-      (subst (Groups path (n + length p) (parts ++ parts2)) (sym is2)
-      (groups_join path (n + length p) ((n + length p) + length r) parts parts2 ks ns h (ap (λ (w : List ℕ). (n + length p) + length w) (sym (fields_fine fs path 0 s (n + length p) ks r root_lines).0)) h2)),
+          (subst (Groups path (n + length p) (parts ++ parts2)) (sym is2)
+          (groups_join path (n + length p) ((n + length p) + length r) parts parts2 ks ns h (ap (λ (w : List ℕ). (n + length p) + length w) (sym (fields_fine fs path 0 s (n + length p) ks r root_lines).0)) h2)),
     )
 
 sequence_sorted : (fs : Fields) (path : List Step) → ((s : List Bool) → Sorts (AreFields fs path 0 s) (SpellsFields fs s) (SplitsFields fs 0 s) path) → Sorts (AreLines (sequence fs) path) (IsSpelling (sequence fs)) (IsSplit (sequence fs)) path

@@ -12,20 +12,20 @@ use Rattle.oer_checker.specs.Rows.{Line, line}
 use Rattle.oer_checker.specs.declared.row.Role.{Role}
 use Rattle.oer_checker.specs.declared.row.Role.TheVariants.{Length, Unknown}
 
--- whether the second path is the first, or goes on from it
-abbrev pub goes_on : List Step → List Step → Bool
-goes_on [] path = true
-goes_on (step ∷ front) [] = false
-goes_on (step ∷ front) (next ∷ path) = same_step step next && goes_on front path
+-- whether the second path starts with the first
+abbrev pub starts_with : List Step → List Step → Bool
+starts_with [] path = true
+starts_with (step ∷ front) [] = false
+starts_with (step ∷ front) (next ∷ path) = same_step step next && starts_with front path
 
 abbrev pub is_length : Role → Bool
 is_length Length = true
 is_length _ = false
 
--- The part at a path has the lines of that path, and those of the parts in it. The length of an open type stands outside of
+-- The part at a path has the lines of that path, and those of the parts in it. But the length of an open type is outside of
 -- the part that the open type holds.
 abbrev pub is_of : List Step → Line → Bool
-is_of path (line n at role c) = goes_on path at && not (is_length role && goes_on at path)
+is_of path (line n at role c) = starts_with path at && not (is_length role && starts_with at path)
 
 abbrev pub lines_of_part : List Step → List Line → List Line
 lines_of_part path ls = filter (is_of path) ls
@@ -40,16 +40,16 @@ abbrev pub ArePart : Option AsnType → List Step → ℕ → List Line → List
 ArePart (Some T) path = AreLines T path
 ArePart None path = IsOne path Unknown
 
--- The lines of the part at the path stand together; their octets are w; the first of them has just that path; and they are
--- the lines of w as an encoding of U, where that is known, with as many octets in front as the lines in front have.
+-- The path names the octets w, of type U where that is known: its lines stand together, their octets are w, the first of them
+-- has just that path, and they are the lines of w by U, with as many octets before them as the lines in front have.
 abbrev pub Names : List Line → List Step → Option AsnType → List ℕ → Type 0
 Names ls path U w = (front : List Line) × (after : List Line) × (role : Role) × (c : List ℕ) × (more : List Line)
     × (ls ≡ front ++ (lines_of_part path ls ++ after)) × (octets_of_lines (lines_of_part path ls) ≡ w)
     × (lines_of_part path ls ≡ line (length (octets_of_lines front)) path role c ∷ more)
     × ArePart U path (length (octets_of_lines front)) (lines_of_part path ls) w
 
--- Where the lines are those of octets b by T, b is an encoding by T; each path that leads to octets in b names lines, which
--- are those of these octets; and the path of each line leads to octets in b.
+-- Where the lines are those of octets b by T: b spells a value; each path that leads to octets in b names them; and the path of
+-- each line leads to octets in b.
 abbrev pub NamesParts : Type 0
 NamesParts = (T : AsnType) → KeepsLimits T → DefaultsFit T → (ls : List Line) (b : List ℕ) → AreLines T [] 0 ls b
     → ((v : AsnValue) × IsSpelling T v b)
