@@ -1,5 +1,5 @@
 -- Where that stands to which a path leads: from one step to the whole path, and to the octets of the caller.
-use Rattle.std.proofs.Common.{◌≡◌, arith, add-one, ℕ, zero, suc, ◌+◌, ◌-◌, ◌<◌, ◌≤◌, Bool, List, [], ◌∷◌, ◌++◌, length, take, drop, get_or, slice_range, Option, Some, None, Result, Ok, Err, IfOk, refl, sym, ap, ap₂, ◌∙◌, subst, append_assoc, length-append, append-nil, drop-cons}
+use Rattle.std.proofs.Common.{◌≡◌, arith, add-one, ℕ, ◌+◌, ◌-◌, ◌<◌, ◌≤◌, Bool, List, [], ◌∷◌, ◌++◌, length, take, drop, get_or, slice_range, Option, Some, None, Result, Ok, Err, IfOk, refl, sym, ap, ap₂, ◌∙◌, subst, append_assoc, length-append, append-nil, drop-cons}
 use Rattle.std.proofs.lemmas.List.{take_at}
 use Rattle.oer_units.specs.Reader.{Outcome, at, got, refused}
 use Rattle.oer_types.specs.AsnType.{AsnType}

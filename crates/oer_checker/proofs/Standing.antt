@@ -1,23 +1,22 @@
 -- Where a part stands: what is before it is spelt by what the program checked on its way.
-use Rattle.std.proofs.Common.{◌≡◌, arith, ℕ, zero, suc, ◌+◌, ◌-◌, ◌<◌, ◌≤◌, Bool, true, false, ◌||◌, ltb, List, [], ◌∷◌, ◌++◌, length, take, drop, get_or, Option, Some, None, refl, sym, ap, ap₂, ◌∙◌, subst, append_assoc, length-append, string_bytes}
+use Rattle.std.proofs.Common.{◌≡◌, arith, ℕ, zero, suc, ◌-◌, ◌<◌, ◌≤◌, Bool, true, false, ◌||◌, List, [], ◌∷◌, ◌++◌, length, take, drop, get_or, Option, Some, None, refl, sym, ap, ap₂, ◌∙◌, subst, append_assoc, length-append, string_bytes}
 use Rattle.std.proofs.lemmas.List.{take_at}
 use Rattle.oer_units.specs.Lawful.{Lawful}
-use Rattle.oer_units.specs.Numbers.{unsigned}
-use Rattle.oer_units.specs.Reader.{Outcome, Place, Reader, at, got, group, refused}
-use Rattle.oer_units.specs.Reading.{counted_octets, open_type, tag}
-use Rattle.oer_units.specs.Spelling.{IsCounted, IsJoined, IsLength, IsTag, StandsFor}
+use Rattle.oer_units.specs.Reader.{Outcome, Place, at, got, group, refused}
+use Rattle.oer_units.specs.Reading.{open_type, tag}
+use Rattle.oer_units.specs.Spelling.{IsCounted, IsJoined, IsLength}
 use Rattle.oer_units.specs.declared.tagging.Tag.{Tag}
 use Rattle.oer_units.proofs.Counted.{counted_octets_lawful}
 use Rattle.oer_units.proofs.TagReaders.{tag_lawful}
 use Rattle.oer_units.proofs.Units.{group_lawful}
 use Rattle.oer_types.specs.AsnType.{Additions, Alternatives, AsnType, Fields, Need, addition, choice, default, extensible_sequence, field, may, must, no_additions, no_alternatives, sequence, sequence_of}
-use Rattle.oer_types.specs.AsnValue.{AsnValue, Places, Unknown, absent, no_places, present, unknown}
+use Rattle.oer_types.specs.AsnValue.{AsnValue, Places, absent, no_places, present, unknown}
 use Rattle.oer_types.specs.Bits.{IsPreamble, first_bit, later_bits}
 use Rattle.oer_types.specs.Checking.{check_additions, check_fields, check_times, check_unknown, check_value}
-use Rattle.oer_types.specs.Constraints.{AdditionsKeepLimits, FieldsKeepLimits, KeepsLimits, addition_count, has_tag, optional, same_tag, size_fits}
+use Rattle.oer_types.specs.Constraints.{AdditionsKeepLimits, FieldsKeepLimits, KeepsLimits, addition_count, has_tag, optional, same_tag}
 use Rattle.oer_types.specs.Encoding.{ByBit, ByNeed, IsItself, IsSpelling, SpellsAdditions, SpellsFields, SpellsUnknown}
 use Rattle.oer_types.specs.Fits.{AdditionDefaultsFit, DefaultsFit, FieldDefaultsFit}
-use Rattle.oer_types.specs.Parts.{Holds, Step, octets_of, to_addition, to_chosen, to_component, to_item}
+use Rattle.oer_types.specs.Parts.{Holds, octets_of, to_addition, to_chosen, to_component, to_item}
 use Rattle.oer_types.specs.Reading.{preamble, read_value}
 use Rattle.oer_types.specs.SharedSteps.{bits_left, is_there}
 use Rattle.oer_types.specs.ShapeView.{additions_of, fields_of, later_of, need_of, root_of, type_of}

@@ -1,5 +1,5 @@
 -- What the caller of `part_range` learns.
-use Rattle.std.specs.Prelude.{◌≡◌, ◌≤◌, ℕ, ◌+◌, List, length, slice_range, Option, Some, Result, Ok, Err}
+use Rattle.std.specs.Prelude.{◌≤◌, ℕ, List, length, slice_range, Option, Some}
 use Rattle.std.specs.declared.ops.Range.{Range}
 use Rattle.oer_types.specs.AsnType.{AsnType}
 use Rattle.oer_types.specs.Parts as plain

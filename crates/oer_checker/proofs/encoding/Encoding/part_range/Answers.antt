@@ -1,4 +1,4 @@
-use Rattle.std.proofs.Common.{◌∙◌, ◌^◌, ◌+◌, ◌<◌, List, Option, Some, ℕ, arith, length, rules, subst, sym}
+use Rattle.std.proofs.Common.{◌∙◌, ◌^◌, ◌<◌, List, Option, Some, ℕ, arith, length, rules, subst, sym}
 use Rattle.oer_units.specs.Reader.{at}
 use Rattle.oer_types.specs.AsnType.{AsnType}
 use Rattle.oer_types.specs.Checking.{check_value}
