@@ -1,4 +1,8 @@
 //! Values of parts: their JSON, and their canonical octets.
+ghost use Rattle.std.specs.Prelude.{IfOk, IfSome};
+ghost use Rattle.oer_types.specs.Fits.{Fits};
+ghost use Rattle.oer_types.specs.Schema.{the_type};
+ghost use Rattle.oer_types.specs.ValueView.{value_of};
 
 use oer_json::to_json;
 use oer_literals::name_of;
@@ -42,7 +46,9 @@ fn number_in(octets: &[u8]) -> Option<i64> {
 }
 
 // The value at the front of the octets, if there is one.
-fn value_in(alloc: Global, schema: &Schema, octets: &[u8]) -> Result<Option<Value>, AllocError> {
+fn value_in(alloc: Global, schema: &Schema, octets: &[u8]) -> Result<Option<Value>, AllocError>
+    ensures { IfOk result (λ found. IfSome found (λ value. Fits (the_type schema.now) (value_of value))) }
+{
     match read(alloc, schema, &mut Metered::new(octets), u64::MAX) {
         Ok(value) => Ok(Some(value)),
         Err(fault) if is_memory(fault) => Err(AllocError),
