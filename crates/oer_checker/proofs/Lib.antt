@@ -28,3 +28,10 @@ mod LineUnits
 mod LineLaws
 mod LineForms
 mod ListingSteps
+mod LinePaths
+mod LineParts
+mod LineSplits
+mod Distinct
+mod LineNames
+mod Standing
+mod Ranging

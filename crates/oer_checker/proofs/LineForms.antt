@@ -9,7 +9,7 @@ use Rattle.oer_units.proofs.TagReaders.{tag_lawful}
 use Rattle.oer_units.proofs.Units.{group_lawful}
 use Rattle.oer_types.specs.AsnType.{Additions, Alternatives, AsnType, Fields, addition, alternative, bit_string, boolean, choice, enumerated, extensible_sequence, field, integer, later, no_additions, no_alternatives, no_fields, null, object_id, octet_string, restricted_string, sequence, sequence_of, utf8_string}
 use Rattle.oer_types.specs.AsnValue.{AsnValue}
-use Rattle.oer_types.specs.Bits.{IsPreamble, first_bit, later_bits}
+use Rattle.oer_types.specs.Bits.{IsPreamble, all_false, first_bit, later_bits}
 use Rattle.oer_types.specs.Checking.{check_value}
 use Rattle.oer_types.specs.Constraints.{AdditionsKeepLimits, AlternativesKeepLimits, FieldsKeepLimits, KeepsLimits, addition_count, has_tag, optional, same_tag, size_fits}
 use Rattle.oer_types.specs.Encoding.{IsSpelling, SpellsBitmap}
@@ -18,7 +18,7 @@ use Rattle.oer_types.specs.Parts.{Step, to_addition, to_chosen, to_component, to
 use Rattle.oer_types.specs.Reading.{preamble}
 use Rattle.oer_types.specs.declared.size.Size.{Size}
 use Rattle.oer_types.proofs.Parts.{preamble_lawful}
-use Rattle.oer_checker.specs.Lines.{AreAdditions, AreAlternative, AreBoth, AreByTag, AreExtension, AreFields, AreIf, AreLines, AreNone, AreOpen, AreRest, AreTimes, IsOne, StartWith}
+use Rattle.oer_checker.specs.Lines.{AreAdditions, AreAlternative, AreBoth, AreEither, AreExtension, AreFields, AreIf, AreLines, AreNever, AreNone, AreOpen, AreRest, AreTimes, IsOne, StartWith}
 use Rattle.oer_checker.specs.Rows.{Line, Walk, Walker, add_line, go_on, halted, inside, leave, leave_at, line, line_at, row, stay, stuck, walk_additions, walk_alternative, walk_both, walk_choose, walk_chosen, walk_extension, walk_fields, walk_if, walk_open, walk_rest, walk_times, walk_unknown, walk_value, went}
 use Rattle.oer_types.specs.SharedSteps.{bits_left, is_there}
 use Rattle.oer_checker.specs.Steps.{addition_map, between, sized_length, sized_quantity}
@@ -163,7 +163,7 @@ yields_rest total path i [] = yields_stay total
 yields_rest total path i (x ∷ s) = yields_both total _ (walk_rest total path (suc i) s) (AreIf x (AreOpen (path ++ (to_addition i ∷ [])) (IsOne (path ++ (to_addition i ∷ [])) Unknown))) (AreRest path (suc i) s)
     (yields_if total x (walk_unknown total (path ++ (to_addition i ∷ []))) (AreOpen (path ++ (to_addition i ∷ [])) (IsOne (path ++ (to_addition i ∷ [])) Unknown)) (yields_unknown total (path ++ (to_addition i ∷ [])))) (yields_rest total path (suc i) s)
 
-yields_choose : (total : ℕ) (b : Bool) (c d : Walker) (S R : ℕ → List Line → List ℕ → Type 0) → Yields total c S → Yields total d R → Yields total (walk_choose b c d) (AreByTag b S R)
+yields_choose : (total : ℕ) (b : Bool) (c d : Walker) (S R : ℕ → List Line → List ℕ → Type 0) → Yields total c S → Yields total d R → Yields total (walk_choose b c d) (AreEither b S R)
 yields_choose total true c d S R h k = h
 yields_choose total false c d S R h k = k
 
@@ -171,14 +171,14 @@ yields_stuck : (total : ℕ) (S : ℕ → List Line → List ℕ → Type 0) →
 unfolding stuck
 yields_stuck total S p old new q le e = absurd (cc)
 
-yields_allowed : (total : ℕ) (x : Bool) (c : Walker) (S : ℕ → List Line → List ℕ → Type 0) → Yields total c S → Yields total (walk_choose x c stuck) S
+yields_allowed : (total : ℕ) (x : Bool) (c : Walker) (S : ℕ → List Line → List ℕ → Type 0) → Yields total c S → Yields total (walk_choose x c stuck) (AreEither x S AreNever)
 yields_allowed total true c S h = h
-yields_allowed total false c S h = yields_stuck total S
+yields_allowed total false c S h = yields_stuck total AreNever
 
 yields_extension : (total : ℕ) (path : List Step) (x : Bool) (more : Additions) (c : List Bool → Walker) (S : List Bool → ℕ → List Line → List ℕ → Type 0) → ((s : List Bool) → Yields total (c s) (S s)) → Yields total (walk_extension x more total path c) (AreExtension x more path S)
 yields_extension total path false more c S h = yields_stay total
-yields_extension total path true more c S h = yields_row (λ (y : List Bool × Bool). y.0) total path Bitmap (addition_map n) (λ y. walk_both (c y.0) (walk_rest total path n (drop n y.0))) SpellsBitmap (λ s. AreBoth (S s) (AreRest path n (drop n s)))
-    (λ p y q e. (let a = map_sound n p y q e in (a.0, a.1.0, a.2, a.3)))
+yields_extension total path true more c S h = yields_row (λ (y : List Bool × Bool). y.0) total path Bitmap (addition_map n) (λ y. walk_both (c y.0) (walk_rest total path n (drop n y.0))) (λ s m. SpellsBitmap s m × (all_false (drop 65536 s) ≡ true)) (λ s. AreBoth (S s) (AreRest path n (drop n s)))
+    (map_sound n)
     (λ y p q e. yields_both total (c y.0) (walk_rest total path n (drop n y.0)) (S y.0) (AreRest path n (drop n y.0)) (h y.0) (yields_rest total path n (drop n y.0)) q)
   where
     n : ℕ
@@ -203,8 +203,8 @@ mutual
       (AreTimes (λ i. AreLines T (path ++ (to_item i ∷ []))) 0) (quantity_spells size)
       (λ y p q e. yields_times total (λ i. walk_value T total (path ++ (to_item i ∷ []))) (λ i. AreLines T (path ++ (to_item i ∷ []))) (λ i. value_yields T wf.1 d total (path ++ (to_item i ∷ []))) 0 y.0 q)
   value_yields (choice extensible more) wf d total path = yields_row (λ (t : Tag). t) total path TagRole tag (λ t. walk_chosen extensible more (walk_alternative more total (path ++ (to_chosen ∷ [])) t) (walk_unknown total (path ++ (to_chosen ∷ []))) t) IsTag
-      (λ t. AreByTag (has_tag t more) (AreAlternative more (path ++ (to_chosen ∷ [])) t) (AreOpen (path ++ (to_chosen ∷ [])) (IsOne (path ++ (to_chosen ∷ [])) Unknown))) (tag_lawful.sound)
-      (λ t p q e. yields_choose total (has_tag t more) _ _ (AreAlternative more (path ++ (to_chosen ∷ [])) t) (AreOpen (path ++ (to_chosen ∷ [])) (IsOne (path ++ (to_chosen ∷ [])) Unknown)) (alternative_yields more wf d total (path ++ (to_chosen ∷ [])) t) (yields_allowed total extensible _ (AreOpen (path ++ (to_chosen ∷ [])) (IsOne (path ++ (to_chosen ∷ [])) Unknown)) (yields_unknown total (path ++ (to_chosen ∷ [])))) q)
+      (λ t. AreEither (has_tag t more) (AreAlternative more (path ++ (to_chosen ∷ [])) t) (AreEither extensible (AreOpen (path ++ (to_chosen ∷ [])) (IsOne (path ++ (to_chosen ∷ [])) Unknown)) AreNever)) (tag_lawful.sound)
+      (λ t p q e. yields_choose total (has_tag t more) _ _ (AreAlternative more (path ++ (to_chosen ∷ [])) t) (AreEither extensible (AreOpen (path ++ (to_chosen ∷ [])) (IsOne (path ++ (to_chosen ∷ [])) Unknown)) AreNever) (alternative_yields more wf d total (path ++ (to_chosen ∷ [])) t) (yields_allowed total extensible _ (AreOpen (path ++ (to_chosen ∷ [])) (IsOne (path ++ (to_chosen ∷ [])) Unknown)) (yields_unknown total (path ++ (to_chosen ∷ [])))) q)
   value_yields boolean wf d total path = yields_last total path Contents (check_value boolean) (λ b. (v : AsnValue) × IsSpelling boolean v b) (value_sound boolean wf d)
   value_yields null wf d total path = yields_last total path Contents (check_value null) (λ b. (v : AsnValue) × IsSpelling null v b) (value_sound null wf d)
   value_yields (integer low high) wf d total path = yields_last total path Contents (check_value (integer low high)) (λ b. (v : AsnValue) × IsSpelling (integer low high) v b) (value_sound (integer low high) wf d)

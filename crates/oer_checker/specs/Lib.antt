@@ -13,3 +13,6 @@ pub mod AtMostOne
 pub mod Rows
 pub mod Lines
 pub mod Listing
+pub mod Naming
+pub mod Offsets
+pub mod Ranges

@@ -5,7 +5,7 @@ use Rattle.oer_units.specs.Spelling.{IsCounted, IsLength, IsTag, StandsFor}
 use Rattle.oer_units.specs.declared.tagging.Tag.{Tag}
 use Rattle.oer_types.specs.AsnType.{Additions, Alternatives, AsnType, Fields, addition, alternative, choice, extensible_sequence, field, later, no_additions, no_alternatives, no_fields, sequence, sequence_of}
 use Rattle.oer_types.specs.AsnValue.{AsnValue}
-use Rattle.oer_types.specs.Bits.{IsPreamble, first_bit, later_bits}
+use Rattle.oer_types.specs.Bits.{IsPreamble, all_false, first_bit, later_bits}
 use Rattle.oer_types.specs.Constraints.{addition_count, has_tag, optional, same_tag, size_fits}
 use Rattle.oer_types.specs.Encoding.{IsSpelling, SpellsBitmap}
 use Rattle.oer_types.specs.Parts.{Step, to_addition, to_chosen, to_component, to_item}
@@ -40,24 +40,34 @@ AreIf false S = AreNone
 abbrev pub AreOpen : List Step → (ℕ → List Line → List ℕ → Type 0) → ℕ → List Line → List ℕ → Type 0
 AreOpen path S = StartWith path Length (λ k c. IsLength k c) (λ k n ls b. (length b ≡ k) × S n ls b)
 
+-- an open type of which the type isn't known
+abbrev pub AreUnknown : List Step → ℕ → List Line → List ℕ → Type 0
+AreUnknown path = AreOpen path (IsOne path Unknown)
+
 -- the additions that the type doesn't know, from the one with the number i on, by the bits of the bitmap
 abbrev pub AreRest : List Step → ℕ → List Bool → ℕ → List Line → List ℕ → Type 0
 AreRest path i [] = AreNone
-AreRest path i (x ∷ s) = AreBoth (AreIf x (AreOpen (path ++ (to_addition i ∷ [])) (IsOne (path ++ (to_addition i ∷ [])) Unknown))) (AreRest path (suc i) s)
+AreRest path i (x ∷ s) =
+    AreBoth (AreIf x (AreUnknown (path ++ (to_addition i ∷ [])))) (AreRest path (suc i) s)
 
 -- k elements from the one with the number i on; S: the lines of one
 abbrev pub AreTimes : (ℕ → ℕ → List Line → List ℕ → Type 0) → ℕ → ℕ → ℕ → List Line → List ℕ → Type 0
 AreTimes S i zero = AreNone
 AreTimes S i (suc k) = AreBoth (S i) (AreTimes S (suc i) k)
 
--- the bitmap (X.696, 16.4), and the additions whose bits are set
+-- the bitmap (X.696, 16.4), no bit of it set past place 65,535, and the additions whose bits are set
 abbrev pub AreExtension : Bool → Additions → List Step → (List Bool → ℕ → List Line → List ℕ → Type 0) → ℕ → List Line → List ℕ → Type 0
 AreExtension false more path S = AreNone
-AreExtension true more path S = StartWith path Bitmap SpellsBitmap (λ s. AreBoth (S s) (AreRest path (addition_count more) (drop (addition_count more) s)))
+AreExtension true more path S = StartWith path Bitmap (λ s m. SpellsBitmap s m × (all_false (drop 65536 s) ≡ true))
+    (λ s. AreBoth (S s) (AreRest path (addition_count more) (drop (addition_count more) s)))
 
-abbrev pub AreByTag : Bool → (ℕ → List Line → List ℕ → Type 0) → (ℕ → List Line → List ℕ → Type 0) → ℕ → List Line → List ℕ → Type 0
-AreByTag true S R = S
-AreByTag false S R = R
+abbrev pub AreNever : ℕ → List Line → List ℕ → Type 0
+AreNever n ls b = ⊥
+
+-- by S where the test holds, else by R
+abbrev pub AreEither : Bool → (ℕ → List Line → List ℕ → Type 0) → (ℕ → List Line → List ℕ → Type 0) → ℕ → List Line → List ℕ → Type 0
+AreEither true S R = S
+AreEither false S R = R
 
 abbrev mutual
   -- the lines of the encoding b of a value of the type, which is the part to which the path leads
@@ -69,10 +79,10 @@ abbrev mutual
   -- SEQUENCE OF (17): the quantity, and the elements
   AreLines (sequence_of size T) path = StartWith path Quantity (λ k q. IsCounted (StandsFor unsigned) k q × (size_fits size k ≡ true))
       (AreTimes (λ i. AreLines T (path ++ (to_item i ∷ []))) 0)
-  -- CHOICE (20): the tag, and the alternative
+  -- CHOICE (20): the tag, and the alternative; one that the type doesn't know only where there is an extension marker
   AreLines (choice extensible more) path = StartWith path TagRole IsTag
-      (λ t. AreByTag (has_tag t more) (AreAlternative more (path ++ (to_chosen ∷ [])) t)
-      (AreOpen (path ++ (to_chosen ∷ [])) (IsOne (path ++ (to_chosen ∷ [])) Unknown)))
+      (λ t. AreEither (has_tag t more) (AreAlternative more (path ++ (to_chosen ∷ [])) t)
+      (AreEither extensible (AreUnknown (path ++ (to_chosen ∷ []))) AreNever))
   -- a type without parts
   AreLines T path = λ n ls b. IsOne path Contents n ls b × ((v : AsnValue) × IsSpelling T v b)
 
@@ -91,6 +101,6 @@ abbrev mutual
 
   -- the first alternative that has the tag
   pub AreAlternative : Alternatives → List Step → Tag → ℕ → List Line → List ℕ → Type 0
-  AreAlternative no_alternatives path t = λ n ls b. ⊥
-  AreAlternative (alternative name u T more) path t = AreByTag (same_tag u t) (AreLines T path) (AreAlternative more path t)
-  AreAlternative (later name u T more) path t = AreByTag (same_tag u t) (AreOpen path (AreLines T path)) (AreAlternative more path t)
+  AreAlternative no_alternatives path t = AreNever
+  AreAlternative (alternative name u T more) path t = AreEither (same_tag u t) (AreLines T path) (AreAlternative more path t)
+  AreAlternative (later name u T more) path t = AreEither (same_tag u t) (AreOpen path (AreLines T path)) (AreAlternative more path t)

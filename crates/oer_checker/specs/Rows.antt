@@ -118,18 +118,21 @@ abbrev mutual
   pub walk_value : AsnType → ℕ → List Step → Walker
   walk_value (sequence fs) total path = row total path Preamble (preamble (optional fs)) (walk_fields fs total path 0)
   walk_value (extensible_sequence fs more) total path = row total path Preamble (preamble (suc (optional fs)))
-      (λ s. walk_both (walk_fields fs total path 0 (later_bits s)) (walk_extension (first_bit s) more total path (walk_additions more total path 0)))
+      (λ s. walk_both (walk_fields fs total path 0 (later_bits s))
+      (walk_extension (first_bit s) more total path (walk_additions more total path 0)))
   walk_value (sequence_of size T) total path = row total path Quantity (sized_quantity size)
       (λ y. walk_times (λ i. walk_value T total (path ++ (to_item i ∷ []))) 0 y.0)
   walk_value (choice extensible more) total path = row total path TagRole tag
-      (λ t. walk_chosen extensible more (walk_alternative more total (path ++ (to_chosen ∷ [])) t) (walk_unknown total (path ++ (to_chosen ∷ []))) t)
+      (λ t. walk_chosen extensible more (walk_alternative more total (path ++ (to_chosen ∷ [])) t)
+      (walk_unknown total (path ++ (to_chosen ∷ []))) t)
   walk_value T total path = row total path Contents (check_value T) (λ f. stay)
 
   -- components of a root, from the one with the number i on, by their presence bits
   pub walk_fields : Fields → ℕ → List Step → ℕ → List Bool → Walker
   walk_fields no_fields total path i s = stay
   walk_fields (field name need T fs) total path i s =
-      walk_both (walk_if (is_there need s) (walk_value T total (path ++ (to_component i ∷ [])))) (walk_fields fs total path (suc i) (bits_left need s))
+      walk_both (walk_if (is_there need s) (walk_value T total (path ++ (to_component i ∷ []))))
+      (walk_fields fs total path (suc i) (bits_left need s))
 
   -- additions, from the one with the number i on, by the bits of the bitmap
   pub walk_additions : Additions → ℕ → List Step → ℕ → List Bool → Walker

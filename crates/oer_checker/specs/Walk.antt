@@ -1,5 +1,5 @@
 -- What one step finds, and paths of steps.
-use Rattle.std.specs.Prelude.{◌≡◌, ◌<◌, ℕ, List, [], ◌∷◌, true, false, length, map, take, get_or, Option, Some, None, option_map, Result, Ok, Err}
+use Rattle.std.specs.Prelude.{◌≡◌, ◌<◌, ◌≤◌, ℕ, ◌-◌, List, [], ◌∷◌, ◌++◌, true, false, length, map, take, get_or, Option, Some, None, option_map, Result, Ok, Err}
 use Rattle.oer_units.specs.Reader.{Outcome, Place, got, refused}
 use Rattle.oer_units.specs.declared.tagging.Tag.{Tag}
 use Rattle.oer_types.specs.AsnType.{AsnType, no_alternatives}
@@ -16,6 +16,7 @@ use Rattle.oer_checker.specs.declared.step.Step.TheVariants.{Component, Addition
 use Rattle.oer_checker.specs.declared.fault.PartFault.{PartFault}
 use Rattle.oer_checker.specs.declared.fault.PartFault.TheVariants.{Read, NoSuchStep, Absent}
 use Rattle.oer_checker.specs.declared.walk.Piece.{Piece}
+use Rattle.oer_checker.specs.Offsets.{StandsAt}
 
 abbrev pub step_of : Step → plain.Step
 step_of (Component i) = to_component i
@@ -65,3 +66,21 @@ abbrev pub IsFirst : List Alt → Tag → Option Alt → Type 0
 IsFirst xs t None = has_tag t (root_of xs no_alternatives) ≡ false
 IsFirst xs t (Some a) = (i : ℕ) × (i < length xs) × (a ≡ get_or xs i a) × (same_tag a.tag t ≡ true)
     × (has_tag t (root_of (take i xs) no_alternatives) ≡ false)
+
+-- At p octets a stand and then s, where F holds of a and of how many s are; from those of s on there are so many.
+abbrev pub IsAfter : (ℕ → List ℕ → Type 0) → Place → List ℕ → ℕ → Type 0
+IsAfter F p s rest = (a : List ℕ) × (d : List ℕ) × (p.input ≡ a ++ (s ++ d)) × (rest ≡ length (s ++ d)) × F (length s) a
+
+-- the same of what was found, if it was
+abbrev pub Stands : (ℕ → List ℕ → Type 0) → Place → Option Piece → Type 0
+Stands F p None = Unit {0}
+Stands F p (Some x) = IsAfter F p x.octets.now x.rest
+
+-- where that stands to which the step leads
+abbrev pub StandsBy : Option AsnType → List ℕ → plain.Step → Piece → Type 0
+StandsBy V b step p = StandsAt V b (step ∷ []) (type_in p) p.octets.now (length b - p.rest) × (length p.octets.now ≤ p.rest)
+    × (p.rest ≤ length b)
+
+-- The path leads to s in the octets b, before which n of them stand.
+abbrev pub IsWithin : Option AsnType → List ℕ → List plain.Step → List ℕ → ℕ → Type 0
+IsWithin T b path s n = (U : Option AsnType) × StandsAt T b path U s n

@@ -5,7 +5,8 @@ ghost use Rattle.oer_types.specs.Schema.{the_type};
 ghost use Rattle.oer_checker.specs.AtMostOne.{IsFound-prop};
 ghost use Rattle.oer_checker.specs.Check.{Answers, Finds, IsFound, IsOfOctets, Tells};
 ghost use Rattle.oer_checker.specs.Handing.{Agrees, AnswersPart, Follows, Hands, IsOfPath};
-ghost use Rattle.oer_checker.specs.Walk.{CanSplit, path_of, type_in};
+ghost use Rattle.oer_checker.specs.Ranges.{LeadsFrom, Lies, octets_in_range};
+ghost use Rattle.oer_checker.specs.Walk.{CanSplit, IsWithin, path_of, type_in};
 
 use crate::fault::PartFault;
 use crate::front::check;
@@ -14,6 +15,7 @@ use crate::verdict::Verdict;
 use crate::walk::Piece;
 use oer_types::Schema;
 use oer_units::ReadFault;
+use std::ops::Range;
 
 /// The encoding at the front of some octets. It was checked as a whole, so taking its parts
 /// doesn't check it again.
@@ -62,8 +64,33 @@ impl<'s, 'a> Encoding<'s, 'a> {
         ensures exact { AnswersPart (λ s. s.now) (type_of_encoding self.now) (octets_in self.now) (path_of path.now) result }
         ensures plain { IsOfPath result }
     {
-        part_in(self.schema, self.octets, self.verdict, path)
+        match part_in(self.schema, self.octets, self.verdict, path) {
+            Ok(found) => Ok(found.octets),
+            Err(fault) => Err(fault),
+        }
     }
+
+    /// Where that part stands in the octets: it is `octets[range]`. It fails as
+    /// [`part`](Encoding::part) does.
+    pub fn part_range(&self, path: &[Step]) -> Result<Range<usize>, PartFault>
+        ensures told { Hands (octets_in_range (octets_in self.now)) (type_of_encoding self.now) (octets_in self.now) (path_of path.now) result }
+        ensures comes { Follows (octets_in_range (octets_in self.now)) (type_of_encoding self.now) (octets_in self.now) (path_of path.now) result }
+        ensures exact { AnswersPart (octets_in_range (octets_in self.now)) (type_of_encoding self.now) (octets_in self.now) (path_of path.now) result }
+        ensures plain { IsOfPath result }
+        ensures lies { IfOk result (λ range. Lies (type_of_encoding self.now) (octets_in self.now) (path_of path.now) range) }
+    {
+        match part_in(self.schema, self.octets, self.verdict, path) {
+            Ok(found) => Ok(found.before..found.before + found.octets.len()),
+            Err(fault) => Err(fault),
+        }
+    }
+}
+
+/// A part of an encoding, and how many octets of the encoding are before it.
+#[derive(Clone, Copy)]
+struct Found<'a> {
+    octets: &'a [u8],
+    before: usize,
 }
 
 /// The part to which the steps lead in the encoding of that length at the front of the octets.
@@ -72,28 +99,37 @@ fn part_in<'a>(
     octets: &'a [u8],
     verdict: Verdict,
     path: &[Step],
-) -> Result<&'a [u8], PartFault>
+) -> Result<Found<'a>, PartFault>
     requires { IsFound (the_type schema.now) octets.now verdict }
-    ensures told { Hands (λ s. s.now) (the_type schema.now) octets.now (path_of path.now) result }
-    ensures comes { Follows (λ s. s.now) (the_type schema.now) octets.now (path_of path.now) result }
-    ensures exact { AnswersPart (λ s. s.now) (the_type schema.now) octets.now (path_of path.now) result }
+    ensures told { Hands (λ f. f.octets.now) (the_type schema.now) octets.now (path_of path.now) result }
+    ensures comes { Follows (λ f. f.octets.now) (the_type schema.now) octets.now (path_of path.now) result }
+    ensures exact { AnswersPart (λ f. f.octets.now) (the_type schema.now) octets.now (path_of path.now) result }
     ensures plain { IsOfPath result }
+    ensures stands { IfOk result (λ f. LeadsFrom (the_type schema.now) octets.now (path_of path.now) f.octets.now f.before) }
 {
     let whole = Piece {
         shape: Some(schema.shape()),
         octets: &octets[..verdict.octets],
+        rest: verdict.octets,
     };
     follow(whole, path)
 }
 
 /// What the steps lead to.
-fn follow<'a>(whole: Piece<'_, 'a>, path: &[Step]) -> Result<&'a [u8], PartFault>
+fn follow<'a>(whole: Piece<'_, 'a>, path: &[Step]) -> Result<Found<'a>, PartFault>
     requires { CanSplit (type_in whole) whole.octets.now }
-    ensures { Agrees (λ s. s.now) result (find_part (type_in whole.entry) whole.entry.octets.now (path_of path.now)) }
+    ensures found { Agrees (λ f. f.octets.now) result (find_part (type_in whole.entry) whole.entry.octets.now (path_of path.now)) }
+    ensures stands { IfOk result (λ f. IsWithin (type_in whole.entry) whole.entry.octets.now (path_of path.now) f.octets.now f.before) }
 {
     let mut at = whole;
+    let mut before = 0;
     for step in path {
-        at = at.enter(*step)?;
+        let next = at.enter(*step)?;
+        before += at.octets.len() - next.rest;
+        at = next;
     }
-    Ok(at.octets)
+    Ok(Found {
+        octets: at.octets,
+        before,
+    })
 }

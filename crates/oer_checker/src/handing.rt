@@ -1,12 +1,15 @@
 //! Handing out parts of an encoding.
+ghost use Rattle.std.specs.Prelude.{IfOk};
 ghost use Rattle.oer_types.specs.Schema.{the_type};
 ghost use Rattle.oer_checker.specs.Handing.{AnswersPart, Follows, Hands, IsOfPath};
+ghost use Rattle.oer_checker.specs.Ranges.{Lies, octets_in_range};
 ghost use Rattle.oer_checker.specs.Walk.{path_of};
 
 use crate::encoding::Encoding;
 use crate::fault::PartFault;
 use crate::step::Step;
 use oer_types::Schema;
+use std::ops::Range;
 
 /// The part of an encoding to which the steps lead, as it stands in the octets: the part's own
 /// encoding, without its tag and without the length of an open type. Without a step it is the whole
@@ -29,6 +32,26 @@ pub fn part<'a>(schema: &Schema, octets: &'a [u8], path: &[Step]) -> Result<&'a 
 {
     match Encoding::at_front(schema, octets) {
         Ok(encoding) => encoding.part(path),
+        Err(fault) => Err(PartFault::Read(fault)),
+    }
+}
+
+/// Where the part of an encoding to which the steps lead stands in the octets: it is `octets[range]`.
+/// Of a part without octets the range is empty, and begins where the part would. Everything else is as
+/// for [`part`]; it fails as that does.
+pub fn part_range(schema: &Schema, octets: &[u8], path: &[Step]) -> Result<Range<usize>, PartFault>
+    // What the range names, and what a fault says.
+    ensures told { Hands (octets_in_range octets.now) (the_type schema.now) octets.now (path_of path.now) result }
+    // A part is named, and its absence said, wherever an encoding is at the front.
+    ensures comes { Follows (octets_in_range octets.now) (the_type schema.now) octets.now (path_of path.now) result }
+    // Which fault it is, as the checker and the plain function of paths answer.
+    ensures exact { AnswersPart (octets_in_range octets.now) (the_type schema.now) octets.now (path_of path.now) result }
+    ensures plain { IsOfPath result }
+    // The part stands there, after the octets of all that is before it.
+    ensures lies { IfOk result (λ range. Lies (the_type schema.now) octets.now (path_of path.now) range) }
+{
+    match Encoding::at_front(schema, octets) {
+        Ok(encoding) => encoding.part_range(path),
         Err(fault) => Err(PartFault::Read(fault)),
     }
 }

@@ -31,7 +31,7 @@ mod walk;
 pub use encoding::Encoding;
 pub use fault::PartFault;
 pub use front::check;
-pub use handing::part;
+pub use handing::{part, part_range};
 pub use listing::rows;
 pub use path::{PathFault, read_path};
 pub use row::{Listing, Role, Row};

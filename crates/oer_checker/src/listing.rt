@@ -14,8 +14,10 @@ use oer_types::Schema;
 use std::alloc::{AllocError, Global};
 
 /// What the octets of the encoding at the front are, row by row: each octet stands in one row, and the
-/// rows are in the order of the octets. What follows the encoding has no row. Where the octets are
-/// rejected, there are rows up to the unit that can't be read. It fails if an allocation fails.
+/// rows are in the order of the octets. What follows the encoding has no row. The path of each row leads
+/// to a part of the encoding, and the rows of a part stand together and have just its octets
+/// ([`naming_parts`](crate::laws::naming_parts)). Where the octets are rejected, there are rows up to the
+/// unit that can't be read. It fails if an allocation fails.
 pub fn rows<'a>(alloc: Global, schema: &Schema, octets: &'a [u8]) -> Result<Listing<'a>, AllocError>
     // The verdict says what that of `check` says.
     ensures told { IfOk result (λ l. Tells (the_type schema.now) octets.now l.verdict) }

@@ -1,7 +1,8 @@
 //! What one step finds in an encoding.
-ghost use Rattle.std.specs.Prelude.{◌≡◌, ◌≤◌, drop, length, option_map, true};
+ghost use Rattle.std.specs.Prelude.{◌≡◌, ◌≤◌, IfOk, IfSome, drop, length, option_map, true};
 ghost use Rattle.oer_units.specs.Reader.{at};
 ghost use Rattle.oer_units.specs.Reading.{counted_octets, open_type};
+ghost use Rattle.oer_units.specs.Spelling.{IsLength};
 ghost use Rattle.oer_types.specs.AsnType.{no_alternatives};
 ghost use Rattle.oer_types.specs.Bits.{first_bit};
 ghost use Rattle.oer_types.specs.Checking.{both, check_additions as additions_checked, check_fields as fields_checked, check_unknown as unknown_checked, check_value};
@@ -10,8 +11,9 @@ ghost use Rattle.oer_types.specs.Fits.{AdditionDefaultsFit, DefaultsFit, FieldDe
 ghost use Rattle.oer_types.specs.Parts.{addition_parts, field_parts, join_parts, knows as knows_step, octets_of, parts_in, read_parts, to_addition, to_chosen, to_component, to_item, unknown_parts};
 ghost use Rattle.oer_types.specs.ShapeView.{additions_of, fields_of, type_of};
 ghost use Rattle.oer_checker.specs.BitView.{IsWhole, bits_in};
+ghost use Rattle.oer_checker.specs.Offsets.{AreAdditions, AreFields, AreUnknown, IsBefore};
 ghost use Rattle.oer_checker.specs.Places.{place_of};
-ghost use Rattle.oer_checker.specs.Walk.{CanSplit, Enters, IsFirst, IsGot, LooksUp, read_in, step_of, type_in};
+ghost use Rattle.oer_checker.specs.Walk.{CanSplit, Enters, IsAfter, IsFirst, IsGot, LooksUp, StandsBy, Stands, read_in, step_of, type_in};
 
 use crate::bit_strings::{addition_map, preamble};
 use crate::bits::Bits;
@@ -31,6 +33,16 @@ use oer_units::Tag;
 pub(crate) struct Piece<'s, 'a> {
     pub shape: Option<&'s Shape>,
     pub octets: &'a [u8],
+    /// How many octets the encoding has from their first on.
+    pub rest: usize,
+}
+
+/// The content of an open type.
+#[derive(Clone, Copy)]
+struct Content<'a> {
+    octets: &'a [u8],
+    /// How many octets there are from their first on.
+    rest: usize,
 }
 
 /// The octets that are an encoding of a value of the type.
@@ -46,10 +58,11 @@ fn encoding_at<'a>(shape: &Shape, place: Place<'a>) -> Option<&'a [u8]>
 }
 
 /// The content of an open type (X.696, 30) that holds a value of the type.
-fn content_at<'a>(shape: &Shape, place: Place<'a>) -> Option<&'a [u8]>
+fn content_at<'a>(shape: &Shape, place: Place<'a>) -> Option<Content<'a>>
     requires limits { KeepsLimits (type_of shape.now) }
     requires defaults { DefaultsFit (type_of shape.now) }
-    ensures { option_map (λ s. s.now) result ≡ read_in (open_type (octets_of (check_value (type_of shape.now))) (place_of place.entry)) }
+    ensures read { option_map (λ s. s.octets.now) result ≡ read_in (open_type (octets_of (check_value (type_of shape.now))) (place_of place.entry)) }
+    ensures stands { IfSome result (λ s. IsAfter (λ n l. IsLength n l) (place_of place.entry) s.octets.now s.rest) }
 {
     let Ok(((count, _), next)) = sized_length_at(place) else {
         return None;
@@ -64,12 +77,16 @@ fn content_at<'a>(shape: &Shape, place: Place<'a>) -> Option<&'a [u8]>
     if end.left > 0 {
         return None;
     }
-    Some(octets_between(content, end))
+    Some(Content {
+        octets: octets_between(content, end),
+        rest: content.rest.len(),
+    })
 }
 
 /// The octets that a length counts.
-fn counted_at<'a>(place: Place<'a>) -> Option<&'a [u8]>
-    ensures { option_map (λ s. s.now) result ≡ read_in (counted_octets (place_of place.entry)) }
+fn counted_at<'a>(place: Place<'a>) -> Option<Content<'a>>
+    ensures read { option_map (λ s. s.octets.now) result ≡ read_in (counted_octets (place_of place.entry)) }
+    ensures stands { IfSome result (λ s. IsAfter (λ n l. IsLength n l) (place_of place.entry) s.octets.now s.rest) }
 {
     let Ok(((count, _), next)) = sized_length_at(place) else {
         return None;
@@ -77,7 +94,10 @@ fn counted_at<'a>(place: Place<'a>) -> Option<&'a [u8]>
     let Ok((octets, _)) = group_at(next, count) else {
         return None;
     };
-    Some(octets)
+    Some(Content {
+        octets,
+        rest: next.rest.len(),
+    })
 }
 
 /// The component with this number of a root whose presence bits these are, if it is there.
@@ -90,7 +110,8 @@ fn field_in<'s, 'a>(
     requires limits { FieldsKeepLimits (fields_of fields.now) }
     requires defaults { FieldDefaultsFit (fields_of fields.now) }
     requires checked { IsGot (fields_checked (fields_of fields.now) (bits_in bits) (place_of place)) }
-    ensures { LooksUp (parts_in (field_parts (fields_of fields.now) 0 (bits_in bits.entry) (place_of place.entry))) (to_component index) result }
+    ensures found { LooksUp (parts_in (field_parts (fields_of fields.now) 0 (bits_in bits.entry) (place_of place.entry))) (to_component index) result }
+    ensures stands { Stands (λ n a. AreFields (fields_of fields.now) index (bits_in bits.entry) a) (place_of place.entry) result }
 {
     if index >= fields.len() {
         return None;
@@ -110,6 +131,7 @@ fn field_in<'s, 'a>(
     Some(Piece {
         shape: Some(&field.shape),
         octets,
+        rest: start.rest.len(),
     })
 }
 
@@ -118,7 +140,8 @@ fn component_of<'s, 'a>(shape: &'s Shape, index: usize, place: Place<'a>) -> Opt
     requires limits { KeepsLimits (type_of shape.now) }
     requires defaults { DefaultsFit (type_of shape.now) }
     requires checked { IsGot (check_value (type_of shape.now) (place_of place)) }
-    ensures { LooksUp (parts_in (read_parts (type_of shape.now) (place_of place.entry))) (to_component index) result }
+    ensures found { LooksUp (parts_in (read_parts (type_of shape.now) (place_of place.entry))) (to_component index) result }
+    ensures stands { Stands (IsBefore (type_of shape.now) (to_component index)) (place_of place.entry) result }
 {
     let Shape::Sequence { root, additions } = shape else {
         return None;
@@ -151,7 +174,8 @@ fn addition_in<'s, 'a>(
     requires defaults { AdditionDefaultsFit (additions_of additions.now) }
     requires whole { IsWhole bits }
     requires checked { IsGot (both (additions_checked (additions_of additions.now) (bits_in bits)) (unknown_checked (drop (length additions.now) (bits_in bits))) (place_of place)) }
-    ensures { LooksUp (parts_in (join_parts (addition_parts (additions_of additions.now) 0 (bits_in bits.entry)) (unknown_parts (length additions.now) (drop (length additions.now) (bits_in bits.entry))) (place_of place.entry))) (to_addition index) result }
+    ensures found { LooksUp (parts_in (join_parts (addition_parts (additions_of additions.now) 0 (bits_in bits.entry)) (unknown_parts (length additions.now) (drop (length additions.now) (bits_in bits.entry))) (place_of place.entry))) (to_addition index) result }
+    ensures stands { Stands (AreAdditions (additions_of additions.now) index (bits_in bits.entry)) (place_of place.entry) result }
 {
     if !bits.skip(index as u64).first() {
         return None;
@@ -166,12 +190,13 @@ fn addition_in<'s, 'a>(
         return None;
     };
     let addition = &additions[index];
-    let Some(octets) = content_at(&addition.shape, start) else {
+    let Some(content) = content_at(&addition.shape, start) else {
         return None;
     };
     Some(Piece {
         shape: Some(&addition.shape),
-        octets,
+        octets: content.octets,
+        rest: content.rest,
     })
 }
 
@@ -186,17 +211,19 @@ fn unknown_in<'s, 'a>(
     requires checked { IsGot (unknown_checked (drop known (bits_in bits)) (place_of place)) }
     requires later { known ≤ index }
     requires there { first_bit (drop index (bits_in bits)) ≡ true }
-    ensures { LooksUp (parts_in (unknown_parts known (drop known (bits_in bits.entry)) (place_of place.entry))) (to_addition index) result }
+    ensures found { LooksUp (parts_in (unknown_parts known (drop known (bits_in bits.entry)) (place_of place.entry))) (to_addition index) result }
+    ensures stands { Stands (AreUnknown known index (bits_in bits.entry)) (place_of place.entry) result }
 {
     let Ok((_, start)) = check_unknown(bits.until(index as u64), known, place) else {
         return None;
     };
-    let Some(octets) = counted_at(start) else {
+    let Some(content) = counted_at(start) else {
         return None;
     };
     Some(Piece {
         shape: None,
-        octets,
+        octets: content.octets,
+        rest: content.rest,
     })
 }
 
@@ -205,7 +232,8 @@ fn addition_of<'s, 'a>(shape: &'s Shape, index: usize, place: Place<'a>) -> Opti
     requires limits { KeepsLimits (type_of shape.now) }
     requires defaults { DefaultsFit (type_of shape.now) }
     requires checked { IsGot (check_value (type_of shape.now) (place_of place)) }
-    ensures { LooksUp (parts_in (read_parts (type_of shape.now) (place_of place.entry))) (to_addition index) result }
+    ensures found { LooksUp (parts_in (read_parts (type_of shape.now) (place_of place.entry))) (to_addition index) result }
+    ensures stands { Stands (IsBefore (type_of shape.now) (to_addition index)) (place_of place.entry) result }
 {
     let Shape::Sequence { root, additions } = shape else {
         return None;
@@ -235,7 +263,8 @@ fn element_of<'s, 'a>(shape: &'s Shape, index: usize, place: Place<'a>) -> Optio
     requires limits { KeepsLimits (type_of shape.now) }
     requires defaults { DefaultsFit (type_of shape.now) }
     requires checked { IsGot (check_value (type_of shape.now) (place_of place)) }
-    ensures { LooksUp (parts_in (read_parts (type_of shape.now) (place_of place.entry))) (to_item index) result }
+    ensures found { LooksUp (parts_in (read_parts (type_of shape.now) (place_of place.entry))) (to_item index) result }
+    ensures stands { Stands (IsBefore (type_of shape.now) (to_item index)) (place_of place.entry) result }
 {
     let Shape::SequenceOf { size, item } = shape else {
         return None;
@@ -256,6 +285,7 @@ fn element_of<'s, 'a>(shape: &'s Shape, index: usize, place: Place<'a>) -> Optio
     Some(Piece {
         shape: Some(item),
         octets,
+        rest: start.rest.len(),
     })
 }
 
@@ -276,7 +306,8 @@ fn alternative_of<'s, 'a>(shape: &'s Shape, place: Place<'a>) -> Option<Piece<'s
     requires limits { KeepsLimits (type_of shape.now) }
     requires defaults { DefaultsFit (type_of shape.now) }
     requires checked { IsGot (check_value (type_of shape.now) (place_of place)) }
-    ensures { LooksUp (parts_in (read_parts (type_of shape.now) (place_of place.entry))) to_chosen result }
+    ensures found { LooksUp (parts_in (read_parts (type_of shape.now) (place_of place.entry))) to_chosen result }
+    ensures stands { Stands (IsBefore (type_of shape.now) to_chosen) (place_of place.entry) result }
 {
     let Shape::Choice { root, additions } = shape else {
         return None;
@@ -291,6 +322,7 @@ fn alternative_of<'s, 'a>(shape: &'s Shape, place: Place<'a>) -> Option<Piece<'s
         return Some(Piece {
             shape: Some(&alternative.shape),
             octets,
+            rest: next.rest.len(),
         });
     }
     let Some(additions) = additions else {
@@ -298,21 +330,23 @@ fn alternative_of<'s, 'a>(shape: &'s Shape, place: Place<'a>) -> Option<Piece<'s
     };
     match with_tag(additions, tag) {
         Some(alternative) => {
-            let Some(octets) = content_at(&alternative.shape, next) else {
+            let Some(content) = content_at(&alternative.shape, next) else {
                 return None;
             };
             Some(Piece {
                 shape: Some(&alternative.shape),
-                octets,
+                octets: content.octets,
+                rest: content.rest,
             })
         }
         None => {
-            let Some(octets) = counted_at(next) else {
+            let Some(content) = counted_at(next) else {
                 return None;
             };
             Some(Piece {
                 shape: None,
-                octets,
+                octets: content.octets,
+                rest: content.rest,
             })
         }
     }
@@ -323,7 +357,8 @@ fn step_into<'s, 'a>(shape: &'s Shape, octets: &'a [u8], step: Step) -> Option<P
     requires limits { KeepsLimits (type_of shape.now) }
     requires defaults { DefaultsFit (type_of shape.now) }
     requires checked { IsGot (check_value (type_of shape.now) (at octets.now (length octets.now))) }
-    ensures { LooksUp (parts_in (read_parts (type_of shape.now) (at octets.now (length octets.now)))) (step_of step) result }
+    ensures found { LooksUp (parts_in (read_parts (type_of shape.now) (at octets.now (length octets.now)))) (step_of step) result }
+    ensures stands { Stands (IsBefore (type_of shape.now) (step_of step)) (at octets.now (length octets.now)) result }
 {
     let place = Place {
         rest: octets,
@@ -365,7 +400,8 @@ impl<'s, 'a> Piece<'s, 'a> {
     /// What the step leads to in this part.
     pub(crate) fn enter(self, step: Step) -> Result<Piece<'s, 'a>, PartFault>
         requires { CanSplit (type_in self) self.octets.now }
-        ensures { Enters (type_in self.entry) self.entry.octets.now (step_of step) result }
+        ensures found { Enters (type_in self.entry) self.entry.octets.now (step_of step) result }
+        ensures stands { IfOk result (λ p. StandsBy (type_in self.entry) self.entry.octets.now (step_of step) p) }
     {
         let Some(shape) = self.shape else {
             return Err(PartFault::NoSuchStep);

@@ -5,6 +5,7 @@
 #![tactic(auto)]
 
 pub use oer_checker::{
-    Encoding, Listing, PartFault, PathFault, Role, Row, Step, Verdict, check, part, read_path, rows,
+    Encoding, Listing, PartFault, PathFault, Role, Row, Step, Verdict, check, part, part_range,
+    read_path, rows,
 };
 pub use oer_decoder::{RewriteFault, laws, read, read_with_length, rewrite};

@@ -2,9 +2,10 @@
 //! parts.
 use crate::shared::{each, is_wanted, octets, schema_of};
 use crate::values::{Case, each_case};
-use oer_reader::{PartFault, Step, Verdict, check, part, read_path};
+use oer_reader::{PartFault, Step, Verdict, check, part, part_range, read_path};
 use oer_vectors::{PARTS, row_of};
 use std::alloc::Global;
+use std::ops::Range;
 use std::test::Fail;
 
 // Whether the octets begin with the encoding of the case, which is the whole to which no step leads.
@@ -73,4 +74,46 @@ SEQUENCE {s SEQUENCE {b BOOLEAN DEFAULT TRUE} DEFAULT {}} | 8000 | c0.c0 | Absen
 fn paths_lead_to_parts(rt: HostRuntime) -> Result<(), Fail> {
     each(rt.alloc(), PARTS, leads)?;
     each(rt.alloc(), NESTED_PARTS, leads)
+}
+
+/// A type, octets, a path, and from which octet to which the part stands, or the error.
+const RANGES: &str = "SEQUENCE OF BOOLEAN | 0103ffffff | - | 0..5
+SEQUENCE OF BOOLEAN | 0103ffffff | i0 | 2..3
+SEQUENCE OF BOOLEAN | 0103ffffff | i2 | 4..5
+SEQUENCE OF BOOLEAN | 0200020107 | i1 | 4..5
+SEQUENCE OF BOOLEAN | 0103ffffff | i3 | NoSuchStep
+SEQUENCE OF SEQUENCE OF BOOLEAN | 01020101ff0102ffff | i1 | 5..9
+SEQUENCE OF SEQUENCE OF BOOLEAN | 01020101ff0102ffff | i1.i0 | 7..8
+SEQUENCE {a BOOLEAN, b INTEGER (0..255) DEFAULT 7, c NULL OPTIONAL, ...} | 60ff08 | c1 | 2..3
+SEQUENCE {a BOOLEAN, b INTEGER (0..255) DEFAULT 7, c NULL OPTIONAL, ...} | 20ff | c2 | 2..2
+SEQUENCE {a BOOLEAN, b INTEGER (0..255) DEFAULT 7, c NULL OPTIONAL, ...} | 20ff | c1 | Absent
+SEQUENCE {a BOOLEAN, ..., x INTEGER (0..255), y BOOLEAN} | 80ff0206800109 | a0 | 6..7
+SEQUENCE {a BOOLEAN, ..., x INTEGER (0..255), y BOOLEAN} | 80ff0206c001090109 | a1 | 8..9
+SEQUENCE {a BOOLEAN, ..., x INTEGER (0..255), y BOOLEAN} | 80ff020430010900 | a3 | 8..8
+SEQUENCE {a BOOLEAN, ..., x INTEGER (0..255), y BOOLEAN} | 80ff | c0 | End at 2
+CHOICE {a NULL, ..., b OCTET STRING} | 80 | v | 1..1
+CHOICE {a NULL, ..., b OCTET STRING} | 8103026162 | v | 2..5
+CHOICE {a NULL, ..., b OCTET STRING} | 85026162 | v | 2..4";
+
+// Where a part stands, or why there is none.
+fn place(at: Global, found: Result<Range<usize>, PartFault>) -> Result<String, Fail> {
+    match found {
+        Ok(range) => Ok(format!(in at; "{}..{}", range.start, range.end)?),
+        Err(fault) => Ok(format!(in at; "{fault}")?),
+    }
+}
+
+// That the part stands there.
+fn stands(at: Global, row: &str) -> Result<(), Fail> {
+    let columns = row_of(row);
+    let schema = schema_of(at, columns.first)?;
+    let steps = steps_of(at, columns.third)?;
+    let octets = octets(at, columns.second)?;
+    let found = place(at, part_range(&schema, &octets, &steps))?;
+    is_wanted(row, found.as_str(), columns.rest)
+}
+
+#[test]
+fn parts_stand_in_the_octets(rt: HostRuntime) -> Result<(), Fail> {
+    each(rt.alloc(), RANGES, stands)
 }

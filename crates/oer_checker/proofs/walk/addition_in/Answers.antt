@@ -8,16 +8,17 @@ use Rattle.oer_checker.specs.Places.{place_of}
 use Rattle.oer_checker.proofs.FieldSteps.{addition_defaults, addition_limits}
 use Rattle.oer_checker.proofs.Finds.{addition_absent, addition_defaults_front, addition_found, additions_front, is_read, is_unread, no_refusal, nth, parted, same_end, unknown_look}
 use Rattle.oer_checker.proofs.Walks.{addition_entry}
+use Rattle.oer_checker.proofs.Standing.{addition_stands, beyond_stands}
 use Rattle.oer_checker.proofs.walk.addition_in.Goals as goal
 
-pub returns-then-not-first : goal.returns-then-not-first
-returns-then-not-first c =
+pub returns-then-not-first-clause-found : goal.returns-then-not-first-clause-found
+returns-then-not-first-clause-found c =
     let e = c.requires.checked in
     let s = bits_in c.args.bits in
     addition_absent c.args.additions.now (length c.args.additions.now) refl s (place_of c.args.place) e.1 e.0 e.2 c.args.index (sym c.if-not-first.true ∙ c.first.ensures ∙ ap first_bit c.skip.ensures)
 
-pub returns-in_default : goal.returns-in_default
-returns-in_default c =
+pub returns-in_default-clause-found : goal.returns-in_default-clause-found
+returns-in_default-clause-found c =
     let e = c.requires.checked in
     let xs = c.args.additions.now in
     let p = parted xs (length xs) refl (bits_in c.args.bits) (place_of c.args.place) e.1 e.0 e.2 in
@@ -32,14 +33,14 @@ unknown_in-requires-clause-checked c =
     let ends = same_end (check_additions (additions_of xs) s (place_of c.args.place)) p.1 (place_of c.in-Ok.next) _ (p.0, p.3) c.in-Ok.ensures in
     (p.2, e.1, p.4 ∙ ap (λ q. check_unknown (drop (length xs) s) q) (sym ends))
 
-pub returns-then-index-additions : goal.returns-then-index-additions
-returns-then-index-additions c =
+pub returns-then-index-additions-clause-found : goal.returns-then-index-additions-clause-found
+returns-then-index-additions-clause-found c =
     let e = c.requires.checked in
     let xs = c.args.additions.now in
     let s = bits_in c.args.bits in
     let p = parted xs (length xs) refl s (place_of c.args.place) e.1 e.0 e.2 in
     let ends = same_end (check_additions (additions_of xs) s (place_of c.args.place)) p.1 (place_of c.in-Ok.next) _ (p.0, p.3) c.in-Ok.ensures in
-    λ o. c.unknown_in.ensures o
+    λ o. c.unknown_in.ensures.found o
     ∙ ap (λ q. lookup o (to_addition c.args.index) (parts_in (unknown_parts (length xs) (drop (length xs) s) q))) ends
     ∙ unknown_look xs (length xs) refl s (place_of c.args.place) e.1 e.0 e.2 c.args.index c.if-index-additions.true o
 
@@ -49,8 +50,8 @@ check_additions-requires-2-clause-limits c = additions_front c.args.additions.no
 pub check_additions-requires-2-clause-defaults : goal.check_additions-requires-2-clause-defaults
 check_additions-requires-2-clause-defaults c = addition_defaults_front c.args.additions.now c.args.index c.requires.defaults
 
-pub returns-in_default-check_additions : goal.returns-in_default-check_additions
-returns-in_default-check_additions c =
+pub returns-in_default-check_additions-clause-found : goal.returns-in_default-check_additions-clause-found
+returns-in_default-check_additions-clause-found c =
     let e = c.requires.checked in
     let xs = c.args.additions.now in
     let y = nth xs c.args.index c.if-index-additions.false in
@@ -63,8 +64,8 @@ content_at-requires-clause-limits c = addition_limits c.args.additions.now c.arg
 pub content_at-requires-clause-defaults : goal.content_at-requires-clause-defaults
 content_at-requires-clause-defaults c = addition_defaults c.args.additions.now c.args.index c.index-additions-index.result c.if-index-additions.false c.index-additions-index.is c.requires.defaults
 
-pub returns-in_default-content_at : goal.returns-in_default-content_at
-returns-in_default-content_at c =
+pub returns-in_default-content_at-clause-found : goal.returns-in_default-content_at-clause-found
+returns-in_default-content_at-clause-found c =
     let e = c.requires.checked in
     let xs = c.args.additions.now in
     let s = bits_in c.args.bits in
@@ -72,10 +73,10 @@ returns-in_default-content_at c =
     let o = addition_found xs (length xs) refl s (place_of c.args.place) e.1 e.0 e.2 c.args.index x c.if-index-additions.false c.index-additions-index.is in
     let there = sym c.if-not-first.false ∙ c.first.ensures ∙ ap first_bit c.skip.ensures in
     let ends = same_end _ o.0 (place_of c.in-Ok-check_additions.start) _ o.1 c.in-Ok-check_additions.ensures in
-    absurd (is_unread _ (addition_entry x c.args.index (first_bit (drop c.args.index s))) o.0 (place_of c.in-Ok-check_additions.start) _ there o.2 ends c.in_default-content_at.ensures)
+    absurd (is_unread _ (addition_entry x c.args.index (first_bit (drop c.args.index s))) o.0 (place_of c.in-Ok-check_additions.start) _ there o.2 ends c.in_default-content_at.ensures.read)
 
-pub returns : goal.returns
-returns c =
+pub returns-clause-found : goal.returns-clause-found
+returns-clause-found c =
     let e = c.requires.checked in
     let xs = c.args.additions.now in
     let s = bits_in c.args.bits in
@@ -83,4 +84,12 @@ returns c =
     let o = addition_found xs (length xs) refl s (place_of c.args.place) e.1 e.0 e.2 c.args.index x c.if-index-additions.false c.index-additions-index.is in
     let there = sym c.if-not-first.false ∙ c.first.ensures ∙ ap first_bit c.skip.ensures in
     let ends = same_end _ o.0 (place_of c.in-Ok-check_additions.start) _ o.1 c.in-Ok-check_additions.ensures in
-    is_read _ (addition_entry x c.args.index (first_bit (drop c.args.index s))) o.0 (place_of c.in-Ok-check_additions.start) _ _ there o.2 ends c.in-Some.ensures
+    is_read _ (addition_entry x c.args.index (first_bit (drop c.args.index s))) o.0 (place_of c.in-Ok-check_additions.start) _ _ there o.2 ends c.in-Some.ensures.read
+
+pub returns-then-index-additions-clause-stands : goal.returns-then-index-additions-clause-stands
+returns-then-index-additions-clause-stands c =
+    beyond_stands c.args.additions.now c.args.index (bits_in c.args.bits) (place_of c.args.place) (place_of c.in-Ok.next) _ c.unknown_in.result c.requires.limits c.requires.defaults c.if-index-additions.true c.in-Ok.ensures c.unknown_in.ensures.stands
+
+pub returns-clause-stands : goal.returns-clause-stands
+returns-clause-stands c =
+    addition_stands c.args.additions.now c.args.index (bits_in c.args.bits) (place_of c.args.place) (place_of c.in-Ok-check_additions.start) _ _ _ c.requires.limits c.requires.defaults c.if-index-additions.false c.in-Ok-check_additions.ensures c.in-Some.ensures.stands

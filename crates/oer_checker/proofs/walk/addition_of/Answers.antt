@@ -1,4 +1,4 @@
-use Rattle.std.proofs.Common.{◌∙◌, ◌+◌, add-one, ap, length, refl, sym}
+use Rattle.std.proofs.Common.{◌∙◌, ◌+◌, add-one, ap, length, refl, sym, subst}
 use Rattle.oer_types.specs.AsnType.{extensible_sequence}
 use Rattle.oer_types.specs.Bits.{first_bit}
 use Rattle.oer_types.specs.Checking.{check_value}
@@ -12,19 +12,22 @@ use Rattle.oer_checker.proofs.Inside.{extension_checked, extension_look, marks_c
 use Rattle.oer_checker.proofs.PartSteps.{has_step, no_such}
 use Rattle.oer_checker.proofs.ShapeCases.{not_sequence}
 use Rattle.oer_checker.proofs.TypeSteps.{as_extensible, as_sequence, by_type}
+use Rattle.oer_types.specs.Constraints.{KeepsLimits}
+use Rattle.oer_types.specs.Fits.{DefaultsFit}
+use Rattle.oer_checker.proofs.Standing.{added_stands}
 use Rattle.oer_checker.proofs.walk.addition_of.Goals as goal
 
-pub returns-in_default : goal.returns-in_default
-returns-in_default c = no_such (type_of c.args.shape.now) (to_addition c.args.index) _ (not_sequence c.args.shape.now c.in_default.not-Sequence (to_addition c.args.index) (λ i e. absurd (cc)) (λ e. absurd (cc)))
+pub returns-in_default-clause-found : goal.returns-in_default-clause-found
+returns-in_default-clause-found c = no_such (type_of c.args.shape.now) (to_addition c.args.index) _ (not_sequence c.args.shape.now c.in_default.not-Sequence (to_addition c.args.index) (λ i e. absurd (cc)) (λ e. absurd (cc)))
 
-pub returns-in_default-additions : goal.returns-in_default-additions
-returns-in_default-additions c =
+pub returns-in_default-additions-clause-found : goal.returns-in_default-additions-clause-found
+returns-in_default-additions-clause-found c =
     let s = c.in-Sequence in
     let is = as_sequence c.args.shape.now s.root s.additions s.root.items s.is c.in_default-additions.is refl in
     no_such (type_of c.args.shape.now) (to_addition c.args.index) _ (ap (λ T. has_step T (to_addition c.args.index)) is)
 
-pub returns-in_default-preamble : goal.returns-in_default-preamble
-returns-in_default-preamble c =
+pub returns-in_default-preamble-clause-found : goal.returns-in_default-preamble-clause-found
+returns-in_default-preamble-clause-found c =
     let s = c.in-Sequence in
     let T = type_of c.args.shape.now in
     let fs = c.deref-fields.result.now in
@@ -33,8 +36,8 @@ returns-in_default-preamble c =
     let many = ap (λ k. k + 1) c.optional.ensures.is ∙ add-one (optional (fields_of fs)) in
     absurd (not_got (check_value T (place_of c.args.place)) _ _ c.requires.checked (by_type T (extensible_sequence (fields_of fs) (additions_of xs)) _ _ is (extensible_stop (fields_of fs) (additions_of xs) (c.optional.result + 1) _ _ _ many c.in_default-preamble.ensures)))
 
-pub returns-then-not-first : goal.returns-then-not-first
-returns-then-not-first c =
+pub returns-then-not-first-clause-found : goal.returns-then-not-first-clause-found
+returns-then-not-first-clause-found c =
     let s = c.in-Sequence in
     let T = type_of c.args.shape.now in
     let fs = c.deref-fields.result.now in
@@ -43,8 +46,8 @@ returns-then-not-first c =
     let many = ap (λ k. k + 1) c.optional.ensures.is ∙ add-one (optional (fields_of fs)) in
     no_extension_look T fs xs is (c.optional.result + 1) (place_of c.args.place) (place_of c.in-Ok.next) (bits_in c.in-Ok.bits) _ many c.requires.checked c.in-Ok.ensures refl c.args.index (sym c.first.ensures ∙ c.if-not-first.true)
 
-pub returns-in_default-check_fields : goal.returns-in_default-check_fields
-returns-in_default-check_fields c =
+pub returns-in_default-check_fields-clause-found : goal.returns-in_default-check_fields-clause-found
+returns-in_default-check_fields-clause-found c =
     let s = c.in-Sequence in
     let T = type_of c.args.shape.now in
     let fs = c.deref-fields.result.now in
@@ -53,8 +56,8 @@ returns-in_default-check_fields c =
     let many = ap (λ k. k + 1) c.optional.ensures.is ∙ add-one (optional (fields_of fs)) in
     absurd (not_got _ _ _ (root_checked T fs xs is (c.optional.result + 1) (place_of c.args.place) (place_of c.in-Ok.next) (bits_in c.in-Ok.bits) (bits_in c.later.result) many c.requires.checked c.in-Ok.ensures c.later.ensures) c.in_default-check_fields.ensures)
 
-pub returns-in_default-addition_map : goal.returns-in_default-addition_map
-returns-in_default-addition_map c =
+pub returns-in_default-addition_map-clause-found : goal.returns-in_default-addition_map-clause-found
+returns-in_default-addition_map-clause-found c =
     let s = c.in-Sequence in
     let T = type_of c.args.shape.now in
     let fs = c.deref-fields.result.now in
@@ -77,8 +80,8 @@ addition_in-requires-clause-checked c =
     let set = sym c.first.ensures ∙ c.if-not-first.false in
     marks_checked xs (first_bit (bits_in c.in-Ok.bits)) (place_of c.in-Ok-check_fields.next) (place_of c.in-Ok-addition_map.next) (bits_in c.in-Ok-addition_map.bits) c.in-Ok-addition_map.field-0-0-1 set ok c.in-Ok-addition_map.ensures.bits
 
-pub returns : goal.returns
-returns c =
+pub returns-clause-found : goal.returns-clause-found
+returns-clause-found c =
     let s = c.in-Sequence in
     let T = type_of c.args.shape.now in
     let fs = c.deref-fields.result.now in
@@ -87,6 +90,20 @@ returns c =
     let many = ap (λ k. k + 1) c.optional.ensures.is ∙ add-one (optional (fields_of fs)) in
     let look = extension_look T fs xs is (c.optional.result + 1) (place_of c.args.place) (place_of c.in-Ok.next) (bits_in c.in-Ok.bits) (bits_in c.later.result) many c.requires.checked c.in-Ok.ensures c.later.ensures (place_of c.in-Ok-check_fields.next) c.in-Ok-check_fields.field-0-0 c.in-Ok-check_fields.ensures in
     let set = sym c.first.ensures ∙ c.if-not-first.false in
-    λ o. c.addition_in.ensures o
+    λ o. c.addition_in.ensures.found o
     ∙ marks_look xs (first_bit (bits_in c.in-Ok.bits)) (place_of c.in-Ok-check_fields.next) (place_of c.in-Ok-addition_map.next) (bits_in c.in-Ok-addition_map.bits) c.in-Ok-addition_map.field-0-0-1 set c.in-Ok-addition_map.ensures.bits (to_addition c.args.index) o
     ∙ look c.args.index o
+
+pub returns-clause-stands : goal.returns-clause-stands
+returns-clause-stands c =
+    let s = c.in-Sequence in
+    let T = type_of c.args.shape.now in
+    let fs = c.deref-fields.result.now in
+    let xs = c.deref-additions.result.now in
+    let is = as_extensible c.args.shape.now s.root s.additions c.in-Some.additions fs xs s.is c.in-Some.is c.deref-fields.ensures.value c.deref-additions.ensures.value in
+    let many = ap (λ k. k + 1) c.optional.ensures.is ∙ add-one (optional (fields_of fs)) in
+    let set = sym c.first.ensures ∙ c.if-not-first.false in
+    let w = (subst KeepsLimits is c.requires.limits).0 in
+    let d = (subst DefaultsFit is c.requires.defaults).0 in
+    added_stands T fs xs is c.args.index (c.optional.result + 1) (length xs) (place_of c.args.place) (place_of c.in-Ok.next) (place_of c.in-Ok-check_fields.next) (place_of c.in-Ok-addition_map.next) (bits_in c.in-Ok.bits) (bits_in c.later.result) (bits_in c.in-Ok-addition_map.bits) c.in-Ok-check_fields.field-0-0 c.in-Ok-addition_map.field-0-0-1 c.addition_in.result w d
+    many c.in-Ok.ensures set c.later.ensures c.in-Ok-check_fields.ensures c.in-Ok-addition_map.ensures.bits c.addition_in.ensures.stands

@@ -11,13 +11,14 @@ use Rattle.oer_checker.proofs.ShapeCases.{not_choice}
 use Rattle.oer_checker.proofs.TagParts.{alone_found, alone_missing, foreign_part, later_part, root_part}
 use Rattle.oer_checker.proofs.TagSteps.{choice_none, choice_stop, later_defaults, later_limits, root_defaults, root_limits}
 use Rattle.oer_checker.proofs.TypeSteps.{as_choice, as_closed, as_open, by_type, choice_defaults, choice_limits, open_defaults, open_limits}
+use Rattle.oer_checker.proofs.Standing.{open_alternative_stands, root_alternative_stands}
 use Rattle.oer_checker.proofs.walk.alternative_of.Goals as goal
 
-pub returns-in_default : goal.returns-in_default
-returns-in_default c = no_such (type_of c.args.shape.now) to_chosen _ (not_choice c.args.shape.now c.in_default.not-Choice)
+pub returns-in_default-clause-found : goal.returns-in_default-clause-found
+returns-in_default-clause-found c = no_such (type_of c.args.shape.now) to_chosen _ (not_choice c.args.shape.now c.in_default.not-Choice)
 
-pub returns-in_default-tag_at : goal.returns-in_default-tag_at
-returns-in_default-tag_at c =
+pub returns-in_default-tag_at-clause-found : goal.returns-in_default-tag_at-clause-found
+returns-in_default-tag_at-clause-found c =
     let s = c.in-Choice in
     let T = type_of c.args.shape.now in
     let k = as_choice c.args.shape.now s.root s.additions s.root.items s.is refl in
@@ -37,8 +38,8 @@ encoding_at-requires-clause-defaults c =
     let first = c.in-Some.ensures in
     root_defaults xs first.0 c.in-Some.alternative.now first.1 first.2 (choice_defaults c.args.shape.now s.root s.additions xs s.is c.deref.ensures.value c.requires.defaults)
 
-pub returns-in_default-encoding_at : goal.returns-in_default-encoding_at
-returns-in_default-encoding_at c =
+pub returns-in_default-encoding_at-clause-found : goal.returns-in_default-encoding_at-clause-found
+returns-in_default-encoding_at-clause-found c =
     let s = c.in-Choice in
     let T = type_of c.args.shape.now in
     let xs = c.deref.result.now in
@@ -46,8 +47,8 @@ returns-in_default-encoding_at c =
     let a = c.in-Some.alternative.now in
     λ o. alone_missing (Some (type_of a.shape)) (octets_of (check_value (type_of a.shape))) (place_of c.in-Ok.next) c.in_default-encoding_at.ensures o ∙ root_part T k.extensible xs k.after k.is (place_of c.args.place) (place_of c.in-Ok.next) c.in-Ok.tag c.in-Ok.ensures a c.in-Some.ensures o
 
-pub returns-in-Some : goal.returns-in-Some
-returns-in-Some c =
+pub returns-in-Some-clause-found : goal.returns-in-Some-clause-found
+returns-in-Some-clause-found c =
     let s = c.in-Choice in
     let T = type_of c.args.shape.now in
     let xs = c.deref.result.now in
@@ -55,8 +56,8 @@ returns-in-Some c =
     let a = c.in-Some.alternative.now in
     λ o. alone_found (Some (type_of a.shape)) (octets_of (check_value (type_of a.shape))) (place_of c.in-Ok.next) _ c.in-Some-encoding_at.ensures o ∙ root_part T k.extensible xs k.after k.is (place_of c.args.place) (place_of c.in-Ok.next) c.in-Ok.tag c.in-Ok.ensures a c.in-Some.ensures o
 
-pub returns-in_default-additions : goal.returns-in_default-additions
-returns-in_default-additions c =
+pub returns-in_default-additions-clause-found : goal.returns-in_default-additions-clause-found
+returns-in_default-additions-clause-found c =
     let s = c.in-Choice in
     let T = type_of c.args.shape.now in
     let xs = c.deref.result.now in
@@ -77,40 +78,68 @@ content_at-requires-clause-defaults c =
     let first = c.in-Some-with_tag.ensures in
     later_defaults ys first.0 c.in-Some-with_tag.alternative.now first.1 first.2 (open_defaults c.args.shape.now s.root s.additions c.in-Some-additions.additions ys s.is c.in-Some-additions.is c.deref-2.ensures.value c.requires.defaults)
 
-pub returns-in_default-content_at : goal.returns-in_default-content_at
-returns-in_default-content_at c =
+pub returns-in_default-content_at-clause-found : goal.returns-in_default-content_at-clause-found
+returns-in_default-content_at-clause-found c =
     let s = c.in-Choice in
     let T = type_of c.args.shape.now in
     let xs = c.deref.result.now in
     let ys = c.deref-2.result.now in
     let is = as_open c.args.shape.now s.root s.additions c.in-Some-additions.additions xs ys s.is c.in-Some-additions.is c.deref.ensures.value c.deref-2.ensures.value in
     let a = c.in-Some-with_tag.alternative.now in
-    λ o. alone_missing (Some (type_of a.shape)) (open_type (octets_of (check_value (type_of a.shape)))) (place_of c.in-Ok.next) c.in_default-content_at.ensures o ∙ later_part T _ xs ys is (place_of c.args.place) (place_of c.in-Ok.next) c.in-Ok.tag c.in-Ok.ensures c.in_default-with_tag.ensures a c.in-Some-with_tag.ensures o
+    λ o. alone_missing (Some (type_of a.shape)) (open_type (octets_of (check_value (type_of a.shape)))) (place_of c.in-Ok.next) c.in_default-content_at.ensures.read o ∙ later_part T _ xs ys is (place_of c.args.place) (place_of c.in-Ok.next) c.in-Ok.tag c.in-Ok.ensures c.in_default-with_tag.ensures a c.in-Some-with_tag.ensures o
 
-pub returns-in_default-counted_at : goal.returns-in_default-counted_at
-returns-in_default-counted_at c =
+pub returns-in_default-counted_at-clause-found : goal.returns-in_default-counted_at-clause-found
+returns-in_default-counted_at-clause-found c =
     let s = c.in-Choice in
     let T = type_of c.args.shape.now in
     let xs = c.deref.result.now in
     let ys = c.deref-2.result.now in
     let is = as_open c.args.shape.now s.root s.additions c.in-Some-additions.additions xs ys s.is c.in-Some-additions.is c.deref.ensures.value c.deref-2.ensures.value in
-    λ o. alone_missing None counted_octets (place_of c.in-Ok.next) c.in_default-counted_at.ensures o ∙ foreign_part T _ xs ys is (place_of c.args.place) (place_of c.in-Ok.next) c.in-Ok.tag c.in-Ok.ensures c.in_default-with_tag.ensures c.in-None.ensures o
+    λ o. alone_missing None counted_octets (place_of c.in-Ok.next) c.in_default-counted_at.ensures.read o ∙ foreign_part T _ xs ys is (place_of c.args.place) (place_of c.in-Ok.next) c.in-Ok.tag c.in-Ok.ensures c.in_default-with_tag.ensures c.in-None.ensures o
 
-pub returns-in-Some-content_at : goal.returns-in-Some-content_at
-returns-in-Some-content_at c =
+pub returns-in-Some-content_at-clause-found : goal.returns-in-Some-content_at-clause-found
+returns-in-Some-content_at-clause-found c =
     let s = c.in-Choice in
     let T = type_of c.args.shape.now in
     let xs = c.deref.result.now in
     let ys = c.deref-2.result.now in
     let is = as_open c.args.shape.now s.root s.additions c.in-Some-additions.additions xs ys s.is c.in-Some-additions.is c.deref.ensures.value c.deref-2.ensures.value in
     let a = c.in-Some-with_tag.alternative.now in
-    λ o. alone_found (Some (type_of a.shape)) (open_type (octets_of (check_value (type_of a.shape)))) (place_of c.in-Ok.next) _ c.in-Some-content_at.ensures o ∙ later_part T _ xs ys is (place_of c.args.place) (place_of c.in-Ok.next) c.in-Ok.tag c.in-Ok.ensures c.in_default-with_tag.ensures a c.in-Some-with_tag.ensures o
+    λ o. alone_found (Some (type_of a.shape)) (open_type (octets_of (check_value (type_of a.shape)))) (place_of c.in-Ok.next) _ c.in-Some-content_at.ensures.read o ∙ later_part T _ xs ys is (place_of c.args.place) (place_of c.in-Ok.next) c.in-Ok.tag c.in-Ok.ensures c.in_default-with_tag.ensures a c.in-Some-with_tag.ensures o
 
-pub returns-in-Some-counted_at : goal.returns-in-Some-counted_at
-returns-in-Some-counted_at c =
+pub returns-in-Some-counted_at-clause-found : goal.returns-in-Some-counted_at-clause-found
+returns-in-Some-counted_at-clause-found c =
     let s = c.in-Choice in
     let T = type_of c.args.shape.now in
     let xs = c.deref.result.now in
     let ys = c.deref-2.result.now in
     let is = as_open c.args.shape.now s.root s.additions c.in-Some-additions.additions xs ys s.is c.in-Some-additions.is c.deref.ensures.value c.deref-2.ensures.value in
-    λ o. alone_found None counted_octets (place_of c.in-Ok.next) _ c.in-Some-counted_at.ensures o ∙ foreign_part T _ xs ys is (place_of c.args.place) (place_of c.in-Ok.next) c.in-Ok.tag c.in-Ok.ensures c.in_default-with_tag.ensures c.in-None.ensures o
+    λ o. alone_found None counted_octets (place_of c.in-Ok.next) _ c.in-Some-counted_at.ensures.read o ∙ foreign_part T _ xs ys is (place_of c.args.place) (place_of c.in-Ok.next) c.in-Ok.tag c.in-Ok.ensures c.in_default-with_tag.ensures c.in-None.ensures o
+
+pub returns-in-Some-clause-stands : goal.returns-in-Some-clause-stands
+returns-in-Some-clause-stands c =
+    let s = c.in-Choice in
+    let T = type_of c.args.shape.now in
+    let xs = c.deref.result.now in
+    let k = as_choice c.args.shape.now s.root s.additions xs s.is c.deref.ensures.value in
+    let a = c.in-Some.alternative.now in
+    let (i, less, at, same, before) = c.in-Some.ensures in
+    let w = root_limits xs i a less at (choice_limits c.args.shape.now s.root s.additions xs s.is c.deref.ensures.value c.requires.limits) in
+    let d = root_defaults xs i a less at (choice_defaults c.args.shape.now s.root s.additions xs s.is c.deref.ensures.value c.requires.defaults) in
+    root_alternative_stands T k.extensible xs k.after k.is (place_of c.args.place) (place_of c.in-Ok.next) c.in-Ok.tag a _ _ i w d c.in-Ok.ensures less at same before c.in-Some-encoding_at.ensures refl
+
+pub returns-in-Some-content_at-clause-stands : goal.returns-in-Some-content_at-clause-stands
+returns-in-Some-content_at-clause-stands c =
+    let s = c.in-Choice in
+    let xs = c.deref.result.now in
+    let ys = c.deref-2.result.now in
+    let is = as_open c.args.shape.now s.root s.additions c.in-Some-additions.additions xs ys s.is c.in-Some-additions.is c.deref.ensures.value c.deref-2.ensures.value in
+    open_alternative_stands (type_of c.args.shape.now) xs ys is (place_of c.args.place) (place_of c.in-Ok.next) c.in-Ok.tag _ _ c.in-Ok.ensures c.in_default-with_tag.ensures c.in-Some-content_at.ensures.stands
+
+pub returns-in-Some-counted_at-clause-stands : goal.returns-in-Some-counted_at-clause-stands
+returns-in-Some-counted_at-clause-stands c =
+    let s = c.in-Choice in
+    let xs = c.deref.result.now in
+    let ys = c.deref-2.result.now in
+    let is = as_open c.args.shape.now s.root s.additions c.in-Some-additions.additions xs ys s.is c.in-Some-additions.is c.deref.ensures.value c.deref-2.ensures.value in
+    open_alternative_stands (type_of c.args.shape.now) xs ys is (place_of c.args.place) (place_of c.in-Ok.next) c.in-Ok.tag _ _ c.in-Ok.ensures c.in_default-with_tag.ensures c.in-Some-counted_at.ensures.stands

@@ -11,13 +11,14 @@ use Rattle.oer_checker.proofs.Inside.{closed_checked, closed_look, not_got, root
 use Rattle.oer_checker.proofs.PartSteps.{no_such}
 use Rattle.oer_checker.proofs.ShapeCases.{not_sequence}
 use Rattle.oer_checker.proofs.TypeSteps.{as_extensible, as_sequence, by_type}
+use Rattle.oer_checker.proofs.Standing.{closed_stands, root_stands}
 use Rattle.oer_checker.proofs.walk.component_of.Goals as goal
 
-pub returns-in_default : goal.returns-in_default
-returns-in_default c = no_such (type_of c.args.shape.now) (to_component c.args.index) _ (not_sequence c.args.shape.now c.in_default.not-Sequence (to_component c.args.index) (λ i e. absurd (cc)) (λ e. absurd (cc)))
+pub returns-in_default-clause-found : goal.returns-in_default-clause-found
+returns-in_default-clause-found c = no_such (type_of c.args.shape.now) (to_component c.args.index) _ (not_sequence c.args.shape.now c.in_default.not-Sequence (to_component c.args.index) (λ i e. absurd (cc)) (λ e. absurd (cc)))
 
-pub returns-in_default-preamble : goal.returns-in_default-preamble
-returns-in_default-preamble c =
+pub returns-in_default-preamble-clause-found : goal.returns-in_default-preamble-clause-found
+returns-in_default-preamble-clause-found c =
     let s = c.in-Sequence in
     let fs = c.deref-fields.result.now in
     let is = as_sequence c.args.shape.now s.root s.additions fs s.is c.in-None.is c.deref-fields.ensures.value in
@@ -30,8 +31,8 @@ field_in-requires-clause-checked c =
     let is = as_sequence c.args.shape.now s.root s.additions fs s.is c.in-None.is c.deref-fields.ensures.value in
     closed_checked (type_of c.args.shape.now) (fields_of fs) is (place_of c.args.place) _ _ c.requires.checked (rw c.optional.ensures.is at c.in-Ok.ensures)
 
-pub returns-in_default-preamble-2 : goal.returns-in_default-preamble-2
-returns-in_default-preamble-2 c =
+pub returns-in_default-preamble-2-clause-found : goal.returns-in_default-preamble-2-clause-found
+returns-in_default-preamble-2-clause-found c =
     let s = c.in-Sequence in
     let fs = c.deref-fields.result.now in
     let more = c.in-Some.field-0 in
@@ -46,17 +47,33 @@ field_in-requires-in-Some-clause-checked c =
     let is = as_extensible c.args.shape.now s.root s.additions more fs more.items s.is c.in-Some.is c.deref-fields.ensures.value refl in
     root_checked (type_of c.args.shape.now) fs more.items is (c.optional-in-Some.result + 1) (place_of c.args.place) (place_of c.in-Ok-preamble.next) (bits_in c.in-Ok-preamble.bits) (bits_in c.later.result) (ap (λ k. k + 1) c.optional-in-Some.ensures.is ∙ add-one (optional (fields_of fs))) c.requires.checked c.in-Ok-preamble.ensures c.later.ensures
 
-pub returns-in-Ok : goal.returns-in-Ok
-returns-in-Ok c =
+pub returns-in-Ok-clause-found : goal.returns-in-Ok-clause-found
+returns-in-Ok-clause-found c =
     let s = c.in-Sequence in
     let fs = c.deref-fields.result.now in
     let is = as_sequence c.args.shape.now s.root s.additions fs s.is c.in-None.is c.deref-fields.ensures.value in
-    λ o. c.field_in.ensures o ∙ closed_look (type_of c.args.shape.now) (fields_of fs) is (place_of c.args.place) _ _ (rw c.optional.ensures.is at c.in-Ok.ensures) (to_component c.args.index) o
+    λ o. c.field_in.ensures.found o ∙ closed_look (type_of c.args.shape.now) (fields_of fs) is (place_of c.args.place) _ _ (rw c.optional.ensures.is at c.in-Ok.ensures) (to_component c.args.index) o
 
-pub returns-in-Ok-preamble : goal.returns-in-Ok-preamble
-returns-in-Ok-preamble c =
+pub returns-in-Ok-preamble-clause-found : goal.returns-in-Ok-preamble-clause-found
+returns-in-Ok-preamble-clause-found c =
     let s = c.in-Sequence in
     let fs = c.deref-fields.result.now in
     let more = c.in-Some.field-0 in
     let is = as_extensible c.args.shape.now s.root s.additions more fs more.items s.is c.in-Some.is c.deref-fields.ensures.value refl in
-    λ o. c.field_in-in-Some.ensures o ∙ root_look (type_of c.args.shape.now) fs more.items is (c.optional-in-Some.result + 1) (place_of c.args.place) (place_of c.in-Ok-preamble.next) (bits_in c.in-Ok-preamble.bits) (bits_in c.later.result) (ap (λ k. k + 1) c.optional-in-Some.ensures.is ∙ add-one (optional (fields_of fs))) c.requires.checked c.in-Ok-preamble.ensures c.later.ensures c.args.index o
+    λ o. c.field_in-in-Some.ensures.found o ∙ root_look (type_of c.args.shape.now) fs more.items is (c.optional-in-Some.result + 1) (place_of c.args.place) (place_of c.in-Ok-preamble.next) (bits_in c.in-Ok-preamble.bits) (bits_in c.later.result) (ap (λ k. k + 1) c.optional-in-Some.ensures.is ∙ add-one (optional (fields_of fs))) c.requires.checked c.in-Ok-preamble.ensures c.later.ensures c.args.index o
+
+pub returns-in-Ok-clause-stands : goal.returns-in-Ok-clause-stands
+returns-in-Ok-clause-stands c =
+    let s = c.in-Sequence in
+    let fs = c.deref-fields.result.now in
+    let is = as_sequence c.args.shape.now s.root s.additions fs s.is c.in-None.is c.deref-fields.ensures.value in
+    closed_stands (type_of c.args.shape.now) (fields_of fs) is c.args.index (place_of c.args.place) (place_of c.in-Ok.next) (bits_in c.in-Ok.bits) c.field_in.result (rw c.optional.ensures.is at c.in-Ok.ensures) c.field_in.ensures.stands
+
+pub returns-in-Ok-preamble-clause-stands : goal.returns-in-Ok-preamble-clause-stands
+returns-in-Ok-preamble-clause-stands c =
+    let s = c.in-Sequence in
+    let fs = c.deref-fields.result.now in
+    let more = c.in-Some.field-0 in
+    let is = as_extensible c.args.shape.now s.root s.additions more fs more.items s.is c.in-Some.is c.deref-fields.ensures.value refl in
+    let many = ap (λ k. k + 1) c.optional-in-Some.ensures.is ∙ add-one (optional (fields_of fs)) in
+    root_stands (type_of c.args.shape.now) (fields_of fs) (additions_of more.items) is c.args.index (c.optional-in-Some.result + 1) (place_of c.args.place) (place_of c.in-Ok-preamble.next) (bits_in c.in-Ok-preamble.bits) (bits_in c.later.result) c.field_in-in-Some.result many c.in-Ok-preamble.ensures c.later.ensures c.field_in-in-Some.ensures.stands

@@ -1,4 +1,4 @@
-use Rattle.std.proofs.Common.{◌∙◌, ap, refl, sym}
+use Rattle.std.proofs.Common.{◌∙◌, ap, refl, sym, subst}
 use Rattle.oer_types.specs.AsnType.{sequence_of}
 use Rattle.oer_types.specs.Checking.{check_value}
 use Rattle.oer_types.specs.Parts.{to_item}
@@ -12,19 +12,22 @@ use Rattle.oer_checker.proofs.PartSteps.{no_such}
 use Rattle.oer_checker.proofs.ShapeCases.{not_list}
 use Rattle.oer_checker.proofs.TypeSteps.{as_items, by_type}
 use Rattle.oer_checker.proofs.Walks.{item_entry}
+use Rattle.oer_types.specs.Constraints.{KeepsLimits}
+use Rattle.oer_types.specs.Fits.{DefaultsFit}
+use Rattle.oer_checker.proofs.Standing.{item_stands}
 use Rattle.oer_checker.proofs.walk.element_of.Goals as goal
 
-pub returns-in_default : goal.returns-in_default
-returns-in_default c = no_such (type_of c.args.shape.now) (to_item c.args.index) _ (not_list c.args.shape.now c.in_default.not-SequenceOf c.args.index)
+pub returns-in_default-clause-found : goal.returns-in_default-clause-found
+returns-in_default-clause-found c = no_such (type_of c.args.shape.now) (to_item c.args.index) _ (not_list c.args.shape.now c.in_default.not-SequenceOf c.args.index)
 
-pub returns-in_default-sized_quantity_at : goal.returns-in_default-sized_quantity_at
-returns-in_default-sized_quantity_at c =
+pub returns-in_default-sized_quantity_at-clause-found : goal.returns-in_default-sized_quantity_at-clause-found
+returns-in_default-sized_quantity_at-clause-found c =
     let s = c.in-SequenceOf in
     let is = as_items c.args.shape.now s.size s.item s.is in
     absurd (not_got (check_value (type_of c.args.shape.now) (place_of c.args.place)) _ _ c.requires.checked (by_type (type_of c.args.shape.now) (sequence_of s.size (type_of s.item.value)) _ _ is (items_stop s.size (type_of s.item.value) _ _ _ c.in_default-sized_quantity_at.ensures)))
 
-pub returns-then-index-count : goal.returns-then-index-count
-returns-then-index-count c =
+pub returns-then-index-count-clause-found : goal.returns-then-index-count-clause-found
+returns-then-index-count-clause-found c =
     let s = c.in-SequenceOf in
     let T = type_of c.deref-item.result.now in
     let is = as_items c.args.shape.now s.size s.item s.is ∙ ap (λ (i : Shape). sequence_of s.size (type_of i)) (sym c.deref-item.ensures) in
@@ -32,8 +35,8 @@ returns-then-index-count c =
     λ o. item_missing T c.in-Ok.count c.args.index (place_of c.in-Ok.next) e.1 e.0 e.2 c.if-index-count.true o
     ∙ list_look (type_of c.args.shape.now) s.size T is (place_of c.args.place) (place_of c.in-Ok.next) c.in-Ok.count c.in-Ok.field-0-0-1 c.in-Ok.ensures (to_item c.args.index) o
 
-pub returns-in_default-check_elements : goal.returns-in_default-check_elements
-returns-in_default-check_elements c =
+pub returns-in_default-check_elements-clause-found : goal.returns-in_default-check_elements-clause-found
+returns-in_default-check_elements-clause-found c =
     let s = c.in-SequenceOf in
     let T = type_of c.deref-item.result.now in
     let is = as_items c.args.shape.now s.size s.item s.is ∙ ap (λ (i : Shape). sequence_of s.size (type_of i)) (sym c.deref-item.ensures) in
@@ -41,8 +44,8 @@ returns-in_default-check_elements c =
     let f = item_found T c.in-Ok.count c.args.index (place_of c.in-Ok.next) e.1 e.0 e.2 c.if-index-count.false in
     absurd (no_refusal _ f.0 _ _ f.1 c.in_default-check_elements.ensures)
 
-pub returns-in_default-encoding_at : goal.returns-in_default-encoding_at
-returns-in_default-encoding_at c =
+pub returns-in_default-encoding_at-clause-found : goal.returns-in_default-encoding_at-clause-found
+returns-in_default-encoding_at-clause-found c =
     let s = c.in-SequenceOf in
     let T = type_of c.deref-item.result.now in
     let is = as_items c.args.shape.now s.size s.item s.is ∙ ap (λ (i : Shape). sequence_of s.size (type_of i)) (sym c.deref-item.ensures) in
@@ -51,8 +54,8 @@ returns-in_default-encoding_at c =
     let ends = same_end _ f.0 (place_of c.in-Ok-check_elements.start) _ f.1 c.in-Ok-check_elements.ensures in
     absurd (is_unread _ (item_entry T c.args.index) f.0 (place_of c.in-Ok-check_elements.start) _ refl f.2 ends c.in_default-encoding_at.ensures)
 
-pub returns : goal.returns
-returns c =
+pub returns-clause-found : goal.returns-clause-found
+returns-clause-found c =
     let s = c.in-SequenceOf in
     let T = type_of c.deref-item.result.now in
     let is = as_items c.args.shape.now s.size s.item s.is ∙ ap (λ (i : Shape). sequence_of s.size (type_of i)) (sym c.deref-item.ensures) in
@@ -61,3 +64,12 @@ returns c =
     let ends = same_end _ f.0 (place_of c.in-Ok-check_elements.start) _ f.1 c.in-Ok-check_elements.ensures in
     λ o. is_read _ (item_entry T c.args.index) f.0 (place_of c.in-Ok-check_elements.start) _ _ refl f.2 ends c.in-Some.ensures o
     ∙ list_look (type_of c.args.shape.now) s.size T is (place_of c.args.place) (place_of c.in-Ok.next) c.in-Ok.count c.in-Ok.field-0-0-1 c.in-Ok.ensures (to_item c.args.index) o
+
+pub returns-clause-stands : goal.returns-clause-stands
+returns-clause-stands c =
+    let s = c.in-SequenceOf in
+    let T = type_of c.deref-item.result.now in
+    let is = as_items c.args.shape.now s.size s.item s.is ∙ ap (λ (i : Shape). sequence_of s.size (type_of i)) (sym c.deref-item.ensures) in
+    let w = (subst KeepsLimits is c.requires.limits).1 in
+    let d = subst DefaultsFit is c.requires.defaults in
+    item_stands (type_of c.args.shape.now) s.size T is w d c.args.index c.in-Ok.count (place_of c.args.place) (place_of c.in-Ok.next) (place_of c.in-Ok-check_elements.start) c.in-Ok.field-0-0-1 _ _ _ c.in-Ok.ensures c.in-Ok-check_elements.ensures c.in-Some.ensures refl

@@ -1,19 +1,21 @@
-use Rattle.std.proofs.Common.{◌∙◌, ◌<◌, drop, take, length, rules, sym, ap}
+use Rattle.std.proofs.Common.{◌∙◌, ◌<◌, drop, take, length, rules, sym, ap, refl}
 use Rattle.oer_types.specs.Constraints.{optional}
-use Rattle.oer_types.specs.ShapeView.{fields_of, need_of}
+use Rattle.oer_types.specs.ShapeView.{fields_of, need_of, type_of}
 use Rattle.oer_checker.specs.BitView.{bits_in}
 use Rattle.oer_checker.specs.Places.{place_of}
 use Rattle.oer_types.specs.SharedSteps.{is_there}
 use Rattle.oer_checker.proofs.FieldSteps.{field_defaults, field_limits}
 use Rattle.oer_checker.proofs.Finds.{field_defaults_front, field_found, field_missing, fields_front, is_read, is_unread, no_refusal, not_there, same_end}
 use Rattle.oer_checker.proofs.Walks.{field_entry}
+use Rattle.oer_checker.specs.Offsets.{AreFields}
+use Rattle.oer_checker.proofs.Standing.{fields_stand, value_stands}
 use Rattle.oer_checker.proofs.walk.field_in.Goals as goal
 
-pub returns-then-index-fields : goal.returns-then-index-fields
-returns-then-index-fields c = let e = c.requires.checked in field_missing c.args.fields.now c.args.index (bits_in c.args.bits) (place_of c.args.place) e.1 e.0 e.2 (search rules)
+pub returns-then-index-fields-clause-found : goal.returns-then-index-fields-clause-found
+returns-then-index-fields-clause-found c = let e = c.requires.checked in field_missing c.args.fields.now c.args.index (bits_in c.args.bits) (place_of c.args.place) e.1 e.0 e.2 (search rules)
 
-pub returns-then-not-is_present : goal.returns-then-not-is_present
-returns-then-not-is_present c =
+pub returns-then-not-is_present-clause-found : goal.returns-then-not-is_present-clause-found
+returns-then-not-is_present-clause-found c =
     let e = c.requires.checked in
     let xs = c.args.fields.now in
     let x = c.index-fields-index.result in
@@ -29,8 +31,8 @@ check_fields-requires-clause-limits c = fields_front c.args.fields.now c.args.in
 pub check_fields-requires-clause-defaults : goal.check_fields-requires-clause-defaults
 check_fields-requires-clause-defaults c = field_defaults_front c.args.fields.now c.args.index c.requires.defaults
 
-pub returns-in_default : goal.returns-in_default
-returns-in_default c =
+pub returns-in_default-clause-found : goal.returns-in_default-clause-found
+returns-in_default-clause-found c =
     let e = c.requires.checked in
     let less : c.args.index < length c.args.fields.now = search rules in
     let o = field_found c.args.fields.now c.args.index (bits_in c.args.bits) c.index-fields-index.result (place_of c.args.place) e.1 e.0 e.2 less c.index-fields-index.is in
@@ -46,8 +48,8 @@ encoding_at-requires-clause-defaults c =
     let less : c.args.index < length c.args.fields.now = search rules in
     field_defaults c.args.fields.now c.args.index c.index-fields-index.result less c.index-fields-index.is c.requires.defaults
 
-pub returns-in_default-encoding_at : goal.returns-in_default-encoding_at
-returns-in_default-encoding_at c =
+pub returns-in_default-encoding_at-clause-found : goal.returns-in_default-encoding_at-clause-found
+returns-in_default-encoding_at-clause-found c =
     let e = c.requires.checked in
     let xs = c.args.fields.now in
     let x = c.index-fields-index.result in
@@ -57,8 +59,8 @@ returns-in_default-encoding_at c =
     let there = c.presence-is_present.ensures.there ∙ ap (is_there (need_of x.need)) (c.skip.ensures ∙ ap (λ k. drop k s) c.optional.ensures.is) in
     absurd (is_unread _ (field_entry x c.args.index (drop (optional (fields_of (take c.args.index xs))) s)) o.0 (place_of c.in-Ok.start) _ (sym c.if-not-is_present.false ∙ there) o.2 (same_end _ o.0 _ _ o.1 c.in-Ok.ensures) c.in_default-encoding_at.ensures)
 
-pub returns : goal.returns
-returns c =
+pub returns-clause-found : goal.returns-clause-found
+returns-clause-found c =
     let e = c.requires.checked in
     let xs = c.args.fields.now in
     let x = c.index-fields-index.result in
@@ -67,3 +69,14 @@ returns c =
     let o = field_found xs c.args.index s x (place_of c.args.place) e.1 e.0 e.2 less c.index-fields-index.is in
     let there = c.presence-is_present.ensures.there ∙ ap (is_there (need_of x.need)) (c.skip.ensures ∙ ap (λ k. drop k s) c.optional.ensures.is) in
     is_read _ (field_entry x c.args.index (drop (optional (fields_of (take c.args.index xs))) s)) o.0 (place_of c.in-Ok.start) _ _ (sym c.if-not-is_present.false ∙ there) o.2 (same_end _ o.0 _ _ o.1 c.in-Ok.ensures) c.in-Some.ensures
+
+pub returns-clause-stands : goal.returns-clause-stands
+returns-clause-stands c =
+    let xs = c.args.fields.now in
+    let i = c.args.index in
+    let x = c.index-fields-index.result in
+    let less : i < length xs = search rules in
+    let w = field_limits xs i x less c.index-fields-index.is c.requires.limits in
+    let d = field_defaults xs i x less c.index-fields-index.is c.requires.defaults in
+    let o = fields_stand xs i (bits_in c.args.bits) (place_of c.args.place) (place_of c.in-Ok.start) _ c.requires.limits c.requires.defaults c.in-Ok.ensures in
+    value_stands (type_of x.shape) w d (λ n a. AreFields (fields_of xs) i (bits_in c.args.bits) a) o.0 (place_of c.args.place) (place_of c.in-Ok.start) _ _ o.2 (λ n. o.1) c.in-Some.ensures refl
