@@ -1,3 +1,5 @@
+pub mod LeafValue
+pub mod LeafType
 pub mod AsnValue
 pub mod AsnType
 pub mod Bits
