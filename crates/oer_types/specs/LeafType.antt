@@ -1,5 +1,5 @@
 -- The types that hold no other type.
-use Rattle.std.specs.Prelude.{ℕ, ℤ, List, Bool, Option}
+use Rattle.std.specs.Prelude.{ℕ, ℤ, List, Bool, Option, Some, None}
 use Rattle.oer_types.specs.declared.size.Size.{Size}
 
 -- an item of an ENUMERATED
@@ -22,3 +22,11 @@ pub data LeafType : Type 0 where
   object_id : LeafType
   restricted_string : Alphabet → Size → LeafType
   utf8_string : Size → LeafType
+
+-- the size constraint of a string, also where it allows every size
+abbrev pub string_size : LeafType → Option Size
+string_size (bit_string size) = Some size
+string_size (octet_string size) = Some size
+string_size (restricted_string letters size) = Some size
+string_size (utf8_string size) = Some size
+string_size kind = None
