@@ -18,6 +18,7 @@ use Rattle.oer_types.specs.declared.size.Size.{Size}
 use Rattle.oer_types.specs.declared.fault.SchemaFault.{SchemaFault}
 use Rattle.oer_types.specs.declared.fault.SchemaFault.TheVariants.{TooDeep, TooManyParts, BoundOrder, SizeOrder, BadName, RepeatedName, NoItems, RepeatedNumber, RepeatedTag, DefaultMisfit, EmptyElement}
 use Rattle.oer_types.proofs.FitTests.{fit_sound}
+use Rattle.oer_types.proofs.Leaves.{some_node}
 use Rattle.oer_types.proofs.FaultTests.{fault_decides}
 
 -- the fault of a number
@@ -126,20 +127,9 @@ or_right : (a b : Bool) → (a || b) ≡ false → b ≡ false
 or_right false b h = h
 or_right true b h = cc
 
-pub leaf_some : (kind : LeafType) → 1 ≤ leaf_nodes kind
-leaf_some (kind.enumerated xs e) = omega arith
-leaf_some _ = omega arith
-
 few_additions : (more : Additions) → addition_count more ≤ additions_nodes more
 few_additions no_additions = omega arith
 few_additions (addition name T more) = let n = few_additions more in let p = some_node T in omega arith
-  where
-    some_node : (T : AsnType) → 1 ≤ type_nodes T
-    some_node (sequence fs) = omega arith
-    some_node (extensible_sequence fs more) = omega arith
-    some_node (sequence_of s T) = omega arith
-    some_node (choice e more) = omega arith
-    some_node (leaf kind) = leaf_some kind
 
 size_limit : (s : Size) → HasSizeWidths s → HasSizeLimit s
 size_limit s h = le-leb s.low 18446744073709551615 (omega arith)

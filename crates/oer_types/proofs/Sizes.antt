@@ -2,7 +2,7 @@
 use Rattle.std.proofs.Common.{◌≡◌, ℕ, suc, inl, inr, drop, ◌+◌, ◌*◌, ◌≤◌, max, List, [], ◌∷◌, ◌++◌, length, Bool, true, false, ap, ◌∙◌, arith, length-append, mul-le-mul_left, mul-pos}
 use Rattle.oer_units.specs.Spelling.{IsCounted, IsJoined}
 use Rattle.oer_units.specs.declared.tagging.Tag.{Tag}
-use Rattle.oer_types.proofs.Faults.{leaf_some}
+use Rattle.oer_types.proofs.Leaves.{leaf_is, leaf_some}
 use Rattle.oer_types.proofs.Main.{takes_some, len_some, preamble_some, tag_some}
 use Rattle.oer_types.specs.LeafType as kind
 use Rattle.oer_types.specs.LeafType.{LeafType}
@@ -84,12 +84,6 @@ extension_bounded true more S f ps us b m some fits (s, k, a, u, e, j, zeros, x,
 
 leaf_bounded : (n m k : ℕ) → k ≡ 1 → 1 ≤ n → 1 ≤ m → k ≤ n * m
 leaf_bounded n m k e l some = let i = one_node n m l some in omega arith
-
--- a value that fits a type without parts has none
-leaf_is : (kind : LeafType) (v : AsnValue) (b : List ℕ) → IsLeafSpelling kind v b → (x : LeafValue) × (v ≡ leaf_value x)
-leaf_is kind.boolean v b s = (_, s.2)
-leaf_is kind.null v b s = (_, s.0)
-leaf_is _ v b s = (_, s.1)
 
 leaf_is_bounded : (kind : LeafType) → Bounded nodes (leaf_nodes kind) (IsLeafSpelling kind)
 leaf_is_bounded kind v b m some fits s = leaf_bounded (leaf_nodes kind) m (nodes v) (ap nodes (leaf_is kind v b s).1) (leaf_some kind) some
