@@ -72,8 +72,15 @@ items_none f each no_values = refl
 items_none f each (value v vs) = or_none _ _ (each v) (items_none f each vs)
 
 leaf_none : (kind : LeafType) (v : LeafValue) → has_float (made_leaf kind v) ≡ false
+leaf_none kind.boolean (leaf_kind.bool b) = refl
+leaf_none kind.null leaf_kind.nothing = refl
 leaf_none (kind.integer low high) (leaf_kind.int z) = integer_none (has_64_bits z) z
 leaf_none (kind.enumerated numbers extensible) (leaf_kind.enum z) = item_none (name_of numbers z) z
+leaf_none (kind.bit_string size) (leaf_kind.bit_list s) = refl
+leaf_none (kind.octet_string size) (leaf_kind.octets w) = refl
+leaf_none kind.object_id (leaf_kind.oid arcs) = refl
+leaf_none (kind.restricted_string kind size) (leaf_kind.text w) = refl
+leaf_none (kind.utf8_string size) (leaf_kind.text w) = refl
 leaf_none _ _ = refl
 
 mutual
