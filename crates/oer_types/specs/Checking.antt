@@ -10,6 +10,7 @@ use Rattle.oer_units.specs.Reader.{Outcome, Place, Reader, bind, choose, filled_
 use Rattle.oer_units.specs.Reading.{counted_number, counted_octets, determinant, number, octet, subidentifier, tag}
 use Rattle.oer_units.specs.declared.fault.Why.TheVariants.{Character, IntegerRange, ObjectId, UnknownAddition, UnknownAlternative, UnknownEnum}
 use Rattle.oer_units.specs.declared.tagging.Tag.{Tag}
+use Rattle.oer_types.specs.Limits.{addition_places}
 use Rattle.oer_types.specs.LeafType.{LeafType, bit_string, boolean, enumerated, integer, null, object_id, octet_string, restricted_string, utf8_string}
 use Rattle.oer_types.specs.AsnType.{Additions, Alternatives, AsnType, Fields, Need, addition, alternative, choice, default, extensible_sequence, field, later, leaf, may, must, no_additions, no_alternatives, no_fields, sequence, sequence_of}
 use Rattle.oer_types.specs.AsnValue.{AsnValue}
@@ -100,7 +101,7 @@ abbrev pub check_extension : Bool → Additions → (List Bool → Reader Bool) 
 check_extension false more c = give true
 check_extension true more c =
     bind (judged (is_bitmap (addition_count more)) bitmap)
-    (λ y. guard (all_false (drop 65536 y.0)) UnknownAddition (and_also y.1 (both (c y.0) (check_unknown (drop (addition_count more) y.0)))))
+    (λ y. guard (all_false (drop addition_places y.0)) UnknownAddition (and_also y.1 (both (c y.0) (check_unknown (drop (addition_count more) y.0)))))
 
 unfoldable pub check_sequence : ℕ → (List Bool → Reader Bool) → Reader Bool
 check_sequence k c = bind (preamble k) c

@@ -3,6 +3,7 @@ use Rattle.std.specs.Prelude.{◌≡◌, ℕ, suc, ◌^◌, ◌≤◌, List, [],
 use Rattle.oer_units.specs.Laws.{HasTagNumber}
 use Rattle.oer_units.specs.Spelling.{class_number}
 use Rattle.oer_units.specs.declared.tagging.Tag.{Tag}
+use Rattle.oer_types.specs.Limits.{addition_places}
 use Rattle.oer_types.specs.LeafType.{LeafType, bit_string, null, octet_string, restricted_string, string_size}
 use Rattle.oer_types.specs.AsnType.{Additions, Alphabet, Alternatives, AsnType, Fields, NamedNumber, Need, addition, alternative, choice, default, extensible_sequence, field, ia5, later, leaf, may, must, no_additions, no_alternatives, no_fields, numeric, printable, sequence, sequence_of, visible}
 use Rattle.oer_types.specs.declared.size.Size.{Size}
@@ -162,12 +163,12 @@ abbrev pub HasSizeLimit : Size → Type 0
 HasSizeLimit s = leb s.low 18446744073709551615 ≡ true
 
 -- What encodings need of a type, part of its being well-formed: no element may take no octets; the lower ends of the
--- sizes of strings have 64 bits, tag numbers 32 bits; no more than 65,536 additions.
+-- sizes of strings have 64 bits, tag numbers 32 bits; no more additions than places.
 abbrev mutual
   pub KeepsLimits : AsnType → Type 0
   KeepsLimits (leaf kind) = IfSome (string_size kind) HasSizeLimit
   KeepsLimits (sequence fs) = FieldsKeepLimits fs
-  KeepsLimits (extensible_sequence fs more) = FieldsKeepLimits fs × AdditionsKeepLimits more × (addition_count more ≤ 65536)
+  KeepsLimits (extensible_sequence fs more) = FieldsKeepLimits fs × AdditionsKeepLimits more × (addition_count more ≤ addition_places)
   KeepsLimits (sequence_of s T) = (may_be_empty T ≡ false) × KeepsLimits T
   KeepsLimits (choice extensible more) = AlternativesKeepLimits more
 

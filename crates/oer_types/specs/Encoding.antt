@@ -6,6 +6,7 @@ use Rattle.oer_units.specs.Octets.{IsOctets}
 use Rattle.oer_units.specs.Reading.{is_int64}
 use Rattle.oer_units.specs.Spelling.{IsCounted, IsEnumerated, IsJoined, IsObjectId, IsTag, StandsFor}
 use Rattle.oer_units.specs.declared.tagging.Tag.{Tag}
+use Rattle.oer_types.specs.Limits.{addition_places}
 use Rattle.oer_types.specs.LeafType.{LeafType, bit_string, boolean, enumerated, integer, null, object_id, octet_string, restricted_string, utf8_string}
 use Rattle.oer_types.specs.AsnType.{Additions, Alternatives, AsnType, Fields, Need, addition, alternative, choice, default, extensible_sequence, field, later, leaf, may, must, no_additions, no_alternatives, no_fields, sequence, sequence_of}
 use Rattle.oer_types.specs.AsnValue.{AsnValue, Places, Unknown, absent, bit_list, bool, chosen, enum, foreign, int, items, no_places, nothing, octets, oid, present, seq, text, unknown}
@@ -76,12 +77,12 @@ SpellsUnknown S place (true ∷ s) us b = (w : List ℕ) × (rest : List Unknown
     × (us ≡ unknown place w ∷ rest) × (b ≡ b1 ++ b2) × S w b1 × SpellsUnknown S (suc place) s rest b2
 SpellsUnknown S place (false ∷ s) us b = SpellsUnknown S (suc place) s us b
 
--- The additions (X.696, 16.4): without the extension bit none; with it a bitmap, no bit of it set past place 65,535,
+-- The additions (X.696, 16.4): without the extension bit none; with it a bitmap, no bit of it set past the last place,
 -- and then each addition whose bit is set, as an open type.
 abbrev pub SpellsExtension : Bool → Additions → (List Bool → Places → List ℕ → Type 0) → Places → List Unknown → List ℕ → Type 0
 SpellsExtension false more S added us e = (added ≡ all_absent more) × (us ≡ []) × (e ≡ [])
 SpellsExtension true more S added us e = (s : List Bool) × (m : List ℕ) × (a : List ℕ) × (u : List ℕ) × (e ≡ m ++ (a ++ u))
-    × SpellsBitmap s m × (all_false (drop 65536 s) ≡ true) × S s added a
+    × SpellsBitmap s m × (all_false (drop addition_places s) ≡ true) × S s added a
     × SpellsUnknown (IsCounted IsItself) (addition_count more) (drop (addition_count more) s) us u
 
 -- an alternative of the type, spelt by S; or one that it doesn't know, where there is an extension marker, as an open type

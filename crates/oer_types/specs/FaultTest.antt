@@ -1,6 +1,7 @@
 -- The faults of types, as tests.
 use Rattle.std.specs.Prelude.{ℕ, List, [], ◌∷◌, Bool, true, false, not, ◌||◌, ltb, if◌then◌else◌, int_lt, Option, Some, None}
 use Rattle.std.specs.Str.{bytes_eq}
+use Rattle.oer_types.specs.Limits.{max_depth, max_parts}
 use Rattle.oer_types.specs.LeafType.{string_size}
 use Rattle.oer_types.specs.AsnType.{Additions, Alternatives, AsnType, Fields, NamedNumber, Need, addition, alternative, choice, default, enumerated, extensible_sequence, field, integer, later, leaf, may, must, no_additions, no_alternatives, no_fields, sequence, sequence_of}
 use Rattle.oer_types.specs.Constraints.{has_number, has_tag, may_be_empty}
@@ -126,8 +127,8 @@ has_fault_here EmptyElement T = has_empty_element T
 
 -- of the type or of a type in it
 abbrev pub has_fault : SchemaFault → AsnType → Bool
-has_fault TooDeep T = ltb 32 (depth T)
-has_fault TooManyParts T = ltb 4096 (type_nodes T)
+has_fault TooDeep T = ltb max_depth (depth T)
+has_fault TooManyParts T = ltb max_parts (type_nodes T)
 has_fault fault T = somewhere (has_fault_here fault) T
 
 -- the faults after the first two, in the order of their numbers

@@ -3,6 +3,7 @@ use Rattle.std.specs.Prelude.{ℕ, suc, ◌+◌, ◌*◌, ◌^◌, List, [], ◌
 use Rattle.std.specs.Str.{is_utf8, chars}
 use Rattle.oer_units.specs.Reading.{is_int64}
 use Rattle.oer_units.specs.declared.tagging.Tag.{Tag}
+use Rattle.oer_types.specs.Limits.{last_place}
 use Rattle.oer_types.specs.LeafType.{LeafType, bit_string, boolean, enumerated, integer, null, object_id, octet_string, restricted_string, utf8_string}
 use Rattle.oer_types.specs.LeafValue.{LeafValue, bit_list, bool, enum, int, nothing, octets, oid, text}
 use Rattle.oer_types.specs.AsnType.{Additions, Alternatives, AsnType, Fields, Need, addition, alternative, choice, default, extensible_sequence, field, later, leaf, may, must, no_additions, no_alternatives, no_fields, sequence, sequence_of}
@@ -38,7 +39,7 @@ may_be_absent (default v) = true
 
 abbrev pub unknown_fit : ℕ → List Unknown → Bool
 unknown_fit lowest [] = true
-unknown_fit lowest (unknown place w ∷ us) = (leb lowest place && leb place 65535 && all_below 256 w) && unknown_fit (suc place) us
+unknown_fit lowest (unknown place w ∷ us) = (leb lowest place && leb place last_place && all_below 256 w) && unknown_fit (suc place) us
 
 abbrev pub is_without : Places → List Unknown → Bool
 is_without no_places [] = true

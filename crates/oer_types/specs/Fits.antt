@@ -4,6 +4,7 @@ use Rattle.std.specs.Str.{is_utf8, chars}
 use Rattle.oer_units.specs.Octets.{IsOctets}
 use Rattle.oer_units.specs.Reading.{is_int64}
 use Rattle.oer_units.specs.declared.tagging.Tag.{Tag}
+use Rattle.oer_types.specs.Limits.{last_place}
 use Rattle.oer_types.specs.LeafType.{LeafType, bit_string, boolean, enumerated, integer, null, object_id, octet_string, restricted_string, utf8_string}
 use Rattle.oer_types.specs.AsnType.{Additions, Alternatives, AsnType, Fields, Need, addition, alternative, choice, default, extensible_sequence, field, later, leaf, may, must, no_additions, no_alternatives, no_fields, sequence, sequence_of}
 use Rattle.oer_types.specs.AsnValue.{AsnValue, Places, Unknown, Values, absent, bit_list, bool, chosen, enum, foreign, int, items, no_places, no_values, nothing, octets, oid, present, seq, text, unknown, value}
@@ -65,10 +66,10 @@ abbrev pub FitsByTag : Bool → (AsnValue → Type 0) → (AsnValue → Type 0) 
 FitsByTag true P Rest v = P v
 FitsByTag false P Rest v = Rest v
 
--- the unknown additions: their places rise from the lowest to 65,535
+-- the unknown additions: their places rise from the lowest to the last one
 abbrev pub FitsUnknown : ℕ → List Unknown → Type 0
 FitsUnknown lowest [] = Unit {0}
-FitsUnknown lowest (unknown place w ∷ us) = (lowest ≤ place) × (place ≤ 65535) × IsOctets w × FitsUnknown (suc place) us
+FitsUnknown lowest (unknown place w ∷ us) = (lowest ≤ place) × (place ≤ last_place) × IsOctets w × FitsUnknown (suc place) us
 
 -- an alternative of the type; or one that it doesn't know, where there is an extension marker
 abbrev pub FitsChosen : Bool → Alternatives → (Tag → AsnValue → Type 0) → AsnValue → Type 0

@@ -1,3 +1,4 @@
+pub mod Limits
 pub mod LeafValue
 pub mod LeafType
 pub mod AsnValue

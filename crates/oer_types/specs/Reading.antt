@@ -8,6 +8,7 @@ use Rattle.oer_units.specs.Reader.{Reader, bind, choose, give, group, guard, ref
 use Rattle.oer_units.specs.Reading.{counted_number, counted_octets, number, object_identifier, octet, open_type, tag, with_length}
 use Rattle.oer_units.specs.declared.fault.Why.TheVariants.{BitUnused, Character, IntegerRange, PreamblePadding, UnknownAddition, UnknownAlternative, UnknownEnum}
 use Rattle.oer_units.specs.declared.tagging.Tag.{Tag}
+use Rattle.oer_types.specs.Limits.{addition_places}
 use Rattle.oer_types.specs.LeafType.{LeafType, bit_string, boolean, enumerated, integer, null, object_id, octet_string, restricted_string, utf8_string}
 use Rattle.oer_types.specs.AsnType.{Additions, Alternatives, AsnType, Fields, Need, addition, alternative, choice, default, extensible_sequence, field, later, leaf, may, must, no_additions, no_alternatives, no_fields, sequence, sequence_of}
 use Rattle.oer_types.specs.AsnValue.{AsnValue, Places, Unknown, absent, bit_list, bool, chosen, enum, foreign, int, items, no_places, nothing, octets, oid, present, seq, text, unknown}
@@ -88,7 +89,7 @@ read_both r q = bind r (λ added. bind q (λ us. give (added, us)))
 abbrev pub read_extension : Bool → Additions → (List Bool → Reader Places) → Reader (Places × List Unknown)
 read_extension false more r = give (all_absent more, [])
 read_extension true more r =
-    bind bitmap (λ s. guard (all_false (drop 65536 s)) UnknownAddition
+    bind bitmap (λ s. guard (all_false (drop addition_places s)) UnknownAddition
     (read_both (r s) (read_unknown (addition_count more) (drop (addition_count more) s))))
 
 -- k presence bits, and then the root

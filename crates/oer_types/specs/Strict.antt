@@ -4,6 +4,7 @@ use Rattle.oer_units.specs.Numbers.{unsigned}
 use Rattle.oer_units.specs.Octets.{IsOctets, IsShortest}
 use Rattle.oer_units.specs.Spelling.{IsCounted, StandsFor, IsJoined, IsLength, IsTag}
 use Rattle.oer_units.specs.declared.tagging.Tag.{Tag}
+use Rattle.oer_types.specs.Limits.{addition_places}
 use Rattle.oer_types.specs.LeafType.{LeafType, bit_string, boolean, null}
 use Rattle.oer_types.specs.AsnType.{Additions, Alternatives, AsnType, Fields, Need, addition, alternative, choice, default, extensible_sequence, field, later, leaf, may, must, no_additions, no_alternatives, no_fields, sequence, sequence_of}
 use Rattle.oer_types.specs.AsnValue.{AsnValue, Places, Unknown, bit_list, bool, chosen, foreign, items, no_places, nothing, seq}
@@ -59,7 +60,7 @@ StrictExtension false more S added us e = (added ≡ all_absent more) × (us ≡
 StrictExtension true more S added us e = (s : List Bool) × (z : List Bool) × (m : List ℕ) × (a : List ℕ) × (u : List ℕ)
     × (e ≡ m ++ (a ++ u)) × StrictBitmap (s ++ z) m
     × (length s ≡ addition_count more) × (length (s ++ z) ≡ max (addition_count more) (after_last us))
-    × (all_false (s ++ z) ≡ false) × (all_false (drop 65536 (s ++ z)) ≡ true) × S s added a
+    × (all_false (s ++ z) ≡ false) × (all_false (drop addition_places (s ++ z)) ≡ true) × S s added a
     × SpellsUnknown (StrictCounted IsItself) (addition_count more) z us u
 
 -- as SpellsChosen, with a length in its least form

@@ -1,6 +1,7 @@
 -- Which types are well-formed: the faults of types, each by itself, and the one of least number.
 use Rattle.std.specs.Prelude.{◌≡◌, ℕ, suc, ◌<◌, ◌⊎◌, max, List, [], ◌∷◌, ◌++◌, Bool, true, false, ◌&&◌, ◌||◌, eqb, ℤ, ◌<ℤ◌, Option, Some, None, IsSomeAnd}
 use Rattle.oer_units.specs.declared.tagging.Tag.{Tag}
+use Rattle.oer_types.specs.Limits.{max_depth, max_parts}
 use Rattle.oer_types.specs.LeafType.{string_size}
 use Rattle.oer_types.specs.AsnType.{Additions, Alternatives, AsnType, Fields, NamedNumber, Need, addition, alternative, choice, default, enumerated, extensible_sequence, field, integer, later, leaf, may, must, no_additions, no_alternatives, no_fields, sequence, sequence_of}
 use Rattle.oer_types.specs.Constraints.{KeepsLimits, is_within, may_be_empty}
@@ -177,8 +178,8 @@ HasEmptyElement T = ⊥
 
 -- Where each fault holds. Its depth and its number of parts are of the whole type; every other fault is of a type in it, or of itself.
 abbrev pub HasFault : AsnType → SchemaFault → Type 0
-HasFault T TooDeep = 32 < depth T
-HasFault T TooManyParts = 4096 < type_nodes T
+HasFault T TooDeep = max_depth < depth T
+HasFault T TooManyParts = max_parts < type_nodes T
 HasFault T BoundOrder = Somewhere HasCrossedBounds T
 HasFault T SizeOrder = Somewhere HasCrossedSize T
 HasFault T BadName = Somewhere (λ U. AnyOf (λ name. is_identifier name ≡ false) (names U)) T
