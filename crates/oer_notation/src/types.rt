@@ -12,7 +12,7 @@ ghost use Rattle.oer_notation.specs.Views.{known, knowns};
 
 use crate::cursor::Cursor;
 use crate::fault::{TextFault, TextWhy};
-use crate::laws::{complete, sound};
+use crate::laws::{what_is_spelled_is_parsed, what_is_parsed_is_spelled};
 use crate::parse::{Definition, find, read_type};
 use crate::word::is_name;
 use oer_lexer::{Sign, Token, Tokens, lex};
@@ -49,8 +49,8 @@ pub fn parse_type(alloc: Global, text: &str) -> Result<Schema, TextFault>
     ensures spells { IfOk result (λ schema. Spells (the_type schema) text.now) }
     ensures refused { IfErr result (λ fault. IsNoType fault text.now) }
 {
-    sound();
-    complete();
+    what_is_parsed_is_spelled();
+    what_is_spelled_is_parsed();
     read_text(alloc, text)
 }
 
@@ -61,8 +61,8 @@ pub fn parse_types(alloc: Global, text: &str) -> Result<Types, TextFault>
     ensures spells { IfOk result (λ types. SpellsAll (knowns types) text.now) }
     ensures refused { IfErr result (λ fault. AreNoTypes fault text.now) }
 {
-    sound();
-    complete();
+    what_is_parsed_is_spelled();
+    what_is_spelled_is_parsed();
     read_definitions(alloc, text)
 }
 

@@ -1,5 +1,5 @@
 use Rattle.oer_json.proofs.Complete.{one_taken, taken_complete}
-use Rattle.oer_json.proofs.laws.complete.Goals as goal
+use Rattle.oer_json.proofs.laws.what_is_denoted_is_taken.Goals as goal
 
 pub returns-clause-taken : goal.returns-clause-taken
 returns-clause-taken c = taken_complete

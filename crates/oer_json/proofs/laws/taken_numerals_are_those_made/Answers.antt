@@ -1,6 +1,6 @@
 use Rattle.oer_json.proofs.Decimals.{text_read, text_spelt}
 use Rattle.oer_json.proofs.Dots.{dotted_complete, dotted_sound}
-use Rattle.oer_json.proofs.laws.texts.Goals as goal
+use Rattle.oer_json.proofs.laws.taken_numerals_are_those_made.Goals as goal
 
 pub returns-clause-integers_spelt : goal.returns-clause-integers_spelt
 returns-clause-integers_spelt c = text_spelt
