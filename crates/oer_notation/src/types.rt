@@ -16,15 +16,9 @@ use crate::laws::{what_is_spelled_is_parsed, what_is_parsed_is_spelled};
 use crate::parse::{Definition, find, read_type};
 use crate::word::is_name;
 use oer_lexer::{Sign, Token, Tokens, lex};
-use oer_types::Schema;
+use oer_types::{MAX_DEPTH, MAX_PARTS, Schema};
 use oer_types::laws::first_fault;
 use std::alloc::Global;
-
-/// How deep types may nest.
-const MAX_DEPTH: u8 = 32;
-
-/// How many parts a type may have.
-const MAX_PARTS: u16 = 4096;
 
 /// Types by their Names.
 #[derive(Drop)]
