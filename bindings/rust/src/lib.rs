@@ -46,11 +46,10 @@ mod table;
 pub use error::Error;
 pub use reason::{JsonReason, Reason, TextReason};
 
-use std::borrow::Cow;
 use std::cell::UnsafeCell;
 use std::fmt;
 use std::marker::PhantomData;
-use std::ops::{Deref, Range};
+use std::ops::Range;
 use std::os::raw::c_char;
 
 /// A limit that rejects nothing.
@@ -101,34 +100,6 @@ pub struct Written {
     pub read: usize,
     /// How many octets were written, from the first of the buffer on. Those after them are as before.
     pub size: usize,
-}
-
-/// A part of an encoding, as it stands in the octets that were given.
-///
-/// It has the lifetime of these octets, so that it can be borrowed from them. The library doesn't say
-/// yet where a part lies in them: for now a `Part` is a copy.
-#[derive(Clone, Debug, PartialEq, Eq)]
-pub struct Part<'a>(Cow<'a, [u8]>);
-
-impl Part<'_> {
-    /// The octets of the part, owned.
-    pub fn into_owned(self) -> Vec<u8> {
-        self.0.into_owned()
-    }
-}
-
-impl Deref for Part<'_> {
-    type Target = [u8];
-
-    fn deref(&self) -> &[u8] {
-        &self.0
-    }
-}
-
-impl AsRef<[u8]> for Part<'_> {
-    fn as_ref(&self) -> &[u8] {
-        &self.0
-    }
 }
 
 /// Definitions that were read, by their names; or none.
@@ -332,8 +303,8 @@ impl Types {
         written(answer)
     }
 
-    /// The part of the encoding at the front of the octets to which the path leads, as it stands in
-    /// them. A path is steps joined by dots: `c0` a component, `a0` an addition, `i0` an element, `v`
+    /// The part of the encoding at the front of the octets to which the path leads, where it stands in
+    /// them: nothing is copied. A path is steps joined by dots: `c0` a component, `a0` an addition, `i0` an element, `v`
     /// the alternative chosen. What follows the encoding is not looked at.
     ///
     /// # Errors
@@ -344,7 +315,7 @@ impl Types {
     /// ```
     /// let types = oer::Types::parse("A ::= SEQUENCE OF BOOLEAN")?;
     /// let part = types.part("A", &[0x02, 0x00, 0x02, 0x01, 0x07], "i1")?;
-    /// assert_eq!(*part, [0x07]);
+    /// assert_eq!(part, [0x07]);
     /// # Ok::<(), oer::Error>(())
     /// ```
     pub fn part<'a>(
@@ -352,10 +323,44 @@ impl Types {
         name: impl AsRef<[u8]>,
         octets: &'a [u8],
         path: impl AsRef<[u8]>,
-    ) -> Result<Part<'a>, Error> {
+    ) -> Result<&'a [u8], Error> {
+        Ok(&octets[self.part_at(name, octets, path)?])
+    }
+
+    /// Where that part lies in the octets.
+    ///
+    /// # Errors
+    ///
+    /// Those of [`Types::part`].
+    ///
+    /// ```
+    /// let types = oer::Types::parse("A ::= SEQUENCE OF BOOLEAN")?;
+    /// assert_eq!(types.part_at("A", &[0x02, 0x00, 0x02, 0x01, 0x07], "i1")?, 4..5);
+    /// # Ok::<(), oer::Error>(())
+    /// ```
+    pub fn part_at(
+        &self,
+        name: impl AsRef<[u8]>,
+        octets: &[u8],
+        path: impl AsRef<[u8]>,
+    ) -> Result<Range<usize>, Error> {
         let (name, path) = (name.as_ref(), path.as_ref());
-        let (part, _) = gather(octets.len(), |out| self.part_into(name, octets, path, out))?;
-        Ok(Part(Cow::Owned(part)))
+        // SAFETY: as in `canon_into`; nothing is written but the types.
+        let answer = unsafe {
+            sys::oer_part_at(
+                self.held.get(),
+                name.as_ptr().cast(),
+                name.len(),
+                octets.as_ptr(),
+                octets.len(),
+                path.as_ptr().cast(),
+                path.len(),
+            )
+        };
+        match answer.status {
+            sys::OK => Ok(answer.at..answer.at + answer.length),
+            status => Err(Error::of_octets(status, answer.why, answer.octets, 0)),
+        }
     }
 
     /// The same, written into the buffer.
