@@ -22,7 +22,8 @@
  * - The output buffer and the oer_types overlap nothing else that is passed to the call. Inputs may
  *   overlap each other.
  * - Memory comes from malloc, realloc and free, which have to belong together. It may run out: then
- *   the status is OER_MEMORY, and what the call was given is as before. oer_check takes no memory.
+ *   the status is OER_MEMORY, and what the call was given is as before. oer_check and oer_check_many
+ *   take none.
  * - No call is made from a signal handler, or in the child of a fork of a process with threads.
  *
  * Octets are uint8_t, texts are char. All lengths and places are numbers of octets; texts are UTF-8,
@@ -64,7 +65,7 @@ enum oer_status {
     OER_OUTSIDE = 10  /* the message is not all in the octets */
 };
 
-/* Why octets are rejected: `why` of oer_checked and of oer_written at OER_REJECTED, except in
+/* Why octets are rejected: `why` of oer_checked, oer_written and oer_located at OER_REJECTED, except in
  * oer_from_json. docs/ENCODING.md says in which order the reasons are looked for. */
 enum oer_reason {
     OER_END = 3,                  /* they end within the value */

@@ -102,6 +102,32 @@ pub struct Written {
     pub size: usize,
 }
 
+/// What [`Types::part`] returns: where a part of an encoding stands in the octets that were given. It is
+/// borrowed from them, and nothing is copied.
+///
+/// ```compile_fail,E0505
+/// let types = oer::Types::parse("A ::= SEQUENCE OF BOOLEAN")?;
+/// let octets = vec![0x01, 0x01, 0xff];
+/// let part = types.part("A", &octets, "i0")?;
+/// drop(octets);
+/// assert_eq!(part.octets, [0xff]);
+/// # Ok::<(), oer::Error>(())
+/// ```
+#[derive(Clone, Copy, Debug, PartialEq, Eq)]
+pub struct Part<'a> {
+    /// The octets of the part.
+    pub octets: &'a [u8],
+    /// How many octets are before them.
+    pub at: usize,
+}
+
+impl Part<'_> {
+    /// Where the part stands, as a range of the octets that were given.
+    pub fn range(&self) -> Range<usize> {
+        self.at..self.at + self.octets.len()
+    }
+}
+
 /// Definitions that were read, by their names; or none.
 ///
 /// The calls that take a name return [`Error::NoTypes`] if there are no types, and [`Error::Unnamed`]
@@ -304,8 +330,8 @@ impl Types {
     }
 
     /// The part of the encoding at the front of the octets to which the path leads, where it stands in
-    /// them: nothing is copied. A path is steps joined by dots: `c0` a component, `a0` an addition, `i0` an element, `v`
-    /// the alternative chosen. What follows the encoding is not looked at.
+    /// them. A path is steps joined by dots: `c0` a component, `a0` an addition, `i0` an element, `v` the
+    /// alternative chosen. What follows the encoding is not looked at.
     ///
     /// # Errors
     ///
@@ -315,7 +341,7 @@ impl Types {
     /// ```
     /// let types = oer::Types::parse("A ::= SEQUENCE OF BOOLEAN")?;
     /// let part = types.part("A", &[0x02, 0x00, 0x02, 0x01, 0x07], "i1")?;
-    /// assert_eq!(part, [0x07]);
+    /// assert_eq!((part.octets, part.range()), (&[0x07][..], 4..5));
     /// # Ok::<(), oer::Error>(())
     /// ```
     pub fn part<'a>(
@@ -323,29 +349,9 @@ impl Types {
         name: impl AsRef<[u8]>,
         octets: &'a [u8],
         path: impl AsRef<[u8]>,
-    ) -> Result<&'a [u8], Error> {
-        Ok(&octets[self.part_at(name, octets, path)?])
-    }
-
-    /// Where that part lies in the octets.
-    ///
-    /// # Errors
-    ///
-    /// Those of [`Types::part`].
-    ///
-    /// ```
-    /// let types = oer::Types::parse("A ::= SEQUENCE OF BOOLEAN")?;
-    /// assert_eq!(types.part_at("A", &[0x02, 0x00, 0x02, 0x01, 0x07], "i1")?, 4..5);
-    /// # Ok::<(), oer::Error>(())
-    /// ```
-    pub fn part_at(
-        &self,
-        name: impl AsRef<[u8]>,
-        octets: &[u8],
-        path: impl AsRef<[u8]>,
-    ) -> Result<Range<usize>, Error> {
+    ) -> Result<Part<'a>, Error> {
         let (name, path) = (name.as_ref(), path.as_ref());
-        // SAFETY: as in `canon_into`; nothing is written but the types.
+        // SAFETY: as in `check`.
         let answer = unsafe {
             sys::oer_part_at(
                 self.held.get(),
@@ -358,12 +364,12 @@ impl Types {
             )
         };
         match answer.status {
-            sys::OK => Ok(answer.at..answer.at + answer.length),
+            sys::OK => Ok(Part { octets: &octets[answer.at..][..answer.length], at: answer.at }),
             status => Err(Error::of_octets(status, answer.why, answer.octets, 0)),
         }
     }
 
-    /// The same, written into the buffer.
+    /// The same, written into the buffer as a copy.
     ///
     /// # Errors
     ///

@@ -60,7 +60,7 @@ impl Vector {
         let (octets, read, canonical) = match self.task.as_str() {
             "check" => types.check(name, &self.given).map(|found| (Vec::new(), found.octets, found.canonical)),
             "canon" => types.canon_within(name, &self.given, self.limit).map(|made| (made.octets, made.read, false)),
-            "part" => types.part(name, &self.given, &self.path).map(|part| (part.to_vec(), 0, false)),
+            "part" => types.part(name, &self.given, &self.path).map(|part| (part.octets.to_vec(), 0, false)),
             "to_json" => types
                 .to_json_within(name, &self.given, self.limit)
                 .map(|made| (made.text.into_bytes(), made.read, false)),
@@ -131,10 +131,11 @@ fn parts_lie_where_the_table_says() {
             8 => Err(Error::Absent),
             status => panic!("no row has status {status}"),
         };
-        assert_eq!(types.part_at("A", &given, &path), wanted, "{given:02x?}");
-        assert_eq!(types.part("A", &given, &path), wanted.map(|place| &given[place]));
-        assert_eq!(types.part_at("B", &given, &path), Err(Error::Unnamed));
-        assert_eq!(Types::new().part_at("A", &given, &path), Err(Error::NoTypes));
+        let found = types.part("A", &given, &path);
+        assert_eq!(found.map(|part| part.range()), wanted, "{given:02x?}");
+        assert_eq!(found.map(|part| part.octets.as_ptr()), wanted.map(|place| given[place].as_ptr()));
+        assert_eq!(types.part("B", &given, &path), Err(Error::Unnamed));
+        assert_eq!(Types::new().part("A", &given, &path), Err(Error::NoTypes));
     }
 }
 
@@ -256,8 +257,8 @@ fn the_certificate_of_the_example() {
     assert_eq!(types.canon("Certificate", &basic).unwrap().octets, certificate);
     let rejected = types.canon_within("Certificate", &basic, 235).unwrap_err();
     assert_eq!(rejected.reason(), Some("Limit"));
-    assert_eq!(types.part("Certificate", &certificate, "c3").unwrap(), from_hex(&file("tbs-rsu.hex")));
-    assert_eq!(types.part_at("Certificate", &certificate, "c3"), Ok(12..164));
+    let part = types.part("Certificate", &certificate, "c3").unwrap();
+    assert_eq!((part.range(), part.octets), (12..164, &from_hex(&file("tbs-rsu.hex"))[..]));
     let json = types.to_json("Certificate", &basic).unwrap();
     assert_eq!(types.from_json("Certificate", json.text), Ok(certificate));
 }
