@@ -294,7 +294,7 @@ class Header(unittest.TestCase):
             return f"{field.offset}+{field.size}"
 
         structs = {"oer_types": oer._Types, "oer_parsed": oer._Parsed, "oer_checked": oer._Checked,
-                   "oer_message": oer._Message, "oer_written": oer._Written}
+                   "oer_message": oer._Message, "oer_written": oer._Written, "oer_located": oer._Located}
         found = [
             [name, str(ctypes.sizeof(struct))] + [place(getattr(struct, field[0])) for field in struct._fields_]
             for name, struct in structs.items()
