@@ -22,7 +22,8 @@
  * - The output buffer and the oer_types overlap nothing else that is passed to the call. Inputs may
  *   overlap each other.
  * - Memory comes from malloc, realloc and free, which have to belong together. It may run out: then
- *   the status is OER_MEMORY, and what the call was given is as before. oer_check takes no memory.
+ *   the status is OER_MEMORY, and what the call was given is as before. oer_check and oer_check_many
+ *   take none.
  * - No call is made from a signal handler, or in the child of a fork of a process with threads.
  *
  * Octets are uint8_t, texts are char. All lengths and places are numbers of octets; texts are UTF-8,
@@ -64,7 +65,7 @@ enum oer_status {
     OER_OUTSIDE = 10  /* the message is not all in the octets */
 };
 
-/* Why octets are rejected: `why` of oer_checked and of oer_written at OER_REJECTED, except in
+/* Why octets are rejected: `why` of oer_checked, oer_written and oer_located at OER_REJECTED, except in
  * oer_from_json. docs/ENCODING.md says in which order the reasons are looked for. */
 enum oer_reason {
     OER_END = 3,                  /* they end within the value */
@@ -163,6 +164,15 @@ typedef struct oer_written {
                          0 */
 } oer_written;
 
+/* What a call answers that says where a part lies. */
+typedef struct oer_located {
+    uint32_t status; /* the call says which */
+    uint32_t why;    /* at OER_REJECTED the reason, an enum oer_reason; else 0 */
+    uint64_t octets; /* at OER_REJECTED how many octets had been looked at; else 0 */
+    size_t at;       /* at OER_OK the place of the part's first octet; else 0 */
+    size_t length;   /* at OER_OK how many octets it has; else 0 */
+} oer_located;
+
 /* A limit that rejects nothing. */
 #define OER_NO_LIMIT ((uint64_t)-1)
 
@@ -205,6 +215,13 @@ oer_written oer_part(oer_types *types, const char *name, size_t name_length,
                      const uint8_t *octets, size_t octets_length,
                      const char *path, size_t path_length,
                      uint8_t *out, size_t room);
+
+/* Says where that part lies: it is the `length` octets from octets + at on, and nothing is copied. Of a
+ * part without octets `at` is its place, which may be octets_length.
+ * OER_OK, OER_REJECTED, OER_NO_TYPES, OER_UNNAMED, OER_MEMORY, OER_NO_PATH, OER_NO_STEP, OER_ABSENT. */
+oer_located oer_part_at(oer_types *types, const char *name, size_t name_length,
+                        const uint8_t *octets, size_t octets_length,
+                        const char *path, size_t path_length);
 
 /* Writes the JSON (docs/JSON.md) of the value whose encoding, of at most `limit` octets, is at the
  * front of the octets. What follows it is not looked at.

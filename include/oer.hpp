@@ -231,7 +231,7 @@ struct checked {
     bool canonical;
 };
 
-/* Where a message is in octets: its place and its length. */
+/* Where a message or a part is in octets: its place and its length. */
 typedef oer_message message;
 
 /* What a call answers that writes into a buffer of the caller's. */
@@ -427,6 +427,16 @@ public:
         return told(oer_part(&held_, name.data(), name.size(), given.data(), given.size(), path.data(), path.size(),
                              out.data(), out.size()),
                     subject::octets);
+    }
+
+    /* Where that part lies in the octets: it is the `length` octets from the place `at` on, and nothing is
+     * copied. Of a part without octets `at` is its place. The errors are those of part(). */
+    result<message> part_at(text_in name, octets_in given, text_in path) noexcept {
+        oer_located found =
+            oer_part_at(&held_, name.data(), name.size(), given.data(), given.size(), path.data(), path.size());
+        message place = { found.at, found.length };
+        if (found.status == OER_OK) return result<message>(std::move(place));
+        return result<message>(fault(found.status, found.why, found.octets, 0, subject::octets));
     }
 
     /* The JSON (docs/JSON.md) of the value whose encoding, of at most `limit` octets, is at the front of

@@ -273,6 +273,21 @@ static void test_vector(const vector &row) {
     EXPECT(is_only(call(none, "A", row).error, OER_NO_TYPES), "before types are read");
 }
 
+// Where a part lies.
+static void test_place(const place &row) {
+    oer::types types = types_of(row.type);
+    bytes given = from_hex(row.given);
+    oer::result<oer::message> found = types.part_at("A", given, row.path);
+    test_value(found);
+    EXPECT(found.error().status == row.status && found.error().why == row.why, row.given);
+    EXPECT(found.error().place == row.octets && found.error().needed == 0, row.given);
+    EXPECT(found.ok() == (row.status == OER_OK), row.given);
+    if (found.ok()) EXPECT(found.value().at == row.at && found.value().length == row.length, row.given);
+    EXPECT(is_only(types.part_at("B", given, row.path).error(), OER_UNNAMED), row.given);
+    types.free();
+    EXPECT(is_only(types.part_at("A", given, row.path).error(), OER_NO_TYPES), row.given);
+}
+
 // Each message has the answer that it has alone; one that isn't all in the octets has none.
 static void test_many(const vector &row) {
     oer::types types = types_of(row.type);
@@ -413,6 +428,8 @@ static void test_certificate(const std::string &folder) {
     EXPECT(copy(types.canon("Certificate", basic, 236).value()) == certificate, "canon");
     EXPECT(types.canon("Certificate", basic, 235).error().why == OER_LIMIT, "limit");
     EXPECT(copy(types.part("Certificate", certificate, "c3").value()) == signed_part, "toBeSigned");
+    oer::message place = types.part_at("Certificate", certificate, "c3").value();
+    EXPECT(place.at == 12 && place.length == 152, "toBeSigned");
     oer::text json = types.to_json("Certificate", basic).value();
     EXPECT(copy(types.from_json("Certificate", json).value()) == certificate, "json");
 }
@@ -536,6 +553,7 @@ int main(int count, char **words) {
         test_vector(row);
         if (row.task == CHECK) test_many(row);
     }
+    for (const place &row : places) test_place(row);
     for (const vector &row : vectors) test_memory(row);
     for (const rejected_text &row : rejected_texts) test_rejected_text(row);
     test_kept_types();

@@ -31,7 +31,7 @@ from types import TracebackType
 from typing import Any, Callable, Dict, List, NamedTuple, Optional, Sequence, Tuple, Type, Union
 
 __all__ = [
-    "VERSION_NUMBER", "version", "Types", "Checked", "Canonical", "Json", "Reason", "TextReason", "JsonReason",
+    "VERSION_NUMBER", "version", "Types", "Checked", "Canonical", "Json", "Place", "Reason", "TextReason", "JsonReason",
     "Error", "Rejected", "OctetsRejected", "DefinitionsRejected", "JsonRejected", "NoTypes", "Unnamed",
     "OutOfMemory", "NoPath", "NoStep", "Absent", "NotJson", "Outside", "WrongThread",
 ]
@@ -207,6 +207,15 @@ class Json(NamedTuple):
     """How many octets the encoding has that was read."""
 
 
+class Place(NamedTuple):
+    """What part_at() returns."""
+
+    at: int
+    """The place of the part's first octet."""
+    length: int
+    """How many octets it has."""
+
+
 # ---- the calls, as oer.h has them
 
 _OK, _REJECTED, _NO_TYPES, _UNNAMED, _MEMORY, _ROOM, _NO_PATH, _NO_STEP, _ABSENT, _NO_JSON, _OUTSIDE = range(11)
@@ -234,6 +243,11 @@ class _Message(ctypes.Structure):
 class _Written(ctypes.Structure):
     _fields_ = [("status", ctypes.c_uint32), ("why", ctypes.c_uint32), ("octets", ctypes.c_uint64),
                 ("written", ctypes.c_uint64)]
+
+
+class _Located(ctypes.Structure):
+    _fields_ = [("status", ctypes.c_uint32), ("why", ctypes.c_uint32), ("octets", ctypes.c_uint64),
+                ("at", ctypes.c_size_t), ("length", ctypes.c_size_t)]
 
 
 def _file() -> str:
@@ -267,6 +281,7 @@ def _load() -> ctypes.CDLL:
         "oer_check_many": ([handle] + given + given + [ctypes.c_void_p, size] + out, ctypes.c_uint32),
         "oer_canon": ([handle] + given + given + [limit] + out, _Written),
         "oer_part": ([handle] + given + given + given + out, _Written),
+        "oer_part_at": ([handle] + given + given + given, _Located),
         "oer_to_json": ([handle] + given + given + [limit] + out, _Written),
         "oer_from_json": ([handle] + given + given + out, _Written),
     }
@@ -408,6 +423,18 @@ class Types:
         made, _ = self._gather(
             _library.oer_part, (named, len(named), given, len(given), steps, len(steps)), len(given))
         return made
+
+    def part_at(self, name: Text, octets: Octets, path: Text) -> Place:
+        """Where that part lies in the octets: it is octets[at:at + length].
+
+        Raises what part() raises.
+        """
+        self._own()
+        named, given, steps = _text(name), _octets(octets), _text(path)
+        answer = _library.oer_part_at(self._at, named, len(named), given, len(given), steps, len(steps))
+        if answer.status != _OK:
+            raise self._rejection(answer, answer.octets)
+        return Place(answer.at, answer.length)
 
     def to_json(self, name: Text, octets: Octets, limit: Optional[int] = None) -> Json:
         """The JSON of the value whose encoding, of at most `limit` octets, is at the front of the octets.

@@ -125,6 +125,21 @@ class Calls(unittest.TestCase):
                 for name in ("B", "", b"\xff"):
                     self.assertEqual(self.raised(lambda: row.call(types, name)), (oer.Unnamed, None, None))
 
+    def test_places(self) -> None:
+        errors = {6: oer.NoPath, 7: oer.NoStep, 8: oer.Absent}
+        for kind, digits, steps, *numbers in rows("place"):
+            given, path = from_hex(digits), from_hex(steps)
+            status, why, octets, at, length = (int(number) for number in numbers)
+            with self.subTest(given=digits, path=path), types_of(from_hex(kind)) as types:
+                if status == 0:
+                    self.assertEqual(types.part_at("A", given, path), oer.Place(at, length))
+                    self.assertEqual(types.part("A", given, path), given[at:at + length])
+                else:
+                    wanted = (oer.OctetsRejected, why, octets) if status == 1 else (errors[status], None, None)
+                    self.assertEqual(self.raised(lambda: types.part_at("A", given, path)), wanted)
+                self.assertEqual(self.raised(lambda: types.part_at("B", given, path)), (oer.Unnamed, None, None))
+            self.assertEqual(self.raised(lambda: types.part_at("A", given, path)), (oer.NoTypes, None, None))
+
     def test_many(self) -> None:
         for row in (row for row in VECTORS if row.task == "check"):
             size = len(row.given)
@@ -258,6 +273,7 @@ class Calls(unittest.TestCase):
         rejected = self.raised(lambda: types.canon("Certificate", basic, 235))
         self.assertEqual(rejected[:2], (oer.OctetsRejected, oer.Reason.LIMIT))
         self.assertEqual(types.part("Certificate", certificate, "c3"), hex_file("tbs-rsu.hex"))
+        self.assertEqual(types.part_at("Certificate", certificate, "c3"), (12, 152))
         json = types.to_json("Certificate", basic)
         self.assertEqual(types.from_json("Certificate", json.text), certificate)
 
@@ -278,7 +294,7 @@ class Header(unittest.TestCase):
             return f"{field.offset}+{field.size}"
 
         structs = {"oer_types": oer._Types, "oer_parsed": oer._Parsed, "oer_checked": oer._Checked,
-                   "oer_message": oer._Message, "oer_written": oer._Written}
+                   "oer_message": oer._Message, "oer_written": oer._Written, "oer_located": oer._Located}
         found = [
             [name, str(ctypes.sizeof(struct))] + [place(getattr(struct, field[0])) for field in struct._fields_]
             for name, struct in structs.items()
@@ -321,7 +337,8 @@ class Threads(unittest.TestCase):
     def test_other_thread(self) -> None:
         types = types_of(b"BOOLEAN")
         for call in (lambda: types.check("A", b"\xff"), lambda: types.canon("A", b"\xff"),
-                     lambda: types.part("A", b"\xff", "v"), lambda: types.to_json("A", b"\xff"),
+                     lambda: types.part("A", b"\xff", "v"), lambda: types.part_at("A", b"\xff", "v"),
+                     lambda: types.to_json("A", b"\xff"),
                      lambda: types.from_json("A", "true"), lambda: types.read("A ::= NULL"), types.close):
             self.assertIs(self.in_thread(call), oer.WrongThread)
         self.assertEqual(types.check("A", b"\xff"), (1, True))

@@ -46,11 +46,10 @@ mod table;
 pub use error::Error;
 pub use reason::{JsonReason, Reason, TextReason};
 
-use std::borrow::Cow;
 use std::cell::UnsafeCell;
 use std::fmt;
 use std::marker::PhantomData;
-use std::ops::{Deref, Range};
+use std::ops::Range;
 use std::os::raw::c_char;
 
 /// A limit that rejects nothing.
@@ -103,31 +102,29 @@ pub struct Written {
     pub size: usize,
 }
 
-/// A part of an encoding, as it stands in the octets that were given.
+/// What [`Types::part`] returns: where a part of an encoding stands in the octets that were given. It is
+/// borrowed from them, and nothing is copied.
 ///
-/// It has the lifetime of these octets, so that it can be borrowed from them. The library doesn't say
-/// yet where a part lies in them: for now a `Part` is a copy.
-#[derive(Clone, Debug, PartialEq, Eq)]
-pub struct Part<'a>(Cow<'a, [u8]>);
+/// ```compile_fail,E0505
+/// let types = oer::Types::parse("A ::= SEQUENCE OF BOOLEAN")?;
+/// let octets = vec![0x01, 0x01, 0xff];
+/// let part = types.part("A", &octets, "i0")?;
+/// drop(octets);
+/// assert_eq!(part.octets, [0xff]);
+/// # Ok::<(), oer::Error>(())
+/// ```
+#[derive(Clone, Copy, Debug, PartialEq, Eq)]
+pub struct Part<'a> {
+    /// The octets of the part.
+    pub octets: &'a [u8],
+    /// How many octets are before them.
+    pub at: usize,
+}
 
 impl Part<'_> {
-    /// The octets of the part, owned.
-    pub fn into_owned(self) -> Vec<u8> {
-        self.0.into_owned()
-    }
-}
-
-impl Deref for Part<'_> {
-    type Target = [u8];
-
-    fn deref(&self) -> &[u8] {
-        &self.0
-    }
-}
-
-impl AsRef<[u8]> for Part<'_> {
-    fn as_ref(&self) -> &[u8] {
-        &self.0
+    /// Where the part stands, as a range of the octets that were given.
+    pub fn range(&self) -> Range<usize> {
+        self.at..self.at + self.octets.len()
     }
 }
 
@@ -332,9 +329,9 @@ impl Types {
         written(answer)
     }
 
-    /// The part of the encoding at the front of the octets to which the path leads, as it stands in
-    /// them. A path is steps joined by dots: `c0` a component, `a0` an addition, `i0` an element, `v`
-    /// the alternative chosen. What follows the encoding is not looked at.
+    /// The part of the encoding at the front of the octets to which the path leads, where it stands in
+    /// them. A path is steps joined by dots: `c0` a component, `a0` an addition, `i0` an element, `v` the
+    /// alternative chosen. What follows the encoding is not looked at.
     ///
     /// # Errors
     ///
@@ -344,7 +341,7 @@ impl Types {
     /// ```
     /// let types = oer::Types::parse("A ::= SEQUENCE OF BOOLEAN")?;
     /// let part = types.part("A", &[0x02, 0x00, 0x02, 0x01, 0x07], "i1")?;
-    /// assert_eq!(*part, [0x07]);
+    /// assert_eq!((part.octets, part.range()), (&[0x07][..], 4..5));
     /// # Ok::<(), oer::Error>(())
     /// ```
     pub fn part<'a>(
@@ -354,11 +351,25 @@ impl Types {
         path: impl AsRef<[u8]>,
     ) -> Result<Part<'a>, Error> {
         let (name, path) = (name.as_ref(), path.as_ref());
-        let (part, _) = gather(octets.len(), |out| self.part_into(name, octets, path, out))?;
-        Ok(Part(Cow::Owned(part)))
+        // SAFETY: as in `check`.
+        let answer = unsafe {
+            sys::oer_part_at(
+                self.held.get(),
+                name.as_ptr().cast(),
+                name.len(),
+                octets.as_ptr(),
+                octets.len(),
+                path.as_ptr().cast(),
+                path.len(),
+            )
+        };
+        match answer.status {
+            sys::OK => Ok(Part { octets: &octets[answer.at..][..answer.length], at: answer.at }),
+            status => Err(Error::of_octets(status, answer.why, answer.octets, 0)),
+        }
     }
 
-    /// The same, written into the buffer.
+    /// The same, written into the buffer as a copy.
     ///
     /// # Errors
     ///

@@ -38,6 +38,15 @@ pub struct OerWritten {
     pub written: u64,
 }
 
+#[repr(C)]
+pub struct OerLocated {
+    pub status: u32,
+    pub why: u32,
+    pub octets: u64,
+    pub at: usize,
+    pub length: usize,
+}
+
 pub const OK: u32 = 0;
 pub const REJECTED: u32 = 1;
 pub const NO_TYPES: u32 = 2;
@@ -93,6 +102,15 @@ extern "C" {
         out: *mut u8,
         room: usize,
     ) -> OerWritten;
+    pub fn oer_part_at(
+        types: *mut OerTypes,
+        name: *const c_char,
+        name_length: usize,
+        octets: *const u8,
+        octets_length: usize,
+        path: *const c_char,
+        path_length: usize,
+    ) -> OerLocated;
     pub fn oer_to_json(
         types: *mut OerTypes,
         name: *const c_char,
@@ -146,6 +164,7 @@ mod tests {
             ("oer_checked", layout!(OerChecked, status, why, octets, canonical)),
             ("oer_message", layout!(OerMessage, at, length)),
             ("oer_written", layout!(OerWritten, status, why, octets, written)),
+            ("oer_located", layout!(OerLocated, status, why, octets, at, length)),
         ];
         let wanted = crate::table::rows("layout");
         assert_eq!(found.len(), wanted.len());

@@ -60,7 +60,7 @@ impl Vector {
         let (octets, read, canonical) = match self.task.as_str() {
             "check" => types.check(name, &self.given).map(|found| (Vec::new(), found.octets, found.canonical)),
             "canon" => types.canon_within(name, &self.given, self.limit).map(|made| (made.octets, made.read, false)),
-            "part" => types.part(name, &self.given, &self.path).map(|part| (part.into_owned(), 0, false)),
+            "part" => types.part(name, &self.given, &self.path).map(|part| (part.octets.to_vec(), 0, false)),
             "to_json" => types
                 .to_json_within(name, &self.given, self.limit)
                 .map(|made| (made.text.into_bytes(), made.read, false)),
@@ -114,6 +114,28 @@ fn vectors_are_answered() {
         for name in [&b"B"[..], b"", b"\xff"] {
             assert_eq!(row.call(&types, name), Err(Error::Unnamed));
         }
+    }
+}
+
+#[test]
+fn parts_lie_where_the_table_says() {
+    for row in table::rows("place") {
+        let (types, given, path) = (types_of(&from_hex(&row[0])), from_hex(&row[1]), from_hex(&row[2]));
+        let numbers: Vec<u64> = row[3..].iter().map(|text| text.parse().unwrap()).collect();
+        let (at, length) = (numbers[3] as usize, numbers[4] as usize);
+        let wanted = match numbers[0] as u32 {
+            0 => Ok(at..at + length),
+            1 => Err(Error::Octets { reason: Reason::from_number(numbers[1] as u32).unwrap(), place: numbers[2] }),
+            6 => Err(Error::NoPath),
+            7 => Err(Error::NoStep),
+            8 => Err(Error::Absent),
+            status => panic!("no row has status {status}"),
+        };
+        let found = types.part("A", &given, &path);
+        assert_eq!(found.map(|part| part.range()), wanted, "{given:02x?}");
+        assert_eq!(found.map(|part| part.octets.as_ptr()), wanted.map(|place| given[place].as_ptr()));
+        assert_eq!(types.part("B", &given, &path), Err(Error::Unnamed));
+        assert_eq!(Types::new().part("A", &given, &path), Err(Error::NoTypes));
     }
 }
 
@@ -235,7 +257,8 @@ fn the_certificate_of_the_example() {
     assert_eq!(types.canon("Certificate", &basic).unwrap().octets, certificate);
     let rejected = types.canon_within("Certificate", &basic, 235).unwrap_err();
     assert_eq!(rejected.reason(), Some("Limit"));
-    assert_eq!(*types.part("Certificate", &certificate, "c3").unwrap(), from_hex(&file("tbs-rsu.hex")));
+    let part = types.part("Certificate", &certificate, "c3").unwrap();
+    assert_eq!((part.range(), part.octets), (12..164, &from_hex(&file("tbs-rsu.hex"))[..]));
     let json = types.to_json("Certificate", &basic).unwrap();
     assert_eq!(types.from_json("Certificate", json.text), Ok(certificate));
 }

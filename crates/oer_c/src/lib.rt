@@ -12,6 +12,8 @@ mod make;
 mod many;
 mod naming;
 mod part;
+mod part_at;
+mod path;
 mod raw_box;
 mod reason;
 mod show;

@@ -8,23 +8,21 @@ ghost use Rattle.oer_c.specs.Parts.{IsCopied};
 use crate::buffer::{Written, only_status, put, reject};
 use crate::handle::Handle;
 use crate::naming::find_type;
-use crate::status::{ABSENT, MEMORY, NO_PATH, NO_STEP, NO_TYPES, UNNAMED};
-use oer_reader::{PartFault, PathFault, part, read_path};
+use crate::path::steps_of;
+use crate::status::{ABSENT, NO_STEP, NO_TYPES, UNNAMED};
+use oer_reader::{PartFault, part};
 use oer_text::Types;
 use oer_types::Schema;
 use std::alloc::Global;
 
 // The part is put into the buffer.
+#[tactic(auto, using(crate::proofs::Locating::unread))]
 fn copied(alloc: Global, schema: &Schema, octets: &[u8], path: &[u8], out: &mut [u8]) -> Written
     ensures { IsCopied (the_type schema.now) octets.now path.now out.old out.new result }
 {
-    let Ok(path) = std::str::from_utf8(path) else {
-        return only_status(NO_PATH);
-    };
-    let steps = match read_path(alloc, path) {
+    let steps = match steps_of(alloc, path) {
         Ok(steps) => steps,
-        Err(PathFault::Memory) => return only_status(MEMORY),
-        Err(PathFault::Form) => return only_status(NO_PATH),
+        Err(status) => return only_status(status),
     };
     match part(schema, octets, steps.as_slice()) {
         Ok(found) => put(out, found, 0),
