@@ -2,7 +2,7 @@
 
 ghost use Rattle.oer_notation.specs.Laws.{ParseSound, ParseAllSound, ParseComplete, ParseAllComplete, ParseRefuses, ParseAllRefuses, OneType};
 
-use oer_lexer::laws::{tokens_of_a_text_are_read, text_falls_into_its_tokens};
+use oer_lexer::laws::{text_falls_into_its_tokens, tokens_of_a_text_are_read};
 use oer_types::laws::first_fault;
 
 /// What is read of a text is a well-formed type that the text spells; and definitions that are read

@@ -12,12 +12,12 @@ ghost use Rattle.oer_notation.specs.Views.{known, knowns};
 
 use crate::cursor::Cursor;
 use crate::fault::{TextFault, TextWhy};
-use crate::laws::{what_is_spelled_is_parsed, what_is_parsed_is_spelled};
+use crate::laws::{what_is_parsed_is_spelled, what_is_spelled_is_parsed};
 use crate::parse::{Definition, find, read_type};
 use crate::word::is_name;
 use oer_lexer::{Sign, Token, Tokens, lex};
-use oer_types::{MAX_DEPTH, MAX_PARTS, Schema};
 use oer_types::laws::first_fault;
+use oer_types::{MAX_DEPTH, MAX_PARTS, Schema};
 use std::alloc::Global;
 
 /// Types by their Names.

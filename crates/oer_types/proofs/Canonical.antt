@@ -9,7 +9,7 @@ use Rattle.oer_units.proofs.OneSpelling.{unsigned_one, len_one, counted_least, s
 use Rattle.oer_types.proofs.Unique.{preamble_one, bits_one}
 use Rattle.oer_types.specs.LeafType as kind
 use Rattle.oer_types.specs.LeafType.{LeafType}
-use Rattle.oer_types.specs.AsnType.{Additions, Alternatives, AsnType, Fields, NamedNumber, Need, addition, alternative, bit_string, boolean, choice, default, enumerated, extensible_sequence, field, integer, later, leaf, may, must, no_additions, no_alternatives, no_fields, null, object_id, octet_string, restricted_string, sequence, sequence_of, utf8_string}
+use Rattle.oer_types.specs.AsnType.{Additions, Alternatives, AsnType, Fields, NamedNumber, Need, addition, alternative, boolean, choice, default, enumerated, extensible_sequence, field, integer, later, leaf, may, must, no_additions, no_alternatives, no_fields, object_id, octet_string, restricted_string, sequence, sequence_of, utf8_string}
 use Rattle.oer_types.specs.AsnValue.{Unknown, unknown, AsnValue, bool, int, enum, bit_list, text, oid, octets, seq, items, chosen, foreign, Places, no_places, absent, present}
 use Rattle.oer_types.specs.Bits.{all_false}
 use Rattle.oer_types.specs.Constraints.{same_tag, size_fits, fixed, all_characters, Form, unsigned_fixed, signed_fixed, unsigned_counted, signed_counted, form_of, optional, optional_with, addition_count}

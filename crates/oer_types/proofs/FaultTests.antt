@@ -13,7 +13,7 @@ use Rattle.oer_units.specs.declared.tagging.Class.{Class}
 use Rattle.oer_units.specs.declared.tagging.Class.TheVariants.{Universal, Application, Context, Private}
 use Rattle.oer_units.specs.declared.tagging.Tag.{Tag}
 use Rattle.oer_types.specs.LeafType.{string_size}
-use Rattle.oer_types.specs.AsnType.{Additions, Alternatives, AsnType, Fields, NamedNumber, Need, addition, alternative, bit_string, choice, default, enumerated, extensible_sequence, field, integer, later, leaf, may, must, no_additions, no_alternatives, no_fields, octet_string, restricted_string, sequence, sequence_of, utf8_string}
+use Rattle.oer_types.specs.AsnType.{Additions, Alternatives, AsnType, Fields, NamedNumber, Need, addition, alternative, choice, default, enumerated, extensible_sequence, field, integer, later, leaf, may, must, no_additions, no_alternatives, no_fields, sequence, sequence_of}
 use Rattle.oer_types.specs.Constraints.{has_number, has_tag, may_be_empty, same_tag}
 use Rattle.oer_types.specs.FitTest.{is_fit}
 use Rattle.oer_types.specs.FaultTest.{any_bad_name, any_misfit, contains_name, has_crossed_bounds, has_crossed_size, has_crossed_string_size, has_empty_element, has_fault, has_misfit, has_no_items, has_repeated_number, has_repeated_tag, in_additions, in_alternatives, in_fields, is_below, is_misfit, names_repeat, numbers_repeat, somewhere, tags_repeat}

@@ -5,13 +5,13 @@ use Rattle.std.specs.Option.{MatchOption}
 use Rattle.std.proofs.lemmas.Bool.{le-leb, lt-ltb, cases_lt}
 use Rattle.oer_types.specs.LeafType as kind
 use Rattle.oer_types.specs.LeafType.{LeafType, string_size}
-use Rattle.oer_types.specs.AsnType.{Additions, Alternatives, AsnType, Fields, Need, addition, alternative, bit_string, boolean, choice, default, enumerated, extensible_sequence, field, integer, later, leaf, may, must, no_additions, no_alternatives, no_fields, null, object_id, octet_string, restricted_string, sequence, sequence_of, utf8_string}
+use Rattle.oer_types.specs.AsnType.{Additions, Alternatives, AsnType, Fields, Need, addition, alternative, choice, default, extensible_sequence, field, later, leaf, may, must, no_additions, no_alternatives, no_fields, sequence, sequence_of}
 use Rattle.oer_types.specs.Constraints.{AdditionsKeepLimits, AlternativesKeepLimits, FieldsKeepLimits, HasSizeLimit, KeepsLimits, addition_count, may_be_empty}
 use Rattle.oer_types.specs.FaultTest.{first_fault, first_in, has_empty_element, has_fault, has_misfit, any_misfit, is_misfit, in_additions, in_alternatives, in_fields, later_faults, somewhere}
 use Rattle.oer_types.specs.FitTest.{is_fit}
 use Rattle.oer_types.specs.Fits.{AdditionDefaultsFit, AlternativeDefaultsFit, DefaultFits, DefaultsFit, FieldDefaultsFit, Fits}
 use Rattle.oer_types.specs.Laws.{FaultlessIsWellFormed, FirstFaultFound, NoFaultFound, OneFirstFault}
-use Rattle.oer_types.specs.Nodes.{additions_nodes, alternatives_nodes, fields_nodes, leaf_nodes, type_nodes}
+use Rattle.oer_types.specs.Nodes.{additions_nodes, alternatives_nodes, fields_nodes, type_nodes}
 use Rattle.oer_types.specs.WellFormed.{HasFault, IsFirstFault, IsWellFormed, fault_number}
 use Rattle.oer_types.specs.Widths.{AdditionsHaveWidths, AlternativesHaveWidths, FieldsHaveWidths, HasSizeWidths, HasWidths, LeafHasWidths}
 use Rattle.oer_types.specs.declared.size.Size.{Size}

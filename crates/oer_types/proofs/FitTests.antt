@@ -10,7 +10,7 @@ use Rattle.oer_types.specs.LeafType.{LeafType}
 use Rattle.oer_types.specs.LeafValue.{LeafValue}
 use Rattle.oer_types.specs.LeafValue as leaf_kind
 use Rattle.oer_types.specs.AsnType.{Additions, Alternatives, AsnType, Fields, addition, alternative, bit_string, boolean, choice, default, enumerated, extensible_sequence, field, integer, later, leaf, may, must, no_additions, no_alternatives, no_fields, null, object_id, octet_string, restricted_string, sequence, sequence_of, utf8_string}
-use Rattle.oer_types.specs.AsnValue.{AsnValue, Places, Unknown, Values, absent, bit_list, bool, chosen, enum, foreign, int, items, leaf_value, no_places, no_values, nothing, octets, oid, present, seq, text, unknown, value}
+use Rattle.oer_types.specs.AsnValue.{AsnValue, Places, Unknown, Values, absent, chosen, foreign, items, leaf_value, no_places, no_values, present, seq, unknown, value}
 use Rattle.oer_types.specs.Constraints.{addition_count, all_characters, has_number, has_tag, same_tag, size_fits}
 use Rattle.oer_types.specs.Fits.{AllBelow, AllFit, AreArcs, Fits, FitsAdditions, FitsAlternative, FitsByTag, FitsFields, FitsLeaf, FitsUnknown, listed}
 use Rattle.oer_types.specs.FitTest.{additions_fit, all_below, all_fit, alternative_fits, arcs_fit, fields_fit, first_arcs, is_fit, is_fit_leaf, is_without, unknown_fit, values_length}

@@ -23,7 +23,7 @@ use Rattle.oer_types.proofs.StrictOctets.{strict_octets}
 use Rattle.oer_types.proofs.TrimmedFits.{trim_fits}
 use Rattle.oer_types.specs.LeafType as kind
 use Rattle.oer_types.specs.LeafType.{LeafType}
-use Rattle.oer_types.specs.AsnType.{Additions, Alternatives, AsnType, Fields, NamedNumber, Need, addition, alternative, bit_string, boolean, choice, default, enumerated, extensible_sequence, field, integer, later, leaf, may, must, no_additions, no_alternatives, no_fields, null, object_id, octet_string, restricted_string, sequence, sequence_of, utf8_string}
+use Rattle.oer_types.specs.AsnType.{Additions, Alternatives, AsnType, Fields, NamedNumber, Need, addition, alternative, bit_string, boolean, choice, default, enumerated, extensible_sequence, field, integer, later, leaf, may, must, no_additions, no_alternatives, no_fields, object_id, octet_string, restricted_string, sequence, sequence_of, utf8_string}
 use Rattle.oer_types.specs.AsnValue.{Unknown, unknown, AsnValue, int, enum, text, oid, octets, items, Places, absent, present}
 use Rattle.oer_types.specs.Bits.{all_false, padded, spare_bits}
 use Rattle.oer_types.specs.Canonical.{addition_bits, all_octets, any_present, any_unknown, bit_octets, bitmap_octets, by_tag_octets, canonical_octets, count, extension_octets, integer_octets, leaf_octets, place_bits, place_octets, plain_addition_octets, plain_alternative_octets, plain_field_octets, plain_octets, root_bits, same, string_octets, trimmed, trimmed_additions, trimmed_alternative, trimmed_fields, trimmed_place, unknown_marks, unknown_octets}

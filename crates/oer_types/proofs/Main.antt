@@ -17,7 +17,7 @@ use Rattle.oer_types.proofs.Parts.{form_lawful, octets_lawful, by_bit_lawful, by
 use Rattle.oer_types.proofs.Strings.{text_lawful, utf8_lawful}
 use Rattle.oer_types.specs.LeafType as kind
 use Rattle.oer_types.specs.LeafType.{LeafType}
-use Rattle.oer_types.specs.AsnType.{Additions, Alternatives, AsnType, Fields, addition, alternative, bit_string, boolean, choice, default, enumerated, extensible_sequence, field, integer, later, leaf, may, must, no_additions, no_alternatives, no_fields, null, object_id, octet_string, restricted_string, sequence, sequence_of, utf8_string}
+use Rattle.oer_types.specs.AsnType.{Additions, Alternatives, AsnType, Fields, addition, alternative, choice, default, extensible_sequence, field, later, leaf, may, must, no_additions, no_alternatives, no_fields, sequence, sequence_of}
 use Rattle.oer_types.specs.AsnValue.{AsnValue, bool, nothing, int, enum, bit_list, text, oid, octets, Places, no_places}
 use Rattle.oer_types.specs.Bits.{first_bit, later_bits, octets_for, IsPreamble, IsBits}
 use Rattle.oer_types.specs.Constraints.{AdditionsKeepLimits, AlternativesKeepLimits, FieldsKeepLimits, Form, KeepsLimits, all_characters, fixed, form_of, has_number, has_tag, in_range, is_zero, leaf_may_be_empty, may_all_be_empty, may_be_empty, optional, same_tag, signed_counted, signed_fixed, size_fits, unsigned_counted, unsigned_fixed}

@@ -2,7 +2,7 @@
 use Rattle.std.proofs.Common.{◌≡◌, inl, inr, ℕ, suc, List, [], ◌∷◌, ◌++◌, length, drop, Bool, true, false, if◌then◌else◌, Some, None, refl, ap, ap₂, sym, ◌∙◌, subst}
 use Rattle.oer_units.specs.Spelling.{IsCounted, IsJoined}
 use Rattle.oer_units.specs.declared.tagging.Tag.{Tag}
-use Rattle.oer_types.specs.AsnType.{Additions, Alternatives, AsnType, Fields, Need, addition, alternative, bit_string, boolean, choice, default, enumerated, extensible_sequence, field, integer, later, leaf, may, must, no_additions, no_alternatives, no_fields, null, object_id, octet_string, restricted_string, sequence, sequence_of, utf8_string}
+use Rattle.oer_types.specs.AsnType.{Additions, Alternatives, AsnType, Fields, Need, addition, alternative, choice, default, extensible_sequence, field, later, leaf, may, must, no_additions, no_alternatives, no_fields, sequence, sequence_of}
 use Rattle.oer_types.specs.AsnValue.{AsnValue, Places, Unknown, Values, absent, chosen, foreign, items, no_places, no_values, present, seq, unknown, value}
 use Rattle.oer_types.specs.Bits.{first_bit, later_bits}
 use Rattle.oer_types.specs.Constraints.{KeepsLimits, FieldsKeepLimits, AdditionsKeepLimits, AlternativesKeepLimits, addition_count, same_tag}

@@ -7,7 +7,7 @@ use Rattle.oer_types.proofs.Pieces.{Child, KeptChild, Led, Piece, addition_piece
 use Rattle.oer_types.proofs.Same.{same-true}
 use Rattle.oer_types.proofs.StrictEnc.{strict_within}
 use Rattle.oer_types.proofs.Trimming.{trims_from_fills}
-use Rattle.oer_types.specs.AsnType.{Additions, Alternatives, AsnType, Fields, Need, addition, alternative, bit_string, boolean, choice, default, enumerated, extensible_sequence, field, integer, later, leaf, may, must, no_additions, no_alternatives, no_fields, null, object_id, octet_string, restricted_string, sequence, sequence_of, utf8_string}
+use Rattle.oer_types.specs.AsnType.{Additions, Alternatives, AsnType, Fields, Need, addition, alternative, choice, default, extensible_sequence, field, later, leaf, may, must, no_additions, no_alternatives, no_fields, sequence, sequence_of}
 use Rattle.oer_types.specs.AsnValue.{AsnValue, Places, Unknown, Values, absent, chosen, foreign, items, no_places, no_values, present, seq, unknown, value}
 use Rattle.oer_types.specs.Canonical.{same, trimmed, trimmed_additions, trimmed_alternative, trimmed_fields}
 use Rattle.oer_types.specs.Constraints.{KeepsLimits, same_tag}

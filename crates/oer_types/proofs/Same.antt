@@ -7,7 +7,7 @@ use Rattle.oer_units.specs.declared.tagging.Tag.{Tag}
 use Rattle.oer_units.proofs.TagReaders.{class_is}
 use Rattle.oer_types.specs.LeafValue as kind
 use Rattle.oer_types.specs.LeafValue.{LeafValue}
-use Rattle.oer_types.specs.AsnValue.{AsnValue, Places, Unknown, Values, absent, bit_list, bool, chosen, enum, foreign, int, items, leaf_value, no_places, no_values, nothing, octets, oid, present, seq, text, unknown, value}
+use Rattle.oer_types.specs.AsnValue.{AsnValue, Places, Unknown, Values, absent, chosen, foreign, items, leaf_value, no_places, no_values, present, seq, unknown, value}
 use Rattle.oer_types.specs.Canonical.{same, same_bits, same_bool, same_int, same_leaf, same_list, same_places, same_unknown, same_values}
 use Rattle.oer_types.specs.Constraints.{same_tag}
 

@@ -4,11 +4,9 @@ use Rattle.oer_units.specs.Spelling.{IsCounted, IsJoined}
 use Rattle.oer_units.specs.declared.tagging.Tag.{Tag}
 use Rattle.oer_types.proofs.Leaves.{leaf_is, leaf_some}
 use Rattle.oer_types.proofs.Main.{takes_some, len_some, preamble_some, tag_some}
-use Rattle.oer_types.specs.LeafType as kind
 use Rattle.oer_types.specs.LeafType.{LeafType}
-use Rattle.oer_types.specs.LeafValue.{LeafValue}
-use Rattle.oer_types.specs.AsnType.{Additions, Alternatives, AsnType, Fields, Need, addition, alternative, bit_string, boolean, choice, default, enumerated, extensible_sequence, field, integer, later, leaf, may, must, no_additions, no_alternatives, no_fields, null, object_id, octet_string, restricted_string, sequence, sequence_of, utf8_string}
-use Rattle.oer_types.specs.AsnValue.{AsnValue, Places, Unknown, leaf_value}
+use Rattle.oer_types.specs.AsnType.{Additions, Alternatives, AsnType, Fields, Need, addition, alternative, boolean, choice, default, extensible_sequence, field, later, leaf, may, must, no_additions, no_alternatives, no_fields, sequence, sequence_of}
+use Rattle.oer_types.specs.AsnValue.{AsnValue, Places, Unknown}
 use Rattle.oer_types.specs.Bits.{first_bit, later_bits}
 use Rattle.oer_types.specs.Constraints.{addition_count, same_tag, KeepsLimits, FieldsKeepLimits, AdditionsKeepLimits, AlternativesKeepLimits}
 use Rattle.oer_types.specs.Encoding.{ByBit, ByNeed, ByTag, IsAbsent, IsItself, IsLeafSpelling, IsPresent, IsSpelling, SpellsAdditions, SpellsAlternative, SpellsExtension, SpellsFields, SpellsUnknown}

@@ -16,7 +16,7 @@ use Rattle.oer_types.proofs.Checked.{Checked, between, between_is, flag}
 use Rattle.oer_types.proofs.CheckedParts.{value_checked}
 use Rattle.oer_types.proofs.Main.{open_is_lawful, value_lawful}
 use Rattle.oer_types.proofs.Parts.{bitmap_lawful, preamble_lawful, quantity_lawful, size_small}
-use Rattle.oer_types.specs.AsnType.{Additions, Alternatives, AsnType, Fields, Need, addition, alternative, bit_string, boolean, choice, default, enumerated, extensible_sequence, field, integer, later, leaf, may, must, no_additions, no_alternatives, no_fields, null, object_id, octet_string, restricted_string, sequence, sequence_of, utf8_string}
+use Rattle.oer_types.specs.AsnType.{Additions, Alternatives, AsnType, Fields, Need, addition, alternative, choice, default, extensible_sequence, field, later, leaf, may, must, no_additions, no_alternatives, no_fields, sequence, sequence_of}
 use Rattle.oer_types.specs.Bits.{IsPreamble, first_bit, later_bits}
 use Rattle.oer_types.specs.Checking.{check_value}
 use Rattle.oer_types.specs.Constraints.{KeepsLimits, FieldsKeepLimits, AdditionsKeepLimits, AlternativesKeepLimits, addition_count, has_tag, optional, same_tag}

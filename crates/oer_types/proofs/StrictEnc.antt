@@ -6,7 +6,7 @@ use Rattle.oer_units.proofs.Closure.{is_one}
 use Rattle.oer_types.proofs.Main.{value_lawful}
 use Rattle.oer_types.specs.LeafType as kind
 use Rattle.oer_types.specs.LeafType.{LeafType}
-use Rattle.oer_types.specs.AsnType.{Additions, Alternatives, AsnType, Fields, Need, addition, alternative, bit_string, boolean, choice, default, enumerated, extensible_sequence, field, integer, later, leaf, may, must, no_additions, no_alternatives, no_fields, null, object_id, octet_string, restricted_string, sequence, sequence_of, utf8_string}
+use Rattle.oer_types.specs.AsnType.{Additions, Alternatives, AsnType, Fields, Need, addition, alternative, boolean, choice, default, extensible_sequence, field, later, leaf, may, must, no_additions, no_alternatives, no_fields, sequence, sequence_of}
 use Rattle.oer_types.specs.AsnValue.{Unknown, AsnValue, Places}
 use Rattle.oer_types.specs.Bits.{bits_of, first_bit, later_bits, octets_for, IsBits}
 use Rattle.oer_types.specs.Constraints.{same_tag, fixed, addition_count, KeepsLimits, any_size}

@@ -8,7 +8,7 @@ use Rattle.oer_units.proofs.OneSpelling.{octets_join}
 use Rattle.oer_units.proofs.TagReaders.{class_below}
 use Rattle.oer_types.specs.LeafType as kind
 use Rattle.oer_types.specs.LeafType.{LeafType}
-use Rattle.oer_types.specs.AsnType.{Additions, Alternatives, AsnType, Fields, Need, addition, alternative, bit_string, boolean, choice, default, enumerated, extensible_sequence, field, integer, later, leaf, may, must, no_additions, no_alternatives, no_fields, null, object_id, octet_string, restricted_string, sequence, sequence_of, utf8_string}
+use Rattle.oer_types.specs.AsnType.{Additions, Alternatives, AsnType, Fields, Need, addition, alternative, choice, default, extensible_sequence, field, later, leaf, may, must, no_additions, no_alternatives, no_fields, sequence, sequence_of}
 use Rattle.oer_types.specs.AsnValue.{Unknown, AsnValue, seq, items, chosen, foreign, Places, no_places, absent, present}
 use Rattle.oer_types.specs.Bits.{first_bit, later_bits}
 use Rattle.oer_types.specs.Constraints.{addition_count, same_tag, fixed}
