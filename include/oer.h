@@ -13,13 +13,16 @@
  * - An oer_types begins as OER_TYPES_NONE, or as zeros. Its fields belong to the library: a caller
  *   neither reads nor writes them. It may be moved to another place while no call uses it, and then
  *   the old place is not used again; two copies of one oer_types may not both be used.
- * - An oer_types is in one call at a time, and all calls on it come from one thread. Each thread may
- *   have an oer_types of its own.
- * - oer_types_free gives the memory back. After it the oer_types is as new: each call on it answers
- *   OER_NO_TYPES, and types may be read into it again. To free it twice is allowed.
+ * - An oer_types is in one call at a time. The next call may come from another thread, where a lock, the
+ *   start or join of a thread, or a sequentially consistent atomic comes between the two. For calls at
+ *   the same time each thread has an oer_types of its own: oer_types_share gives it the types of another
+ *   one, and they are in memory once.
+ * - oer_types_free gives the memory back, where no other oer_types has the types. After it the oer_types
+ *   is as new: each call on it answers OER_NO_TYPES, and types may be read into it again. To free it twice
+ *   is allowed.
  * - No pointer is NULL. A pointer that comes with a length points to that many octets, all of them
  *   initialized, those of an output buffer too. With length 0 nothing is read or written there.
- * - The output buffer and the oer_types overlap nothing else that is passed to the call. Inputs may
+ * - The output buffer and each oer_types overlap nothing else that is passed to the call. Inputs may
  *   overlap each other.
  * - Memory comes from malloc, realloc and free, which have to belong together. It may run out: then
  *   the status is OER_MEMORY, and what the call was given is as before. oer_check and oer_check_many
@@ -182,6 +185,12 @@ oer_parsed oer_types_read(oer_types *types, const char *text, size_t text_length
 
 /* Frees the types. */
 void oer_types_free(oer_types *types);
+
+/* Gives `other` the types of `types`, in place of those that were there. They are in memory once, and are
+ * freed when no oer_types has them. Each of the two is used by itself: one thread may call with the one
+ * while another thread calls with the other. Unless the status is OER_OK, `other` is as before.
+ * OER_OK, OER_NO_TYPES, OER_MEMORY. */
+uint32_t oer_types_share(oer_types *types, oer_types *other);
 
 /* Whether the octets begin with an encoding of a value of the type with the name, in any spelling
  * that the rules allow (Basic-OER): how long it is, and whether it is the canonical one. What

@@ -295,6 +295,26 @@ static void test_kept_types(void) {
     oer_types_free(&other);
 }
 
+/* Types that two have: each has them until it is freed, or has others. */
+static void test_shared_types(void) {
+    struct vector check = { CHECK, 0, "ff", 0, OER_NO_LIMIT, 0, 0, 0, 0, 0 };
+    oer_types types = OER_TYPES_NONE, other = types_of("BOOLEAN");
+    EXPECT(oer_types_share(&types, &other) == OER_NO_TYPES, "no types to share");
+    EXPECT(call(&other, "A", &check, 0, 0).status == OER_OK, "no types in place of others");
+    EXPECT(oer_types_share(&other, &types) == OER_OK, "types that are shared");
+    EXPECT(call(&other, "A", &check, 0, 0).status == OER_OK, "the one");
+    EXPECT(call(&types, "A", &check, 0, 0).status == OER_OK, "the other");
+    EXPECT(oer_types_read(&other, "B ::= BOOLEAN", 13).status == OER_OK, "types in place of shared ones");
+    EXPECT(call(&other, "B", &check, 0, 0).status == OER_OK, "the new types");
+    EXPECT(call(&types, "A", &check, 0, 0).status == OER_OK, "the shared types");
+    EXPECT(oer_types_share(&other, &types) == OER_OK, "types in place of others");
+    oer_types_free(&other);
+    EXPECT(is_only(call(&other, "B", &check, 0, 0), OER_NO_TYPES), "types that were freed");
+    EXPECT(is_only(call(&types, "A", &check, 0, 0), OER_UNNAMED), "the earlier types are gone");
+    EXPECT(call(&types, "B", &check, 0, 0).status == OER_OK, "types that the other freed");
+    oer_types_free(&types);
+}
+
 /* ---- the certificate of the example */
 
 static void test_certificate(const char *folder) {
@@ -373,6 +393,27 @@ static void fail_place_in_turn(const struct place *place) {
     oer_types_free(&types);
 }
 
+/* Sharing types where each growth fails in turn: the other's types are those from before. */
+static void fail_sharing_in_turn(void) {
+    struct vector check = { CHECK, 0, "ff", 0, OER_NO_LIMIT, 0, 0, 0, 0, 0 };
+    oer_types types = types_of("BOOLEAN"), other = types_of("NULL");
+    long before = blocks, nth;
+    uint32_t status;
+    for (nth = 1;; nth++) {
+        growths = 0;
+        fail_at = nth;
+        status = oer_types_share(&types, &other);
+        fail_at = 0;
+        if (growths < nth) break;
+        EXPECT(status == OER_MEMORY && blocks == before, "types that are shared");
+        EXPECT(call(&types, "A", &check, 0, 0).octets == 1, "the one");
+        EXPECT(call(&other, "A", &check, 0, 0).octets == 0, "the other");
+    }
+    EXPECT(nth > 1 && status == OER_OK && call(&other, "A", &check, 0, 0).octets == 1, "types that are shared");
+    oer_types_free(&types);
+    oer_types_free(&other);
+}
+
 /* Reading the text where each growth fails in turn: the types are those from before. */
 static long fail_text_in_turn(const char *text) {
     oer_types types = types_of("BOOLEAN");
@@ -399,6 +440,7 @@ static void test_memory(const char *folder) {
     long failed = 0;
     for (i = 0; i < COUNT(vectors); i++) fail_in_turn(&vectors[i]);
     for (i = 0; i < COUNT(places); i++) fail_place_in_turn(&places[i]);
+    fail_sharing_in_turn();
     for (i = 0; i < COUNT(vectors); i++) {
         char text[1024];
         snprintf(text, sizeof text, "A ::= %s", vectors[i].type);
@@ -511,6 +553,7 @@ int main(int count, char **words) {
     for (i = 0; i < COUNT(places); i++) test_place(&places[i]);
     for (i = 0; i < COUNT(rejected_texts); i++) test_rejected_text(&rejected_texts[i]);
     test_kept_types();
+    test_shared_types();
     test_certificate(words[1]);
     test_random(atol(words[2]));
 #ifdef FAIL_MEMORY

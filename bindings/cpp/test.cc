@@ -10,6 +10,7 @@
 
 #include <algorithm>
 #include <array>
+#include <atomic>
 #include <cstdio>
 #include <cstdlib>
 #include <fstream>
@@ -17,6 +18,7 @@
 #include <sstream>
 #include <string>
 #include <sys/mman.h>
+#include <thread>
 #include <unistd.h>
 #include <vector>
 #ifdef __cpp_lib_string_view
@@ -371,6 +373,30 @@ static void test_kept_types() {
     EXPECT(types.read("A ::= BOOLEAN").ok() && types.check("A", octets).ok(), "read after it was moved from");
 }
 
+// Types that two have.
+static void test_shared_types() {
+    const bytes octets(1, 0xff);
+    oer::types types = types_of("BOOLEAN"), none;
+    EXPECT(is_only(none.share().error(), OER_NO_TYPES), "no types to share");
+    oer::result<oer::types> made = types.share();
+    test_value(made);
+    oer::types other = std::move(made).value();
+    EXPECT(types.read("B ::= BOOLEAN").ok() && other.check("A", octets).ok(), "the shared types");
+    types.free();
+    EXPECT(other.check("A", octets).ok(), "types that the other freed");
+#ifndef FAIL_MEMORY
+    std::vector<std::thread> threads;
+    std::atomic<int> good(0);
+    for (int i = 0; i < 4; i++) {
+        threads.emplace_back([&good](oer::types own) {
+            for (int turn = 0; turn < 10000; turn++) good += own.canon("A", bytes(1, 0x01)).value()[0] == 0xff;
+        }, other.share().value());
+    }
+    for (std::thread &thread : threads) thread.join();
+    EXPECT(good == 40000, "threads");
+#endif
+}
+
 // ---- arguments of each kind
 
 static void test_arguments() {
@@ -557,6 +583,7 @@ int main(int count, char **words) {
     for (const vector &row : vectors) test_memory(row);
     for (const rejected_text &row : rejected_texts) test_rejected_text(row);
     test_kept_types();
+    test_shared_types();
     test_arguments();
     test_growth();
     test_certificate(words[1]);

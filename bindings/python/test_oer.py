@@ -14,7 +14,6 @@ import subprocess
 import sys
 import threading
 import unittest
-import warnings
 from typing import Any, Callable, List, NamedTuple, Optional, Tuple
 from unittest import mock
 
@@ -336,25 +335,26 @@ class Threads(unittest.TestCase):
 
     def test_other_thread(self) -> None:
         types = types_of(b"BOOLEAN")
-        for call in (lambda: types.check("A", b"\xff"), lambda: types.canon("A", b"\xff"),
-                     lambda: types.part("A", b"\xff", "v"), lambda: types.part_at("A", b"\xff", "v"),
-                     lambda: types.to_json("A", b"\xff"),
-                     lambda: types.from_json("A", "true"), lambda: types.read("A ::= NULL"), types.close):
-            self.assertIs(self.in_thread(call), oer.WrongThread)
-        self.assertEqual(types.check("A", b"\xff"), (1, True))
-        self.assertEqual(self.in_thread(lambda: types_of(b"BOOLEAN").check("A", b"\xff")), (1, True))
+        self.assertEqual(self.in_thread(lambda: types.check("A", b"\xff")), (1, True))
+        self.assertEqual(self.in_thread(lambda: types.read("A ::= NULL")), None)
+        self.assertEqual(types.check("A", b""), (0, True))
+        self.in_thread(types.close)
+        self.assertEqual(self.in_thread(lambda: types.check("A", b"\xff")), oer.NoTypes)
 
-    def test_collected_in_another_thread(self) -> None:
-        gc.collect()
-        kept = [types_of(b"BOOLEAN")]
-        with warnings.catch_warnings(record=True) as caught:
-            warnings.simplefilter("always")
-            self.in_thread(lambda: (kept.clear(), gc.collect()))
-        self.assertEqual([warning.category for warning in caught], [ResourceWarning])
+    def test_shared(self) -> None:
+        types = types_of(b"BOOLEAN")
+        other = types.share()
+        types.read("A ::= NULL")
+        self.assertEqual((types.check("A", b""), other.check("A", b"\xff")), ((0, True), (1, True)))
+        types.close()
+        self.assertRaises(oer.NoTypes, types.share)
+        kept = [other.share()]
+        self.in_thread(lambda: (kept.clear(), gc.collect()))
+        self.assertEqual(other.check("A", b"\xff"), (1, True))
 
-    def test_side_by_side(self) -> None:
+    def side_by_side(self, of_thread: Callable[[], oer.Types]) -> None:
         def run() -> None:
-            types = types_of(b"SEQUENCE OF BOOLEAN")
+            types = of_thread()
             for _ in range(2000):
                 answers.append(types.canon("A", b"\x02\x00\x02\x01\x07"))
 
@@ -365,6 +365,12 @@ class Threads(unittest.TestCase):
         for thread in threads:
             thread.join()
         self.assertEqual(collections.Counter(answers), {(b"\x01\x02\xff\xff", 5): 8000})
+
+    def test_side_by_side(self) -> None:
+        types = types_of(b"SEQUENCE OF BOOLEAN")
+        self.side_by_side(lambda: types)
+        self.side_by_side(types.share)
+        self.side_by_side(lambda: types_of(b"SEQUENCE OF BOOLEAN"))
 
 
 class Random(unittest.TestCase):

@@ -26,10 +26,10 @@
 //!
 //! # Threads
 //!
-//! A [`Types`] is neither `Sync` nor `Send`. The library wants one call at a time on a handle, and all
-//! of them from one thread, also that which frees it. The calls take `&self`: without `Sync` there is
-//! no second call at the same time, and none is made from within a call. Each thread may have a
-//! [`Types`] of its own. Answers and errors go to other threads as any values do.
+//! A [`Types`] is `Send` and not `Sync`: the library wants one call at a time on a handle, from any
+//! thread. The calls take `&self`: without `Sync` there is no second call at the same time, and none is
+//! made from within a call. For calls at the same time each thread has a [`Types`] of its own, by
+//! [`Types::share`]. Answers and errors go to other threads as any values do.
 //!
 //! No call is made from a signal handler, or in the child of a fork of a process with threads. No type
 //! holds that: the program has to.
@@ -48,7 +48,6 @@ pub use reason::{JsonReason, Reason, TextReason};
 
 use std::cell::UnsafeCell;
 use std::fmt;
-use std::marker::PhantomData;
 use std::ops::Range;
 use std::os::raw::c_char;
 
@@ -135,9 +134,11 @@ impl Part<'_> {
 /// the caller's buffers are as before.
 pub struct Types {
     held: UnsafeCell<sys::OerTypes>,
-    /// Neither `Send` nor `Sync`.
-    one_thread: PhantomData<*mut ()>,
 }
+
+// SAFETY: the library takes the calls on a handle from any thread, one at a time. What moves it to another
+// thread orders the calls.
+unsafe impl Send for Types {}
 
 impl Types {
     /// No types.
@@ -147,7 +148,7 @@ impl Types {
     /// ```
     pub const fn new() -> Types {
         let none = sys::OerTypes { at_: std::ptr::null_mut(), full_: 0 };
-        Types { held: UnsafeCell::new(none), one_thread: PhantomData }
+        Types { held: UnsafeCell::new(none) }
     }
 
     /// The types of the definitions, each `Name ::= type`.
@@ -194,6 +195,29 @@ impl Types {
     pub fn clear(&mut self) {
         // SAFETY: the handle was made by `new` and is in no other call. After it, it is as new.
         unsafe { sys::oer_types_free(self.held.get()) }
+    }
+
+    /// The same types once more. Each of the two is used by itself, so that another thread may call with
+    /// the one at the same time. They are in memory once, and are freed when nothing has them.
+    ///
+    /// # Errors
+    ///
+    /// [`Error::NoTypes`] if there are none, and [`Error::Memory`].
+    ///
+    /// ```
+    /// let types = oer::Types::parse("A ::= BOOLEAN")?;
+    /// let other = types.share()?;
+    /// let thread = std::thread::spawn(move || other.check("A", &[0xff]));
+    /// assert_eq!(types.check("A", &[0xff]), thread.join().unwrap());
+    /// # Ok::<(), oer::Error>(())
+    /// ```
+    pub fn share(&self) -> Result<Types, Error> {
+        let other = Types::new();
+        // SAFETY: as in `check`; the other handle is in no call.
+        match unsafe { sys::oer_types_share(self.held.get(), other.held.get()) } {
+            sys::OK => Ok(other),
+            status => Err(Error::of_octets(status, 0, 0, 0)),
+        }
     }
 
     /// Whether the octets begin with an encoding of a value of the type with the name, in any spelling
@@ -523,14 +547,15 @@ impl fmt::Debug for Types {
     }
 }
 
-/// This compiles only if [`Types`] is neither `Sync` nor `Send`: otherwise two impls fit.
+/// This compiles only if [`Types`] is `Send`, and if it is not `Sync`: otherwise two impls fit.
 const _: fn() = || {
+    fn is_send<T: Send>() {}
+    is_send::<Types>();
     trait Unless<Fits> {
         fn holds() {}
     }
     impl<T: ?Sized> Unless<()> for T {}
     impl<T: ?Sized + Sync> Unless<u8> for T {}
-    impl<T: ?Sized + Send> Unless<u16> for T {}
     <Types as Unless<_>>::holds();
 };
 

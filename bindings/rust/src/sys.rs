@@ -63,6 +63,7 @@ extern "C" {
     pub fn oer_version() -> u32;
     pub fn oer_types_read(types: *mut OerTypes, text: *const c_char, text_length: usize) -> OerParsed;
     pub fn oer_types_free(types: *mut OerTypes);
+    pub fn oer_types_share(types: *mut OerTypes, other: *mut OerTypes) -> u32;
     pub fn oer_check(
         types: *mut OerTypes,
         name: *const c_char,

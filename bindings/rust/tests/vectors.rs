@@ -155,6 +155,21 @@ fn many_are_answered_as_one() {
     }
 }
 
+fn answers_often(types: Types) -> bool {
+    let answer = || types.canon("A", &[0x02, 0x00, 0x02, 0x01, 0x07]).unwrap().octets;
+    (0..10_000).all(|_| answer() == [0x01, 0x02, 0xff, 0xff])
+}
+
+#[test]
+fn threads_share_types() {
+    let types = types_of(b"SEQUENCE OF BOOLEAN");
+    let start = |own: Types| std::thread::spawn(move || answers_often(own));
+    let threads: Vec<_> = (0..4).map(|_| start(types.share().unwrap())).collect();
+    drop(types);
+    assert!(threads.into_iter().all(|thread| thread.join().unwrap()));
+    assert_eq!(Types::new().share().unwrap_err(), Error::NoTypes);
+}
+
 #[test]
 fn buffers_are_filled_or_kept() {
     for row in vectors().iter().filter(|row| row.task != "check") {

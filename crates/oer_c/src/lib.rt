@@ -16,6 +16,8 @@ mod part_at;
 mod path;
 mod raw_box;
 mod reason;
+mod share;
+mod shared;
 mod show;
 mod status;
 mod version;

@@ -4,6 +4,7 @@ ghost use Rattle.oer_units.specs.Faults.{why_number};
 ghost use Rattle.oer_types.specs.Schema.{the_type};
 ghost use Rattle.oer_c.specs.Naming.{ByName};
 ghost use Rattle.oer_c.specs.Parts.{IsLocated, nowhere};
+ghost use Rattle.oer_c.specs.Sharing.{types_of};
 
 use crate::handle::Handle;
 use crate::naming::find_type;
@@ -117,14 +118,14 @@ pub extern "C" fn oer_part_at(
     path: &[u8],
 ) -> Located
     // It says where the part is, or why there is none.
-    ensures locates { ByName types.old.held.types name.now (λ T. IsLocated T octets.now path.now result) (λ status. result ≡ nowhere status 0 0) }
+    ensures locates { ByName (types_of types.old.held.shared) name.now (λ T. IsLocated T octets.now path.now result) (λ status. result ≡ nowhere status 0 0) }
     // The types are those from before.
-    ensures kept { types.new.held.types ≡ types.old.held.types }
+    ensures kept { types_of types.new.held.shared ≡ types_of types.old.held.shared }
 {
     let Some(found) = types.take(alloc) else {
         return only(NO_TYPES);
     };
-    let answer = named(alloc, &found, name, octets, path);
+    let answer = named(alloc, found.get(), name, octets, path);
     *types = Handle::of(found);
     answer
 }
