@@ -1,4 +1,4 @@
-use Rattle.std.proofs.Common.{arith, rules, drop, length, option_map, ◌+◌}
+use Rattle.std.proofs.Common.{arith, rules, drop, option_map, ◌+◌}
 use Rattle.oer_types.specs.ShapeView.{fields_of, need_of, type_of}
 use Rattle.oer_types.specs.ValueView.{places_of, value_of}
 use Rattle.oer_writer.specs.Parts.{field_bits, kept_place, place_bit}
