@@ -3,12 +3,12 @@ use Rattle.std.proofs.Common.{inl, inr, ◌≡◌, ⊎_elim, ℕ, suc, ◌+◌, 
 use Rattle.std.proofs.lemmas.Bool.{cases_lt}
 use Rattle.std.proofs.lemmas.List.{drop_more, drop_all, length-map}
 use Rattle.std.specs.Int.{w128}
-use Rattle.oer_units.specs.Least.{big_endian, counted, enumerated_octets, length_octets, signed_octets, tag_octets, unsigned_octets}
+use Rattle.oer_units.specs.Least.{counted, enumerated_octets, length_octets, signed_octets, tag_octets, unsigned_octets}
 use Rattle.oer_units.specs.declared.tagging.Tag.{Tag}
 use Rattle.oer_units.proofs.Needed.{needed_sixteen}
 use Rattle.oer_units.proofs.Numbers.{length-big_endian, length-signed_octets, length-unsigned_octets, length_octets_above, length_octets_below, needed_least}
-use Rattle.oer_types.specs.AsnType.{Additions, Alternatives, AsnType, Fields, Need, addition, alternative, bit_string, boolean, choice, default, enumerated, extensible_sequence, field, integer, later, may, must, no_alternatives, no_fields, null, object_id, octet_string, restricted_string, sequence, sequence_of, utf8_string}
-use Rattle.oer_types.specs.AsnValue.{AsnValue, Places, Unknown, Values, bool, chosen, enum, int, items, no_places, nothing, octets, seq, text}
+use Rattle.oer_types.specs.AsnType.{Alternatives, AsnType, Fields, Need, alternative, bit_string, boolean, choice, default, enumerated, extensible_sequence, field, integer, later, may, must, no_alternatives, no_fields, null, object_id, octet_string, restricted_string, sequence, sequence_of, utf8_string}
+use Rattle.oer_types.specs.AsnValue.{AsnValue, Places, Unknown, Values, chosen, enum, int, items, no_places, octets, seq, text}
 use Rattle.oer_types.specs.Bits.{octets_for, padded}
 use Rattle.oer_types.specs.Canonical.{any_present, any_unknown, canonical_octets, integer_octets, string_octets}
 use Rattle.oer_types.specs.Constraints.{Form, fixed, form_of, high_to, low_from, same_tag, signed_counted, signed_fixed, signed_form, signed_within, unsigned_counted, unsigned_fixed, unsigned_form}

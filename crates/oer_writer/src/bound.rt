@@ -40,7 +40,9 @@ fn bound_string(value: &[u8], done: u64) -> Option<u64>
     plus(plus(done, 9)?, value.len() as u64)
 }
 
+// Of any value; what holds no other, without a call.
 #[cycle(bound)]
+#[inline(always)]
 #[tactic(auto, using(crate::proofs::Views::views))]
 pub(crate) fn bound(value: &Value, done: u64) -> Option<u64>
     ensures { Bounds done (value_of value.now) result }

@@ -1,9 +1,7 @@
-use Rattle.std.proofs.Common.{arith, rules, ◌≡◌, ◌^◌, ◌<◌, ◌+◌, ◌∙◌, ◌||◌, IfSome, length, map, option_map, sym, ap}
-use Rattle.oer_units.specs.Least.{counted, tag_octets, unsigned_octets}
-use Rattle.oer_types.specs.Canonical.{any_present, any_unknown}
-use Rattle.oer_types.specs.ValueView.{places_of, unknown_of, value_of, values_of}
+use Rattle.std.proofs.Common.{arith, rules, ◌^◌, ◌<◌, ◌∙◌, IfSome, length, map, option_map, sym, ap}
+use Rattle.oer_types.specs.ValueView.{places_of, unknown_of, value_of}
 use Rattle.oer_writer.specs.Parts.{place_octets_of}
-use Rattle.oer_writer.proofs.Bounds.{chosen_bounds, list_bounds, places_end, places_more, places_start, seq_bounds, values_end, values_more}
+use Rattle.oer_writer.proofs.Bounds.{chosen_bounds, list_bounds, places_end, places_more, places_start, seq_bounds}
 use Rattle.oer_writer.proofs.bound.+bound.Goals as goal
 
 pub bound_chosen-returns : goal.bound_chosen-returns
