@@ -6,12 +6,15 @@ ghost use Rattle.oer_cmd.specs.Faults.{AppendsFront};
 
 use oer_cmd::put_all;
 use oer_dump_cmd::run;
-use std::io::{BufReader, ErrorKind, Write};
+use std::env::{self, Env};
+use std::io::{BufReader, ErrorKind, IsTerminal, Write};
 use std::process::ExitCode;
 
 const NO_TEXT: &str = "oer: arguments that are no text\n";
 
 const NO_MEMORY: &str = "oer: out of memory\n";
+
+const USUAL_WIDTH: u64 = 100;
 
 // Writes why the program doesn't begin, in one call, and answers the status. A failure to write it is
 // ignored.
@@ -23,10 +26,22 @@ fn stop<E: Write>(line: &str, errors: &mut E) -> u8
     3
 }
 
+// How many characters a line has if the arguments don't say: as many as that of the terminal, if standard
+// output is one and the variable COLUMNS says how many these are.
+fn usual_width<R: Env + Alloc>(rt: &R, is_terminal: bool) -> u64 {
+    if !is_terminal {
+        return USUAL_WIDTH;
+    }
+    match env::var(rt, "COLUMNS") {
+        Ok(text) => text.parse().unwrap_or(USUAL_WIDTH),
+        Err(_) => USUAL_WIDTH,
+    }
+}
+
 fn main(rt: HostRuntime) -> ExitCode {
     let alloc = rt.alloc();
     let mut errors = rt.stderr();
-    let words = match std::env::args(&rt) {
+    let words = match env::args(&rt) {
         Ok(words) => words,
         Err(error) if error.kind() == ErrorKind::InvalidData => {
             return ExitCode::from(stop(NO_TEXT, &mut errors));
@@ -39,9 +54,11 @@ fn main(rt: HostRuntime) -> ExitCode {
     let Ok(mut input) = BufReader::new(alloc, rt.reader()) else {
         return ExitCode::from(stop(NO_MEMORY, &mut errors));
     };
+    let is_terminal = rt.stdout().is_terminal();
     let status = run(
         alloc,
         words.as_slice(),
+        usual_width(&rt, is_terminal),
         &mut input,
         &mut rt.stdout(),
         &mut errors,

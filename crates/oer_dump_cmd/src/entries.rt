@@ -1,11 +1,16 @@
 //! Entries of octets: their rows, with names and values.
+ghost use Rattle.std.specs.Prelude.{◌≡◌, ◌≤◌, [], ◌∷◌, ◌++◌, IfOk, map, vec_len};
+ghost use Rattle.oer_types.specs.Schema.{the_type};
+ghost use Rattle.oer_checker.specs.Listing.{rows_of};
+ghost use Rattle.oer_checker.specs.Rows.{line_of};
+ghost use Rattle.oer_dump_cmd.specs.Entries.{AddsAtMostOne, AreOfRows, spot_in, spot_of};
 
 use crate::bits::{Bitmap, preamble_bits};
 use crate::entry::{Entry, What};
 use crate::frame::Frame;
 use crate::leaf::{is_default, leaf_of};
 use crate::text::{kind_of, names_text, path_text};
-use crate::trail::{go_on, go_to};
+use crate::trail::{go_on, go_to, last_of};
 use crate::units::{length_in, other_length, other_quantity, quantity_in, tag_in};
 use oer_reader::{Role, Row, Step, rows};
 use oer_types::{Schema, Shape};
@@ -180,7 +185,9 @@ fn entry<'a>(
     offset: usize,
     octets: &'a [u8],
     what: What<'a>,
-) -> Result<Entry<'a>, AllocError> {
+) -> Result<Entry<'a>, AllocError>
+    ensures { IfOk result (λ made. spot_of made ≡ (offset, octets.entry.now)) }
+{
     let kind = match frames.last() {
         Some(frame) => kind_of(frame.shape),
         None => "-",
@@ -204,7 +211,9 @@ fn row_entry<'a>(
     frame: Frame<'a>,
     row: &Row<'a>,
     octets: &[u8],
-) -> Result<Entry<'a>, AllocError> {
+) -> Result<Entry<'a>, AllocError>
+    ensures { IfOk result (λ made. spot_of made ≡ spot_in (line_of row.now)) }
+{
     let meaning = meaning_of(alloc, frame, row.role, row.octets)?;
     let mut entry = entry(alloc, frames, row.offset, row.octets, meaning.what)?;
     entry.canonical = meaning.canonical;
@@ -219,12 +228,14 @@ fn add<'a>(
     row: &Row<'a>,
     octets: &[u8],
     entries: &mut Vec<Entry<'a>>,
-) -> Result<(), AllocError> {
+) -> Result<(), AllocError>
+    requires { 1 ≤ vec_len frames.old }
+    ensures way { IfOk result (λ _. 1 ≤ vec_len frames.new) }
+    ensures added { IfOk result (λ _. map spot_of entries.new.items
+        ≡ map spot_of entries.old.items ++ spot_in (line_of row.now) ∷ []) }
+{
     go_to(frames, row.path.as_slice())?;
-    let Some(frame) = frames.last() else {
-        return Ok(());
-    };
-    let frame = *frame;
+    let frame = last_of(frames.as_slice());
     entries.push(row_entry(alloc, frames.as_slice(), frame, row, octets)?)?;
     let _ = frames.pop();
     frames.push(noted(frame, row.role, row.offset, row.octets))?;
@@ -262,7 +273,10 @@ fn reject<'a>(
     octets: &'a [u8],
     fault: ReadFault,
     entries: &mut Vec<Entry<'a>>,
-) -> Result<Place, AllocError> {
+) -> Result<Place, AllocError>
+    requires { 1 ≤ vec_len frames.old }
+    ensures { IfOk result (λ _. AddsAtMostOne entries.old.items entries.new.items) }
+{
     let end = end_of(entries.as_slice());
     if !entries.is_empty() {
         go_on(frames, end)?;
@@ -285,7 +299,9 @@ fn follow<'a>(
     octets: &'a [u8],
     end: usize,
     entries: &mut Vec<Entry<'a>>,
-) -> Result<(), AllocError> {
+) -> Result<(), AllocError>
+    ensures { IfOk result (λ _. AddsAtMostOne entries.old.items entries.new.items) }
+{
     let rest = octets_from(octets, end);
     if !rest.is_empty() {
         entries.push(entry(alloc, &[], end, rest, What::Follows)?)?;
@@ -293,13 +309,15 @@ fn follow<'a>(
     Ok(())
 }
 
-/// What each of the octets is. Each stands in one entry; where they are rejected, each up to the octet
-/// that shows it. It fails if an allocation fails.
+/// What each of the octets is: an entry for each row, and behind these one of octets that follow the value
+/// or that show a rejection, if there are any. It fails if an allocation fails.
 pub(crate) fn entries_of<'a>(
     alloc: Global,
     schema: &'a Schema,
     octets: &'a [u8],
-) -> Result<Entries<'a>, AllocError> {
+) -> Result<Entries<'a>, AllocError>
+    ensures { IfOk result (λ found. AreOfRows (rows_of (the_type schema.now) octets.now) found.entries.items) }
+{
     let listing = rows(alloc, schema, octets)?;
     let mut frames = Vec::new(alloc);
     frames.push(Frame::whole(schema.shape()))?;

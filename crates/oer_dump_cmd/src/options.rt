@@ -1,4 +1,9 @@
 //! What the arguments ask for.
+ghost use Rattle.std.specs.Prelude.{◌≡◌, IfErr, IfOk, false, map, string_bytes, true};
+ghost use Rattle.clap.specs.Words.{HasKind, fault_of, kind_of, rule_of, takes};
+ghost use Rattle.clap.specs.declared.error.kind.ErrorKind.TheVariants.{OutOfMemory};
+ghost use Rattle.oer_options.specs.Words.{HasShape, limit_rule, texts_of};
+ghost use Rattle.oer_dump_cmd.specs.Words.{Asks, bare, json_rule, oer_dump, texts_asked, width_rule};
 
 use crate::help;
 use clap::{Arg, ArgAction, Command, Error};
@@ -32,7 +37,9 @@ pub(crate) struct Options<'a> {
 
 impl<'a> Options<'a> {
     /// Those that `oer check` has.
-    pub(crate) fn of_check(self) -> OerOptions<'a> {
+    pub(crate) fn of_check(self) -> OerOptions<'a>
+        ensures { texts_of result ≡ texts_asked self.entry }
+    {
         OerOptions {
             task: Task::Check { hex: self.hex },
             type_text: self.type_text,
@@ -43,35 +50,73 @@ impl<'a> Options<'a> {
     }
 }
 
-// An option whose value is a number.
-fn number<'a>(alloc: Global, id: &'a str, help: &'a str, default: &'a str) -> Arg<'a> {
-    option(alloc, id, "N", help)
+// The option that bounds how many octets there may be.
+fn limit_option<'a>(alloc: Global) -> Arg<'a>
+    ensures rule { rule_of result ≡ limit_rule }
+    ensures local { result.global ≡ false }
+{
+    option(alloc, "limit", "N", help::LIMIT)
         .value_parser(clap::value_parser!(u64))
-        .default_value(default)
+        .default_value("1048576")
 }
 
-// The whole command.
-fn command<'a>(alloc: Global) -> Result<Command<'a>, AllocError> {
-    let json = Arg::new(alloc, "json")
+// The option that bounds how long a line may be.
+fn width_option<'a>(alloc: Global) -> Arg<'a>
+    ensures rule { rule_of result ≡ width_rule }
+    ensures local { result.global ≡ false }
+{
+    option(alloc, "width", "N", help::WIDTH).value_parser(clap::value_parser!(u64))
+}
+
+// The option for JSON in place of lines.
+fn json_option<'a>(alloc: Global) -> Arg<'a>
+    ensures rule { rule_of result ≡ json_rule }
+    ensures local { result.global ≡ false }
+{
+    Arg::new(alloc, "json")
         .long("json")
         .action(ArgAction::SetTrue)
-        .help(help::JSON);
+        .help(help::JSON)
+}
+
+// The command without options.
+fn bare_command<'a>(alloc: Global) -> Command<'a>
+    ensures { HasShape bare result }
+{
     Command::new(alloc, "oer-dump")
         .override_usage(help::USAGE)
         .about(help::ABOUT)
         .after_help(help::NOTES)
         .version(VERSION)
+}
+
+// The whole command.
+fn command<'a>(alloc: Global) -> Result<Command<'a>, AllocError>
+    ensures { IfOk result (HasShape oer_dump) }
+{
+    bare_command(alloc)
         .arg(option(alloc, "type", "TYPE", TYPE))?
         .arg(option(alloc, "types", "TEXT", TYPES))?
         .arg(option(alloc, "name", "NAME", NAME))?
-        .arg(number(alloc, "limit", help::LIMIT, "1048576"))?
+        .arg(limit_option(alloc))?
         .arg(option(alloc, "hex", "DIGITS", HEX))?
-        .arg(number(alloc, "width", help::WIDTH, "100"))?
-        .arg(json)
+        .arg(width_option(alloc))?
+        .arg(json_option(alloc))
 }
 
-/// What the arguments ask for, or why `clap` rejects them. The first word is the name of the program.
-pub(crate) fn parsed<'a>(alloc: Global, words: &'a [String]) -> Result<Options<'a>, Error> {
+/// What the arguments ask for, or why `clap` rejects them. The first word is the name of the program;
+/// `width` is how many characters a line may have if they don't say.
+pub(crate) fn parsed<'a>(
+    alloc: Global,
+    words: &'a [String],
+    width: u64,
+) -> Result<Options<'a>, Error>
+    ensures ok { IfOk result (λ o. Asks (map string_bytes words.entry.now) o) }
+    ensures err { IfErr result (λ e. takes oer_dump (map string_bytes words.entry.now) ≡ true
+        → kind_of e ≡ OutOfMemory) }
+    // An allocation failed, or it is a fault that these words have.
+    ensures kinds { IfErr result (HasKind (fault_of oer_dump (map string_bytes words.entry.now))) }
+{
     let command = command(alloc)?;
     let found = match command.try_get_matches_from(words) {
         Ok(found) => found,
@@ -80,13 +125,12 @@ pub(crate) fn parsed<'a>(alloc: Global, words: &'a [String]) -> Result<Options<'
     let Some(limit) = found.get_one::<u64>("limit") else {
         return Err(Error::from(AllocError));
     };
-    let Some(width) = found.get_one::<u64>("width") else {
-        return Err(Error::from(AllocError));
-    };
     let form = if found.get_flag("json") {
         Form::Json
     } else {
-        Form::Text { width }
+        Form::Text {
+            width: found.get_one::<u64>("width").unwrap_or(width),
+        }
     };
     Ok(Options {
         type_text: found.get_str("type"),

@@ -1,4 +1,5 @@
-//! The parts on the way to the octets in hand, from the whole on.
+//! The parts on the way to the octets in hand, from the whole on. There is always one: the whole.
+ghost use Rattle.std.specs.Prelude.{◌≤◌, IfOk, length, vec_len};
 
 use crate::bits::{Bitmap, bit, has_bit};
 use crate::frame::Frame;
@@ -6,8 +7,20 @@ use oer_reader::Step;
 use oer_types::{Addition, Field, Shape};
 use std::alloc::AllocError;
 
+/// The part at the end of the way.
+pub(crate) fn last_of<'a>(frames: &[Frame<'a>]) -> Frame<'a>
+    requires { 1 ≤ length frames.now }
+{
+    match frames.last() {
+        Some(frame) => *frame,
+        None => unreachable!(),
+    }
+}
+
 // How many of the frames are on the path.
-fn shared(frames: &[Frame<'_>], path: &[Step]) -> usize {
+fn shared(frames: &[Frame<'_>], path: &[Step]) -> usize
+    ensures { 1 ≤ result }
+{
     let mut count: usize = 1;
     for (frame, step) in frames.iter().skip(1).zip(path) {
         if frame.step != Some(*step) {
@@ -19,10 +32,12 @@ fn shared(frames: &[Frame<'_>], path: &[Step]) -> usize {
 }
 
 // Goes on to the part of the last frame to which the step leads.
-fn enter<'a>(frames: &mut Vec<Frame<'a>>, step: Step) -> Result<(), AllocError> {
-    let Some(mut frame) = frames.pop() else {
-        return Ok(());
-    };
+fn enter<'a>(frames: &mut Vec<Frame<'a>>, step: Step) -> Result<(), AllocError>
+    requires { 1 ≤ vec_len frames.old }
+    ensures { IfOk result (λ _. 1 ≤ vec_len frames.new) }
+{
+    let mut frame = last_of(frames.as_slice());
+    let _ = frames.pop();
     frame.last = Some(step);
     frames.push(frame)?;
     frames.push(frame.inner(step))?;
@@ -30,7 +45,10 @@ fn enter<'a>(frames: &mut Vec<Frame<'a>>, step: Step) -> Result<(), AllocError> 
 }
 
 /// Goes to the part at the end of the path, from where the frames are.
-pub(crate) fn go_to<'a>(frames: &mut Vec<Frame<'a>>, path: &[Step]) -> Result<(), AllocError> {
+pub(crate) fn go_to<'a>(frames: &mut Vec<Frame<'a>>, path: &[Step]) -> Result<(), AllocError>
+    requires { 1 ≤ vec_len frames.old }
+    ensures { IfOk result (λ _. 1 ≤ vec_len frames.new) }
+{
     let count = shared(frames.as_slice(), path);
     frames.truncate(count);
     for step in path.iter().skip(frames.len().saturating_sub(1)) {
@@ -162,12 +180,11 @@ fn next_of(frame: Frame<'_>) -> Next {
 }
 
 /// Goes on to the part that comes next, where octets up to this offset were read.
-pub(crate) fn go_on<'a>(frames: &mut Vec<Frame<'a>>, offset: usize) -> Result<(), AllocError> {
+pub(crate) fn go_on<'a>(frames: &mut Vec<Frame<'a>>, offset: usize) -> Result<(), AllocError>
+    requires { 1 ≤ vec_len frames.old }
+{
     for _ in 0..frames.len() {
-        let Some(frame) = frames.last() else {
-            return Ok(());
-        };
-        let frame = *frame;
+        let frame = last_of(frames.as_slice());
         match next_of(frame) {
             Next::Here => return Ok(()),
             Next::Inside(step) => return enter(frames, step),

@@ -1,5 +1,5 @@
 //! Statuses, and what is said of arguments; output that fails.
-use crate::shared::{expect, ran};
+use crate::shared::{USUAL_WIDTH, expect, ran};
 use oer_dump_cmd::run;
 use std::io;
 use std::io::{Error, ErrorKind, Write};
@@ -97,7 +97,7 @@ fn full_output(rt: HostRuntime) -> Result<(), Fail> {
     let mut output = Full { calls: 0 };
     let mut errors = Vec::new(alloc);
     let mut input: &[u8] = &[];
-    let status = run(alloc, words.as_slice(), &mut input, &mut output, &mut errors);
+    let status = run(alloc, words.as_slice(), USUAL_WIDTH, &mut input, &mut output, &mut errors);
     let line = str::from_utf8(errors.as_slice())?;
     if (status, line, output.calls) != (3, "oer: output failed\n", 1) {
         return Err(Fail::new(line));

@@ -4,6 +4,9 @@ use std::alloc::Global;
 use std::str;
 use std::test::Fail;
 
+/// How many characters a line may have if the words don't say.
+pub const USUAL_WIDTH: u64 = 100;
+
 /// What a run wrote, and its status.
 #[derive(Drop)]
 pub struct Written {
@@ -14,6 +17,16 @@ pub struct Written {
 
 /// Runs the program with these words after its name, on an input that has these octets.
 pub fn ran(alloc: Global, words: &[&str], input: &[u8]) -> Result<Written, Fail> {
+    ran_within(alloc, words, USUAL_WIDTH, input)
+}
+
+/// The same where a line may have so many characters if the words don't say.
+pub fn ran_within(
+    alloc: Global,
+    words: &[&str],
+    width: u64,
+    input: &[u8],
+) -> Result<Written, Fail> {
     let mut all = Vec::new(alloc);
     all.push(String::from_str(alloc, "oer-dump")?)?;
     for word in words {
@@ -22,7 +35,7 @@ pub fn ran(alloc: Global, words: &[&str], input: &[u8]) -> Result<Written, Fail>
     let mut input = input;
     let mut output = Vec::new(alloc);
     let mut errors = Vec::new(alloc);
-    let status = run(alloc, all.as_slice(), &mut input, &mut output, &mut errors);
+    let status = run(alloc, all.as_slice(), width, &mut input, &mut output, &mut errors);
     Ok(Written {
         status,
         output,

@@ -1,6 +1,7 @@
 //! Lines that are cut.
-use crate::shared::expect;
+use crate::shared::{expect, ran_within};
 use std::alloc::Global;
+use std::str;
 use std::test::Fail;
 
 /// Octets of the type NAMED: a name of 26 letters, and 40 octets from 00 on.
@@ -42,6 +43,16 @@ fn widths(rt: HostRuntime) -> Result<(), Fail> {
 fn usual_width(rt: HostRuntime) -> Result<(), Fail> {
     let (_, lines) = CUT.get(1).ok_or("a width")?;
     expect(rt.alloc(), &[NAMED, NAMED_DIGITS], (0, lines, ""))
+}
+
+#[test]
+fn terminal_width(rt: HostRuntime) -> Result<(), Fail> {
+    let (_, lines) = CUT.get(2).ok_or("a width")?;
+    let written = ran_within(rt.alloc(), &[NAMED, NAMED_DIGITS], 40, &[])?;
+    if written.status != 0 || str::from_utf8(written.output.as_slice())? != *lines {
+        return Err(Fail::new("40"));
+    }
+    Ok(())
 }
 
 #[test]
