@@ -50,7 +50,7 @@ pub struct Options<'a> {
 }
 
 /// An option that takes a value, with its help, which calls the value by this name.
-fn option<'a>(alloc: Global, id: &'a str, value_name: &'a str, help: &'a str) -> Arg<'a>
+pub fn option<'a>(alloc: Global, id: &'a str, value_name: &'a str, help: &'a str) -> Arg<'a>
     ensures rule { rule_of result ≡ option_rule id.entry.now }
     ensures local { result.global ≡ false }
 {
