@@ -7,10 +7,14 @@ use Rattle.oer_units.specs.Least.{counted, enumerated_octets, length_octets, sig
 use Rattle.oer_units.specs.declared.tagging.Tag.{Tag}
 use Rattle.oer_units.proofs.Needed.{needed_sixteen}
 use Rattle.oer_units.proofs.Numbers.{length-big_endian, length-signed_octets, length-unsigned_octets, length_octets_above, length_octets_below, needed_least}
-use Rattle.oer_types.specs.AsnType.{Alternatives, AsnType, Fields, Need, alternative, bit_string, boolean, choice, default, enumerated, extensible_sequence, field, integer, later, may, must, no_alternatives, no_fields, null, object_id, octet_string, restricted_string, sequence, sequence_of, utf8_string}
-use Rattle.oer_types.specs.AsnValue.{AsnValue, Places, Unknown, Values, chosen, enum, int, items, no_places, octets, seq, text}
+use Rattle.oer_types.specs.LeafType as kind
+use Rattle.oer_types.specs.LeafType.{LeafType}
+use Rattle.oer_types.specs.LeafValue as leaf_kind
+use Rattle.oer_types.specs.LeafValue.{LeafValue}
+use Rattle.oer_types.specs.AsnType.{Alternatives, AsnType, Fields, Need, alternative, choice, default, extensible_sequence, field, later, leaf, may, must, no_alternatives, no_fields, sequence, sequence_of}
+use Rattle.oer_types.specs.AsnValue.{AsnValue, Places, Unknown, Values, bool, chosen, enum, int, items, leaf_value, no_places, nothing, octets, seq, text}
 use Rattle.oer_types.specs.Bits.{octets_for, padded}
-use Rattle.oer_types.specs.Canonical.{any_present, any_unknown, canonical_octets, integer_octets, string_octets}
+use Rattle.oer_types.specs.Canonical.{any_present, any_unknown, canonical_octets, integer_octets, leaf_octets, string_octets}
 use Rattle.oer_types.specs.Constraints.{Form, fixed, form_of, high_to, low_from, same_tag, signed_counted, signed_fixed, signed_form, signed_within, unsigned_counted, unsigned_fixed, unsigned_form}
 use Rattle.oer_types.specs.ValueView.{places_from, places_of, value_of, values_of}
 use Rattle.oer_types.specs.declared.value.Value.{Value}
@@ -83,65 +87,72 @@ string_few : (o : Option ℕ) (w : List ℕ) → length w < 2 ^ 64 → length (s
 string_few (Some n) w h = omega arith
 string_few None w h = counted_few w h
 
+-- a value that holds no other has no octets by a type that holds others
+leaf_bound : (n : ℕ) (v : LeafValue) → ((kind : LeafType) → length (leaf_octets kind (leaf_value v)) ≤ n) → (T : AsnType) → length (canonical_octets T (leaf_value v)) ≤ n
+leaf_bound n v h (leaf kind) = h kind
+leaf_bound n v h (sequence fs) = nil n
+leaf_bound n v h (extensible_sequence fs more) = nil n
+leaf_bound n v h (sequence_of size U) = nil n
+leaf_bound n v h (choice extensible more) = nil n
+
+bool_leaf : (kind : LeafType) (x : Bool) → length (leaf_octets kind (bool x)) ≤ 1
+bool_leaf kind.boolean x = omega arith
+bool_leaf _ x = nil 1
+
+pub bool_bound : (T : AsnType) (x : Bool) → length (canonical_octets T (bool x)) ≤ 1
+bool_bound T x = leaf_bound 1 (leaf_kind.bool x) (λ kind. bool_leaf kind x) T
+
+null_leaf : (kind : LeafType) → length (leaf_octets kind nothing) ≤ 0
+null_leaf kind.null = nil 0
+null_leaf _ = nil 0
+
+pub null_bound : (T : AsnType) → length (canonical_octets T nothing) ≤ 0
+null_bound T = leaf_bound 0 leaf_kind.nothing null_leaf T
+
+int_leaf : (kind : LeafType) (z : ℤ) → FitsSigned w128 z → length (leaf_octets kind (int z)) ≤ 17
+int_leaf (kind.integer low high) z h = int_few (form_of low high) z (form_small low high) h
+int_leaf _ z h = nil 17
+
 pub int_bound : (T : AsnType) (z : ℤ) → FitsSigned w128 z → length (canonical_octets T (int z)) ≤ 17
-int_bound boolean z h = nil 17
-int_bound null z h = nil 17
-int_bound (integer low high) z h = int_few (form_of low high) z (form_small low high) h
-int_bound (enumerated numbers extensible) z h = nil 17
-int_bound (bit_string size) z h = nil 17
-int_bound (octet_string size) z h = nil 17
-int_bound object_id z h = nil 17
-int_bound (restricted_string kind size) z h = nil 17
-int_bound (utf8_string size) z h = nil 17
-int_bound (sequence fs) z h = nil 17
-int_bound (extensible_sequence fs more) z h = nil 17
-int_bound (sequence_of size U) z h = nil 17
-int_bound (choice extensible more) z h = nil 17
+int_bound T z h = leaf_bound 17 (leaf_kind.int z) (λ kind. int_leaf kind z h) T
+
+item_leaf : (kind : LeafType) (z : ℤ) → FitsSigned w128 z → length (leaf_octets kind (enum z)) ≤ 17
+item_leaf (kind.enumerated numbers extensible) z h = item_few z h
+item_leaf _ z h = nil 17
 
 pub item_bound : (T : AsnType) (z : ℤ) → FitsSigned w128 z → length (canonical_octets T (enum z)) ≤ 17
-item_bound boolean z h = nil 17
-item_bound null z h = nil 17
-item_bound (integer low high) z h = nil 17
-item_bound (enumerated numbers extensible) z h = item_few z h
-item_bound (bit_string size) z h = nil 17
-item_bound (octet_string size) z h = nil 17
-item_bound object_id z h = nil 17
-item_bound (restricted_string kind size) z h = nil 17
-item_bound (utf8_string size) z h = nil 17
-item_bound (sequence fs) z h = nil 17
-item_bound (extensible_sequence fs more) z h = nil 17
-item_bound (sequence_of size U) z h = nil 17
-item_bound (choice extensible more) z h = nil 17
+item_bound T z h = leaf_bound 17 (leaf_kind.enum z) (λ kind. item_leaf kind z h) T
+
+octets_leaf : (kind : LeafType) (w : List ℕ) → length w < 2 ^ 64 → length (leaf_octets kind (octets w)) ≤ 9 + length w
+octets_leaf (kind.octet_string size) w h = string_few (fixed size) w h
+octets_leaf _ w h = nil (9 + length w)
 
 pub octets_bound : (T : AsnType) (w : List ℕ) → length w < 2 ^ 64 → length (canonical_octets T (octets w)) ≤ 9 + length w
-octets_bound boolean w h = nil (9 + length w)
-octets_bound null w h = nil (9 + length w)
-octets_bound (integer low high) w h = nil (9 + length w)
-octets_bound (enumerated numbers extensible) w h = nil (9 + length w)
-octets_bound (bit_string size) w h = nil (9 + length w)
-octets_bound (octet_string size) w h = string_few (fixed size) w h
-octets_bound object_id w h = nil (9 + length w)
-octets_bound (restricted_string kind size) w h = nil (9 + length w)
-octets_bound (utf8_string size) w h = nil (9 + length w)
-octets_bound (sequence fs) w h = nil (9 + length w)
-octets_bound (extensible_sequence fs more) w h = nil (9 + length w)
-octets_bound (sequence_of size U) w h = nil (9 + length w)
-octets_bound (choice extensible more) w h = nil (9 + length w)
+octets_bound T w h = leaf_bound (9 + length w) (leaf_kind.octets w) (λ kind. octets_leaf kind w h) T
+
+text_leaf : (kind : LeafType) (w : List ℕ) → length w < 2 ^ 64 → length (leaf_octets kind (text w)) ≤ 9 + length w
+text_leaf (kind.restricted_string letters size) w h = string_few (fixed size) w h
+text_leaf (kind.utf8_string size) w h = counted_few w h
+text_leaf _ w h = nil (9 + length w)
 
 pub text_bound : (T : AsnType) (w : List ℕ) → length w < 2 ^ 64 → length (canonical_octets T (text w)) ≤ 9 + length w
-text_bound boolean w h = nil (9 + length w)
-text_bound null w h = nil (9 + length w)
-text_bound (integer low high) w h = nil (9 + length w)
-text_bound (enumerated numbers extensible) w h = nil (9 + length w)
-text_bound (bit_string size) w h = nil (9 + length w)
-text_bound (octet_string size) w h = nil (9 + length w)
-text_bound object_id w h = nil (9 + length w)
-text_bound (restricted_string kind size) w h = string_few (fixed size) w h
-text_bound (utf8_string size) w h = counted_few w h
-text_bound (sequence fs) w h = nil (9 + length w)
-text_bound (extensible_sequence fs more) w h = nil (9 + length w)
-text_bound (sequence_of size U) w h = nil (9 + length w)
-text_bound (choice extensible more) w h = nil (9 + length w)
+text_bound T w h = leaf_bound (9 + length w) (leaf_kind.text w) (λ kind. text_leaf kind w h) T
+
+-- nor has a value that holds others, by a type that holds none
+seq_none : (kind : LeafType) (ps qs : Places) (us : List Unknown) → leaf_octets kind (seq ps qs us) ≡ []
+seq_none kind.null ps qs us = refl
+seq_none _ ps qs us = refl
+
+items_none : (kind : LeafType) (vs : Values) → leaf_octets kind (items vs) ≡ []
+items_none kind.null vs = refl
+items_none _ vs = refl
+
+chosen_none : (kind : LeafType) (t : Tag) (v : AsnValue) → leaf_octets kind (chosen t v) ≡ []
+chosen_none kind.null t v = refl
+chosen_none _ t v = refl
+
+pub null_most : (done : ℕ) → Bounds done nothing (Some done)
+null_most done = λ T. omega (arith, null_bound T)
 
 -- by so many octets
 pub most : (o : Option ℕ) (done k : ℕ) (v : AsnValue) → IfSome o (λ n. n ≡ done + k) → ((T : AsnType) → length (canonical_octets T v) ≤ k) → Bounds done v o
@@ -197,7 +208,7 @@ places_more start done n whole xs i p h is left more = λ fs. go fs (left fs).0 
     rest = drop (i + 1) xs
 
     go : (fs gs : Fields) → start + length (field_octets fs whole) ≤ done + length (field_octets gs (places_of (drop i xs))) → (hs : Fields) × (start + length (field_octets fs whole) ≤ n + length (field_octets hs (places_of rest)))
-    go fs no_fields k = let none : length (field_octets no_fields (places_of (drop i xs))) ≡ 0 = refl in (no_fields, omega (arith, k, none, more null))
+    go fs no_fields k = let none : length (field_octets no_fields (places_of (drop i xs))) ≡ 0 = refl in (no_fields, omega (arith, k, none, more (leaf kind.null)))
     go fs (field name need T gs) k =
         let q = option_map value_of p in
         let is_first = ap (λ l. field_octets (field name need T gs) (places_of l)) (drop_more xs i p h ∙ ap (λ y. y ∷ rest) (sym is)) ∙ field_first name need T gs q (map (option_map value_of) rest) in
@@ -221,15 +232,7 @@ seq_bounds (Some n) done mid xs qs us off m h = go
     less = omega (arith, m, h no_fields)
 
     go : (T : AsnType) → done + length (canonical_octets T (seq (places_of xs) qs us)) ≤ n
-    go boolean = less
-    go null = less
-    go (integer low high) = less
-    go (enumerated numbers extensible) = less
-    go (bit_string size) = less
-    go (octet_string size) = less
-    go object_id = less
-    go (restricted_string kind size) = less
-    go (utf8_string size) = less
+    go (leaf kind) = omega (arith, less, ap length (seq_none kind (places_of xs) qs us))
     go (sequence fs) = let e : length (canonical_octets (sequence fs) (seq (places_of xs) qs us)) ≡ length (root_octets None fs (places_of xs)) = refl in omega (arith, e, m, root_few None fs xs, h fs)
     go (extensible_sequence fs more) = let e = ap length (extended_is fs more (places_of xs) qs us false (sym off) ∙ append-nil (root_octets (Some false) fs (places_of xs))) in omega (arith, e, m, root_few (Some false) fs xs, h fs)
     go (sequence_of size U) = less
@@ -252,18 +255,10 @@ list_bounds None done mid vs m h = h
 list_bounds (Some n) done mid vs m h = go
   where
     less : done + 0 ≤ n
-    less = omega (arith, m, h null)
+    less = omega (arith, m, h (leaf kind.null))
 
     go : (T : AsnType) → done + length (canonical_octets T (items (values_of vs))) ≤ n
-    go boolean = less
-    go null = less
-    go (integer low high) = less
-    go (enumerated numbers extensible) = less
-    go (bit_string size) = less
-    go (octet_string size) = less
-    go object_id = less
-    go (restricted_string kind size) = less
-    go (utf8_string size) = less
+    go (leaf kind) = omega (arith, less, ap length (items_none kind (values_of vs)))
     go (sequence fs) = less
     go (extensible_sequence fs more) = less
     go (sequence_of size U) = let e = ap (λ k. length (counted (unsigned_octets k) ++ values_octets U (values_of vs))) (count_of U vs) in omega (arith, e, m, length-append (counted (unsigned_octets (length vs))) (values_octets U (values_of vs)), h U)
@@ -289,19 +284,11 @@ chosen_bounds None done mid t v few m h = h
 chosen_bounds (Some n) done mid t v few m h = go
   where
     less : done + 0 ≤ n
-    less = omega (arith, m, h null)
+    less = omega (arith, m, h (leaf kind.null))
 
     go : (T : AsnType) → done + length (canonical_octets T (chosen t v)) ≤ n
-    go boolean = less
-    go null = less
-    go (integer low high) = less
-    go (enumerated numbers extensible) = less
-    go (bit_string size) = less
-    go (octet_string size) = less
-    go object_id = less
-    go (restricted_string kind size) = less
-    go (utf8_string size) = less
+    go (leaf kind) = omega (arith, less, ap length (chosen_none kind t v))
     go (sequence fs) = less
     go (extensible_sequence fs more) = less
     go (sequence_of size U) = less
-    go (choice extensible more) = let e : length (canonical_octets (choice extensible more) (chosen t v)) ≡ length (tag_octets t ++ chosen_octets more t v) = refl in omega (arith, e, m, length-append (tag_octets t) (chosen_octets more t v), alternative_few more t v (n - mid) (λ T. omega (arith, h T)) (omega (arith, few)), h null)
+    go (choice extensible more) = let e : length (canonical_octets (choice extensible more) (chosen t v)) ≡ length (tag_octets t ++ chosen_octets more t v) = refl in omega (arith, e, m, length-append (tag_octets t) (chosen_octets more t v), alternative_few more t v (n - mid) (λ T. omega (arith, h T)) (omega (arith, few)), h (leaf kind.null))
