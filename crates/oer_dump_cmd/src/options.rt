@@ -7,7 +7,7 @@ ghost use Rattle.oer_dump_cmd.specs.Words.{Asks, bare, json_rule, oer_dump, text
 
 use crate::help;
 use clap::{Arg, ArgAction, Command, Error};
-use oer_options::{HEX, NAME, Options as OerOptions, TYPE, TYPES, Task, VERSION, option};
+use oer_options::{DEFAULT_LIMIT, HEX, NAME, Options as OerOptions, TYPE, TYPES, Task, VERSION, option};
 use std::alloc::{AllocError, Global};
 
 /// How the lines are printed.
@@ -57,7 +57,7 @@ fn limit_option<'a>(alloc: Global) -> Arg<'a>
 {
     option(alloc, "limit", "N", help::LIMIT)
         .value_parser(clap::value_parser!(u64))
-        .default_value("1048576")
+        .default_value(DEFAULT_LIMIT)
 }
 
 // The option that bounds how long a line may be.
