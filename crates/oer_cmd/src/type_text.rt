@@ -12,7 +12,7 @@ ghost use Rattle.oer_cmd.specs.Types.{AreDefinedIn, DefinesNone, IsOnly, IsTypeI
 
 use crate::fault::Fault;
 use oer_options::Options;
-use oer_text::laws::{what_is_spelled_is_parsed, what_is_parsed_is_spelled};
+use oer_text::laws::{what_is_parsed_is_spelled, what_is_spelled_is_parsed};
 use oer_text::{Types, parse_type, parse_types};
 use oer_types::Schema;
 use std::alloc::Global;

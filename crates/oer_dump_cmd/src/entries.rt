@@ -56,10 +56,12 @@ fn bitmap<'a>(
     frame: Frame<'a>,
     octets: &'a [u8],
 ) -> Result<Meaning<'a>, AllocError> {
-    let Some(Shape::Sequence {
-        additions: Some(additions),
-        ..
-    }) = frame.shape
+    let Some(
+        Shape::Sequence {
+            additions: Some(additions),
+            ..
+        },
+    ) = frame.shape
     else {
         return Ok(Meaning::plain(What::Bitmap(Vec::new(alloc))));
     };

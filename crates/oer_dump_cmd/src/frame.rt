@@ -153,11 +153,7 @@ impl<'a> Frame<'a> {
             },
             Shape::Choice { root, additions } => {
                 let tag = self.tag?;
-                Some(Frame::chosen(
-                    step,
-                    tag,
-                    alternative(root, additions, tag),
-                ))
+                Some(Frame::chosen(step, tag, alternative(root, additions, tag)))
             }
             _ => None,
         }

@@ -8,7 +8,8 @@ pub const USAGE: &str = "oer-dump --type <TYPE> [OPTIONS]
 pub const ABOUT: &str = "Print what each octet of an encoding is";
 
 /// What stands below the options.
-pub const NOTES: &str = "A line has the offset of some octets, their number, the path to their part (as
+pub const NOTES: &str =
+    "A line has the offset of some octets, their number, the path to their part (as
 \"oer part\" takes it), its names, the kind of its type, and the value of a part
 without parts, as \"oer show\" prints it. Other lines are for what stands between
 parts: preamble, bitmap, quantity, tag, length. Behind \"--\" stands what

@@ -13,7 +13,12 @@ fn bits_json(alloc: Global, bits: &[NamedBit<'_>]) -> Result<Json, AllocError> {
     let mut items = Vec::with_capacity(alloc, bits.len())?;
     for bit in bits {
         let mut members = Map::new(alloc);
-        put(&mut members, alloc, "name", Json::from(name_text(alloc, bit.name)?))?;
+        put(
+            &mut members,
+            alloc,
+            "name",
+            Json::from(name_text(alloc, bit.name)?),
+        )?;
         put(&mut members, alloc, "set", Json::from(bit.is_set))?;
         items.push(Json::Object(members))?;
     }
@@ -23,8 +28,18 @@ fn bits_json(alloc: Global, bits: &[NamedBit<'_>]) -> Result<Json, AllocError> {
 // A tag, with the name of the alternative.
 fn tag_json(alloc: Global, tag: Tag, name: Name<'_>) -> Result<Json, AllocError> {
     let mut members = Map::new(alloc);
-    put(&mut members, alloc, "name", Json::from(name_text(alloc, name)?))?;
-    put(&mut members, alloc, "tag", Json::from(tag_text(alloc, tag)?))?;
+    put(
+        &mut members,
+        alloc,
+        "name",
+        Json::from(name_text(alloc, name)?),
+    )?;
+    put(
+        &mut members,
+        alloc,
+        "tag",
+        Json::from(tag_text(alloc, tag)?),
+    )?;
     Ok(Json::Object(members))
 }
 

@@ -85,11 +85,7 @@ fn other_octets(
 }
 
 // The canonical octets of an ENUMERATED, if it is spelt by other ones.
-fn other_number(
-    alloc: Global,
-    number: i64,
-    octets: &[u8],
-) -> Result<Option<Vec<u8>>, AllocError> {
+fn other_number(alloc: Global, number: i64, octets: &[u8]) -> Result<Option<Vec<u8>>, AllocError> {
     if octets.len() as u64 == enumerated_len(number) {
         return Ok(None);
     }

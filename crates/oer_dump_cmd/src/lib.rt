@@ -3,8 +3,8 @@
 #![tactic(auto)]
 
 mod bits;
-mod entry;
 mod entries;
+mod entry;
 mod frame;
 mod help;
 mod json;

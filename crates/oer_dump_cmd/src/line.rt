@@ -82,11 +82,7 @@ fn is_digits(entry: &Entry<'_>) -> bool {
 }
 
 // What canonical octets have in place of these.
-fn push_canonical(
-    alloc: Global,
-    note: &mut String,
-    entry: &Entry<'_>,
-) -> Result<(), AllocError> {
+fn push_canonical(alloc: Global, note: &mut String, entry: &Entry<'_>) -> Result<(), AllocError> {
     let Some(canonical) = &entry.canonical else {
         return Ok(());
     };

@@ -7,7 +7,9 @@ ghost use Rattle.oer_dump_cmd.specs.Words.{Asks, bare, json_rule, oer_dump, text
 
 use crate::help;
 use clap::{Arg, ArgAction, Command, Error};
-use oer_options::{DEFAULT_LIMIT, HEX, NAME, Options as OerOptions, TYPE, TYPES, Task, VERSION, option};
+use oer_options::{
+    DEFAULT_LIMIT, HEX, NAME, Options as OerOptions, TYPE, TYPES, Task, VERSION, option,
+};
 use std::alloc::{AllocError, Global};
 
 /// How the lines are printed.

@@ -46,11 +46,7 @@ fn part_text(alloc: Global, place: Option<Place>) -> Result<String, AllocError> 
 }
 
 // The line on the errors of octets that are rejected.
-fn reason_line(
-    alloc: Global,
-    fault: Fault<'_>,
-    place: Option<Place>,
-) -> Result<String, AllocError>
+fn reason_line(alloc: Global, fault: Fault<'_>, place: Option<Place>) -> Result<String, AllocError>
     ensures { IfOk result (λ line. IsReasonLine (text_of fault.entry) (string_bytes line)) }
 {
     let part = part_text(alloc, place)?;
@@ -58,11 +54,7 @@ fn reason_line(
 }
 
 // The entries as lines, or as an array.
-fn entries_text(
-    alloc: Global,
-    entries: Vec<Entry<'_>>,
-    form: Form,
-) -> Result<String, AllocError> {
+fn entries_text(alloc: Global, entries: Vec<Entry<'_>>, form: Form) -> Result<String, AllocError> {
     match form {
         Form::Text { width } => text_of(alloc, entries.as_slice(), width),
         Form::Json => json_of(alloc, entries),
@@ -173,12 +165,7 @@ fn page_for<'a, R: Read>(
 }
 
 // Writes the lines, and then why the octets are rejected, if they are. The status.
-fn print<W: Write, E: Write>(
-    alloc: Global,
-    page: &Page,
-    output: &mut W,
-    errors: &mut E,
-) -> u8
+fn print<W: Write, E: Write>(alloc: Global, page: &Page, output: &mut W, errors: &mut E) -> u8
     ensures prints { Prints page.now result
         (streams (W.contents output.old) (W.contents output.new) (E.contents errors.old) (E.contents errors.new)) }
     ensures statuses { result ≤ 3 }

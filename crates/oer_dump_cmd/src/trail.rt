@@ -118,11 +118,7 @@ fn next_after_root(frame: Frame<'_>, is_extended: bool) -> Next {
 }
 
 // What comes next in a SEQUENCE.
-fn next_in_sequence(
-    frame: Frame<'_>,
-    root: &[Field],
-    additions: &Option<Vec<Addition>>,
-) -> Next {
+fn next_in_sequence(frame: Frame<'_>, root: &[Field], additions: &Option<Vec<Addition>>) -> Next {
     let Some(preamble) = frame.preamble else {
         return Next::Here;
     };

@@ -35,7 +35,14 @@ pub fn ran_within(
     let mut input = input;
     let mut output = Vec::new(alloc);
     let mut errors = Vec::new(alloc);
-    let status = run(alloc, all.as_slice(), width, &mut input, &mut output, &mut errors);
+    let status = run(
+        alloc,
+        all.as_slice(),
+        width,
+        &mut input,
+        &mut output,
+        &mut errors,
+    );
     Ok(Written {
         status,
         output,
@@ -61,7 +68,11 @@ pub fn has_lines(alloc: Global, kind: &str, digits: &str, lines: &str) -> Result
     let text = format!(in alloc; "{}\n", lines.trim_start_matches('\n'))?;
     let kind = format!(in alloc; "--type={kind}")?;
     let hex = format!(in alloc; "--hex={digits}")?;
-    expect(alloc, &[kind.as_str(), hex.as_str()], (0, text.as_str(), ""))
+    expect(
+        alloc,
+        &[kind.as_str(), hex.as_str()],
+        (0, text.as_str(), ""),
+    )
 }
 
 /// The same of octets that are rejected, with the line on the errors.
@@ -80,5 +91,9 @@ pub fn is_refused(
     let line = format!(in alloc; "oer: {reason}\n")?;
     let kind = format!(in alloc; "--type={kind}")?;
     let hex = format!(in alloc; "--hex={digits}")?;
-    expect(alloc, &[kind.as_str(), hex.as_str()], (1, text.as_str(), line.as_str()))
+    expect(
+        alloc,
+        &[kind.as_str(), hex.as_str()],
+        (1, text.as_str(), line.as_str()),
+    )
 }

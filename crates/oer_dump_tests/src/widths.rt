@@ -12,18 +12,27 @@ const NAMED: &str = "--type=SEQUENCE {name UTF8String, keyIdentifier OCTET STRIN
 
 /// A width, and the lines. Of the cut ones each says how many octets are left out.
 const CUT: &[(&str, &str)] = &[
-    ("--width=0", " 0   0  -   -              SEQUENCE      preamble
+    (
+        "--width=0",
+        " 0   0  -   -              SEQUENCE      preamble
  0  27  c0  name           UTF8String    \"abcdefghijklmnopqrstuvwxyz\"
 27  41  c1  keyIdentifier  OCTET STRING  \"000102030405060708090a0b0c0d0e0f101112131415161718191a1b1c1d1e1f2021222324252627\"
-"),
-    ("--width=100", " 0   0  -   -              SEQUENCE      preamble
+",
+    ),
+    (
+        "--width=100",
+        " 0   0  -   -              SEQUENCE      preamble
  0  27  c0  name           UTF8String    \"abcdefghijklmnopqrstuvwxyz\"
 27  41  c1  keyIdentifier  OCTET STRING  \"000102030405060708090a0b0c0d0e0f10111213141516171819..+14
-"),
-    ("--width=40", " 0   0  -   -             SEQUENCE      preamble
+",
+    ),
+    (
+        "--width=40",
+        " 0   0  -   -             SEQUENCE      preamble
  0  27  c0  name          UTF8String    \"abcdef..+20
 27  41  c1  +6..ntifier   OCTET STRING  \"000102..+37
-"),
+",
+    ),
 ];
 
 // That lines are cut at this width.
@@ -57,7 +66,8 @@ fn terminal_width(rt: HostRuntime) -> Result<(), Fail> {
 
 #[test]
 fn narrow_width(rt: HostRuntime) -> Result<(), Fail> {
-    let digits = "--hex=28000102030405060708090a0b0c0d0e0f101112131415161718191a1b1c1d1e1f2021222324252627";
+    let digits =
+        "--hex=28000102030405060708090a0b0c0d0e0f101112131415161718191a1b1c1d1e1f2021222324252627";
     let lines = "0  41  -  -  OCTET STRING  \"000102..+37\n";
     let words = ["--width=40", "--type=OCTET STRING", digits];
     expect(rt.alloc(), &words, (0, lines, ""))
