@@ -15,7 +15,7 @@ use crate::place::Place;
 use crate::stop::Stop;
 use oer_units::{
     Source, Tag, Why, Width, Window, enumerated, length, octet, signed_counted, signed_fixed,
-    subidentifier, tag, unsigned_counted, unsigned_fixed,
+    subidentifier, tag, unsigned_counted, unsigned_of,
 };
 use std::io;
 use std::io::Read;
@@ -32,7 +32,12 @@ impl<'a> Source for Octets<'a> {
     ghost failed = { λ _. 0 };
 
     fn pull(&mut self, into: &mut [u8]) -> io::Result<usize> {
-        self.rest.read(into)
+        if into.len() != 1 || self.rest.is_empty() {
+            return self.rest.read(into);
+        }
+        into.copy_from_slice(&self.rest[..1]);
+        self.rest = &self.rest[1..];
+        Ok(1)
     }
 
     fn failures(&self) -> u64 {
@@ -92,10 +97,8 @@ pub(crate) fn unsigned_fixed_at<'a>(
 ) -> Result<(u64, Place<'a>), Stop<'a>>
     ensures { outcome same result ≡ unsigned_fixed_read width (place_of place.entry) }
 {
-    let mut source = Octets { rest: place.rest };
-    let mut w = Window::new(&mut source, place.left);
-    let answer = unsigned_fixed(&mut w, width);
-    place.after(answer, w.taken())
+    let (octets, next) = group_at(place, width.octets() as u64)?;
+    Ok((unsigned_of(octets), next))
 }
 
 /// A number of fixed size in two's complement (X.696, 10.4).

@@ -4,7 +4,7 @@ use Rattle.std.specs.List.{AllByRecursion}
 use Rattle.std.proofs.lemmas.Bool.{le-leb, lt-leb, cases_lt}
 use Rattle.std.proofs.lemmas.List.{length-append, length-drop, length-take-le, at_drop_all}
 use Rattle.std.proofs.Math.Seq.{take-append_seam}
-use Rattle.std.proofs.Math.Nat.{pow-suc, pow-succ', mul-le-mul_right}
+use Rattle.std.proofs.Math.Nat.{pow-le-pow_right, pow-suc, pow-succ', mul-le-mul_right}
 use Rattle.std.proofs.lemmas.Int.{ints}
 use Rattle.oer_units.specs.declared.fault.Why.{Why}
 use Rattle.oer_units.specs.declared.fault.Why.TheVariants.{Device}
@@ -321,3 +321,37 @@ read_as n m f s s' xs (Err e) is h = subst (λ (k : ℕ). Reads (group_as k f) s
 
 pub size_end : (below : Bool) (v start : ℕ) (xs : List ℕ) (i : ℕ) → length xs ≤ i → size_after below v (drop i xs) ≡ size_after below start xs → v ≡ size_after below start xs
 size_end below v start xs i le same = sym (at_drop_all (λ (l : List ℕ). size_after below v l) xs i le) ∙ same
+
+-- a number of fewer than eight octets
+pub few_small : (v size i : ℕ) → v < 256 → i < 7 → size + 1 ≤ (v + 1) * 256 ^ i → size < 2 ^ 56
+few_small v size i low less room =
+    let a : (v + 1) * 256 ^ i ≤ 256 * 256 ^ i = mul-le-mul_right (256 ^ i) (omega arith) in
+    let some : 0 < 256 = omega arith in
+    let six : i ≤ 6 = omega arith in
+    let b : 256 ^ i ≤ 256 ^ 6 = pow-le-pow_right some six in
+    omega arith
+
+-- ---- a number from 0 on, of at most eight octets
+
+pub unsigned_at : (v v' : ℕ) (xs : List ℕ) (i x : ℕ) → i < length xs → x ≡ get_or xs i 0 → 256 * v + x ≡ v' → unsigned_after v' (drop (i + 1) xs) ≡ unsigned_after v (drop i xs)
+unsigned_at v v' xs i x less is same =
+    let e : drop i xs ≡ get_or xs i 0 ∷ drop (i + 1) xs = drop-cons xs i 0 less ∙ ap (λ (k : ℕ). get_or xs i 0 ∷ drop k xs) (sym (add-one i)) in
+    sym (ap (λ (l : List ℕ). unsigned_after v l) e
+    ∙ ap (λ (y : ℕ). unsigned_after (256 * v + y) (drop (i + 1) xs)) (sym is)
+    ∙ ap (λ (y : ℕ). unsigned_after y (drop (i + 1) xs)) same)
+
+pub unsigned_end : (v : ℕ) (xs : List ℕ) (i : ℕ) → length xs ≤ i → unsigned_after v (drop i xs) ≡ unsigned_after 0 xs → v ≡ unsigned xs
+unfolding unsigned
+unsigned_end v xs i le same = sym (at_drop_all (λ (l : List ℕ). unsigned_after v l) xs i le) ∙ same
+
+pub eight_small : (size i : ℕ) → i < 8 → size + 1 ≤ 256 ^ i → size < 2 ^ 56
+eight_small size i less room =
+    let some : 0 < 256 = omega arith in
+    let seven : i ≤ 7 = omega arith in
+    let b : 256 ^ i ≤ 256 ^ 7 = pow-le-pow_right some seven in
+    omega arith
+
+pub unsigned_room : (size d size' i : ℕ) → size + 1 ≤ 256 ^ i → d ≤ 255 → size' ≤ size * 256 + d → size' + 1 ≤ 256 ^ (i + 1)
+unsigned_room size d size' i le small more =
+    let e : 256 ^ (i + 1) ≡ 256 ^ i * 256 = rw (add-one, pow-suc) refl in
+    omega arith

@@ -16,7 +16,7 @@ mod writing;
 pub use fault::{ReadFault, SinkFault, Why};
 pub use reading::{
     enumerated, length, octet, octets, octets_into, signed_counted, signed_fixed, subidentifier,
-    tag, unsigned_counted, unsigned_fixed,
+    tag, unsigned_counted, unsigned_fixed, unsigned_of,
 };
 pub use stream::{Metered, Sink, Source};
 pub use tagging::{Class, Tag};
