@@ -125,6 +125,21 @@ fn few_of(octets: &[u8], is_below: bool, value: u64) -> u64
     size
 }
 
+/// The number for which one to eight octets stand in two's complement, the first being the most
+/// significant (X.696, 10.4).
+pub fn signed_of(octets: &[u8]) -> i64
+    requires some { 1 ≤ length octets.now }
+    requires few { length octets.now ≤ 8 }
+    ensures { result ≡ signed octets.now }
+{
+    let first = octets[0];
+    let is_below = first >= 128;
+    let start = digit(is_below, first) as u64;
+    let size = few_of(&octets[1..], is_below, start) as u128;
+    let number = Twos { is_below, size };
+    number.narrow()
+}
+
 // The size of a number that goes on from `value` in these octets; `u128::MAX` for a greater one.
 fn size_of(octets: &[u8], is_below: bool, value: u128) -> u128
     ensures value { result ≡ size_after is_below value octets.now }
@@ -252,6 +267,9 @@ pub fn length<R: Source>(w: &mut Window<R>) -> Result<u64, ReadFault>
     }
 }
 
+// How many octets a number of fixed size has at most.
+const MOST_FIXED: usize = 8;
+
 /// An unsigned number of fixed size (X.696, 10.3).
 pub fn unsigned_fixed<R: Source>(w: &mut Window<R>, width: Width) -> Result<u64, ReadFault>
     ensures bound { Keeps (bound_of w.old) (bound_of w.new) }
@@ -259,8 +277,10 @@ pub fn unsigned_fixed<R: Source>(w: &mut Window<R>, width: Width) -> Result<u64,
     ensures reads { Reads (unsigned_fixed_at width) (state R.remaining R.failed w.old) result
         (state R.remaining R.failed w.new) }
 {
-    let number = number(w, width.octets() as u64)?;
-    Ok(number as u64)
+    let mut buffer = [0u8; MOST_FIXED];
+    let octets = &mut buffer[..width.octets()];
+    octets_into(w, octets)?;
+    Ok(unsigned_of(octets))
 }
 
 /// A number of fixed size in two's complement (X.696, 10.4).
@@ -270,8 +290,10 @@ pub fn signed_fixed<R: Source>(w: &mut Window<R>, width: Width) -> Result<i64, R
     ensures reads { Reads (signed_fixed_at width) (state R.remaining R.failed w.old) result
         (state R.remaining R.failed w.new) }
 {
-    let number = twos(w, width.octets() as u64)?;
-    Ok(number.narrow())
+    let mut buffer = [0u8; MOST_FIXED];
+    let octets = &mut buffer[..width.octets()];
+    octets_into(w, octets)?;
+    Ok(signed_of(octets))
 }
 
 /// An unsigned number after its count of octets (X.696, 10.3), with any number of zeros in front. A
@@ -439,8 +461,8 @@ fn tag_number<R: Source>(w: &mut Window<R>) -> Result<u32, ReadFault>
     }
 }
 
-// The class that bits 8 and 7 of a tag's first octet tell.
-fn class(first: u8) -> Class
+/// The class that bits 8 and 7 of a tag's first octet tell (X.696, 8.7.2).
+pub fn class(first: u8) -> Class
     ensures { result ≡ class_of (first / 64) }
 {
     match first / 64 {
