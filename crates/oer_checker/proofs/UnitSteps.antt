@@ -13,11 +13,10 @@ use Rattle.oer_checker.specs.declared.place.Place as rust_place
 use Rattle.oer_checker.specs.declared.stop.Stop.{Stop}
 use Rattle.oer_checker.specs.Places.{ended, outcome, place_of, same}
 use Rattle.oer_units.specs.Reader.{give, group}
-use Rattle.oer_units.specs.Fixed.{unsigned_fixed_at}
-use Rattle.oer_units.specs.Numbers.{unsigned}
+use Rattle.oer_units.specs.Fixed.{signed_fixed_at, unsigned_fixed_at}
+use Rattle.oer_units.specs.Numbers.{signed, unsigned}
 use Rattle.oer_units.specs.Width.{octets_of_width}
 use Rattle.oer_units.specs.declared.width.Width.{Width}
-use Rattle.oer_units.specs.declared.width.Width.TheVariants.{One, Two, Four, Eight}
 use Rattle.oer_units.specs.Reading.{subidentifier}
 use Rattle.oer_checker.specs.Plain.{is_plain}
 use Rattle.oer_checker.specs.Steps.{subidentifier_size}
@@ -125,11 +124,13 @@ pub fixed_stop : (width : Width) (n : ℕ) (p : Place) (why : Why) (rest : List 
 unfolding unsigned_fixed_at
 fixed_stop width n p why rest is e = bind_stop (group (octets_of_width width)) (λ w. give (unsigned w)) p why rest (e ∙ ap (λ (k : ℕ). group k p) is)
 
-pub width_few : (width : Width) → octets_of_width width ≤ 8
-width_few One = omega arith
-width_few Two = omega arith
-width_few Four = omega arith
-width_few Eight = omega arith
+pub signed_got : (width : Width) (n : ℕ) (p q : Place) (w : List ℕ) → n ≡ octets_of_width width → got w q ≡ group n p → got (signed w) q ≡ signed_fixed_at width p
+unfolding signed_fixed_at
+signed_got width n p q w is e = bind_got (group (octets_of_width width)) (λ w. give (signed w)) p q w (got (signed w) q) (e ∙ ap (λ (k : ℕ). group k p) is) (give_got (signed w) q)
+
+pub signed_stop : (width : Width) (n : ℕ) (p : Place) (why : Why) (rest : List ℕ) → n ≡ octets_of_width width → refused why rest ≡ group n p → refused why rest ≡ signed_fixed_at width p
+unfolding signed_fixed_at
+signed_stop width n p why rest is e = bind_stop (group (octets_of_width width)) (λ w. give (signed w)) p why rest (e ∙ ap (λ (k : ℕ). group k p) is)
 
 -- ---- the only octet that was asked for
 

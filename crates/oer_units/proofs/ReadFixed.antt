@@ -1,21 +1,26 @@
 -- Numbers of at most eight octets.
-use Rattle.std.proofs.Common.{◌≡◌, ℕ, ◌+◌, ◌-◌, ◌*◌, ◌^◌, ◌<◌, ◌≤◌, Bool, leb, List, [], ◌∷◌, length, take, drop, get_or, Result, arith, refl, sym, ap, subst, ◌∙◌}
+use Rattle.std.proofs.Common.{◌≡◌, ℕ, ◌+◌, ◌-◌, ◌*◌, ◌^◌, ◌<◌, ◌≤◌, leb, List, [], ◌∷◌, length, take, drop, get_or, Result, arith, sym, ap, subst, ◌∙◌}
 use Rattle.std.specs.List.{AllByRecursion}
 use Rattle.std.proofs.lemmas.List.{length-drop, length-take-le}
 use Rattle.std.proofs.Math.Nat.{pow-le-pow_right, mul-le-mul_right}
 use Rattle.std.proofs.Math.Seq.{take-length}
 use Rattle.oer_units.specs.declared.fault.ReadFault.{ReadFault}
-use Rattle.oer_units.specs.declared.twos.Twos.{Twos}
 use Rattle.oer_units.specs.declared.width.Width.{Width}
 use Rattle.oer_units.specs.declared.width.Width.TheVariants.{One, Two, Four, Eight}
 use Rattle.oer_units.specs.Width.{octets_of_width}
 use Rattle.oer_units.specs.Reader.{group}
 use Rattle.oer_units.specs.Numbers.{unsigned, signed}
 use Rattle.oer_units.specs.Fixed.{unsigned_fixed_at, signed_fixed_at}
-use Rattle.oer_units.specs.ReadingSteps.{digit, size_after, twos_of, twos_of_octets, int_of}
+use Rattle.oer_units.specs.ReadingSteps.{digit, size_after, twos_of, int_of}
 use Rattle.oer_units.specs.Reads.{State, Reads, seen}
 use Rattle.oer_units.proofs.ReadGroups.{fits_take}
 use Rattle.oer_units.proofs.ReadNumbers.{digit_small, read_as, signed_is}
+
+pub width_some : (width : Width) → 1 ≤ octets_of_width width
+width_some One = omega arith
+width_some Two = omega arith
+width_some Four = omega arith
+width_some Eight = omega arith
 
 pub width_few : (width : Width) → octets_of_width width ≤ 8
 width_few One = omega arith

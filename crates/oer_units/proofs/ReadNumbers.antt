@@ -10,9 +10,6 @@ use Rattle.oer_units.specs.declared.fault.Why.{Why}
 use Rattle.oer_units.specs.declared.fault.Why.TheVariants.{Device}
 use Rattle.oer_units.specs.declared.fault.ReadFault.{ReadFault}
 use Rattle.oer_units.specs.declared.twos.Twos.{Twos}
-use Rattle.oer_units.specs.declared.width.Width.{Width}
-use Rattle.oer_units.specs.declared.width.Width.TheVariants.{One, Two, Four, Eight}
-use Rattle.oer_units.specs.Width.{octets_of_width}
 use Rattle.oer_units.specs.Reader.{Place, at, Outcome, got, refused, Reader, bind, give, refuse, guard, group, group_by, then_read}
 use Rattle.oer_units.specs.Reading.{octet, number, is_int128, is_int64}
 use Rattle.oer_units.specs.Numbers.{unsigned, unsigned_after, signed}
@@ -240,25 +237,6 @@ digit_small x less = elim (cases_lt x 128) [
 
 pub start_room : (start size p : ℕ) → size + 1 ≤ (start + 1) * p → start ≤ 127 → size + 1 ≤ 128 * p
 start_room start size p le small = let less : start + 1 ≤ 128 = omega arith in let more = mul-le-mul_right p less in omega arith
-
--- so many octets hold a number of 64 bits
-pub unsigned_width : (width : Width) (n : ℕ) → n < 256 ^ octets_of_width width → n < 2 ^ 64
-unsigned_width One n less = omega arith
-unsigned_width Two n less = omega arith
-unsigned_width Four n less = omega arith
-unsigned_width Eight n less = omega arith
-
-pub signed_width : (width : Width) (n : ℕ) → n + 1 ≤ 128 * 256 ^ (octets_of_width width - 1) → n < 2 ^ 63
-signed_width One n le = omega arith
-signed_width Two n le = omega arith
-signed_width Four n le = omega arith
-signed_width Eight n le = omega arith
-
-pub width_some : (width : Width) → 1 ≤ octets_of_width width
-width_some One = omega arith
-width_some Two = omega arith
-width_some Four = omega arith
-width_some Eight = omega arith
 
 -- ---- numbers that are tested
 

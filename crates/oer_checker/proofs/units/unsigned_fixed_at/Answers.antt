@@ -1,7 +1,8 @@
 use Rattle.std.proofs.Common.{◌∙◌, arith}
 use Rattle.oer_checker.proofs.StringSteps.{group_size}
 use Rattle.oer_checker.proofs.Exits.{at_stop}
-use Rattle.oer_checker.proofs.UnitSteps.{fixed_got, fixed_stop, width_few}
+use Rattle.oer_units.proofs.ReadFixed.{width_few}
+use Rattle.oer_checker.proofs.UnitSteps.{fixed_got, fixed_stop}
 use Rattle.oer_checker.proofs.units.unsigned_fixed_at.Goals as goal
 
 pub unsigned_of-requires : goal.unsigned_of-requires
