@@ -16,8 +16,5 @@ invariant-check_elements-loop-turn l = and_after l.is_canonical (check_times (l.
 abbrev pub invariant-check_fields-loop-field : goal.invariant-check_fields-loop-field
 invariant-check_fields-loop-field l = and_after l.is_canonical (check_fields (fields_of (drop l.field-index l.fields)) (bits_in l.left) (place_of l.at)) ≡ check_fields (fields_of l.fields) (bits_in l.bits) (place_of l.place)
 
-abbrev pub invariant-check_alternative-loop-alternative : goal.invariant-check_alternative-loop-alternative
-invariant-check_alternative-loop-alternative l = check_alternative (root_of (drop l.alternative-index l.alternatives) no_alternatives) l.tag ≡ check_alternative (root_of l.alternatives no_alternatives) l.tag
-
 abbrev pub invariant-check_later-loop-alternative : goal.invariant-check_later-loop-alternative
 invariant-check_later-loop-alternative l = check_later (later_of (drop l.alternative-index l.alternatives)) l.tag ≡ check_later (later_of l.alternatives) l.tag

@@ -1,6 +1,6 @@
 use Rattle.std.proofs.Common.{sym, ◌∙◌}
 use Rattle.oer_checker.proofs.TagSteps.{first_more, first_none}
-use Rattle.oer_checker.proofs.walk.with_tag.Goals as goal
+use Rattle.oer_checker.proofs.parts.with_tag.Goals as goal
 
 pub returns-then-is_same_tag : goal.returns-then-is_same_tag
 returns-then-is_same_tag c = (c.loop-alternative.alternative-index, c.loop-alternative-test.true, c.alternative-item.is, sym c.is_same_tag.ensures ∙ c.if-is_same_tag.true, c.loop-alternative.invariant)
