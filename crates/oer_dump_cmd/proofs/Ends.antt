@@ -1,5 +1,5 @@
 -- How the program ends, from what its steps answer.
-use Rattle.std.proofs.Common.{Result, ◌≡◌, ◌≢◌, ◌∙◌, ℕ, ◌≤◌, List, [], ◌∷◌, ◌++◌, Bool, true, Option, Some, None, Ok, Err, String, Global, refl, sym, ap, subst, arith, string_bytes, ◌⊎◌, inl, inr, codes}
+use Rattle.std.proofs.Common.{Result, ◌≡◌, ◌≢◌, ◌∙◌, ℕ, ◌≤◌, List, [], ◌∷◌, ◌++◌, Bool, true, Option, Some, None, Ok, Err, String, Global, refl, sym, ap, subst, arith, string_bytes, ◌⊎◌, inl, inr, codes, append-nil}
 use Rattle.std.specs.Io.KnownBytes.{Appends, Keeps}
 use Rattle.clap.specs.Words.{HasKind, IsAmong, Kinds, Text, fault_of, kind_of, takes}
 use Rattle.clap.specs.declared.error.Error.{Error}
@@ -44,13 +44,9 @@ pub breaks : (fault : Fault) (status : ℕ) (s : Streams) → status ≡ 3 → I
 breaks fault status s three own (line, inl (same, is), front) = (three, (line, moved line (error_line fault) is own, front))
 breaks fault status s three own (line, inr (same, is), front) = (three, (line, inr (inr is), front))
 
-left_none : (xs : List ℕ) → xs ≡ [] ++ xs
-left_none [] = refl
-left_none (x ∷ xs) = refl
-
 -- A line with the reason alone.
 alone : (reason line : Text) → line ≡ codes "oer: " ++ reason ++ 10 ∷ [] → IsReasonLine reason line
-alone reason line is = ([], is ∙ ap (λ (l : Text). codes "oer: " ++ reason ++ l) (left_none (10 ∷ [])))
+alone reason line is = ([], is ∙ ap (λ (l : Text). l ++ 10 ∷ []) (sym (append-nil (codes "oer: " ++ reason))))
 
 -- The fault is told.
 pub refused_end : (expected : Expected Bool) (fault : Fault) (status : ℕ) (s : Streams) → Shows expected (Err fault) → Reports fault status s.errors s.errors' → Answers expected status s ⊎ Breaks status s
