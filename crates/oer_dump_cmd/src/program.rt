@@ -49,7 +49,10 @@ fn part_text(alloc: Global, place: Option<Place>) -> Result<String, AllocError> 
 fn line_with(alloc: Global, fault: Fault<'_>, part: &str) -> Result<String, AllocError>
     ensures { IfOk result (λ line. string_bytes line ≡ codes "oer: " ++ text_of fault.entry ++ part.now ++ 10 ∷ []) }
 {
-    format!(in alloc; "oer: {fault}{part}\n")
+    let mut line = format!(in alloc; "oer: {fault}")?;
+    line.push_str(part)?;
+    line.push('\n')?;
+    Ok(line)
 }
 
 // The line on the errors of octets that are rejected.
