@@ -1,5 +1,5 @@
 -- How the program ends, from what its steps answer.
-use Rattle.std.proofs.Common.{Result, ◌≡◌, ◌≢◌, ◌∙◌, ℕ, ◌≤◌, List, [], ◌∷◌, ◌++◌, Bool, true, Option, Some, None, Ok, Err, String, Global, refl, sym, ap, subst, arith, string_bytes, ◌⊎◌, inl, inr, codes}
+use Rattle.std.proofs.Common.{Result, ◌≡◌, ◌≢◌, ◌∙◌, ℕ, ◌≤◌, List, [], ◌∷◌, ◌++◌, Bool, true, Option, Some, None, Ok, Err, String, Global, refl, sym, ap, subst, arith, string_bytes, ◌⊎◌, inl, inr, codes, append-nil}
 use Rattle.std.specs.Io.KnownBytes.{Appends, Keeps}
 use Rattle.clap.specs.Words.{HasKind, IsAmong, Kinds, Text, fault_of, kind_of, takes}
 use Rattle.clap.specs.declared.error.Error.{Error}
@@ -44,6 +44,10 @@ pub breaks : (fault : Fault) (status : ℕ) (s : Streams) → status ≡ 3 → I
 breaks fault status s three own (line, inl (same, is), front) = (three, (line, moved line (error_line fault) is own, front))
 breaks fault status s three own (line, inr (same, is), front) = (three, (line, inr (inr is), front))
 
+-- A line with the reason alone.
+alone : (reason line : Text) → line ≡ codes "oer: " ++ reason ++ 10 ∷ [] → IsReasonLine reason line
+alone reason line is = ([], is ∙ ap (λ (l : Text). l ++ 10 ∷ []) (sym (append-nil (codes "oer: " ++ reason))))
+
 -- The fault is told.
 pub refused_end : (expected : Expected Bool) (fault : Fault) (status : ℕ) (s : Streams) → Shows expected (Err fault) → Reports fault status s.errors s.errors' → Answers expected status s ⊎ Breaks status s
 refused_end expected fault status s shown (line, inr (three, is), front) = inr (three, (line, inr (inr is), front))
@@ -52,7 +56,7 @@ refused_end expected fault status s shown (line, inl (same, is), front) = by exp
   by expected shown (inr (three, own)) = inr (same ∙ three, (line, moved line (error_line fault) is own, front))
   by unknown shown (inl small) = inl tt
   by (value y) shown (inl small) = absurd (shown small)
-  by (refusal r) shown (inl small) = inl (same ∙ ap (λ (x : Refusal). x.status) (shown small), (line, subst (λ (x : Refusal). IsReasonLine x.text line) (shown small) ([], is), front))
+  by (refusal r) shown (inl small) = inl (same ∙ ap (λ (x : Refusal). x.status) (shown small), (line, subst (λ (x : Refusal). IsReasonLine x.text line) (shown small) (alone (text_of fault) line is), front))
 
 -- The page is printed.
 pub printed_end : (expected : Expected Bool) (page : Page) (status : ℕ) (s : Streams) → Shows expected (Ok page) → Prints page status s → Answers expected status s ⊎ Breaks status s

@@ -1,5 +1,5 @@
 //! The command.
-ghost use Rattle.std.specs.Prelude.{◌≡◌, ◌≢◌, ◌≤◌, IfOk, None, map, string_bytes, true};
+ghost use Rattle.std.specs.Prelude.{◌≡◌, ◌≢◌, ◌≤◌, [], ◌∷◌, ◌++◌, codes, IfOk, None, map, string_bytes, true};
 ghost use Rattle.std.specs.Io.KnownBytes.{Keeps};
 ghost use Rattle.clap.specs.Words.{takes};
 ghost use Rattle.oer_types.specs.Schema.{the_type};
@@ -45,12 +45,22 @@ fn part_text(alloc: Global, place: Option<Place>) -> Result<String, AllocError> 
     format!(in alloc; ", in {path}, {names}")
 }
 
+// The line with the reason, and this text behind it.
+fn line_with(alloc: Global, fault: Fault<'_>, part: &str) -> Result<String, AllocError>
+    ensures { IfOk result (λ line. string_bytes line ≡ codes "oer: " ++ text_of fault.entry ++ part.now ++ 10 ∷ []) }
+{
+    let mut line = format!(in alloc; "oer: {fault}")?;
+    line.push_str(part)?;
+    line.push('\n')?;
+    Ok(line)
+}
+
 // The line on the errors of octets that are rejected.
 fn reason_line(alloc: Global, fault: Fault<'_>, place: Option<Place>) -> Result<String, AllocError>
     ensures { IfOk result (λ line. IsReasonLine (text_of fault.entry) (string_bytes line)) }
 {
     let part = part_text(alloc, place)?;
-    format!(in alloc; "oer: {fault}{part}\n")
+    line_with(alloc, fault, part.as_str())
 }
 
 // The entries as lines, or as an array.

@@ -2,6 +2,8 @@ use Rattle.std.proofs.lemmas.Result.{err_from_is_err_and}
 use Rattle.oer_types.specs.Schema.{the_type}
 use Rattle.oer_notation.specs.Views.{knowns}
 use Rattle.oer_options.specs.Words.{behind}
+use Rattle.oer_cmd.specs.Types.{texts_at}
+use Rattle.oer_cmd.specs.declared.type_text.TypeText.TheVariants.{Named}
 use Rattle.oer_dump_cmd.proofs.Shown.{are_one_for, named_read, named_unknown, named_unread}
 use Rattle.oer_dump_cmd.proofs.program.page_of_named.Goals as goal
 
@@ -20,4 +22,4 @@ returns-in_err-schema-clause-shown g c =
 
 pub returns-clause-accepted : goal.returns-clause-accepted
 returns-clause-accepted g c =
-    are_one_for _ (the_type c.in_ok-schema.schema.now) (behind c.args.options.hex) c.args.options.limit _ c.page_of.result (knowns c.in_ok-types.types, c.in_ok-types.ensures.spells.0, c.in_ok-schema.ensures.defined) c.page_of.ensures.accepted
+    are_one_for (texts_at (Named c.args.types c.args.name)) (the_type c.in_ok-schema.schema.now) (behind c.args.options.hex) c.args.options.limit _ c.page_of.result (knowns c.in_ok-types.types, c.in_ok-types.ensures.spells.0, c.in_ok-schema.ensures.defined) c.page_of.ensures.accepted
