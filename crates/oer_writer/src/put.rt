@@ -12,7 +12,8 @@ use crate::booleans::put_booleans;
 use crate::leaf::{put_leaf, put_quantity, put_tag_octets};
 use crate::measure::measured;
 use crate::presence::{is_extended, kept, put_bitmap, put_preamble, put_unknown};
-use crate::slice::put_count;
+use crate::slice::{put_count, put_slice};
+use crate::small::{Gathers, Small};
 use oer_types::{Addition, Alt, Field, Shape, Unknown, Value, contains_tag, is_same_tag};
 use oer_units::{Sink, SinkFault, Tag};
 
@@ -34,7 +35,7 @@ fn put_open_head<W: Sink>(
 // Writes the canonical octets of a value.
 #[cycle(put)]
 #[tactic(auto, using(crate::proofs::Views::views))]
-pub(crate) fn put<W: Sink>(
+pub(crate) fn put<W: Sink, G: Gathers>(
     shape: &Shape,
     value: &Value,
     done: u64,
@@ -47,9 +48,9 @@ pub(crate) fn put<W: Sink>(
             root,
             added,
             unknown,
-        } => put_sequence(shape, root, added, unknown, done, w),
-        Value::List(values) => put_list(shape, values, done, w),
-        Value::Chosen { tag, value } => put_chosen(shape, *tag, value, done, w),
+        } => put_sequence::<W, G>(shape, root, added, unknown, done, w),
+        Value::List(values) => put_list::<W, G>(shape, values, done, w),
+        Value::Chosen { tag, value } => put_chosen::<W, G>(shape, *tag, value, done, w),
         _ => put_leaf(shape, value, done, w),
     }
 }
@@ -57,7 +58,7 @@ pub(crate) fn put<W: Sink>(
 // Writes a SEQUENCE (X.696, 16).
 #[cycle(put)]
 #[tactic(auto, using(crate::proofs::Views::views))]
-fn put_sequence<W: Sink>(
+fn put_sequence<W: Sink, G: Gathers>(
     shape: &Shape,
     places: &[Option<Value>],
     added: &[Option<Value>],
@@ -72,20 +73,20 @@ fn put_sequence<W: Sink>(
     };
     let fields: &[Field] = root;
     let Some(additions) = additions else {
-        return put_root(None, fields, places, done, w);
+        return put_root::<W, G>(None, fields, places, done, w);
     };
     let additions: &[Addition] = additions;
     let extended = is_extended(added, unknown);
-    let done = put_root(Some(extended), fields, places, done, w)?;
+    let done = put_root::<W, G>(Some(extended), fields, places, done, w)?;
     if !extended {
         return Ok(done);
     }
-    put_extension(additions, added, unknown, done, w)
+    put_extension::<W, G>(additions, added, unknown, done, w)
 }
 
 // Writes the preamble of a SEQUENCE, and the components of its root.
 #[cycle(put)]
-fn put_root<W: Sink>(
+fn put_root<W: Sink, G: Gathers>(
     extended: Option<bool>,
     fields: &[Field],
     places: &[Option<Value>],
@@ -95,12 +96,12 @@ fn put_root<W: Sink>(
     ensures { Wrote done (root_octets extended (fields_of fields.now) (places_of places.now)) (W.contents w.old) (W.failed w.old) result (W.contents w.new) (W.failed w.new) }
 {
     let done = put_preamble(extended, fields, places, done, w)?;
-    put_fields(fields, places, done, w)
+    put_fields::<W, G>(fields, places, done, w)
 }
 
 // Writes what follows the root, where an addition is there.
 #[cycle(put)]
-fn put_extension<W: Sink>(
+fn put_extension<W: Sink, G: Gathers>(
     additions: &[Addition],
     added: &[Option<Value>],
     unknown: &[Unknown],
@@ -110,14 +111,14 @@ fn put_extension<W: Sink>(
     ensures { Wrote done (addition_octets (additions_of additions.now) (places_of added.now) (map unknown_of unknown.now)) (W.contents w.old) (W.failed w.old) result (W.contents w.new) (W.failed w.new) }
 {
     let done = put_bitmap(additions, added, unknown, done, w)?;
-    let done = put_additions(additions, added, done, w)?;
+    let done = put_additions::<W, G>(additions, added, done, w)?;
     put_unknown(unknown, done, w)
 }
 
 // Writes a SEQUENCE OF (X.696, 17).
 #[cycle(put)]
 #[tactic(auto, using(crate::proofs::Views::views))]
-fn put_list<W: Sink>(
+fn put_list<W: Sink, G: Gathers>(
     shape: &Shape,
     values: &[Value],
     done: u64,
@@ -129,13 +130,13 @@ fn put_list<W: Sink>(
         return Ok(done);
     };
     let done = put_quantity(values.len(), done, w)?;
-    put_values(item, values, done, w)
+    put_values::<W, G>(item, values, done, w)
 }
 
 // Writes an alternative of a CHOICE (X.696, 20).
 #[cycle(put)]
 #[tactic(auto, using(crate::proofs::Views::views))]
-fn put_chosen<W: Sink>(
+fn put_chosen<W: Sink, G: Gathers>(
     shape: &Shape,
     tag: Tag,
     value: &Value,
@@ -150,17 +151,17 @@ fn put_chosen<W: Sink>(
     let alternatives: &[Alt] = root;
     let done = put_tag_octets(tag, done, w)?;
     if contains_tag(alternatives, tag) {
-        return put_alternative(alternatives, tag, value, done, w);
+        return put_alternative::<W, G>(alternatives, tag, value, done, w);
     }
     let Some(additions) = additions else {
         return Ok(done);
     };
-    put_later(additions, tag, value, done, w)
+    put_later::<W, G>(additions, tag, value, done, w)
 }
 
 // Writes the components of a root that are kept.
 #[cycle(put)]
-fn put_fields<W: Sink>(
+fn put_fields<W: Sink, G: Gathers>(
     fields: &[Field],
     places: &[Option<Value>],
     done: u64,
@@ -174,14 +175,14 @@ fn put_fields<W: Sink>(
         let Some((place, more)) = rest.split_first() else {
             return Ok(done);
         };
-        done = put_field(field, place, done, w)?;
+        done = put_field::<W, G>(field, place, done, w)?;
         rest = more;
     }
     Ok(done)
 }
 
 #[cycle(put)]
-fn put_field<W: Sink>(
+fn put_field<W: Sink, G: Gathers>(
     field: &Field,
     place: &Option<Value>,
     done: u64,
@@ -191,13 +192,13 @@ fn put_field<W: Sink>(
 {
     match kept(field, place) {
         None => Ok(done),
-        Some(value) => put(&field.shape, value, done, w),
+        Some(value) => put::<W, G>(&field.shape, value, done, w),
     }
 }
 
 // Writes the additions that the type knows, as open types.
 #[cycle(put)]
-fn put_additions<W: Sink>(
+fn put_additions<W: Sink, G: Gathers>(
     additions: &[Addition],
     places: &[Option<Value>],
     done: u64,
@@ -211,14 +212,14 @@ fn put_additions<W: Sink>(
         let Some((place, more)) = rest.split_first() else {
             return Ok(done);
         };
-        done = put_addition(addition, place, done, w)?;
+        done = put_addition::<W, G>(addition, place, done, w)?;
         rest = more;
     }
     Ok(done)
 }
 
 #[cycle(put)]
-fn put_addition<W: Sink>(
+fn put_addition<W: Sink, G: Gathers>(
     addition: &Addition,
     place: &Option<Value>,
     done: u64,
@@ -230,13 +231,13 @@ fn put_addition<W: Sink>(
         None => Ok(done),
         Some(value) => {
             let done = put_open_head(&addition.shape, value, done, w)?;
-            put(&addition.shape, value, done, w)
+            put::<W, G>(&addition.shape, value, done, w)
         }
     }
 }
 
 #[cycle(put)]
-fn put_values<W: Sink>(
+fn put_values<W: Sink, G: Gathers>(
     item: &Shape,
     values: &[Value],
     done: u64,
@@ -247,16 +248,70 @@ fn put_values<W: Sink>(
     if let Shape::Boolean = item {
         return put_booleans(values, done, w);
     }
+    if values.len() < 16 {
+        return put_each::<W, G>(item, values, done, w);
+    }
+    put_gathered::<W, G>(item, values, done, w)
+}
+
+// Writes elements, each into the sink.
+#[cycle(put)]
+fn put_each<W: Sink, G: Gathers>(
+    item: &Shape,
+    values: &[Value],
+    done: u64,
+    w: &mut W,
+) -> Result<u64, SinkFault>
+    ensures { Wrote done (values_octets (type_of item.now) (values_of values.now)) (W.contents w.old) (W.failed w.old) result (W.contents w.new) (W.failed w.new) }
+{
     let mut done = done;
     for value in values {
-        done = put(item, value, done, w)?;
+        done = put::<W, G>(item, value, done, w)?;
     }
     Ok(done)
 }
 
+// The same, each in one push, until there is one that has too many octets for that.
+#[cycle(put)]
+fn put_gathered<W: Sink, G: Gathers>(
+    item: &Shape,
+    values: &[Value],
+    done: u64,
+    w: &mut W,
+) -> Result<u64, SinkFault>
+    ensures { Wrote done (values_octets (type_of item.now) (values_of values.now)) (W.contents w.old) (W.failed w.old) result (W.contents w.new) (W.failed w.new) }
+{
+    let mut small = Small::new();
+    let mut fits = true;
+    let mut done = done;
+    for value in values {
+        done = put_element::<W, G>(item, value, &mut fits, &mut small, done, w)?;
+    }
+    Ok(done)
+}
+
+// Writes an element, in one push if those before it fit and it does.
+#[cycle(put)]
+fn put_element<W: Sink, G: Gathers>(
+    item: &Shape,
+    value: &Value,
+    fits: &mut bool,
+    small: &mut Small,
+    done: u64,
+    w: &mut W,
+) -> Result<u64, SinkFault>
+    ensures { Wrote done (canonical_octets (type_of item.now) (value_of value.now)) (W.contents w.old) (W.failed w.old) result (W.contents w.new) (W.failed w.new) }
+{
+    if *fits && G::gathers(item, value, small) {
+        return put_slice(small.taken(), done, w);
+    }
+    *fits = false;
+    put::<W, G>(item, value, done, w)
+}
+
 // Writes the value by the first alternative with the tag.
 #[cycle(put)]
-fn put_alternative<W: Sink>(
+fn put_alternative<W: Sink, G: Gathers>(
     alternatives: &[Alt],
     tag: Tag,
     value: &Value,
@@ -267,7 +322,7 @@ fn put_alternative<W: Sink>(
 {
     for alternative in alternatives {
         if is_same_tag(alternative.tag, tag) {
-            return put(&alternative.shape, value, done, w);
+            return put::<W, G>(&alternative.shape, value, done, w);
         }
     }
     Ok(done)
@@ -275,7 +330,7 @@ fn put_alternative<W: Sink>(
 
 // The same after the extension marker, as an open type (X.696, 20).
 #[cycle(put)]
-fn put_later<W: Sink>(
+fn put_later<W: Sink, G: Gathers>(
     alternatives: &[Alt],
     tag: Tag,
     value: &Value,
@@ -287,7 +342,7 @@ fn put_later<W: Sink>(
     for alternative in alternatives {
         if is_same_tag(alternative.tag, tag) {
             let done = put_open_head(&alternative.shape, value, done, w)?;
-            return put(&alternative.shape, value, done, w);
+            return put::<W, G>(&alternative.shape, value, done, w);
         }
     }
     Ok(done)
