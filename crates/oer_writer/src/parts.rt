@@ -8,7 +8,6 @@ ghost use Rattle.oer_types.specs.ValueView.{value_of};
 
 use crate::comparison::Comparison;
 use crate::put::put;
-use crate::small::Alone;
 use oer_types::{Shape, Value, laws};
 
 /// Whether the octets are the canonical octets (X.696, Canonical-OER) of a value that fits the
@@ -20,5 +19,5 @@ pub fn equals(shape: &Shape, value: &Value, octets: &[u8]) -> bool
 {
     laws::computed_octets();
     let mut comparison = Comparison::new(octets);
-    put::<Comparison, Alone>(shape, value, 0, &mut comparison).is_ok() && comparison.is_same()
+    put(shape, value, 0, &mut comparison).is_ok() && comparison.is_same()
 }

@@ -12,8 +12,7 @@ use crate::booleans::put_booleans;
 use crate::leaf::{put_leaf, put_quantity, put_tag_octets};
 use crate::measure::measured;
 use crate::presence::{is_extended, kept, put_bitmap, put_preamble, put_unknown};
-use crate::slice::{put_count, put_slice};
-use crate::small::{Gathers, Small};
+use crate::slice::put_count;
 use oer_types::{Addition, Alt, Field, Shape, Unknown, Value, contains_tag, is_same_tag};
 use oer_units::{Sink, SinkFault, Tag};
 
@@ -35,7 +34,7 @@ fn put_open_head<W: Sink>(
 // Writes the canonical octets of a value.
 #[cycle(put)]
 #[tactic(auto, using(crate::proofs::Views::views))]
-pub(crate) fn put<W: Sink, G: Gathers>(
+pub(crate) fn put<W: Sink>(
     shape: &Shape,
     value: &Value,
     done: u64,
@@ -48,9 +47,9 @@ pub(crate) fn put<W: Sink, G: Gathers>(
             root,
             added,
             unknown,
-        } => put_sequence::<W, G>(shape, root, added, unknown, done, w),
-        Value::List(values) => put_list::<W, G>(shape, values, done, w),
-        Value::Chosen { tag, value } => put_chosen::<W, G>(shape, *tag, value, done, w),
+        } => put_sequence(shape, root, added, unknown, done, w),
+        Value::List(values) => put_list(shape, values, done, w),
+        Value::Chosen { tag, value } => put_chosen(shape, *tag, value, done, w),
         _ => put_leaf(shape, value, done, w),
     }
 }
@@ -58,7 +57,7 @@ pub(crate) fn put<W: Sink, G: Gathers>(
 // Writes a SEQUENCE (X.696, 16).
 #[cycle(put)]
 #[tactic(auto, using(crate::proofs::Views::views))]
-fn put_sequence<W: Sink, G: Gathers>(
+fn put_sequence<W: Sink>(
     shape: &Shape,
     places: &[Option<Value>],
     added: &[Option<Value>],
@@ -73,20 +72,20 @@ fn put_sequence<W: Sink, G: Gathers>(
     };
     let fields: &[Field] = root;
     let Some(additions) = additions else {
-        return put_root::<W, G>(None, fields, places, done, w);
+        return put_root(None, fields, places, done, w);
     };
     let additions: &[Addition] = additions;
     let extended = is_extended(added, unknown);
-    let done = put_root::<W, G>(Some(extended), fields, places, done, w)?;
+    let done = put_root(Some(extended), fields, places, done, w)?;
     if !extended {
         return Ok(done);
     }
-    put_extension::<W, G>(additions, added, unknown, done, w)
+    put_extension(additions, added, unknown, done, w)
 }
 
 // Writes the preamble of a SEQUENCE, and the components of its root.
 #[cycle(put)]
-fn put_root<W: Sink, G: Gathers>(
+fn put_root<W: Sink>(
     extended: Option<bool>,
     fields: &[Field],
     places: &[Option<Value>],
@@ -96,12 +95,12 @@ fn put_root<W: Sink, G: Gathers>(
     ensures { Wrote done (root_octets extended (fields_of fields.now) (places_of places.now)) (W.contents w.old) (W.failed w.old) result (W.contents w.new) (W.failed w.new) }
 {
     let done = put_preamble(extended, fields, places, done, w)?;
-    put_fields::<W, G>(fields, places, done, w)
+    put_fields(fields, places, done, w)
 }
 
 // Writes what follows the root, where an addition is there.
 #[cycle(put)]
-fn put_extension<W: Sink, G: Gathers>(
+fn put_extension<W: Sink>(
     additions: &[Addition],
     added: &[Option<Value>],
     unknown: &[Unknown],
@@ -111,14 +110,14 @@ fn put_extension<W: Sink, G: Gathers>(
     ensures { Wrote done (addition_octets (additions_of additions.now) (places_of added.now) (map unknown_of unknown.now)) (W.contents w.old) (W.failed w.old) result (W.contents w.new) (W.failed w.new) }
 {
     let done = put_bitmap(additions, added, unknown, done, w)?;
-    let done = put_additions::<W, G>(additions, added, done, w)?;
+    let done = put_additions(additions, added, done, w)?;
     put_unknown(unknown, done, w)
 }
 
 // Writes a SEQUENCE OF (X.696, 17).
 #[cycle(put)]
 #[tactic(auto, using(crate::proofs::Views::views))]
-fn put_list<W: Sink, G: Gathers>(
+fn put_list<W: Sink>(
     shape: &Shape,
     values: &[Value],
     done: u64,
@@ -130,13 +129,13 @@ fn put_list<W: Sink, G: Gathers>(
         return Ok(done);
     };
     let done = put_quantity(values.len(), done, w)?;
-    put_values::<W, G>(item, values, done, w)
+    put_values(item, values, done, w)
 }
 
 // Writes an alternative of a CHOICE (X.696, 20).
 #[cycle(put)]
 #[tactic(auto, using(crate::proofs::Views::views))]
-fn put_chosen<W: Sink, G: Gathers>(
+fn put_chosen<W: Sink>(
     shape: &Shape,
     tag: Tag,
     value: &Value,
@@ -151,17 +150,17 @@ fn put_chosen<W: Sink, G: Gathers>(
     let alternatives: &[Alt] = root;
     let done = put_tag_octets(tag, done, w)?;
     if contains_tag(alternatives, tag) {
-        return put_alternative::<W, G>(alternatives, tag, value, done, w);
+        return put_alternative(alternatives, tag, value, done, w);
     }
     let Some(additions) = additions else {
         return Ok(done);
     };
-    put_later::<W, G>(additions, tag, value, done, w)
+    put_later(additions, tag, value, done, w)
 }
 
 // Writes the components of a root that are kept.
 #[cycle(put)]
-fn put_fields<W: Sink, G: Gathers>(
+fn put_fields<W: Sink>(
     fields: &[Field],
     places: &[Option<Value>],
     done: u64,
@@ -175,14 +174,14 @@ fn put_fields<W: Sink, G: Gathers>(
         let Some((place, more)) = rest.split_first() else {
             return Ok(done);
         };
-        done = put_field::<W, G>(field, place, done, w)?;
+        done = put_field(field, place, done, w)?;
         rest = more;
     }
     Ok(done)
 }
 
 #[cycle(put)]
-fn put_field<W: Sink, G: Gathers>(
+fn put_field<W: Sink>(
     field: &Field,
     place: &Option<Value>,
     done: u64,
@@ -192,13 +191,13 @@ fn put_field<W: Sink, G: Gathers>(
 {
     match kept(field, place) {
         None => Ok(done),
-        Some(value) => put::<W, G>(&field.shape, value, done, w),
+        Some(value) => put(&field.shape, value, done, w),
     }
 }
 
 // Writes the additions that the type knows, as open types.
 #[cycle(put)]
-fn put_additions<W: Sink, G: Gathers>(
+fn put_additions<W: Sink>(
     additions: &[Addition],
     places: &[Option<Value>],
     done: u64,
@@ -212,14 +211,14 @@ fn put_additions<W: Sink, G: Gathers>(
         let Some((place, more)) = rest.split_first() else {
             return Ok(done);
         };
-        done = put_addition::<W, G>(addition, place, done, w)?;
+        done = put_addition(addition, place, done, w)?;
         rest = more;
     }
     Ok(done)
 }
 
 #[cycle(put)]
-fn put_addition<W: Sink, G: Gathers>(
+fn put_addition<W: Sink>(
     addition: &Addition,
     place: &Option<Value>,
     done: u64,
@@ -231,13 +230,13 @@ fn put_addition<W: Sink, G: Gathers>(
         None => Ok(done),
         Some(value) => {
             let done = put_open_head(&addition.shape, value, done, w)?;
-            put::<W, G>(&addition.shape, value, done, w)
+            put(&addition.shape, value, done, w)
         }
     }
 }
 
 #[cycle(put)]
-fn put_values<W: Sink, G: Gathers>(
+fn put_values<W: Sink>(
     item: &Shape,
     values: &[Value],
     done: u64,
@@ -248,70 +247,16 @@ fn put_values<W: Sink, G: Gathers>(
     if let Shape::Boolean = item {
         return put_booleans(values, done, w);
     }
-    if values.len() < 16 {
-        return put_each::<W, G>(item, values, done, w);
-    }
-    put_gathered::<W, G>(item, values, done, w)
-}
-
-// Writes elements, each into the sink.
-#[cycle(put)]
-fn put_each<W: Sink, G: Gathers>(
-    item: &Shape,
-    values: &[Value],
-    done: u64,
-    w: &mut W,
-) -> Result<u64, SinkFault>
-    ensures { Wrote done (values_octets (type_of item.now) (values_of values.now)) (W.contents w.old) (W.failed w.old) result (W.contents w.new) (W.failed w.new) }
-{
     let mut done = done;
     for value in values {
-        done = put::<W, G>(item, value, done, w)?;
+        done = put(item, value, done, w)?;
     }
     Ok(done)
-}
-
-// The same, each in one push, until there is one that has too many octets for that.
-#[cycle(put)]
-fn put_gathered<W: Sink, G: Gathers>(
-    item: &Shape,
-    values: &[Value],
-    done: u64,
-    w: &mut W,
-) -> Result<u64, SinkFault>
-    ensures { Wrote done (values_octets (type_of item.now) (values_of values.now)) (W.contents w.old) (W.failed w.old) result (W.contents w.new) (W.failed w.new) }
-{
-    let mut small = Small::new();
-    let mut fits = true;
-    let mut done = done;
-    for value in values {
-        done = put_element::<W, G>(item, value, &mut fits, &mut small, done, w)?;
-    }
-    Ok(done)
-}
-
-// Writes an element, in one push if those before it fit and it does.
-#[cycle(put)]
-fn put_element<W: Sink, G: Gathers>(
-    item: &Shape,
-    value: &Value,
-    fits: &mut bool,
-    small: &mut Small,
-    done: u64,
-    w: &mut W,
-) -> Result<u64, SinkFault>
-    ensures { Wrote done (canonical_octets (type_of item.now) (value_of value.now)) (W.contents w.old) (W.failed w.old) result (W.contents w.new) (W.failed w.new) }
-{
-    if *fits && G::gathers(item, value, small) {
-        return put_slice(small.taken(), done, w);
-    }
-    *fits = false;
-    put::<W, G>(item, value, done, w)
 }
 
 // Writes the value by the first alternative with the tag.
 #[cycle(put)]
-fn put_alternative<W: Sink, G: Gathers>(
+fn put_alternative<W: Sink>(
     alternatives: &[Alt],
     tag: Tag,
     value: &Value,
@@ -322,7 +267,7 @@ fn put_alternative<W: Sink, G: Gathers>(
 {
     for alternative in alternatives {
         if is_same_tag(alternative.tag, tag) {
-            return put::<W, G>(&alternative.shape, value, done, w);
+            return put(&alternative.shape, value, done, w);
         }
     }
     Ok(done)
@@ -330,7 +275,7 @@ fn put_alternative<W: Sink, G: Gathers>(
 
 // The same after the extension marker, as an open type (X.696, 20).
 #[cycle(put)]
-fn put_later<W: Sink, G: Gathers>(
+fn put_later<W: Sink>(
     alternatives: &[Alt],
     tag: Tag,
     value: &Value,
@@ -342,7 +287,7 @@ fn put_later<W: Sink, G: Gathers>(
     for alternative in alternatives {
         if is_same_tag(alternative.tag, tag) {
             let done = put_open_head(&alternative.shape, value, done, w)?;
-            return put::<W, G>(&alternative.shape, value, done, w);
+            return put(&alternative.shape, value, done, w);
         }
     }
     Ok(done)

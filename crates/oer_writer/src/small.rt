@@ -1,32 +1,12 @@
 //! A sink with room for a few octets.
-ghost use Rattle.std.specs.Prelude.{◌≡◌, Some, [], IsTrue, take};
+ghost use Rattle.std.specs.Prelude.{◌≡◌, Some, [], take};
 ghost use Rattle.std.specs.Io.{WritesAtMost};
 ghost use Rattle.std.specs.Io.KnownBytes.{WriteAppends};
 ghost use Rattle.oer_units.specs.Stream.{counted_write};
-ghost use Rattle.oer_types.specs.Canonical.{canonical_octets};
-ghost use Rattle.oer_types.specs.ShapeView.{type_of};
-ghost use Rattle.oer_types.specs.ValueView.{value_of};
 ghost use Rattle.oer_writer.specs.Gathering.{gathered};
 
-use oer_types::{Shape, Value};
 use oer_units::Sink;
 use std::io;
-
-// Whether a value is written into a few octets first, where it is an element of a long list.
-pub(crate) trait Gathers {
-    // Whether these now hold the octets of the value, and nothing else.
-    fn gathers(shape: &Shape, value: &Value, small: &mut Small) -> bool
-        ensures { IsTrue result → gathered small.new ≡ Some (canonical_octets (type_of shape.now) (value_of value.now)) };
-}
-
-// It isn't.
-pub(crate) struct Alone;
-
-impl Gathers for Alone {
-    fn gathers(_shape: &Shape, _value: &Value, _small: &mut Small) -> bool {
-        false
-    }
-}
 
 // Takes octets while there is room, on the stack. Then it fails.
 #[derive(Drop)]
@@ -47,13 +27,6 @@ impl Small {
             at: 0,
             failures: 0,
         }
-    }
-
-    // Without the octets that it took.
-    pub(crate) fn clear(&mut self)
-        ensures { gathered self.new ≡ Some [] }
-    {
-        self.at = 0;
     }
 
     // The octets that it took.

@@ -10,7 +10,7 @@ use crate::fault::WriteFault;
 use crate::measure::measured;
 use crate::put::put;
 use crate::slice::put_slice;
-use crate::small::{Alone, Gathers, Small};
+use crate::small::Small;
 use oer_types::{Shape, Value};
 use oer_units::Sink;
 
@@ -44,16 +44,6 @@ fn is_short_enough(shape: &Shape, value: &Value) -> bool
     }
 }
 
-// It is, if it has no more octets than there is room for.
-struct Together;
-
-impl Gathers for Together {
-    fn gathers(shape: &Shape, value: &Value, small: &mut Small) -> bool {
-        small.clear();
-        put::<Small, Alone>(shape, value, 0, small).is_ok()
-    }
-}
-
 // Writes the octets of a value with more of them than there is room for.
 fn put_many<W: Sink>(shape: &Shape, value: &Value, w: &mut W) -> Result<u64, WriteFault>
     ensures { Writes (canonical_octets (type_of shape.now) (value_of value.now)) (W.contents w.old) (W.failed w.old) result (W.contents w.new) (W.failed w.new) }
@@ -61,7 +51,7 @@ fn put_many<W: Sink>(shape: &Shape, value: &Value, w: &mut W) -> Result<u64, Wri
     if !is_short_enough(shape, value) {
         return Err(WriteFault::TooLong);
     }
-    match put::<W, Together>(shape, value, 0, w) {
+    match put(shape, value, 0, w) {
         Ok(count) => Ok(count),
         Err(fault) => Err(WriteFault::Device {
             written: fault.written,
@@ -74,7 +64,7 @@ pub(crate) fn put_all<W: Sink>(shape: &Shape, value: &Value, w: &mut W) -> Resul
     ensures { Writes (canonical_octets (type_of shape.now) (value_of value.now)) (W.contents w.old) (W.failed w.old) result (W.contents w.new) (W.failed w.new) }
 {
     let mut small = Small::new();
-    match put::<Small, Alone>(shape, value, 0, &mut small) {
+    match put(shape, value, 0, &mut small) {
         Ok(_) => put_few(small.taken(), w),
         Err(_) => put_many(shape, value, w),
     }

@@ -166,29 +166,15 @@ put_additions-loop-addition-preserved g t c =
 pub put_values-returns-in-Boolean : goal.put_values-returns-in-Boolean
 put_values-returns-in-Boolean g t c = booleans_wrote c.put_booleans.result _ _ _ _ _ _ _ c.in-Boolean.is c.put_booleans.ensures
 
-pub put_each-returns-in_err-done : goal.put_each-returns-in_err-done
-put_each-returns-in_err-done g t c =
+pub put_values-returns-in_err-done : goal.put_values-returns-in_err-done
+put_values-returns-in_err-done g t c =
     let i = c.loop-value.value-index in
     let T = type_of c.args.item.now in
     let step = values_step T c.args.values.now i c.value-item.result c.loop-value-test.true c.value-item.is in
     ahead_failed c.from_residual.result _ c.args.done c.loop-value.done _ _ (canonical_octets T (value_of c.value-item.result)) (values_octets T (values_of (drop (i + 1) c.args.values.now))) _ _ _ _ _ _ c.loop-value.invariant step c.from_residual.ensures.1 c.in_err-done.ensures
 
-pub put_each-loop-value-preserved : goal.put_each-loop-value-preserved
-put_each-loop-value-preserved g t c =
-    let i = c.loop-value.value-index in
-    let T = type_of c.args.item.now in
-    let step = values_step T c.args.values.now i c.value-item.result c.loop-value-test.true c.value-item.is in
-    ahead_more c.args.done c.loop-value.done c.in_ok-done.done _ _ (canonical_octets T (value_of c.value-item.result)) (values_octets T (values_of (drop (i + 1) c.args.values.now))) _ _ _ _ _ _ c.loop-value.invariant step c.in_ok-done.ensures
-
-pub put_gathered-returns-in_err-done : goal.put_gathered-returns-in_err-done
-put_gathered-returns-in_err-done g t c =
-    let i = c.loop-value.value-index in
-    let T = type_of c.args.item.now in
-    let step = values_step T c.args.values.now i c.value-item.result c.loop-value-test.true c.value-item.is in
-    ahead_failed c.from_residual.result _ c.args.done c.loop-value.done _ _ (canonical_octets T (value_of c.value-item.result)) (values_octets T (values_of (drop (i + 1) c.args.values.now))) _ _ _ _ _ _ c.loop-value.invariant step c.from_residual.ensures.1 c.in_err-done.ensures
-
-pub put_gathered-loop-value-preserved : goal.put_gathered-loop-value-preserved
-put_gathered-loop-value-preserved g t c =
+pub put_values-loop-value-preserved : goal.put_values-loop-value-preserved
+put_values-loop-value-preserved g t c =
     let i = c.loop-value.value-index in
     let T = type_of c.args.item.now in
     let step = values_step T c.args.values.now i c.value-item.result c.loop-value-test.true c.value-item.is in

@@ -12,11 +12,8 @@ invariant-put_fields-loop-field g l = Ahead l.fn.done (field_octets (fields_of l
 abbrev pub invariant-put_additions-loop-addition : goal.invariant-put_additions-loop-addition
 invariant-put_additions-loop-addition g l = Ahead l.fn.done (known_octets (additions_of l.additions) (places_of l.places)) (g.W.Sink.contents l.fn.w) (g.W.Sink.failed l.fn.w) l.done (g.W.Sink.contents l.w) (g.W.Sink.failed l.w) (known_octets (additions_of (drop l.addition-index l.additions)) (places_of l.rest))
 
-abbrev pub invariant-put_each-loop-value : goal.invariant-put_each-loop-value
-invariant-put_each-loop-value g l = Ahead l.fn.done (values_octets (type_of l.item) (values_of l.values)) (g.W.Sink.contents l.fn.w) (g.W.Sink.failed l.fn.w) l.done (g.W.Sink.contents l.w) (g.W.Sink.failed l.w) (values_octets (type_of l.item) (values_of (drop l.value-index l.values)))
-
-abbrev pub invariant-put_gathered-loop-value : goal.invariant-put_gathered-loop-value
-invariant-put_gathered-loop-value g l = Ahead l.fn.done (values_octets (type_of l.item) (values_of l.values)) (g.W.Sink.contents l.fn.w) (g.W.Sink.failed l.fn.w) l.done (g.W.Sink.contents l.w) (g.W.Sink.failed l.w) (values_octets (type_of l.item) (values_of (drop l.value-index l.values)))
+abbrev pub invariant-put_values-loop-value : goal.invariant-put_values-loop-value
+invariant-put_values-loop-value g l = Ahead l.fn.done (values_octets (type_of l.item) (values_of l.values)) (g.W.Sink.contents l.fn.w) (g.W.Sink.failed l.fn.w) l.done (g.W.Sink.contents l.w) (g.W.Sink.failed l.w) (values_octets (type_of l.item) (values_of (drop l.value-index l.values)))
 
 abbrev pub invariant-put_alternative-loop-alternative : goal.invariant-put_alternative-loop-alternative
 invariant-put_alternative-loop-alternative g l = record {
