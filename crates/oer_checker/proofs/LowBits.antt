@@ -1,9 +1,9 @@
 -- The last bits of an octet, and its remainder.
-use Rattle.std.proofs.Common.{◌≡◌, ◌≢◌, ℕ, zero, suc, ◌-◌, ◌/◌, ◌%◌, ◌^◌, ◌<◌, ◌≤◌, Bool, true, not, ◌&&◌, eqb, List, [], ◌∷◌, length, take, drop, get_or, drop-cons, arith, refl, sym, ap, ◌∙◌}
+use Rattle.std.proofs.Common.{◌≡◌, ◌≢◌, ℕ, zero, suc, ◌-◌, ◌/◌, ◌%◌, ◌^◌, ◌<◌, ◌≤◌, Bool, true, false, not, ◌&&◌, eqb, List, [], ◌∷◌, length, take, drop, get_or, drop-cons, arith, refl, sym, ap, ◌∙◌}
 use Rattle.std.proofs.lemmas.Bool.{ne_eqb}
 use Rattle.oer_types.specs.Bits.{all_false, bit, bits_of}
 use Rattle.oer_checker.specs.Steps.{last_are_zero}
-use Rattle.oer_checker.proofs.BitLists.{drop_none, drop_past, last_octet}
+use Rattle.oer_checker.proofs.BitLists.{drop_past, last_octet}
 
 -- one bit more: b is the bit, r the remainder below it and w the one with it
 step : (b r w : ℕ) (f : Bool) → (b ≡ 0 → w ≡ r) → (b ≡ 1 → w ≢ 0) → b ≤ 1 → f ≡ eqb r 0 → (not (eqb b 1) && f) ≡ eqb w 0
@@ -55,13 +55,13 @@ low_bits (suc (suc (suc (suc (suc (suc (suc (suc u)))))))) x le = absurd (omega 
 
 -- ---- of octets
 
-pub no_octet : (u : ℕ) (xs : List ℕ) → length xs ≡ 0 → true ≡ last_are_zero u xs
-no_octet u [] e = sym (ap all_false (drop_none Bool (0 - u)))
-no_octet u (x ∷ xs) e = absurd (omega arith)
+pub some_octet : (xs : List ℕ) → false ≡ eqb (length xs) 0 → 0 < length xs
+some_octet [] e = absurd (cc)
+some_octet (x ∷ xs) e = omega arith
 
 -- the last octet, alone
 alone : (xs : List ℕ) → 0 < length xs → drop (length xs - 1) xs ≡ get_or xs (length xs - 1) 0 ∷ []
-alone xs some = drop-cons xs (length xs - 1) 0 (omega arith) ∙ ap (λ (l : List ℕ). get_or xs (length xs - 1) 0 ∷ l) (drop_past _ xs (omega arith))
+alone xs some = drop-cons xs (length xs - 1) 0 (omega arith) ∙ ap (λ (l : List ℕ). get_or xs (length xs - 1) 0 ∷ l) (drop_past (suc (length xs - 1)) xs (omega arith))
 
 pub by_remainder : (u : ℕ) (xs : List ℕ) → 0 < length xs → u ≤ 7 → eqb (get_or xs (length xs - 1) 0 % 2 ^ u) 0 ≡ last_are_zero u xs
 by_remainder u xs some le =

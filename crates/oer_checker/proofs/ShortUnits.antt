@@ -1,5 +1,5 @@
 -- Units whose first octet tells all, and numbers of few octets.
-use Rattle.std.proofs.Common.{◌≡◌, ◌≢◌, ℕ, ◌/◌, ◌%◌, ◌^◌, ◌<◌, ◌≤◌, true, false, leb, ltb, List, get_or, arith, refl, sym, ap, ◌∙◌, pos}
+use Rattle.std.proofs.Common.{◌≡◌, ◌≢◌, ℕ, ◌/◌, ◌%◌, ◌^◌, ◌<◌, ◌≤◌, true, false, leb, ltb, List, get_or, arith, refl, sym, ap, ap₂, ◌∙◌, pos, ℤ}
 use Rattle.std.proofs.lemmas.Bool.{le-leb, lt-leb, lt-ltb}
 use Rattle.oer_units.specs.declared.fault.Why.{Why}
 use Rattle.oer_units.specs.declared.fault.Why.TheVariants.{EmptyNumber, IntegerRange, Limit}
@@ -51,12 +51,14 @@ length_cut p why rest e = bind_stop (bind octet length_after) (λ n. within n (g
 
 -- ---- a tag of one octet
 
-tag_here : (x : ℕ) (class : Class) (q : Place) → x ≤ 255 → x % 64 < 63 → class ≡ class_of (x / 64) → got (record { class = class; number = x % 64 }) q ≡ tag_after x q
-tag_here x class q fits less is = rw (le-leb x 255 fits, lt-ltb (x % 64) 63 less, is) (give_got (record { class = class_of (x / 64); number = x % 64 }) q)
+tag_here : (x : ℕ) (t : Tag) (q : Place) → x ≤ 255 → x % 64 < 63 → t.class ≡ class_of (x / 64) → t.number ≡ x % 64 → got t q ≡ tag_after x q
+tag_here x t q fits less class number =
+    let same : t ≡ record { class = class_of (x / 64); number = x % 64 } = ap₂ (λ (c : Class) (n : ℕ). record { class = c; number = n }) class number in
+    rw (le-leb x 255 fits, lt-ltb (x % 64) 63 less) (ap (λ (u : Tag). got u q) same ∙ give_got _ q)
 
-pub tag_short : (p q : Place) (x : ℕ) (class : Class) → got x q ≡ octet p → x ≤ 255 → x % 64 < 63 → class ≡ class_of (x / 64) → got (record { class = class; number = x % 64 }) q ≡ tag p
+pub got_tag : (p q : Place) (x : ℕ) (t : Tag) → got x q ≡ octet p → x ≤ 255 → x % 64 < 63 → t.class ≡ class_of (x / 64) → t.number ≡ x % 64 → got t q ≡ tag p
 unfolding tag
-tag_short p q x class e fits less is = bind_got octet tag_after p q x _ e (tag_here x class q fits less is)
+got_tag p q x t e fits less class number = bind_got octet tag_after p q x (got t q) e (tag_here x t q fits less class number)
 
 pub tag_cut : (p : Place) (why : Why) (rest : List ℕ) → refused why rest ≡ octet p → refused why rest ≡ tag p
 unfolding tag

@@ -113,14 +113,16 @@ pub first_value : (xs : List Alt) (i : ℕ) (a : Alt) (t : Tag) → i < length x
     → (true ≡ has_tag t (root_of xs no_alternatives)) × (check_value (type_of a.shape) ≡ check_alternative (root_of xs no_alternatives) t)
 first_value [] i a t less is same before = absurd (omega arith)
 first_value (x ∷ xs) zero a t less is same before =
-    let has : true ≡ same_tag x.tag t = sym (ap (λ (y : Alt). same_tag y.tag t) (sym is) ∙ same) in
-    (ap (λ (b : Bool). b || has_tag t (root_of xs no_alternatives)) has,
-    ap (λ (y : Alt). check_value (type_of y.shape)) is ∙ ap (λ (b : Bool). check_by_tag b (check_value (type_of x.shape)) (check_alternative (root_of xs no_alternatives) t)) has)
+    let has : true ≡ same_tag x.tag t = sym (ap (λ (y : Alt). same_tag y.tag t) (sym is) ∙ same) in (
+      ap (λ (b : Bool). b || has_tag t (root_of xs no_alternatives)) has,
+      ap (λ (y : Alt). check_value (type_of y.shape)) is ∙ ap (λ (b : Bool). check_by_tag b (check_value (type_of x.shape)) (check_alternative (root_of xs no_alternatives) t)) has,
+    )
 first_value (x ∷ xs) (suc i) a t less is same before =
     let other : false ≡ same_tag x.tag t = sym (or_left (same_tag x.tag t) (has_tag t (root_of (take i xs) no_alternatives)) before) in
-    let rest = first_value xs i a t (omega arith) is same (or_right (same_tag x.tag t) (has_tag t (root_of (take i xs) no_alternatives)) before) in
-    (rest.0 ∙ ap (λ (b : Bool). b || has_tag t (root_of xs no_alternatives)) other,
-    rest.1 ∙ ap (λ (b : Bool). check_by_tag b (check_value (type_of x.shape)) (check_alternative (root_of xs no_alternatives) t)) other)
+    let rest = first_value xs i a t (omega arith) is same (or_right (same_tag x.tag t) (has_tag t (root_of (take i xs) no_alternatives)) before) in (
+      rest.0 ∙ ap (λ (b : Bool). b || has_tag t (root_of xs no_alternatives)) other,
+      rest.1 ∙ ap (λ (b : Bool). check_by_tag b (check_value (type_of x.shape)) (check_alternative (root_of xs no_alternatives) t)) other,
+    )
 
 -- ---- in a loop
 

@@ -1,12 +1,12 @@
 //! Units, read at a place.
 ghost use Rattle.std.specs.Io.{ReadsAtMost};
 ghost use Rattle.std.specs.Io.KnownBytes.{ReadConsumes};
-ghost use Rattle.std.specs.Prelude.{◌≡◌, ◌≤◌, ◌+◌, ◌≤ℤ◌, FitsSigned, Some, IfOk, pos};
+ghost use Rattle.std.specs.Prelude.{◌≡◌, ◌≤◌, ◌<◌, ◌+◌, ◌/◌, ◌%◌, ◌≤ℤ◌, FitsSigned, Some, IfOk, pos};
 ghost use Rattle.std.specs.Int.{w64, w128};
 ghost use Rattle.oer_units.specs.Fixed.{signed_fixed_at as signed_fixed_read, unsigned_fixed_at as unsigned_fixed_read};
 ghost use Rattle.oer_units.specs.Numbers.{natural, signed};
 ghost use Rattle.oer_units.specs.Reader.{group};
-ghost use Rattle.oer_units.specs.Reading.{counted_length, counted_number, enumerated as enumerated_read, is_int128, octet as octet_read, tag as tag_read};
+ghost use Rattle.oer_units.specs.Reading.{class_of, counted_length, counted_number, enumerated as enumerated_read, is_int128, octet as octet_read, tag as tag_read};
 ghost use Rattle.oer_units.specs.Stream.{counted_read};
 ghost use Rattle.oer_checker.specs.Places.{outcome, place_of, same};
 ghost use Rattle.oer_checker.specs.Steps.{subidentifier_size};
@@ -215,11 +215,19 @@ pub(crate) fn tag_at<'a>(place: Place<'a>) -> Result<(Tag, Place<'a>), Stop<'a>>
     if first % 64 == 63 {
         return long_tag_at(place);
     }
-    let tag = Tag {
+    Ok((short_tag(first), next))
+}
+
+// The tag that stands in one octet, whose number is below 63.
+fn short_tag(first: u8) -> Tag
+    ensures octet { first < 256 }
+    ensures class { result.class ≡ class_of (first / 64) }
+    ensures number { result.number ≡ first % 64 }
+{
+    Tag {
         class: class(first),
         number: (first % 64) as u32,
-    };
-    Ok((tag, next))
+    }
 }
 
 // A tag of any form.

@@ -1,6 +1,6 @@
 use Rattle.std.proofs.Common.{◌∙◌, arith}
-use Rattle.oer_checker.proofs.LowBits.{by_remainder, no_octet}
+use Rattle.oer_checker.proofs.LowBits.{by_remainder, some_octet}
 use Rattle.oer_checker.proofs.bit_strings.ends_in_zeros.Goals as goal
 
 pub returns : goal.returns
-returns c = c.is_clear_below.ensures ∙ by_remainder c.args.unused c.args.octets.now (omega arith) c.requires
+returns c = c.is_clear_below.ensures ∙ by_remainder c.args.unused c.args.octets.now (some_octet c.args.octets.now c.if-is_empty.ensures) c.requires

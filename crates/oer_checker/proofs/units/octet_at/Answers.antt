@@ -9,3 +9,6 @@ returns-in_err-octets c = rw (at_stop c.from_residual.result c.in_err-octets.fie
 
 pub returns : goal.returns
 returns c = octet_got _ _ _ _ c.in_ok-octets.ensures refl
+
+pub bounds-octets-0 : goal.bounds-octets-0
+bounds-octets-0 c = let size = group_size 1 _ _ _ c.in_ok-octets.ensures in omega arith

@@ -179,15 +179,15 @@ pub check_choice-returns-in-None : goal.check_choice-returns-in-None
 check_choice-returns-in-None t c =
     let h = c.requires.is in
     let xs = c.args.alternatives.now in
-    by_type (type_of c.args.shape.now) (choice false (root_of xs no_alternatives)) _ _ (as_closed c.args.shape.now h.0 c.args.additions.now xs h.1 c.in-None.is h.2) (choice_none xs _ _ c.in_ok-tag.tag c.in_ok-tag.ensures (sym c.if-contains_tag.false ∙ c.contains_tag.ensures))
+    by_type (type_of c.args.shape.now) (choice false (root_of xs no_alternatives)) _ _ (as_closed c.args.shape.now h.0 c.args.additions.now xs h.1 c.in-None.is h.2) (choice_none xs _ _ c.in_ok-tag.tag c.in_ok-tag.ensures (sym c.in_default.ensures))
 
 pub check_choice-returns-in-Some-additions : goal.check_choice-returns-in-Some-additions
 check_choice-returns-in-Some-additions t c =
     let h = c.requires.is in
     let xs = c.args.alternatives.now in
     let ys = c.deref.result.now in
-    let is = as_open c.args.shape.now h.0 c.args.additions.now c.in-Some.additions xs ys h.1 c.in-Some.is h.2 c.deref.ensures.value in
-    by_type (type_of c.args.shape.now) (choice true (root_of xs (later_of ys))) _ _ is (choice_later xs ys _ _ c.in_ok-tag.tag _ c.in_ok-tag.ensures (sym c.if-contains_tag.false ∙ c.contains_tag.ensures) c.check_later.ensures)
+    let is = as_open c.args.shape.now h.0 c.args.additions.now c.in-Some-additions.additions xs ys h.1 c.in-Some-additions.is h.2 c.deref.ensures.value in
+    by_type (type_of c.args.shape.now) (choice true (root_of xs (later_of ys))) _ _ is (choice_later xs ys _ _ c.in_ok-tag.tag _ c.in_ok-tag.ensures (sym c.in_default.ensures) c.check_later.ensures)
 
 pub check_choice-check_shape-requires : goal.check_choice-check_shape-requires
 check_choice-check_shape-requires t c =
@@ -202,9 +202,9 @@ pub check_choice-check_later-requires : goal.check_choice-check_later-requires
 check_choice-check_later-requires t c =
     let h = c.requires.is in
     let more = c.args.additions.now in
-    let later = c.in-Some.additions in
+    let later = c.in-Some-additions.additions in
     let ys = c.deref.result.now in
-    (later_fall c.args.shape.now h.0 more later ys _ _ t h.1 c.in-Some.is c.deref.ensures.value (omega arith) c.decreases, (open_limits c.args.shape.now h.0 more later ys h.1 c.in-Some.is c.deref.ensures.value c.requires.limits, open_defaults c.args.shape.now h.0 more later ys h.1 c.in-Some.is c.deref.ensures.value c.requires.defaults))
+    (later_fall c.args.shape.now h.0 more later ys _ _ t h.1 c.in-Some-additions.is c.deref.ensures.value (omega arith) c.decreases, (open_limits c.args.shape.now h.0 more later ys h.1 c.in-Some-additions.is c.deref.ensures.value c.requires.limits, open_defaults c.args.shape.now h.0 more later ys h.1 c.in-Some-additions.is c.deref.ensures.value c.requires.defaults))
 
 pub check_shape-returns-in-SequenceOf : goal.check_shape-returns-in-SequenceOf
 check_shape-returns-in-SequenceOf t c =
