@@ -1,4 +1,4 @@
-use Rattle.std.proofs.Common.{◌∙◌, arith}
+use Rattle.std.proofs.Common.{◌∙◌}
 use Rattle.oer_checker.proofs.LowBits.{by_remainder, some_octet}
 use Rattle.oer_checker.proofs.bit_strings.ends_in_zeros.Goals as goal
 

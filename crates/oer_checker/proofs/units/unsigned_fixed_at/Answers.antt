@@ -1,4 +1,4 @@
-use Rattle.std.proofs.Common.{◌∙◌, arith}
+use Rattle.std.proofs.Common.{arith}
 use Rattle.oer_checker.proofs.StringSteps.{group_size}
 use Rattle.oer_checker.proofs.Exits.{at_stop}
 use Rattle.oer_units.proofs.ReadFixed.{width_few}

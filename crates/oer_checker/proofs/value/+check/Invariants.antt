@@ -1,7 +1,6 @@
 use Rattle.std.proofs.Common.{◌≡◌, ◌-◌, drop}
-use Rattle.oer_types.specs.AsnType.{no_alternatives}
-use Rattle.oer_types.specs.Checking.{check_additions, check_alternative, check_fields, check_times, check_value}
-use Rattle.oer_types.specs.ShapeView.{additions_of, fields_of, later_of, root_of, type_of}
+use Rattle.oer_types.specs.Checking.{check_additions, check_fields, check_times, check_value}
+use Rattle.oer_types.specs.ShapeView.{additions_of, fields_of, later_of, type_of}
 use Rattle.oer_checker.specs.BitView.{bits_in}
 use Rattle.oer_checker.specs.Places.{place_of}
 use Rattle.oer_checker.specs.Steps.{and_after, check_later}
