@@ -1,17 +1,17 @@
 -- How the program ends, from what its steps answer.
-use Rattle.std.proofs.Common.{Result, ◌≡◌, ◌≢◌, ◌∙◌, ℕ, ◌≤◌, List, [], ◌∷◌, ◌++◌, Bool, true, Option, Some, None, Ok, Err, String, Global, refl, sym, ap, subst, arith, string_bytes, ◌⊎◌, inl, inr, codes, append-nil}
-use Rattle.std.specs.Io.KnownBytes.{Appends, Keeps}
+use Rattle.std.proofs.Common.{◌≡◌, ◌≢◌, ◌∙◌, ℕ, ◌≤◌, List, [], ◌∷◌, ◌++◌, Bool, true, Option, Some, None, Ok, Err, String, Global, refl, sym, ap, subst, arith, string_bytes, ◌⊎◌, inl, inr, codes, append-nil}
+use Rattle.std.specs.Io.KnownBytes.{Keeps}
 use Rattle.clap.specs.Words.{HasKind, IsAmong, Kinds, Text, fault_of, kind_of, takes}
 use Rattle.clap.specs.declared.error.Error.{Error}
 use Rattle.clap.specs.declared.error.kind.ErrorKind.{ErrorKind}
 use Rattle.clap.specs.declared.error.kind.ErrorKind.TheVariants.{DisplayHelp, DisplayVersion, OutOfMemory}
 use Rattle.oer_options.specs.Words.{behind}
 use Rattle.oer_cmd.specs.Ending.{IsMachineLine, Streams}
-use Rattle.oer_cmd.specs.Expected.{Expected, Refusal, refusal, refusal_of, unknown, value}
-use Rattle.oer_cmd.specs.Faults.{AppendsFront, Reports, error_line, status_of, text_of}
+use Rattle.oer_cmd.specs.Expected.{Expected, Refusal, refusal, unknown, value}
+use Rattle.oer_cmd.specs.Faults.{Reports, error_line, status_of, text_of}
 use Rattle.oer_cmd.specs.declared.fault.Fault.{Fault}
 use Rattle.oer_cmd.specs.declared.fault.Fault.TheVariants.{Absent, Follows, Hex, Input, Json, Longer, Memory, NoName, NoSuchStep, NotJson, NoTypes, OneType, Output, Path, Read, «Type», Unnamed}
-use Rattle.oer_dump_cmd.specs.Ending.{Accepts, Answers, Breaks, Does, Ends, IsNotTaken, Prints, Tells}
+use Rattle.oer_dump_cmd.specs.Ending.{Accepts, Answers, Breaks, Ends, IsNotTaken, Prints, Tells}
 use Rattle.oer_dump_cmd.specs.Showing.{AreOneFor, IsReasonLine, Shows, judged_as}
 use Rattle.oer_dump_cmd.specs.Words.{Asks, given, oer_dump, texts_asked, texts_given}
 use Rattle.oer_dump_cmd.specs.declared.options.Options.{Options}

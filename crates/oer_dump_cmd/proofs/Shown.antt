@@ -1,5 +1,5 @@
 -- What is shown, from what the steps answer.
-use Rattle.std.proofs.Common.{Result, ◌≡◌, ◌≢◌, ◌∙◌, ℕ, ◌≤◌, List, [], ◌∷◌, ◌++◌, length, Bool, Option, Some, None, Ok, Err, Vec, String, Global, refl, sym, ap, subst, arith, string_bytes}
+use Rattle.std.proofs.Common.{Result, ◌≡◌, ◌∙◌, ℕ, ◌≤◌, List, length, Bool, Option, Some, None, Ok, Err, Vec, String, Global, refl, sym, ap, subst, arith, string_bytes}
 use Rattle.std.specs.Prelude.{IfOk, option_map}
 use Rattle.std.specs.Borrow.{Bor}
 use Rattle.std.proofs.lemmas.Result.{IfOk-weaker}
@@ -9,7 +9,7 @@ use Rattle.oer_types.specs.Schema.{the_type}
 use Rattle.oer_types.specs.declared.schema.Schema.{Schema}
 use Rattle.oer_checker.specs.declared.encoding.Encoding.{Encoding}
 use Rattle.oer_notation.specs.Parsing.{parse, parse_all}
-use Rattle.oer_notation.specs.Reading.{Known, find}
+use Rattle.oer_notation.specs.Reading.{find}
 use Rattle.oer_notation.specs.Views.{knowns}
 use Rattle.oer_notation.specs.declared.types.Types.{Types}
 use Rattle.oer_options.specs.Words.{Texts}

@@ -1,4 +1,3 @@
-use Rattle.oer_dump_cmd.specs.Entries.{AddsAtMostOne}
 use Rattle.oer_dump_cmd.proofs.Spots.{none_added, one_added}
 use Rattle.std.proofs.Common.{ap, ◌∙◌}
 use Rattle.oer_dump_cmd.proofs.entries.reject.Goals as goal

@@ -1,4 +1,4 @@
-use Rattle.std.proofs.Common.{◌∙◌, arith, sym}
+use Rattle.std.proofs.Common.{◌∙◌, sym}
 use Rattle.oer_types.specs.Schema.{the_type}
 use Rattle.oer_cmd.specs.Answer.{checked}
 use Rattle.oer_dump_cmd.proofs.Shown.{rejected}

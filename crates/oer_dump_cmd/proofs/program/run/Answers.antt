@@ -1,4 +1,4 @@
-use Rattle.std.proofs.Common.{arith, inr, map, refl, string_bytes}
+use Rattle.std.proofs.Common.{inr, map, refl, string_bytes}
 use Rattle.oer_dump_cmd.specs.Showing.{judged_as}
 use Rattle.oer_dump_cmd.proofs.Ends.{accepts, does, not_taken, printed_end, refused_end, unrejected}
 use Rattle.oer_dump_cmd.proofs.program.run.Goals as goal
