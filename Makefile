@@ -1,10 +1,10 @@
-# make: proves and builds the program, as bin/oer
+# make: proves and builds the programs, as bin/oer and bin/oer-dump
 # make quick: proves and tests all but the must-fail edits, over what earlier runs kept, for use before a commit
 # make test: the whole gate, then the commands that the documents show, what a release has, and memory refused in turn
 # make lib: proves and builds the library for C and C++, in lib/
-# make test_lib: tests it from C, C++, Rust and Python; OER_STRINGS=1000000 tries so many random strings of octets, else 100,000
+# make test_lib: tests it from C, C++, Rust and Python; OER_STRINGS=1000 tries so many random strings of octets, else a million in C and 100,000 in each other language
 # make bench: the instructions of our codec and of a plain one, side by side (docs/PERFORMANCE.md)
-# make install PREFIX=.. DESTDIR=..: program, library, manual, completions, documents and examples, under PREFIX; make uninstall: takes them away
+# make install PREFIX=.. DESTDIR=..: programs, library, manual, completions, documents and examples, under PREFIX; make uninstall: takes them away
 # make dist: the archive of a release, in out/
 PREFIX ?= /usr/local
 
@@ -28,6 +28,7 @@ test:
 	RT_JOBS=$${RT_JOBS-$$(tools/jobs)} rt ci
 	@mkdir -p bin
 	@cp crates/oer/out/oer bin/oer
+	@cp crates/oer_dump/out/oer_dump bin/oer-dump
 	@tools/lib
 	@$(MAKE) --no-print-directory -j 2 -o bin/oer -o lib/liboer.a documents test_lib
 	@tools/test_release

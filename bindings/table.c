@@ -5,6 +5,7 @@
  *   version NUMBER
  *   layout STRUCT SIZE OFFSET+SIZE..     of the struct, and of each field
  *   vector TASK TYPE GIVEN PATH LIMIT STATUS WHY OCTETS WRITTEN ANSWER
+ *   place TYPE GIVEN PATH STATUS WHY OCTETS AT LENGTH
  *   rejected TEXT WHY PLACE */
 #include "vectors.h"
 
@@ -41,6 +42,19 @@ static void put_vector(const struct vector *vector) {
     putchar('\n');
 }
 
+static void put_place(const struct place *place) {
+    printf("place");
+    put_text(place->type);
+    put_digits(place->given);
+    put_text(place->path);
+    put_number(place->status);
+    put_number(place->why);
+    put_number(place->octets);
+    put_number(place->at);
+    put_number(place->length);
+    putchar('\n');
+}
+
 /* Where a field begins in its struct, and how many octets it has. */
 #define PLACE(type, field) \
     printf("\t%u+%u", (unsigned)offsetof(type, field), (unsigned)sizeof(((type *)0)->field))
@@ -66,6 +80,12 @@ static void put_layouts(void) {
     PLACE(oer_written, why);
     PLACE(oer_written, octets);
     PLACE(oer_written, written);
+    printf("\nlayout\toer_located\t%u", (unsigned)sizeof(oer_located));
+    PLACE(oer_located, status);
+    PLACE(oer_located, why);
+    PLACE(oer_located, octets);
+    PLACE(oer_located, at);
+    PLACE(oer_located, length);
     putchar('\n');
 }
 
@@ -74,6 +94,7 @@ int main(void) {
     printf("version\t%d\n", OER_VERSION_NUMBER);
     put_layouts();
     for (i = 0; i < sizeof vectors / sizeof *vectors; i++) put_vector(&vectors[i]);
+    for (i = 0; i < sizeof places / sizeof *places; i++) put_place(&places[i]);
     for (i = 0; i < sizeof rejected_texts / sizeof *rejected_texts; i++) {
         printf("rejected");
         put_text(rejected_texts[i].text);

@@ -13,16 +13,20 @@
  * - An oer_types begins as OER_TYPES_NONE, or as zeros. Its fields belong to the library: a caller
  *   neither reads nor writes them. It may be moved to another place while no call uses it, and then
  *   the old place is not used again; two copies of one oer_types may not both be used.
- * - An oer_types is in one call at a time, and all calls on it come from one thread. Each thread may
- *   have an oer_types of its own.
- * - oer_types_free gives the memory back. After it the oer_types is as new: each call on it answers
- *   OER_NO_TYPES, and types may be read into it again. To free it twice is allowed.
+ * - An oer_types is in one call at a time. The next call may come from another thread, where a lock, the
+ *   start or join of a thread, or a sequentially consistent atomic comes between the two. For calls at
+ *   the same time each thread has an oer_types of its own: oer_types_share gives it the types of another
+ *   one, and they are in memory once.
+ * - oer_types_free gives the memory back, where no other oer_types has the types. After it the oer_types
+ *   is as new: each call on it answers OER_NO_TYPES, and types may be read into it again. To free it twice
+ *   is allowed.
  * - No pointer is NULL. A pointer that comes with a length points to that many octets, all of them
  *   initialized, those of an output buffer too. With length 0 nothing is read or written there.
- * - The output buffer and the oer_types overlap nothing else that is passed to the call. Inputs may
+ * - The output buffer and each oer_types overlap nothing else that is passed to the call. Inputs may
  *   overlap each other.
  * - Memory comes from malloc, realloc and free, which have to belong together. It may run out: then
- *   the status is OER_MEMORY, and what the call was given is as before. oer_check takes no memory.
+ *   the status is OER_MEMORY, and what the call was given is as before. oer_check and oer_check_many
+ *   take none.
  * - No call is made from a signal handler, or in the child of a fork of a process with threads.
  *
  * Octets are uint8_t, texts are char. All lengths and places are numbers of octets; texts are UTF-8,
@@ -64,7 +68,7 @@ enum oer_status {
     OER_OUTSIDE = 10  /* the message is not all in the octets */
 };
 
-/* Why octets are rejected: `why` of oer_checked and of oer_written at OER_REJECTED, except in
+/* Why octets are rejected: `why` of oer_checked, oer_written and oer_located at OER_REJECTED, except in
  * oer_from_json. docs/ENCODING.md says in which order the reasons are looked for. */
 enum oer_reason {
     OER_END = 3,                  /* they end within the value */
@@ -163,6 +167,15 @@ typedef struct oer_written {
                          0 */
 } oer_written;
 
+/* What a call answers that says where a part lies. */
+typedef struct oer_located {
+    uint32_t status; /* the call says which */
+    uint32_t why;    /* at OER_REJECTED the reason, an enum oer_reason; else 0 */
+    uint64_t octets; /* at OER_REJECTED how many octets had been looked at; else 0 */
+    size_t at;       /* at OER_OK the place of the part's first octet; else 0 */
+    size_t length;   /* at OER_OK how many octets it has; else 0 */
+} oer_located;
+
 /* A limit that rejects nothing. */
 #define OER_NO_LIMIT ((uint64_t)-1)
 
@@ -172,6 +185,12 @@ oer_parsed oer_types_read(oer_types *types, const char *text, size_t text_length
 
 /* Frees the types. */
 void oer_types_free(oer_types *types);
+
+/* Gives `other` the types of `types`, in place of those that were there. They are in memory once, and are
+ * freed when no oer_types has them. Each of the two is used by itself: one thread may call with the one
+ * while another thread calls with the other. Unless the status is OER_OK, `other` is as before.
+ * OER_OK, OER_NO_TYPES, OER_MEMORY. */
+uint32_t oer_types_share(oer_types *types, oer_types *other);
 
 /* Whether the octets begin with an encoding of a value of the type with the name, in any spelling
  * that the rules allow (Basic-OER): how long it is, and whether it is the canonical one. What
@@ -205,6 +224,13 @@ oer_written oer_part(oer_types *types, const char *name, size_t name_length,
                      const uint8_t *octets, size_t octets_length,
                      const char *path, size_t path_length,
                      uint8_t *out, size_t room);
+
+/* Says where that part lies: it is the `length` octets from octets + at on, and nothing is copied. Of a
+ * part without octets `at` is its place, which may be octets_length.
+ * OER_OK, OER_REJECTED, OER_NO_TYPES, OER_UNNAMED, OER_MEMORY, OER_NO_PATH, OER_NO_STEP, OER_ABSENT. */
+oer_located oer_part_at(oer_types *types, const char *name, size_t name_length,
+                        const uint8_t *octets, size_t octets_length,
+                        const char *path, size_t path_length);
 
 /* Writes the JSON (docs/JSON.md) of the value whose encoding, of at most `limit` octets, is at the
  * front of the octets. What follows it is not looked at.

@@ -32,10 +32,11 @@
  *
  * Threads
  *
- * An oer::types is in one call at a time, and all calls on it come from one thread: that which read it,
- * and which destroys it. That holds for check() as well, which is not const for this reason. Each
- * thread may have an oer::types of its own. Results, errors, octets and texts may be handed to other
- * threads, and read by several at once.
+ * An oer::types is in one call at a time. That holds for check() as well, which is not const for this
+ * reason. The next call may come from another thread, where a lock, the start or join of a thread, or a
+ * sequentially consistent atomic comes between the two. For calls at the same time each thread has an
+ * oer::types of its own: share() makes one more of types that are in memory once. Results, errors, octets
+ * and texts may be handed to other threads, and read by several at once.
  *
  * No call is made from a signal handler, or in the child of a fork of a process with threads. */
 #ifndef OER_HPP
@@ -231,7 +232,7 @@ struct checked {
     bool canonical;
 };
 
-/* Where a message is in octets: its place and its length. */
+/* Where a message or a part is in octets: its place and its length. */
 typedef oer_message message;
 
 /* What a call answers that writes into a buffer of the caller's. */
@@ -300,7 +301,7 @@ private:
 };
 
 /* Definitions that were read, by their names; or none. It may be moved and not copied. It frees what it
- * holds. One call at a time, and all of them from one thread.
+ * holds. One call at a time.
  *
  * Every call on it except read() and free() may have these errors:
  *   OER_NO_TYPES  it has no types: none were read, they were freed, or it was moved from
@@ -351,6 +352,16 @@ public:
 
     /* Frees the types. After it there are none, and types may be read again. It may be called twice. */
     void free() noexcept { oer_types_free(&held_); }
+
+    /* The same types once more. Each of the two is used by itself, so that another thread may call with
+     * the one at the same time. They are in memory once, and are freed when nothing has them.
+     *   OER_MEMORY   an allocation failed */
+    result<types> share() noexcept {
+        types other;
+        std::uint32_t status = oer_types_share(&held_, &other.held_);
+        if (status == OER_OK) return result<types>(std::move(other));
+        return result<types>(fault(status, 0, 0, 0, subject::definitions));
+    }
 
     /* Whether the octets begin with an encoding of a value of the type with the name, in any spelling
      * that the rules allow (Basic-OER): how long it is, and whether it is the canonical one. What
@@ -427,6 +438,16 @@ public:
         return told(oer_part(&held_, name.data(), name.size(), given.data(), given.size(), path.data(), path.size(),
                              out.data(), out.size()),
                     subject::octets);
+    }
+
+    /* Where that part lies in the octets: it is the `length` octets from the place `at` on, and nothing is
+     * copied. Of a part without octets `at` is its place. The errors are those of part(). */
+    result<message> part_at(text_in name, octets_in given, text_in path) noexcept {
+        oer_located found =
+            oer_part_at(&held_, name.data(), name.size(), given.data(), given.size(), path.data(), path.size());
+        message place = { found.at, found.length };
+        if (found.status == OER_OK) return result<message>(std::move(place));
+        return result<message>(fault(found.status, found.why, found.octets, 0, subject::octets));
     }
 
     /* The JSON (docs/JSON.md) of the value whose encoding, of at most `limit` octets, is at the front of

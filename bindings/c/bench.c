@@ -1,9 +1,9 @@
 /* Calls to be measured: bench FOLDER CALL TURNS
  *
- * FOLDER is examples/ieee1609dot2; CALL is read, check, many, canon, part, show or make; and the call is
- * made TURNS times, with the certificate of a roadside unit in its basic form, and types that were read
- * once. read reads the types, and many checks the certificate MANY times in one call. The cost of a turn
- * is the difference of two runs, by the turns between them (bench/calls). */
+ * FOLDER is examples/ieee1609dot2; CALL is read, check, many, canon, part, part_at, show or make; and the
+ * call is made TURNS times, with the certificate of a roadside unit in its basic form, and types that were
+ * read once. read reads the types, and many checks the certificate MANY times in one call. The cost of a
+ * turn is the difference of two runs, by the turns between them (bench/calls). */
 #include "oer.h"
 
 #include <stdio.h>
@@ -70,6 +70,10 @@ static uint32_t part(struct given *g) {
     return oer_part(&g->types, NAME, g->octets, g->length, "c3", 2, g->out, sizeof g->out).status;
 }
 
+static uint32_t part_at(struct given *g) {
+    return oer_part_at(&g->types, NAME, g->octets, g->length, "c3", 2).status;
+}
+
 static uint32_t show(struct given *g) {
     return oer_to_json(&g->types, NAME, g->octets, g->length, OER_NO_LIMIT, (char *)g->out, sizeof g->out).status;
 }
@@ -82,8 +86,8 @@ static const struct {
     const char *name;
     uint32_t (*call)(struct given *g);
 } calls[] = {
-    { "read", read_types }, { "check", check }, { "many", many }, { "canon", canon },
-    { "part", part },       { "show", show },   { "make", make },
+    { "read", read_types }, { "check", check },     { "many", many }, { "canon", canon },
+    { "part", part },       { "part_at", part_at }, { "show", show }, { "make", make },
 };
 
 /* Reads the types and the certificate, and makes its JSON. */
@@ -110,7 +114,7 @@ int main(int count, char **words) {
     for (i = 0; count == 4 && i < sizeof calls / sizeof *calls; i++)
         if (strcmp(words[2], calls[i].name) == 0) chosen = i;
     if (chosen == sizeof calls / sizeof *calls) {
-        puts("usage: bench FOLDER read|check|many|canon|part|show|make TURNS");
+        puts("usage: bench FOLDER read|check|many|canon|part|part_at|show|make TURNS");
         return 2;
     }
     turns = atol(words[3]);

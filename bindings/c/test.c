@@ -181,6 +181,37 @@ static void test_vector(const struct vector *vector) {
     EXPECT(are_all(out, 0, sizeof out, 0xcc), vector->given);
 }
 
+static int is_located(oer_located answer, uint32_t status, uint32_t why, uint64_t octets, size_t at, size_t length) {
+    return answer.status == status && answer.why == why && answer.octets == octets && answer.at == at &&
+        answer.length == length;
+}
+
+static oer_located locate(oer_types *types, const char *name, const struct octets *given, const char *path) {
+    return oer_part_at(types, name, strlen(name), given->at, given->length, path, strlen(path));
+}
+
+static void test_place(const struct place *place) {
+    oer_types types = types_of(place->type);
+    struct octets given = from_hex(place->given);
+    oer_located answer = locate(&types, "A", &given, place->path);
+    EXPECT(is_located(answer, place->status, place->why, place->octets, place->at, place->length), place->given);
+    EXPECT(is_located(locate(&types, "B", &given, place->path), OER_UNNAMED, 0, 0, 0, 0), place->given);
+    EXPECT(is_located(locate(&types, "\377", &given, place->path), OER_UNNAMED, 0, 0, 0, 0), place->given);
+    oer_types_free(&types);
+    EXPECT(is_located(locate(&types, "A", &given, place->path), OER_NO_TYPES, 0, 0, 0, 0), place->given);
+}
+
+/* That the part which oer_part copies is where oer_part_at says. */
+static void test_located(const struct vector *vector) {
+    oer_types types = types_of(vector->type);
+    struct octets given = from_hex(vector->given), want = wanted(vector);
+    oer_located answer = locate(&types, "A", &given, vector->path);
+    EXPECT(answer.status == vector->status && answer.why == vector->why && answer.octets == vector->octets, vector->given);
+    EXPECT(answer.length == want.length && answer.at + answer.length <= given.length, vector->given);
+    EXPECT(memcmp(given.at + answer.at, want.at, want.length) == 0, vector->given);
+    oer_types_free(&types);
+}
+
 /* That an answer of many is that of the message alone. */
 static int is_answer(oer_types *types, const struct octets *given, oer_message message, oer_checked answer) {
     oer_checked alone;
@@ -264,6 +295,26 @@ static void test_kept_types(void) {
     oer_types_free(&other);
 }
 
+/* Types that two have: each has them until it is freed, or has others. */
+static void test_shared_types(void) {
+    struct vector check = { CHECK, 0, "ff", 0, OER_NO_LIMIT, 0, 0, 0, 0, 0 };
+    oer_types types = OER_TYPES_NONE, other = types_of("BOOLEAN");
+    EXPECT(oer_types_share(&types, &other) == OER_NO_TYPES, "no types to share");
+    EXPECT(call(&other, "A", &check, 0, 0).status == OER_OK, "no types in place of others");
+    EXPECT(oer_types_share(&other, &types) == OER_OK, "types that are shared");
+    EXPECT(call(&other, "A", &check, 0, 0).status == OER_OK, "the one");
+    EXPECT(call(&types, "A", &check, 0, 0).status == OER_OK, "the other");
+    EXPECT(oer_types_read(&other, "B ::= BOOLEAN", 13).status == OER_OK, "types in place of shared ones");
+    EXPECT(call(&other, "B", &check, 0, 0).status == OER_OK, "the new types");
+    EXPECT(call(&types, "A", &check, 0, 0).status == OER_OK, "the shared types");
+    EXPECT(oer_types_share(&other, &types) == OER_OK, "types in place of others");
+    oer_types_free(&other);
+    EXPECT(is_only(call(&other, "B", &check, 0, 0), OER_NO_TYPES), "types that were freed");
+    EXPECT(is_only(call(&types, "A", &check, 0, 0), OER_UNNAMED), "the earlier types are gone");
+    EXPECT(call(&types, "B", &check, 0, 0).status == OER_OK, "types that the other freed");
+    oer_types_free(&types);
+}
+
 /* ---- the certificate of the example */
 
 static void test_certificate(const char *folder) {
@@ -287,6 +338,7 @@ static void test_certificate(const char *folder) {
     answer = oer_part(&types, "Certificate", 11, certificate.at, 230, "c3", 2, out.at, sizeof out.at);
     EXPECT(answer.status == OER_OK && answer.written == 152, "toBeSigned");
     EXPECT(memcmp(out.at, certificate.at + 12, 152) == 0, "toBeSigned");
+    EXPECT(is_located(locate(&types, "Certificate", &certificate, "c3"), OER_OK, 0, 0, 12, 152), "toBeSigned");
     answer = oer_to_json(&types, "Certificate", 11, basic.at, basic.length, OER_NO_LIMIT, (char *)json.at, sizeof json.at);
     EXPECT(answer.status == OER_OK && answer.octets == 236, "to_json");
     answer = oer_from_json(&types, "Certificate", 11, (char *)json.at, (size_t)answer.written, out.at, sizeof out.at);
@@ -322,6 +374,46 @@ static void fail_in_turn(const struct vector *vector) {
     oer_types_free(&types);
 }
 
+/* The same where a part is located. */
+static void fail_place_in_turn(const struct place *place) {
+    oer_types types = types_of(place->type);
+    struct octets given = from_hex(place->given);
+    long before = blocks, nth;
+    oer_located answer;
+    for (nth = 1;; nth++) {
+        growths = 0;
+        fail_at = nth;
+        answer = locate(&types, "A", &given, place->path);
+        fail_at = 0;
+        EXPECT(blocks == before, place->given);
+        if (growths < nth) break;
+        EXPECT(is_located(answer, OER_MEMORY, 0, 0, 0, 0), place->given);
+    }
+    EXPECT(is_located(answer, place->status, place->why, place->octets, place->at, place->length), place->given);
+    oer_types_free(&types);
+}
+
+/* Sharing types where each growth fails in turn: the other's types are those from before. */
+static void fail_sharing_in_turn(void) {
+    struct vector check = { CHECK, 0, "ff", 0, OER_NO_LIMIT, 0, 0, 0, 0, 0 };
+    oer_types types = types_of("BOOLEAN"), other = types_of("NULL");
+    long before = blocks, nth;
+    uint32_t status;
+    for (nth = 1;; nth++) {
+        growths = 0;
+        fail_at = nth;
+        status = oer_types_share(&types, &other);
+        fail_at = 0;
+        if (growths < nth) break;
+        EXPECT(status == OER_MEMORY && blocks == before, "types that are shared");
+        EXPECT(call(&types, "A", &check, 0, 0).octets == 1, "the one");
+        EXPECT(call(&other, "A", &check, 0, 0).octets == 0, "the other");
+    }
+    EXPECT(nth > 1 && status == OER_OK && call(&other, "A", &check, 0, 0).octets == 1, "types that are shared");
+    oer_types_free(&types);
+    oer_types_free(&other);
+}
+
 /* Reading the text where each growth fails in turn: the types are those from before. */
 static long fail_text_in_turn(const char *text) {
     oer_types types = types_of("BOOLEAN");
@@ -347,6 +439,8 @@ static void test_memory(const char *folder) {
     size_t i;
     long failed = 0;
     for (i = 0; i < COUNT(vectors); i++) fail_in_turn(&vectors[i]);
+    for (i = 0; i < COUNT(places); i++) fail_place_in_turn(&places[i]);
+    fail_sharing_in_turn();
     for (i = 0; i < COUNT(vectors); i++) {
         char text[1024];
         snprintf(text, sizeof text, "A ::= %s", vectors[i].type);
@@ -438,6 +532,9 @@ static void test_layout(void) {
     EXPECT(sizeof(oer_written) == 24 && offsetof(oer_written, status) == 0, "oer_written");
     EXPECT(offsetof(oer_written, why) == 4 && offsetof(oer_written, octets) == 8, "oer_written");
     EXPECT(offsetof(oer_written, written) == 16, "oer_written");
+    EXPECT(sizeof(oer_located) == 32 && offsetof(oer_located, status) == 0, "oer_located");
+    EXPECT(offsetof(oer_located, why) == 4 && offsetof(oer_located, octets) == 8, "oer_located");
+    EXPECT(offsetof(oer_located, at) == 16 && offsetof(oer_located, length) == 24, "oer_located");
     EXPECT(oer_version() == OER_VERSION_NUMBER, "the version");
 }
 
@@ -451,9 +548,12 @@ int main(int count, char **words) {
     for (i = 0; i < COUNT(vectors); i++) {
         test_vector(&vectors[i]);
         if (vectors[i].task == CHECK) test_many(&vectors[i]);
+        if (vectors[i].task == PART) test_located(&vectors[i]);
     }
+    for (i = 0; i < COUNT(places); i++) test_place(&places[i]);
     for (i = 0; i < COUNT(rejected_texts); i++) test_rejected_text(&rejected_texts[i]);
     test_kept_types();
+    test_shared_types();
     test_certificate(words[1]);
     test_random(atol(words[2]));
 #ifdef FAIL_MEMORY

@@ -105,6 +105,40 @@ static const struct vector vectors[] = {
     { FROM_JSON, "INTEGER", "\377", 0, ALL, OER_NO_JSON, 0, 0, 0, 0 }
 };
 
+/* Where a part lies: the definition of the type A, octets in hexadecimal digits, the path, and the
+ * fields of the answer. */
+struct place {
+    const char *type;
+    const char *given;
+    const char *path;
+    uint32_t status;
+    uint32_t why;
+    uint64_t octets;
+    size_t at;
+    size_t length;
+};
+
+static const struct place places[] = {
+    { BOOLEANS, "0200020107", "i1", OER_OK, 0, 0, 4, 1 },
+    { BOOLEANS, "0103ffffff", "i0", OER_OK, 0, 0, 2, 1 },
+    { BOOLEANS, "0103ffffff", "i2", OER_OK, 0, 0, 4, 1 },
+    { BOOLEANS, "0103ffffff", "i3", OER_NO_STEP, 0, 0, 0, 0 },
+    { ADDITIONS, "80ff0206800109", "c0", OER_OK, 0, 0, 1, 1 },
+    { ADDITIONS, "80ff0206800109", "a0", OER_OK, 0, 0, 6, 1 },
+    { ADDITIONS, "80ff0206800109", "a1", OER_ABSENT, 0, 0, 0, 0 },
+    { ADDITIONS, "80ff0206c001090109", "a1", OER_OK, 0, 0, 8, 1 },
+    { ADDITIONS, "80ff020430010900", "a3", OER_OK, 0, 0, 8, 0 },
+    { BYTE, "20ff", "c2", OER_OK, 0, 0, 2, 0 },
+    { BYTE, "60ff0800", "c1", OER_OK, 0, 0, 2, 1 },
+    { CHOSEN, "8103026162", "v", OER_OK, 0, 0, 2, 3 },
+    { CHOSEN, "8502616200", "v", OER_OK, 0, 0, 2, 2 },
+    { "SEQUENCE OF SEQUENCE OF BOOLEAN", "01020101ff0102ffff", "i1", OER_OK, 0, 0, 5, 4 },
+    { "SEQUENCE OF SEQUENCE OF BOOLEAN", "01020101ff0102ffff", "i1.i0", OER_OK, 0, 0, 7, 1 },
+    { "BOOLEAN", "ff", "c01", OER_NO_PATH, 0, 0, 0, 0 },
+    { "BOOLEAN", "ff", "\377", OER_NO_PATH, 0, 0, 0, 0 },
+    { "OCTET STRING", "0361", "c0", OER_REJECTED, OER_END, 2, 0, 0 }
+};
+
 /* Definitions that are rejected: the reason, and the place. */
 struct rejected_text {
     const char *text;

@@ -10,6 +10,7 @@
 
 #include <algorithm>
 #include <array>
+#include <atomic>
 #include <cstdio>
 #include <cstdlib>
 #include <fstream>
@@ -17,6 +18,7 @@
 #include <sstream>
 #include <string>
 #include <sys/mman.h>
+#include <thread>
 #include <unistd.h>
 #include <vector>
 #ifdef __cpp_lib_string_view
@@ -273,6 +275,21 @@ static void test_vector(const vector &row) {
     EXPECT(is_only(call(none, "A", row).error, OER_NO_TYPES), "before types are read");
 }
 
+// Where a part lies.
+static void test_place(const place &row) {
+    oer::types types = types_of(row.type);
+    bytes given = from_hex(row.given);
+    oer::result<oer::message> found = types.part_at("A", given, row.path);
+    test_value(found);
+    EXPECT(found.error().status == row.status && found.error().why == row.why, row.given);
+    EXPECT(found.error().place == row.octets && found.error().needed == 0, row.given);
+    EXPECT(found.ok() == (row.status == OER_OK), row.given);
+    if (found.ok()) EXPECT(found.value().at == row.at && found.value().length == row.length, row.given);
+    EXPECT(is_only(types.part_at("B", given, row.path).error(), OER_UNNAMED), row.given);
+    types.free();
+    EXPECT(is_only(types.part_at("A", given, row.path).error(), OER_NO_TYPES), row.given);
+}
+
 // Each message has the answer that it has alone; one that isn't all in the octets has none.
 static void test_many(const vector &row) {
     oer::types types = types_of(row.type);
@@ -356,6 +373,30 @@ static void test_kept_types() {
     EXPECT(types.read("A ::= BOOLEAN").ok() && types.check("A", octets).ok(), "read after it was moved from");
 }
 
+// Types that two have.
+static void test_shared_types() {
+    const bytes octets(1, 0xff);
+    oer::types types = types_of("BOOLEAN"), none;
+    EXPECT(is_only(none.share().error(), OER_NO_TYPES), "no types to share");
+    oer::result<oer::types> made = types.share();
+    test_value(made);
+    oer::types other = std::move(made).value();
+    EXPECT(types.read("B ::= BOOLEAN").ok() && other.check("A", octets).ok(), "the shared types");
+    types.free();
+    EXPECT(other.check("A", octets).ok(), "types that the other freed");
+#ifndef FAIL_MEMORY
+    std::vector<std::thread> threads;
+    std::atomic<int> good(0);
+    for (int i = 0; i < 4; i++) {
+        threads.emplace_back([&good](oer::types own) {
+            for (int turn = 0; turn < 10000; turn++) good += own.canon("A", bytes(1, 0x01)).value()[0] == 0xff;
+        }, other.share().value());
+    }
+    for (std::thread &thread : threads) thread.join();
+    EXPECT(good == 40000, "threads");
+#endif
+}
+
 // ---- arguments of each kind
 
 static void test_arguments() {
@@ -413,6 +454,8 @@ static void test_certificate(const std::string &folder) {
     EXPECT(copy(types.canon("Certificate", basic, 236).value()) == certificate, "canon");
     EXPECT(types.canon("Certificate", basic, 235).error().why == OER_LIMIT, "limit");
     EXPECT(copy(types.part("Certificate", certificate, "c3").value()) == signed_part, "toBeSigned");
+    oer::message place = types.part_at("Certificate", certificate, "c3").value();
+    EXPECT(place.at == 12 && place.length == 152, "toBeSigned");
     oer::text json = types.to_json("Certificate", basic).value();
     EXPECT(copy(types.from_json("Certificate", json).value()) == certificate, "json");
 }
@@ -536,9 +579,11 @@ int main(int count, char **words) {
         test_vector(row);
         if (row.task == CHECK) test_many(row);
     }
+    for (const place &row : places) test_place(row);
     for (const vector &row : vectors) test_memory(row);
     for (const rejected_text &row : rejected_texts) test_rejected_text(row);
     test_kept_types();
+    test_shared_types();
     test_arguments();
     test_growth();
     test_certificate(words[1]);

@@ -15,10 +15,9 @@ The library is the file that the variable OER_LIB of the environment names, or l
 that OER_LIB_DIR names, or the one that the system finds. Where there is none, or one of another version,
 to import this module raises ImportError.
 
-Threads: a Types belongs to the thread that made it. A call from another one raises WrongThread, and the
-library is not called. Each thread may have a Types of its own, and calls on them run at the same time. A
-Types that is collected in another thread, without a close() before, is not freed, with a ResourceWarning.
-No call may be made in the child of a fork of a process with threads.
+Threads: a Types takes calls from any thread. One waits for the other, as the library wants one call at a
+time. For calls at the same time each thread has a Types of its own, by share(). No call may be made in the
+child of a fork of a process with threads.
 """
 
 import ctypes
@@ -26,14 +25,13 @@ import ctypes.util
 import enum
 import os
 import threading
-import warnings
 from types import TracebackType
 from typing import Any, Callable, Dict, List, NamedTuple, Optional, Sequence, Tuple, Type, Union
 
 __all__ = [
-    "VERSION_NUMBER", "version", "Types", "Checked", "Canonical", "Json", "Reason", "TextReason", "JsonReason",
+    "VERSION_NUMBER", "version", "Types", "Checked", "Canonical", "Json", "Place", "Reason", "TextReason", "JsonReason",
     "Error", "Rejected", "OctetsRejected", "DefinitionsRejected", "JsonRejected", "NoTypes", "Unnamed",
-    "OutOfMemory", "NoPath", "NoStep", "Absent", "NotJson", "Outside", "WrongThread",
+    "OutOfMemory", "NoPath", "NoStep", "Absent", "NotJson", "Outside",
 ]
 
 VERSION_NUMBER = 100
@@ -176,10 +174,6 @@ class Outside(Error):
     """The message is not all in the octets."""
 
 
-class WrongThread(Error):
-    """A call on a Types from another thread than the one that made it."""
-
-
 class Checked(NamedTuple):
     """What check() returns."""
 
@@ -205,6 +199,15 @@ class Json(NamedTuple):
     """The JSON of the value."""
     read: int
     """How many octets the encoding has that was read."""
+
+
+class Place(NamedTuple):
+    """What part_at() returns."""
+
+    at: int
+    """The place of the part's first octet."""
+    length: int
+    """How many octets it has."""
 
 
 # ---- the calls, as oer.h has them
@@ -236,6 +239,11 @@ class _Written(ctypes.Structure):
                 ("written", ctypes.c_uint64)]
 
 
+class _Located(ctypes.Structure):
+    _fields_ = [("status", ctypes.c_uint32), ("why", ctypes.c_uint32), ("octets", ctypes.c_uint64),
+                ("at", ctypes.c_size_t), ("length", ctypes.c_size_t)]
+
+
 def _file() -> str:
     """The file of the library."""
     file = os.environ.get("OER_LIB")
@@ -263,10 +271,12 @@ def _load() -> ctypes.CDLL:
     calls: Dict[str, Tuple[Any, Any]] = {
         "oer_types_read": ([handle] + given, _Parsed),
         "oer_types_free": ([handle], None),
+        "oer_types_share": ([handle, handle], ctypes.c_uint32),
         "oer_check": ([handle] + given + given, _Checked),
         "oer_check_many": ([handle] + given + given + [ctypes.c_void_p, size] + out, ctypes.c_uint32),
         "oer_canon": ([handle] + given + given + [limit] + out, _Written),
         "oer_part": ([handle] + given + given + given + out, _Written),
+        "oer_part_at": ([handle] + given + given + given, _Located),
         "oer_to_json": ([handle] + given + given + [limit] + out, _Written),
         "oer_from_json": ([handle] + given + given + out, _Written),
     }
@@ -320,10 +330,9 @@ def _limited(limit: Optional[int]) -> int:
 class Types:
     """Definitions that were read, by their names; or none.
 
-    It belongs to the thread that made it. It is freed by close(), by the end of a `with`, or when it is
-    collected in its thread.
+    It is freed by close(), by the end of a `with`, or when it is collected.
 
-    Each call may raise WrongThread. Those that take a name raise NoTypes if there are no types, and Unnamed
+    The calls that take a name raise NoTypes if there are no types, and Unnamed
     if no definition has the name; all may raise OutOfMemory, except check() and close(). Their further
     exceptions stand with each. After an exception the types are those from before.
     """
@@ -332,7 +341,7 @@ class Types:
         """Reads the definitions, as read() does; without any there are no types."""
         self._held = _Types()
         self._at = ctypes.byref(self._held)
-        self._thread = threading.get_ident()
+        self._one = threading.RLock()
         self._room: Optional[Any] = None
         if definitions is not None:
             self.read(definitions)
@@ -342,9 +351,8 @@ class Types:
 
         Raises DefinitionsRejected if the text spells no types.
         """
-        self._own()
         text = _text(definitions)
-        parsed = _library.oer_types_read(self._at, text, len(text))
+        parsed = self._call(_library.oer_types_read, text, len(text))
         if parsed.status == _REJECTED:
             raise DefinitionsRejected(TextReason(parsed.why), parsed.place)
         if parsed.status != _OK:
@@ -352,8 +360,19 @@ class Types:
 
     def close(self) -> None:
         """Frees the types. After it there are none, and types may be read again. It may be called twice."""
-        self._own()
-        _library.oer_types_free(self._at)
+        self._call(_library.oer_types_free)
+
+    def share(self) -> "Types":
+        """The same types once more. Each of the two is used by itself, so that calls on them run at the same
+        time. They are in memory once, and are freed when nothing has them.
+
+        Raises NoTypes if there are none.
+        """
+        other = Types()
+        status = self._call(_library.oer_types_share, other._at)
+        if status != _OK:
+            raise _error(status)
+        return other
 
     def check(self, name: Text, octets: Octets) -> Checked:
         """Whether the octets begin with an encoding of a value of the type with the name, in any spelling
@@ -362,9 +381,8 @@ class Types:
 
         Raises OctetsRejected if they don't.
         """
-        self._own()
         named, given = _text(name), _octets(octets)
-        answer = _library.oer_check(self._at, named, len(named), given, len(given))
+        answer = self._call(_library.oer_check, named, len(named), given, len(given))
         found = self._checked(answer)
         if isinstance(found, Error):
             raise found
@@ -376,12 +394,11 @@ class Types:
         its length; messages may overlap. Returns their answers in their order: what check() returns, or the
         exception that it raises, or Outside where the message is not all in the octets.
         """
-        self._own()
         named, given = _text(name), _octets(octets)
         places = (_Message * len(messages))(*messages)
         answers = (_Checked * len(messages))()
-        status = _library.oer_check_many(
-            self._at, named, len(named), given, len(given), places, len(places), answers, len(answers))
+        status = self._call(
+            _library.oer_check_many, named, len(named), given, len(given), places, len(places), answers, len(answers))
         if status != _OK:
             raise _error(status)
         return [self._checked(answer) for answer in answers]
@@ -408,6 +425,17 @@ class Types:
         made, _ = self._gather(
             _library.oer_part, (named, len(named), given, len(given), steps, len(steps)), len(given))
         return made
+
+    def part_at(self, name: Text, octets: Octets, path: Text) -> Place:
+        """Where that part lies in the octets: it is octets[at:at + length].
+
+        Raises what part() raises.
+        """
+        named, given, steps = _text(name), _octets(octets), _text(path)
+        answer = self._call(_library.oer_part_at, named, len(named), given, len(given), steps, len(steps))
+        if answer.status != _OK:
+            raise self._rejection(answer, answer.octets)
+        return Place(answer.at, answer.length)
 
     def to_json(self, name: Text, octets: Octets, limit: Optional[int] = None) -> Json:
         """The JSON of the value whose encoding, of at most `limit` octets, is at the front of the octets.
@@ -438,20 +466,16 @@ class Types:
         self.close()
 
     def __del__(self) -> None:
-        if not hasattr(self, "_thread"):
-            return
-        if threading.get_ident() == self._thread:
+        if hasattr(self, "_one"):
             _library.oer_types_free(self._at)
-        else:
-            warnings.warn("an oer.Types was collected in another thread, and is not freed", ResourceWarning)
 
     def __reduce__(self) -> Tuple[Any, ...]:
         raise TypeError("an oer.Types is neither copied nor pickled")
 
-    def _own(self) -> None:
-        """Raises WrongThread in another thread than the one that made the types."""
-        if threading.get_ident() != self._thread:
-            raise WrongThread("the types belong to another thread")
+    def _call(self, call: Callable[..., Any], *given: Any) -> Any:
+        """What the library answers. A call from another thread waits until this one has returned."""
+        with self._one:
+            return call(self._at, *given)
 
     def _checked(self, answer: Any) -> Union[Checked, Error]:
         """What a check returns, or the exception that it raises."""
@@ -470,14 +494,14 @@ class Types:
         """Calls with a buffer of at least `room` octets, and where that is too small once more with as many
         as are needed. Returns what was written, and how many octets were read. A small buffer is kept for the
         next call, but not during the call, so that one from within (by a finalizer) has its own."""
-        self._own()
-        out, self._room = self._room, None
+        with self._one:
+            out, self._room = self._room, None
         if out is None or len(out) < room:
             out = ctypes.create_string_buffer(max(room, 1024))
-        answer = call(self._at, *given, out, len(out))
+        answer = self._call(call, *given, out, len(out))
         if answer.status == _ROOM:
             out = ctypes.create_string_buffer(answer.written)
-            answer = call(self._at, *given, out, len(out))
+            answer = self._call(call, *given, out, len(out))
         made = ctypes.string_at(out, answer.written) if answer.status == _OK else b""
         if len(out) <= _KEPT:
             self._room = out

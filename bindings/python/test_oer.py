@@ -14,7 +14,6 @@ import subprocess
 import sys
 import threading
 import unittest
-import warnings
 from typing import Any, Callable, List, NamedTuple, Optional, Tuple
 from unittest import mock
 
@@ -124,6 +123,21 @@ class Calls(unittest.TestCase):
                     self.assertEqual(self.raised(lambda: row.call(types, "A")), row.raised())
                 for name in ("B", "", b"\xff"):
                     self.assertEqual(self.raised(lambda: row.call(types, name)), (oer.Unnamed, None, None))
+
+    def test_places(self) -> None:
+        errors = {6: oer.NoPath, 7: oer.NoStep, 8: oer.Absent}
+        for kind, digits, steps, *numbers in rows("place"):
+            given, path = from_hex(digits), from_hex(steps)
+            status, why, octets, at, length = (int(number) for number in numbers)
+            with self.subTest(given=digits, path=path), types_of(from_hex(kind)) as types:
+                if status == 0:
+                    self.assertEqual(types.part_at("A", given, path), oer.Place(at, length))
+                    self.assertEqual(types.part("A", given, path), given[at:at + length])
+                else:
+                    wanted = (oer.OctetsRejected, why, octets) if status == 1 else (errors[status], None, None)
+                    self.assertEqual(self.raised(lambda: types.part_at("A", given, path)), wanted)
+                self.assertEqual(self.raised(lambda: types.part_at("B", given, path)), (oer.Unnamed, None, None))
+            self.assertEqual(self.raised(lambda: types.part_at("A", given, path)), (oer.NoTypes, None, None))
 
     def test_many(self) -> None:
         for row in (row for row in VECTORS if row.task == "check"):
@@ -258,6 +272,7 @@ class Calls(unittest.TestCase):
         rejected = self.raised(lambda: types.canon("Certificate", basic, 235))
         self.assertEqual(rejected[:2], (oer.OctetsRejected, oer.Reason.LIMIT))
         self.assertEqual(types.part("Certificate", certificate, "c3"), hex_file("tbs-rsu.hex"))
+        self.assertEqual(types.part_at("Certificate", certificate, "c3"), (12, 152))
         json = types.to_json("Certificate", basic)
         self.assertEqual(types.from_json("Certificate", json.text), certificate)
 
@@ -278,7 +293,7 @@ class Header(unittest.TestCase):
             return f"{field.offset}+{field.size}"
 
         structs = {"oer_types": oer._Types, "oer_parsed": oer._Parsed, "oer_checked": oer._Checked,
-                   "oer_message": oer._Message, "oer_written": oer._Written}
+                   "oer_message": oer._Message, "oer_written": oer._Written, "oer_located": oer._Located}
         found = [
             [name, str(ctypes.sizeof(struct))] + [place(getattr(struct, field[0])) for field in struct._fields_]
             for name, struct in structs.items()
@@ -320,24 +335,26 @@ class Threads(unittest.TestCase):
 
     def test_other_thread(self) -> None:
         types = types_of(b"BOOLEAN")
-        for call in (lambda: types.check("A", b"\xff"), lambda: types.canon("A", b"\xff"),
-                     lambda: types.part("A", b"\xff", "v"), lambda: types.to_json("A", b"\xff"),
-                     lambda: types.from_json("A", "true"), lambda: types.read("A ::= NULL"), types.close):
-            self.assertIs(self.in_thread(call), oer.WrongThread)
-        self.assertEqual(types.check("A", b"\xff"), (1, True))
-        self.assertEqual(self.in_thread(lambda: types_of(b"BOOLEAN").check("A", b"\xff")), (1, True))
+        self.assertEqual(self.in_thread(lambda: types.check("A", b"\xff")), (1, True))
+        self.assertEqual(self.in_thread(lambda: types.read("A ::= NULL")), None)
+        self.assertEqual(types.check("A", b""), (0, True))
+        self.in_thread(types.close)
+        self.assertEqual(self.in_thread(lambda: types.check("A", b"\xff")), oer.NoTypes)
 
-    def test_collected_in_another_thread(self) -> None:
-        gc.collect()
-        kept = [types_of(b"BOOLEAN")]
-        with warnings.catch_warnings(record=True) as caught:
-            warnings.simplefilter("always")
-            self.in_thread(lambda: (kept.clear(), gc.collect()))
-        self.assertEqual([warning.category for warning in caught], [ResourceWarning])
+    def test_shared(self) -> None:
+        types = types_of(b"BOOLEAN")
+        other = types.share()
+        types.read("A ::= NULL")
+        self.assertEqual((types.check("A", b""), other.check("A", b"\xff")), ((0, True), (1, True)))
+        types.close()
+        self.assertRaises(oer.NoTypes, types.share)
+        kept = [other.share()]
+        self.in_thread(lambda: (kept.clear(), gc.collect()))
+        self.assertEqual(other.check("A", b"\xff"), (1, True))
 
-    def test_side_by_side(self) -> None:
+    def side_by_side(self, of_thread: Callable[[], oer.Types]) -> None:
         def run() -> None:
-            types = types_of(b"SEQUENCE OF BOOLEAN")
+            types = of_thread()
             for _ in range(2000):
                 answers.append(types.canon("A", b"\x02\x00\x02\x01\x07"))
 
@@ -348,6 +365,12 @@ class Threads(unittest.TestCase):
         for thread in threads:
             thread.join()
         self.assertEqual(collections.Counter(answers), {(b"\x01\x02\xff\xff", 5): 8000})
+
+    def test_side_by_side(self) -> None:
+        types = types_of(b"SEQUENCE OF BOOLEAN")
+        self.side_by_side(lambda: types)
+        self.side_by_side(types.share)
+        self.side_by_side(lambda: types_of(b"SEQUENCE OF BOOLEAN"))
 
 
 class Random(unittest.TestCase):

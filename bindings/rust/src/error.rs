@@ -151,7 +151,7 @@ mod tests {
     /// Each status of the header but OK and REJECTED has the error with its name.
     #[test]
     fn statuses_are_those_of_the_header() {
-        for row in &table::rows("number")[2..10] {
+        for row in &table::rows("number")[2..11] {
             let wanted = row[0].strip_prefix("OER_").unwrap().replace('_', "").to_lowercase();
             let status = row[1].parse().unwrap();
             for error in [

@@ -26,10 +26,10 @@
 //!
 //! # Threads
 //!
-//! A [`Types`] is neither `Sync` nor `Send`. The library wants one call at a time on a handle, and all
-//! of them from one thread, also that which frees it. The calls take `&self`: without `Sync` there is
-//! no second call at the same time, and none is made from within a call. Each thread may have a
-//! [`Types`] of its own. Answers and errors go to other threads as any values do.
+//! A [`Types`] is `Send` and not `Sync`: the library wants one call at a time on a handle, from any
+//! thread. The calls take `&self`: without `Sync` there is no second call at the same time, and none is
+//! made from within a call. For calls at the same time each thread has a [`Types`] of its own, by
+//! [`Types::share`]. Answers and errors go to other threads as any values do.
 //!
 //! No call is made from a signal handler, or in the child of a fork of a process with threads. No type
 //! holds that: the program has to.
@@ -46,11 +46,9 @@ mod table;
 pub use error::Error;
 pub use reason::{JsonReason, Reason, TextReason};
 
-use std::borrow::Cow;
 use std::cell::UnsafeCell;
 use std::fmt;
-use std::marker::PhantomData;
-use std::ops::{Deref, Range};
+use std::ops::Range;
 use std::os::raw::c_char;
 
 /// A limit that rejects nothing.
@@ -103,31 +101,29 @@ pub struct Written {
     pub size: usize,
 }
 
-/// A part of an encoding, as it stands in the octets that were given.
+/// What [`Types::part`] returns: where a part of an encoding stands in the octets that were given. It is
+/// borrowed from them, and nothing is copied.
 ///
-/// It has the lifetime of these octets, so that it can be borrowed from them. The library doesn't say
-/// yet where a part lies in them: for now a `Part` is a copy.
-#[derive(Clone, Debug, PartialEq, Eq)]
-pub struct Part<'a>(Cow<'a, [u8]>);
+/// ```compile_fail,E0505
+/// let types = oer::Types::parse("A ::= SEQUENCE OF BOOLEAN")?;
+/// let octets = vec![0x01, 0x01, 0xff];
+/// let part = types.part("A", &octets, "i0")?;
+/// drop(octets);
+/// assert_eq!(part.octets, [0xff]);
+/// # Ok::<(), oer::Error>(())
+/// ```
+#[derive(Clone, Copy, Debug, PartialEq, Eq)]
+pub struct Part<'a> {
+    /// The octets of the part.
+    pub octets: &'a [u8],
+    /// How many octets are before them.
+    pub at: usize,
+}
 
 impl Part<'_> {
-    /// The octets of the part, owned.
-    pub fn into_owned(self) -> Vec<u8> {
-        self.0.into_owned()
-    }
-}
-
-impl Deref for Part<'_> {
-    type Target = [u8];
-
-    fn deref(&self) -> &[u8] {
-        &self.0
-    }
-}
-
-impl AsRef<[u8]> for Part<'_> {
-    fn as_ref(&self) -> &[u8] {
-        &self.0
+    /// Where the part stands, as a range of the octets that were given.
+    pub fn range(&self) -> Range<usize> {
+        self.at..self.at + self.octets.len()
     }
 }
 
@@ -138,9 +134,11 @@ impl AsRef<[u8]> for Part<'_> {
 /// the caller's buffers are as before.
 pub struct Types {
     held: UnsafeCell<sys::OerTypes>,
-    /// Neither `Send` nor `Sync`.
-    one_thread: PhantomData<*mut ()>,
 }
+
+// SAFETY: the library takes the calls on a handle from any thread, one at a time. What moves it to another
+// thread orders the calls.
+unsafe impl Send for Types {}
 
 impl Types {
     /// No types.
@@ -150,7 +148,7 @@ impl Types {
     /// ```
     pub const fn new() -> Types {
         let none = sys::OerTypes { at_: std::ptr::null_mut(), full_: 0 };
-        Types { held: UnsafeCell::new(none), one_thread: PhantomData }
+        Types { held: UnsafeCell::new(none) }
     }
 
     /// The types of the definitions, each `Name ::= type`.
@@ -197,6 +195,29 @@ impl Types {
     pub fn clear(&mut self) {
         // SAFETY: the handle was made by `new` and is in no other call. After it, it is as new.
         unsafe { sys::oer_types_free(self.held.get()) }
+    }
+
+    /// The same types once more. Each of the two is used by itself, so that another thread may call with
+    /// the one at the same time. They are in memory once, and are freed when nothing has them.
+    ///
+    /// # Errors
+    ///
+    /// [`Error::NoTypes`] if there are none, and [`Error::Memory`].
+    ///
+    /// ```
+    /// let types = oer::Types::parse("A ::= BOOLEAN")?;
+    /// let other = types.share()?;
+    /// let thread = std::thread::spawn(move || other.check("A", &[0xff]));
+    /// assert_eq!(types.check("A", &[0xff]), thread.join().unwrap());
+    /// # Ok::<(), oer::Error>(())
+    /// ```
+    pub fn share(&self) -> Result<Types, Error> {
+        let other = Types::new();
+        // SAFETY: as in `check`; the other handle is in no call.
+        match unsafe { sys::oer_types_share(self.held.get(), other.held.get()) } {
+            sys::OK => Ok(other),
+            status => Err(Error::of_octets(status, 0, 0, 0)),
+        }
     }
 
     /// Whether the octets begin with an encoding of a value of the type with the name, in any spelling
@@ -332,9 +353,9 @@ impl Types {
         written(answer)
     }
 
-    /// The part of the encoding at the front of the octets to which the path leads, as it stands in
-    /// them. A path is steps joined by dots: `c0` a component, `a0` an addition, `i0` an element, `v`
-    /// the alternative chosen. What follows the encoding is not looked at.
+    /// The part of the encoding at the front of the octets to which the path leads, where it stands in
+    /// them. A path is steps joined by dots: `c0` a component, `a0` an addition, `i0` an element, `v` the
+    /// alternative chosen. What follows the encoding is not looked at.
     ///
     /// # Errors
     ///
@@ -344,7 +365,7 @@ impl Types {
     /// ```
     /// let types = oer::Types::parse("A ::= SEQUENCE OF BOOLEAN")?;
     /// let part = types.part("A", &[0x02, 0x00, 0x02, 0x01, 0x07], "i1")?;
-    /// assert_eq!(*part, [0x07]);
+    /// assert_eq!((part.octets, part.range()), (&[0x07][..], 4..5));
     /// # Ok::<(), oer::Error>(())
     /// ```
     pub fn part<'a>(
@@ -354,11 +375,25 @@ impl Types {
         path: impl AsRef<[u8]>,
     ) -> Result<Part<'a>, Error> {
         let (name, path) = (name.as_ref(), path.as_ref());
-        let (part, _) = gather(octets.len(), |out| self.part_into(name, octets, path, out))?;
-        Ok(Part(Cow::Owned(part)))
+        // SAFETY: as in `check`.
+        let answer = unsafe {
+            sys::oer_part_at(
+                self.held.get(),
+                name.as_ptr().cast(),
+                name.len(),
+                octets.as_ptr(),
+                octets.len(),
+                path.as_ptr().cast(),
+                path.len(),
+            )
+        };
+        match answer.status {
+            sys::OK => Ok(Part { octets: &octets[answer.at..][..answer.length], at: answer.at }),
+            status => Err(Error::of_octets(status, answer.why, answer.octets, 0)),
+        }
     }
 
-    /// The same, written into the buffer.
+    /// The same, written into the buffer as a copy.
     ///
     /// # Errors
     ///
@@ -512,14 +547,15 @@ impl fmt::Debug for Types {
     }
 }
 
-/// This compiles only if [`Types`] is neither `Sync` nor `Send`: otherwise two impls fit.
+/// This compiles only if [`Types`] is `Send`, and if it is not `Sync`: otherwise two impls fit.
 const _: fn() = || {
+    fn is_send<T: Send>() {}
+    is_send::<Types>();
     trait Unless<Fits> {
         fn holds() {}
     }
     impl<T: ?Sized> Unless<()> for T {}
     impl<T: ?Sized + Sync> Unless<u8> for T {}
-    impl<T: ?Sized + Send> Unless<u16> for T {}
     <Types as Unless<_>>::holds();
 };
 

@@ -38,6 +38,15 @@ pub struct OerWritten {
     pub written: u64,
 }
 
+#[repr(C)]
+pub struct OerLocated {
+    pub status: u32,
+    pub why: u32,
+    pub octets: u64,
+    pub at: usize,
+    pub length: usize,
+}
+
 pub const OK: u32 = 0;
 pub const REJECTED: u32 = 1;
 pub const NO_TYPES: u32 = 2;
@@ -54,6 +63,7 @@ extern "C" {
     pub fn oer_version() -> u32;
     pub fn oer_types_read(types: *mut OerTypes, text: *const c_char, text_length: usize) -> OerParsed;
     pub fn oer_types_free(types: *mut OerTypes);
+    pub fn oer_types_share(types: *mut OerTypes, other: *mut OerTypes) -> u32;
     pub fn oer_check(
         types: *mut OerTypes,
         name: *const c_char,
@@ -93,6 +103,15 @@ extern "C" {
         out: *mut u8,
         room: usize,
     ) -> OerWritten;
+    pub fn oer_part_at(
+        types: *mut OerTypes,
+        name: *const c_char,
+        name_length: usize,
+        octets: *const u8,
+        octets_length: usize,
+        path: *const c_char,
+        path_length: usize,
+    ) -> OerLocated;
     pub fn oer_to_json(
         types: *mut OerTypes,
         name: *const c_char,
@@ -146,6 +165,7 @@ mod tests {
             ("oer_checked", layout!(OerChecked, status, why, octets, canonical)),
             ("oer_message", layout!(OerMessage, at, length)),
             ("oer_written", layout!(OerWritten, status, why, octets, written)),
+            ("oer_located", layout!(OerLocated, status, why, octets, at, length)),
         ];
         let wanted = crate::table::rows("layout");
         assert_eq!(found.len(), wanted.len());

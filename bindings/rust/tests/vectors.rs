@@ -60,7 +60,7 @@ impl Vector {
         let (octets, read, canonical) = match self.task.as_str() {
             "check" => types.check(name, &self.given).map(|found| (Vec::new(), found.octets, found.canonical)),
             "canon" => types.canon_within(name, &self.given, self.limit).map(|made| (made.octets, made.read, false)),
-            "part" => types.part(name, &self.given, &self.path).map(|part| (part.into_owned(), 0, false)),
+            "part" => types.part(name, &self.given, &self.path).map(|part| (part.octets.to_vec(), 0, false)),
             "to_json" => types
                 .to_json_within(name, &self.given, self.limit)
                 .map(|made| (made.text.into_bytes(), made.read, false)),
@@ -118,6 +118,28 @@ fn vectors_are_answered() {
 }
 
 #[test]
+fn parts_lie_where_the_table_says() {
+    for row in table::rows("place") {
+        let (types, given, path) = (types_of(&from_hex(&row[0])), from_hex(&row[1]), from_hex(&row[2]));
+        let numbers: Vec<u64> = row[3..].iter().map(|text| text.parse().unwrap()).collect();
+        let (at, length) = (numbers[3] as usize, numbers[4] as usize);
+        let wanted = match numbers[0] as u32 {
+            0 => Ok(at..at + length),
+            1 => Err(Error::Octets { reason: Reason::from_number(numbers[1] as u32).unwrap(), place: numbers[2] }),
+            6 => Err(Error::NoPath),
+            7 => Err(Error::NoStep),
+            8 => Err(Error::Absent),
+            status => panic!("no row has status {status}"),
+        };
+        let found = types.part("A", &given, &path);
+        assert_eq!(found.map(|part| part.range()), wanted, "{given:02x?}");
+        assert_eq!(found.map(|part| part.octets.as_ptr()), wanted.map(|place| given[place].as_ptr()));
+        assert_eq!(types.part("B", &given, &path), Err(Error::Unnamed));
+        assert_eq!(Types::new().part("A", &given, &path), Err(Error::NoTypes));
+    }
+}
+
+#[test]
 fn many_are_answered_as_one() {
     for row in vectors().iter().filter(|row| row.task == "check") {
         let (types, size) = (row.types(), row.given.len());
@@ -131,6 +153,21 @@ fn many_are_answered_as_one() {
         assert_eq!(types.check_many("B", &row.given, &messages), Err(Error::Unnamed));
         assert_eq!(Types::new().check_many("A", &row.given, &messages), Err(Error::NoTypes));
     }
+}
+
+fn answers_often(types: Types) -> bool {
+    let answer = || types.canon("A", &[0x02, 0x00, 0x02, 0x01, 0x07]).unwrap().octets;
+    (0..10_000).all(|_| answer() == [0x01, 0x02, 0xff, 0xff])
+}
+
+#[test]
+fn threads_share_types() {
+    let types = types_of(b"SEQUENCE OF BOOLEAN");
+    let start = |own: Types| std::thread::spawn(move || answers_often(own));
+    let threads: Vec<_> = (0..4).map(|_| start(types.share().unwrap())).collect();
+    drop(types);
+    assert!(threads.into_iter().all(|thread| thread.join().unwrap()));
+    assert_eq!(Types::new().share().unwrap_err(), Error::NoTypes);
 }
 
 #[test]
@@ -235,7 +272,8 @@ fn the_certificate_of_the_example() {
     assert_eq!(types.canon("Certificate", &basic).unwrap().octets, certificate);
     let rejected = types.canon_within("Certificate", &basic, 235).unwrap_err();
     assert_eq!(rejected.reason(), Some("Limit"));
-    assert_eq!(*types.part("Certificate", &certificate, "c3").unwrap(), from_hex(&file("tbs-rsu.hex")));
+    let part = types.part("Certificate", &certificate, "c3").unwrap();
+    assert_eq!((part.range(), part.octets), (12..164, &from_hex(&file("tbs-rsu.hex"))[..]));
     let json = types.to_json("Certificate", &basic).unwrap();
     assert_eq!(types.from_json("Certificate", json.text), Ok(certificate));
 }

@@ -1,5 +1,5 @@
 -- From what `rewrite`, `read_with_length` and `write` answer to what the calls say.
-use Rattle.std.proofs.Common.{◌≡◌, ◌≤◌, ℕ, List, [], ◌++◌, length, Some, Err, false, ◌⊎◌, inl, inr, sym, ap, ◌∙◌, subst}
+use Rattle.std.proofs.Common.{◌≡◌, ◌≤◌, ℕ, List, [], ◌++◌, length, Option, Some, Err, false, ◌⊎◌, inl, inr, sym, ap, ◌∙◌, subst}
 use Rattle.std.specs.Io.KnownBytes.{Appends}
 use Rattle.serde_json.specs.Data.{Data}
 use Rattle.serde_json.specs.Written.{compact_text, has_float}
@@ -10,7 +10,9 @@ use Rattle.oer_types.specs.AsnValue.{AsnValue}
 use Rattle.oer_types.specs.Encoding.{Encodes}
 use Rattle.oer_types.specs.Strict.{IsCanonical}
 use Rattle.oer_decoder.specs.Front.{IsTaken, Told}
-use Rattle.oer_decoder.specs.Rewriting.{IsRewritten}
+use Rattle.oer_decoder.specs.Rewriting.{IsRefused, IsRewritten, RewritesWhatComes}
+use Rattle.oer_decoder.specs.declared.fault.RewriteFault.{RewriteFault}
+use Rattle.oer_decoder.specs.declared.fault.RewriteFault.TheVariants.{Read}
 use Rattle.oer_json.specs.Made.{made}
 use Rattle.oer_json.proofs.Floats.{made_none}
 use Rattle.oer_c.specs.Buffers.{IsPut}
@@ -61,3 +63,11 @@ unread T limit xs octets ys e a all told comes (inr rejected) =
       told.3.1 rejected.2 rejected.1,
       λ v b rest parts encodes within. neither rejected.2 rejected.1 (comes v b rest (ap (λ (l : List ℕ). Some l) (all ∙ parts)) encodes within),
     )
+
+-- the same where octets are rewritten
+pub unmade : (T : AsnType) (limit : ℕ) (xs octets ys : List ℕ) (old new : Option (List ℕ)) (f : RewriteFault) (e : ReadFault) (a : Written) → f ≡ Read e → xs ≡ octets
+    → IsRefused T limit (Some xs) (Some ys) old f new → RewritesWhatComes T limit (Some xs) (Some ys) old new (Err f) → IsRejection e a → IsRejected T limit octets a
+unmade T limit xs octets ys old new f e a is all refused comes r =
+    let told = subst (λ f. IsRefused T limit (Some xs) (Some ys) old f new) is refused in
+    let none = subst (λ f. RewritesWhatComes T limit (Some xs) (Some ys) old new (Err f)) is comes in
+    unread T limit xs octets ys e a all told.0 none r

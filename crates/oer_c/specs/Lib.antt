@@ -1,4 +1,5 @@
 pub mod Held
+pub mod Sharing
 pub mod Reasons
 pub mod Naming
 pub mod Definitions

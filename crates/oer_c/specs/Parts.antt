@@ -1,5 +1,6 @@
--- What the call that hands out parts answers.
-use Rattle.std.specs.Prelude.{◌≡◌, ℕ, true, false, List, Option, Some, Err, ◌⊎◌}
+-- What the calls answer that hand out parts, and that say where they lie.
+use Rattle.std.specs.Prelude.{◌≡◌, ℕ, true, false, List, length, Option, Some, Result, Ok, Err, ◌⊎◌, Vec}
+use Rattle.std.specs.declared.alloc.Global.{Global}
 use Rattle.std.specs.Str.{IsUtf8}
 use Rattle.oer_units.specs.declared.fault.ReadFault.{ReadFault}
 use Rattle.oer_types.specs.AsnType.{AsnType}
@@ -7,8 +8,12 @@ use Rattle.oer_types.specs.Parts.{Step, StopsAt, Within}
 use Rattle.oer_checker.specs.Check.{Tells}
 use Rattle.oer_checker.specs.Handing.{Begins}
 use Rattle.oer_checker.specs.Path.{SpellsPath}
+use Rattle.oer_checker.specs.Ranges.{LeadsFrom}
+use Rattle.oer_checker.specs.Walk.{path_of}
+use Rattle.oer_checker.specs.declared.step.Step as rust_step
 use Rattle.oer_c.specs.Buffers.{IsPut, only_written, rejection}
 use Rattle.oer_c.specs.declared.buffer.Written.{Written}
+use Rattle.oer_c.specs.declared.part_at.Located.{Located}
 
 -- The path leads from the encoding at the front to nothing. The status is 8 where the first step that does so names a component of the root
 -- or a known addition, and else 7.
@@ -29,3 +34,29 @@ IsCopied T octets path old new a =
     ((steps : List Step) × (s : List ℕ) × SpellsPath path steps
     × Begins T octets (λ b. (U : Option AsnType) × Within (Some T) b steps U s) × IsPut s 0 old new a)
     ⊎ ((new ≡ old) × IsUncopied T octets path a)
+
+-- a status, a reason and how many octets were looked at, and no place
+abbrev pub nowhere : ℕ → ℕ → ℕ → Located
+nowhere status why taken = record { status = status; why = why; octets = taken; at = 0; length = 0 }
+
+-- a part after so many octets, of so many
+abbrev pub somewhere : ℕ → ℕ → Located
+somewhere at length = record { status = 0; why = 0; octets = 0; at = at; length = length }
+
+-- the answer of the call that copies
+abbrev pub as_written : Located → Written
+as_written a = record { status = a.status; why = a.why; octets = a.octets; written = 0 }
+
+-- The part s to which the path leads in the encoding at the front stands after n octets, and the answer says so; or there is none, for the
+-- same reasons as above.
+abbrev pub IsLocated : AsnType → List ℕ → List ℕ → Located → Type 0
+IsLocated T octets path a =
+    ((steps : List Step) × (s : List ℕ) × (n : ℕ) × SpellsPath path steps × LeadsFrom T octets steps s n × (a ≡ somewhere n (length s)))
+    ⊎ ((a.at ≡ 0) × (a.length ≡ 0) × IsUncopied T octets path (as_written a))
+
+-- ---- what the code does
+
+-- the steps that the text spells; or the status where an allocation fails, or where it spells none
+abbrev pub AreSteps : List ℕ → Result (Vec rust_step.Step Global) ℕ → Type 0
+AreSteps path (Ok steps) = SpellsPath path (path_of steps.items)
+AreSteps path (Err status) = (status ≡ 4) ⊎ ((status ≡ 6) × (IsUtf8 path → (steps : List Step) → SpellsPath path steps → ⊥))

@@ -4,6 +4,7 @@ ghost use Rattle.oer_types.specs.Schema.{the_type};
 ghost use Rattle.oer_c.specs.Buffers.{IsUndone};
 ghost use Rattle.oer_c.specs.Naming.{ByName};
 ghost use Rattle.oer_c.specs.Rewriting.{IsRejection, Rewrites, Tries};
+ghost use Rattle.oer_c.specs.Sharing.{types_of};
 
 use crate::buffer::{Written, only_status, put, reject};
 use crate::handle::Handle;
@@ -92,14 +93,14 @@ pub extern "C" fn oer_canon(
     out: &mut [u8],
 ) -> Written
     // The canonical octets are in the buffer, or it is as before.
-    ensures canons { ByName types.old.held.types name.now (λ T. Rewrites T limit octets.now out.old out.new result) (IsUndone out.old out.new result) }
+    ensures canons { ByName (types_of types.old.held.shared) name.now (λ T. Rewrites T limit octets.now out.old out.new result) (IsUndone out.old out.new result) }
     // The types are those from before.
-    ensures kept { types.new.held.types ≡ types.old.held.types }
+    ensures kept { types_of types.new.held.shared ≡ types_of types.old.held.shared }
 {
     let Some(found) = types.take(alloc) else {
         return only_status(NO_TYPES);
     };
-    let answer = named(alloc, &found, name, octets, limit, out);
+    let answer = named(alloc, found.get(), name, octets, limit, out);
     *types = Handle::of(found);
     answer
 }

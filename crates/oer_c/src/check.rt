@@ -3,6 +3,7 @@ ghost use Rattle.std.specs.Prelude.{◌≡◌, Some};
 ghost use Rattle.oer_types.specs.Schema.{the_type};
 ghost use Rattle.oer_c.specs.Checking.{IsChecked, only};
 ghost use Rattle.oer_c.specs.Naming.{ByName};
+ghost use Rattle.oer_c.specs.Sharing.{types_of};
 
 use crate::handle::Handle;
 use crate::naming::find_type;
@@ -87,14 +88,14 @@ pub extern "C" fn oer_check(
     octets: &[u8],
 ) -> Checked
     // What `check` promises holds of the answer.
-    ensures checks { ByName types.old.held.types name.now (λ T. IsChecked T octets.now result) (λ status. result ≡ only status) }
+    ensures checks { ByName (types_of types.old.held.shared) name.now (λ T. IsChecked T octets.now result) (λ status. result ≡ only status) }
     // The types are those from before.
-    ensures kept { types.new.held.types ≡ types.old.held.types }
+    ensures kept { types_of types.new.held.shared ≡ types_of types.old.held.shared }
 {
     let Some(found) = types.take(alloc) else {
         return only(NO_TYPES);
     };
-    let answer = named(&found, name, octets);
+    let answer = named(found.get(), name, octets);
     *types = Handle::of(found);
     answer
 }

@@ -3,9 +3,11 @@ ghost use Rattle.std.specs.Prelude.{◌≡◌, None, IfErr, IfOk};
 ghost use Rattle.oer_notation.specs.Grammar.{SpellsAll};
 ghost use Rattle.oer_notation.specs.Views.{knowns};
 ghost use Rattle.oer_c.specs.Definitions.{IsFault, IsRead, IsRejected, answer};
+ghost use Rattle.oer_c.specs.Sharing.{types_in, types_of};
 
 use crate::handle::Handle;
 use crate::reason;
+use crate::shared::Shared;
 use crate::status::{MEMORY, OK, REJECTED};
 use oer_text::{TextFault, TextWhy, Types, parse_types};
 use std::alloc::Global;
@@ -41,25 +43,36 @@ fn reject(fault: TextFault) -> Parsed
     }
 }
 
+// Types on the heap, for one handle.
+fn boxed(alloc: Global, types: Types) -> Result<Box<Shared>, Parsed>
+    ensures kept { IfOk result (λ shared. types_in shared.value ≡ types) }
+    ensures memory { IfErr result (λ p. p ≡ answer 4 0 0) }
+{
+    let Ok(shared) = Shared::of(alloc, types) else {
+        return Err(answer(MEMORY, 0, 0));
+    };
+    match Box::new(alloc, shared) {
+        Ok(shared) => Ok(shared),
+        Err(_) => Err(answer(MEMORY, 0, 0)),
+    }
+}
+
 // The definitions of the text, on the heap.
-fn read(alloc: Global, text: &[u8]) -> Result<Box<Types>, Parsed>
-    ensures spells { IfOk result (λ types. SpellsAll (knowns types.value) text.now) }
+fn read(alloc: Global, text: &[u8]) -> Result<Box<Shared>, Parsed>
+    ensures spells { IfOk result (λ shared. SpellsAll (knowns (types_in shared.value)) text.now) }
     ensures rejected { IfErr result (IsRejected text.now) }
 {
     let Ok(text) = std::str::from_utf8(text) else {
         return Err(answer(REJECTED, 0, 0));
     };
     match parse_types(alloc, text) {
-        Ok(types) => match Box::new(alloc, types) {
-            Ok(types) => Ok(types),
-            Err(_) => Err(answer(MEMORY, 0, 0)),
-        },
+        Ok(types) => boxed(alloc, types),
         Err(fault) => Err(reject(fault)),
     }
 }
 
 /// Reads the definitions of the text (NOTATION.md), one or more `Name ::= type`, in place of the
-/// types that the handle had, which are freed. The status is
+/// types that the handle had, as if it were freed before. The status is
 ///
 /// - `OK`: the handle has the types that the text spells;
 /// - `REJECTED`: the text is not UTF-8, or it spells no well-formed types, for the reason `why` at
@@ -69,7 +82,7 @@ fn read(alloc: Global, text: &[u8]) -> Result<Box<Types>, Parsed>
 /// Unless it is `OK` the handle has the types from before.
 #[unsafe(no_mangle)]
 pub extern "C" fn oer_types_read(alloc: Global, types: &mut Handle, text: &[u8]) -> Parsed
-    ensures { IsRead text.now types.old.held.types types.new.held.types result }
+    ensures { IsRead text.now (types_of types.old.held.shared) (types_of types.new.held.shared) result }
 {
     match read(alloc, text) {
         Ok(found) => {
@@ -81,10 +94,11 @@ pub extern "C" fn oer_types_read(alloc: Global, types: &mut Handle, text: &[u8])
     }
 }
 
-/// Frees the types that the handle has, if any; it has none then.
+/// Takes the types from the handle, if it has any, and frees them where no other handle has them; it
+/// has none then.
 #[unsafe(no_mangle)]
 pub extern "C" fn oer_types_free(alloc: Global, types: &mut Handle)
-    ensures { types.new.held.types ≡ None }
+    ensures { types_of types.new.held.shared ≡ None }
 {
     let _types = types.take(alloc);
 }

@@ -4,25 +4,26 @@ ghost use Rattle.oer_c.specs.Held.{flag};
 
 use crate::held::Held;
 use crate::raw_box::RawBox;
-use oer_text::Types;
+use crate::shared::Shared;
 use std::alloc::Global;
 use std::mem::replace;
 
 /// Types that were read, or none. C makes it of zeros, with none, and hands it to one call at a
-/// time; its fields are the library's alone. It takes 16 octets: the pointer at 0, `full` at 8.
+/// time, from any thread; its fields are the library's alone. It takes 16 octets: the pointer at 0,
+/// `full` at 8.
 #[repr(C)]
 #[derive(Drop)]
 pub struct Handle {
     held: Held,
     full: u32,
-    ghost told: { full ≡ flag held.types },
+    ghost told: { full ≡ flag held.shared },
 }
 
 const _: () = prove!(size_of::<Handle>() == 16);
 
 impl Handle {
     fn none() -> Handle
-        ensures { result.held.types ≡ None }
+        ensures { result.held.shared ≡ None }
     {
         Handle {
             held: Held::none(),
@@ -31,19 +32,19 @@ impl Handle {
     }
 
     /// A handle with these types.
-    pub(crate) fn of(types: Box<Types>) -> Handle
-        ensures { result.held.types ≡ Some types.value }
+    pub(crate) fn of(shared: Box<Shared>) -> Handle
+        ensures { result.held.shared ≡ Some shared.value }
     {
         Handle {
-            held: Held::of(RawBox::of(types)),
+            held: Held::of(RawBox::of(shared)),
             full: 1,
         }
     }
 
     /// The types that it had; it has none then.
-    pub(crate) fn take(&mut self, alloc: Global) -> Option<Box<Types>>
-        ensures taken { option_map (λ b. b.value) result ≡ self.old.held.types }
-        ensures left { self.new.held.types ≡ None }
+    pub(crate) fn take(&mut self, alloc: Global) -> Option<Box<Shared>>
+        ensures taken { option_map (λ b. b.value) result ≡ self.old.held.shared }
+        ensures left { self.new.held.shared ≡ None }
     {
         let Handle { held, full } = replace(self, Handle::none());
         if full == 0 {

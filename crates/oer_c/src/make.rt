@@ -10,6 +10,7 @@ ghost use Rattle.oer_json.specs.Denotes.{Takes};
 ghost use Rattle.oer_c.specs.Buffers.{IsUndone, only_written};
 ghost use Rattle.oer_c.specs.Making.{IsOctetsOf, IsUnmade, IsUnread, IsUntaken, Makes, json_rejection};
 ghost use Rattle.oer_c.specs.Naming.{ByName};
+ghost use Rattle.oer_c.specs.Sharing.{types_of};
 
 use crate::buffer::{Written, only_status, put};
 use crate::handle::Handle;
@@ -131,14 +132,14 @@ pub extern "C" fn oer_from_json(
     out: &mut [u8],
 ) -> Written
     // The octets are in the buffer, or it is as before.
-    ensures makes { ByName types.old.held.types name.now (λ T. Makes T text.now out.old out.new result) (IsUndone out.old out.new result) }
+    ensures makes { ByName (types_of types.old.held.shared) name.now (λ T. Makes T text.now out.old out.new result) (IsUndone out.old out.new result) }
     // The types are those from before.
-    ensures kept { types.new.held.types ≡ types.old.held.types }
+    ensures kept { types_of types.new.held.shared ≡ types_of types.old.held.shared }
 {
     let Some(found) = types.take(alloc) else {
         return only_status(NO_TYPES);
     };
-    let answer = named(alloc, &found, name, text, out);
+    let answer = named(alloc, found.get(), name, text, out);
     *types = Handle::of(found);
     answer
 }

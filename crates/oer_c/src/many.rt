@@ -4,6 +4,7 @@ ghost use Rattle.std.specs.List.{between};
 ghost use Rattle.oer_types.specs.Schema.{the_type};
 ghost use Rattle.oer_c.specs.Messages.{AnswersAll, AreAnswered, AreUnanswered, IsAnswered, end};
 ghost use Rattle.oer_c.specs.Naming.{ByName};
+ghost use Rattle.oer_c.specs.Sharing.{types_of};
 
 use crate::check::{Checked, judged, only};
 use crate::handle::Handle;
@@ -101,14 +102,14 @@ pub extern "C" fn oer_check_many(
     answers: &mut [Checked],
 ) -> u32
     // Each message has its answer, or the answers are as before.
-    ensures checks { ByName types.old.held.types name.now (λ T. AnswersAll T octets.now messages.now answers.old answers.new result) (AreUnanswered answers.old answers.new result) }
+    ensures checks { ByName (types_of types.old.held.shared) name.now (λ T. AnswersAll T octets.now messages.now answers.old answers.new result) (AreUnanswered answers.old answers.new result) }
     // The types are those from before.
-    ensures kept { types.new.held.types ≡ types.old.held.types }
+    ensures kept { types_of types.new.held.shared ≡ types_of types.old.held.shared }
 {
     let Some(found) = types.take(alloc) else {
         return NO_TYPES;
     };
-    let status = named(&found, name, octets, messages, answers);
+    let status = named(found.get(), name, octets, messages, answers);
     *types = Handle::of(found);
     status
 }

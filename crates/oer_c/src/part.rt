@@ -4,27 +4,26 @@ ghost use Rattle.oer_types.specs.Schema.{the_type};
 ghost use Rattle.oer_c.specs.Buffers.{IsUndone};
 ghost use Rattle.oer_c.specs.Naming.{ByName};
 ghost use Rattle.oer_c.specs.Parts.{IsCopied};
+ghost use Rattle.oer_c.specs.Sharing.{types_of};
 
 use crate::buffer::{Written, only_status, put, reject};
 use crate::handle::Handle;
 use crate::naming::find_type;
-use crate::status::{ABSENT, MEMORY, NO_PATH, NO_STEP, NO_TYPES, UNNAMED};
-use oer_reader::{PartFault, PathFault, part, read_path};
+use crate::path::steps_of;
+use crate::status::{ABSENT, NO_STEP, NO_TYPES, UNNAMED};
+use oer_reader::{PartFault, part};
 use oer_text::Types;
 use oer_types::Schema;
 use std::alloc::Global;
 
 // The part is put into the buffer.
+#[tactic(auto, using(crate::proofs::Locating::unread))]
 fn copied(alloc: Global, schema: &Schema, octets: &[u8], path: &[u8], out: &mut [u8]) -> Written
     ensures { IsCopied (the_type schema.now) octets.now path.now out.old out.new result }
 {
-    let Ok(path) = std::str::from_utf8(path) else {
-        return only_status(NO_PATH);
-    };
-    let steps = match read_path(alloc, path) {
+    let steps = match steps_of(alloc, path) {
         Ok(steps) => steps,
-        Err(PathFault::Memory) => return only_status(MEMORY),
-        Err(PathFault::Form) => return only_status(NO_PATH),
+        Err(status) => return only_status(status),
     };
     match part(schema, octets, steps.as_slice()) {
         Ok(found) => put(out, found, 0),
@@ -77,14 +76,14 @@ pub extern "C" fn oer_part(
     out: &mut [u8],
 ) -> Written
     // The part is in the buffer, or it is as before.
-    ensures copies { ByName types.old.held.types name.now (λ T. IsCopied T octets.now path.now out.old out.new result) (IsUndone out.old out.new result) }
+    ensures copies { ByName (types_of types.old.held.shared) name.now (λ T. IsCopied T octets.now path.now out.old out.new result) (IsUndone out.old out.new result) }
     // The types are those from before.
-    ensures kept { types.new.held.types ≡ types.old.held.types }
+    ensures kept { types_of types.new.held.shared ≡ types_of types.old.held.shared }
 {
     let Some(found) = types.take(alloc) else {
         return only_status(NO_TYPES);
     };
-    let answer = named(alloc, &found, name, octets, path, out);
+    let answer = named(alloc, found.get(), name, octets, path, out);
     *types = Handle::of(found);
     answer
 }

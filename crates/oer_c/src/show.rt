@@ -4,6 +4,7 @@ ghost use Rattle.oer_types.specs.Schema.{the_type};
 ghost use Rattle.oer_c.specs.Buffers.{IsUndone};
 ghost use Rattle.oer_c.specs.Naming.{ByName};
 ghost use Rattle.oer_c.specs.Rewriting.{IsRejected};
+ghost use Rattle.oer_c.specs.Sharing.{types_of};
 ghost use Rattle.oer_c.specs.Showing.{IsTextOf, Shows};
 
 use crate::buffer::{Written, only_status, put};
@@ -90,14 +91,14 @@ pub extern "C" fn oer_to_json(
     out: &mut [u8],
 ) -> Written
     // The text is in the buffer, or it is as before.
-    ensures shows { ByName types.old.held.types name.now (λ T. Shows T limit octets.now out.old out.new result) (IsUndone out.old out.new result) }
+    ensures shows { ByName (types_of types.old.held.shared) name.now (λ T. Shows T limit octets.now out.old out.new result) (IsUndone out.old out.new result) }
     // The types are those from before.
-    ensures kept { types.new.held.types ≡ types.old.held.types }
+    ensures kept { types_of types.new.held.shared ≡ types_of types.old.held.shared }
 {
     let Some(found) = types.take(alloc) else {
         return only_status(NO_TYPES);
     };
-    let answer = named(alloc, &found, name, octets, limit, out);
+    let answer = named(alloc, found.get(), name, octets, limit, out);
     *types = Handle::of(found);
     answer
 }

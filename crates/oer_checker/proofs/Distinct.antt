@@ -3,7 +3,7 @@ use Rattle.std.proofs.Common.{◌≡◌, inl, inr, ℕ, zero, suc, ◌+◌, ◌<
 use Rattle.std.proofs.lemmas.Bool.{ne_eqb}
 use Rattle.oer_units.specs.Spelling.{IsCounted}
 use Rattle.oer_units.specs.declared.tagging.Tag.{Tag}
-use Rattle.oer_types.specs.AsnType.{Additions, Alternatives, AsnType, Fields, addition, alternative, bit_string, boolean, choice, default, enumerated, extensible_sequence, field, integer, later, may, must, no_additions, no_alternatives, no_fields, null, object_id, octet_string, restricted_string, sequence, sequence_of, utf8_string}
+use Rattle.oer_types.specs.AsnType.{Additions, Alternatives, AsnType, Fields, addition, alternative, choice, default, extensible_sequence, field, later, leaf, may, must, no_additions, no_alternatives, no_fields, sequence, sequence_of}
 use Rattle.oer_types.specs.Bits.{first_bit, later_bits}
 use Rattle.oer_types.specs.Constraints.{addition_count, same_tag}
 use Rattle.oer_types.specs.Encoding.{IsItself}
@@ -124,12 +124,4 @@ split_distinct (extensible_sequence fs more) parts b (x, s, p, r, a, root, added
 split_distinct (sequence_of size T) parts b (n, q, es, e, counted, fits, x) = rising_distinct to_item (λ i j. refl) 0 (0 + n) parts (items_rising T n 0 (0 + n) (omega arith) parts es x)
 split_distinct (choice extensible more) parts b (t, p, c, e, tagged, inl x) = alternative_distinct more t parts c x
 split_distinct (choice extensible more) parts b (t, p, c, e, tagged, inr x) = alone_distinct None (IsCounted IsItself) parts c x.1
-split_distinct boolean parts b e = leaf_distinct parts e
-split_distinct null parts b e = leaf_distinct parts e
-split_distinct (integer low high) parts b e = leaf_distinct parts e
-split_distinct (enumerated numbers x) parts b e = leaf_distinct parts e
-split_distinct (bit_string s) parts b e = leaf_distinct parts e
-split_distinct object_id parts b e = leaf_distinct parts e
-split_distinct (restricted_string kind s) parts b e = leaf_distinct parts e
-split_distinct (utf8_string s) parts b e = leaf_distinct parts e
-split_distinct (octet_string s) parts b e = leaf_distinct parts e
+split_distinct (leaf kind) parts b e = leaf_distinct parts e

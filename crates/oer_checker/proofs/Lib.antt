@@ -1,10 +1,12 @@
 mod Joins
 mod UnitSteps
+mod ShortUnits
 mod LengthSteps
 mod NumberSteps
 mod Exits
 mod StringSteps
 mod BitLists
+mod LowBits
 mod BitSteps
 mod TagSteps
 mod FieldSteps

@@ -7,7 +7,7 @@ use Rattle.oer_units.specs.Numbers.{unsigned}
 use Rattle.oer_units.specs.declared.tagging.Tag.{Tag}
 use Rattle.oer_units.proofs.TagReaders.{tag_lawful}
 use Rattle.oer_units.proofs.Units.{group_lawful}
-use Rattle.oer_types.specs.AsnType.{Additions, Alternatives, AsnType, Fields, addition, alternative, bit_string, boolean, choice, enumerated, extensible_sequence, field, integer, later, no_additions, no_alternatives, no_fields, null, object_id, octet_string, restricted_string, sequence, sequence_of, utf8_string}
+use Rattle.oer_types.specs.AsnType.{Additions, Alternatives, AsnType, Fields, addition, alternative, choice, extensible_sequence, field, later, leaf, no_additions, no_alternatives, no_fields, sequence, sequence_of}
 use Rattle.oer_types.specs.AsnValue.{AsnValue}
 use Rattle.oer_types.specs.Bits.{IsPreamble, all_false, first_bit, later_bits}
 use Rattle.oer_types.specs.Checking.{check_value}
@@ -205,15 +205,7 @@ mutual
   value_yields (choice extensible more) wf d total path = yields_row (λ (t : Tag). t) total path TagRole tag (λ t. walk_chosen extensible more (walk_alternative more total (path ++ (to_chosen ∷ [])) t) (walk_unknown total (path ++ (to_chosen ∷ []))) t) IsTag
       (λ t. AreEither (has_tag t more) (AreAlternative more (path ++ (to_chosen ∷ [])) t) (AreEither extensible (AreOpen (path ++ (to_chosen ∷ [])) (IsOne (path ++ (to_chosen ∷ [])) Unknown)) AreNever)) (tag_lawful.sound)
       (λ t p q e. yields_choose total (has_tag t more) _ _ (AreAlternative more (path ++ (to_chosen ∷ [])) t) (AreEither extensible (AreOpen (path ++ (to_chosen ∷ [])) (IsOne (path ++ (to_chosen ∷ [])) Unknown)) AreNever) (alternative_yields more wf d total (path ++ (to_chosen ∷ [])) t) (yields_allowed total extensible _ (AreOpen (path ++ (to_chosen ∷ [])) (IsOne (path ++ (to_chosen ∷ [])) Unknown)) (yields_unknown total (path ++ (to_chosen ∷ [])))) q)
-  value_yields boolean wf d total path = yields_last total path Contents (check_value boolean) (λ b. (v : AsnValue) × IsSpelling boolean v b) (value_sound boolean wf d)
-  value_yields null wf d total path = yields_last total path Contents (check_value null) (λ b. (v : AsnValue) × IsSpelling null v b) (value_sound null wf d)
-  value_yields (integer low high) wf d total path = yields_last total path Contents (check_value (integer low high)) (λ b. (v : AsnValue) × IsSpelling (integer low high) v b) (value_sound (integer low high) wf d)
-  value_yields (enumerated numbers x) wf d total path = yields_last total path Contents (check_value (enumerated numbers x)) (λ b. (v : AsnValue) × IsSpelling (enumerated numbers x) v b) (value_sound (enumerated numbers x) wf d)
-  value_yields (bit_string s) wf d total path = yields_last total path Contents (check_value (bit_string s)) (λ b. (v : AsnValue) × IsSpelling (bit_string s) v b) (value_sound (bit_string s) wf d)
-  value_yields object_id wf d total path = yields_last total path Contents (check_value object_id) (λ b. (v : AsnValue) × IsSpelling object_id v b) (value_sound object_id wf d)
-  value_yields (restricted_string kind s) wf d total path = yields_last total path Contents (check_value (restricted_string kind s)) (λ b. (v : AsnValue) × IsSpelling (restricted_string kind s) v b) (value_sound (restricted_string kind s) wf d)
-  value_yields (utf8_string s) wf d total path = yields_last total path Contents (check_value (utf8_string s)) (λ b. (v : AsnValue) × IsSpelling (utf8_string s) v b) (value_sound (utf8_string s) wf d)
-  value_yields (octet_string s) wf d total path = yields_last total path Contents (check_value (octet_string s)) (λ b. (v : AsnValue) × IsSpelling (octet_string s) v b) (value_sound (octet_string s) wf d)
+  value_yields (leaf kind) wf d total path = yields_last total path Contents (check_value (leaf kind)) (λ b. (v : AsnValue) × IsSpelling (leaf kind) v b) (value_sound (leaf kind) wf d)
 
   fields_yield : (fs : Fields) → FieldsKeepLimits fs → FieldDefaultsFit fs → (total : ℕ) (path : List Step) (i : ℕ) (s : List Bool) → Yields total (walk_fields fs total path i s) (AreFields fs path i s)
   fields_yield no_fields wf d total path i s = yields_stay total

@@ -8,7 +8,7 @@ use Rattle.oer_units.specs.declared.fault.Why.TheVariants.{UnknownAlternative}
 use Rattle.oer_units.specs.declared.tagging.Tag.{Tag}
 use Rattle.oer_units.proofs.TagReaders.{tag_lawful}
 use Rattle.oer_units.proofs.Units.{group_lawful}
-use Rattle.oer_types.specs.AsnType.{Additions, Alternatives, AsnType, Fields, Need, addition, alternative, bit_string, boolean, choice, default, enumerated, extensible_sequence, field, integer, later, may, must, no_additions, no_alternatives, no_fields, null, object_id, octet_string, restricted_string, sequence, sequence_of, utf8_string}
+use Rattle.oer_types.specs.AsnType.{Additions, Alternatives, AsnType, Fields, Need, addition, alternative, choice, default, extensible_sequence, field, later, leaf, may, must, no_additions, no_alternatives, no_fields, sequence, sequence_of}
 use Rattle.oer_types.specs.Bits.{first_bit, later_bits}
 use Rattle.oer_types.specs.Canonical.{canonical_octets, same_list}
 use Rattle.oer_types.specs.Checking.{and_also, both, check_additions, check_alternative, check_by_tag, check_chosen, check_extension, check_fields, check_group, check_octets, check_open, check_times, check_unknown, check_value, judge, judged, unlike}
@@ -251,15 +251,7 @@ mutual
   value_agrees (choice extensible more) wf d total path old p = agree_row total path TagRole tag (λ t. walk_chosen extensible more (walk_alternative more total (path ++ (to_chosen ∷ [])) t) (walk_unknown total (path ++ (to_chosen ∷ []))) t) old p (check_value (choice extensible more) p) (sound_fronts tag _ tag_lawful.sound)
       (λ t q e. (check_chosen extensible more (check_alternative more) t q, (true, and_all _ ∙ choice_then extensible more p q t _ e refl), λ new. agree_chosen total extensible more (check_alternative more) _ _ t (alternative_agrees more wf d total (path ++ (to_chosen ∷ [])) t) (agree_octets total (path ++ (to_chosen ∷ []))) new q))
       (λ why rest e. (why, rest, choice_stop extensible more p why rest e))
-  value_agrees boolean wf d total path old p = leaf_agrees boolean wf d total path old p
-  value_agrees null wf d total path old p = leaf_agrees null wf d total path old p
-  value_agrees (integer low high) wf d total path old p = leaf_agrees (integer low high) wf d total path old p
-  value_agrees (enumerated numbers x) wf d total path old p = leaf_agrees (enumerated numbers x) wf d total path old p
-  value_agrees (bit_string s) wf d total path old p = leaf_agrees (bit_string s) wf d total path old p
-  value_agrees object_id wf d total path old p = leaf_agrees object_id wf d total path old p
-  value_agrees (restricted_string kind s) wf d total path old p = leaf_agrees (restricted_string kind s) wf d total path old p
-  value_agrees (utf8_string s) wf d total path old p = leaf_agrees (utf8_string s) wf d total path old p
-  value_agrees (octet_string s) wf d total path old p = leaf_agrees (octet_string s) wf d total path old p
+  value_agrees (leaf kind) wf d total path old p = leaf_agrees (leaf kind) wf d total path old p
 
   fields_agree : (fs : Fields) → FieldsKeepLimits fs → FieldDefaultsFit fs → (total : ℕ) (path : List Step) (i : ℕ) (s : List Bool) → Agrees total (check_fields fs s) (walk_fields fs total path i s)
   fields_agree no_fields wf d total path i s = agree_stay total

@@ -1,7 +1,7 @@
 -- Rows name parts: a path that leads to a part has lines, and the path of a line leads to a part.
 use Rattle.std.proofs.Common.{◌≡◌, inl, inr, ⊎_elim, ℕ, ◌+◌, Bool, true, false, List, [], ◌∷◌, ◌++◌, length, Option, Some, None, if◌then◌else◌, arith, refl, sym, ap, ◌∙◌, subst, append_assoc, append-nil}
 use Rattle.std.proofs.lemmas.List.Elements.{All-contains, All-from_recursion}
-use Rattle.oer_types.specs.AsnType.{AsnType, bit_string, boolean, choice, enumerated, extensible_sequence, integer, null, object_id, octet_string, restricted_string, sequence, sequence_of, utf8_string}
+use Rattle.oer_types.specs.AsnType.{AsnType, choice, extensible_sequence, leaf, sequence, sequence_of}
 use Rattle.oer_types.specs.Parts.{LeadsTo, Part, Step, Within, found, lookup, no_such_step, part, same_step}
 use Rattle.oer_types.proofs.Finding.{led_to, same_found}
 use Rattle.oer_checker.specs.Lines.{AreLines}
@@ -106,15 +106,7 @@ value_first (sequence fs) path n ls b (x, c, d, ms, e, is, s, r) = (Preamble, c,
 value_first (extensible_sequence fs more) path n ls b (x, c, d, ms, e, is, s, r) = (Preamble, c, ms, is)
 value_first (sequence_of size T) path n ls b (x, c, d, ms, e, is, s, r) = (Quantity, c, ms, is)
 value_first (choice extensible more) path n ls b (x, c, d, ms, e, is, s, r) = (TagRole, c, ms, is)
-value_first boolean path n ls b (is, s) = (Contents, b, [], is)
-value_first null path n ls b (is, s) = (Contents, b, [], is)
-value_first (integer low high) path n ls b (is, s) = (Contents, b, [], is)
-value_first (enumerated numbers x) path n ls b (is, s) = (Contents, b, [], is)
-value_first (bit_string size) path n ls b (is, s) = (Contents, b, [], is)
-value_first object_id path n ls b (is, s) = (Contents, b, [], is)
-value_first (restricted_string kind size) path n ls b (is, s) = (Contents, b, [], is)
-value_first (utf8_string size) path n ls b (is, s) = (Contents, b, [], is)
-value_first (octet_string size) path n ls b (is, s) = (Contents, b, [], is)
+value_first (leaf kind) path n ls b (is, s) = (Contents, b, [], is)
 
 part_first : (V : Option AsnType) (path : List Step) (n : ℕ) (ls : List Line) (b : List ℕ) → ArePart V path n ls b → First path n ls
 part_first None path n ls b is = (Unknown, b, [], is)

@@ -2,7 +2,7 @@
 use Rattle.std.proofs.Common.{◌≡◌, ℕ, zero, suc, ◌+◌, Bool, true, false, List, [], ◌∷◌, ◌++◌, length, drop, Option, Some, None, refl, sym, ap, ap₂, ◌∙◌, subst, append-nil}
 use Rattle.oer_units.specs.Spelling.{IsLength, IsTag}
 use Rattle.oer_units.specs.declared.tagging.Tag.{Tag}
-use Rattle.oer_types.specs.AsnType.{Additions, Alternatives, AsnType, Fields, addition, alternative, bit_string, boolean, choice, enumerated, extensible_sequence, field, integer, later, no_additions, no_alternatives, no_fields, null, object_id, octet_string, restricted_string, sequence, sequence_of, utf8_string}
+use Rattle.oer_types.specs.AsnType.{Additions, Alternatives, AsnType, Fields, addition, alternative, choice, extensible_sequence, field, later, leaf, no_additions, no_alternatives, no_fields, sequence, sequence_of}
 use Rattle.oer_types.specs.AsnValue.{AsnValue}
 use Rattle.oer_types.specs.Bits.{all_false, first_bit, later_bits}
 use Rattle.oer_types.specs.Constraints.{addition_count, has_tag, same_tag}
@@ -89,15 +89,7 @@ mutual
   value_fine (choice extensible more) path = fine_start path TagRole IsTag _ refl
       (λ t. fine_either path (has_tag t more) (AreAlternative more (path ++ (to_chosen ∷ [])) t) (AreEither extensible (AreUnknown (path ++ (to_chosen ∷ []))) AreNever) (alternative_fine more path t)
       (fine_either path extensible (AreUnknown (path ++ (to_chosen ∷ []))) AreNever (fine_unknown path to_chosen) (fine_never path)))
-  value_fine boolean path = fine_leaf boolean path
-  value_fine null path = fine_leaf null path
-  value_fine (integer low high) path = fine_leaf (integer low high) path
-  value_fine (enumerated numbers x) path = fine_leaf (enumerated numbers x) path
-  value_fine (bit_string s) path = fine_leaf (bit_string s) path
-  value_fine object_id path = fine_leaf object_id path
-  value_fine (restricted_string kind s) path = fine_leaf (restricted_string kind s) path
-  value_fine (utf8_string s) path = fine_leaf (utf8_string s) path
-  value_fine (octet_string s) path = fine_leaf (octet_string s) path
+  value_fine (leaf kind) path = fine_leaf (leaf kind) path
 
   pub fields_fine : (fs : Fields) (path : List Step) (i : ℕ) (s : List Bool) → Fine path (AreFields fs path i s)
   fields_fine no_fields path i s = fine_none path

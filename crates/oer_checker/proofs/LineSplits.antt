@@ -3,7 +3,7 @@ use Rattle.std.proofs.Common.{◌≡◌, ◌⊎◌, inl, inr, ℕ, zero, suc, �
 use Rattle.oer_units.specs.Numbers.{unsigned}
 use Rattle.oer_units.specs.Spelling.{IsCounted, IsJoined, IsLength, StandsFor}
 use Rattle.oer_units.specs.declared.tagging.Tag.{Tag}
-use Rattle.oer_types.specs.AsnType.{Additions, Alternatives, AsnType, Fields, addition, alternative, bit_string, boolean, choice, default, enumerated, extensible_sequence, field, integer, later, may, must, no_additions, no_alternatives, no_fields, null, object_id, octet_string, restricted_string, sequence, sequence_of, utf8_string}
+use Rattle.oer_types.specs.AsnType.{Additions, Alternatives, AsnType, Fields, addition, alternative, choice, default, extensible_sequence, field, later, leaf, may, must, no_additions, no_alternatives, no_fields, sequence, sequence_of}
 use Rattle.oer_types.specs.AsnValue.{AsnValue, Places, Unknown, absent, chosen, foreign, items, no_places, present, seq, unknown}
 use Rattle.oer_types.specs.Bits.{first_bit, later_bits}
 use Rattle.oer_types.specs.Constraints.{AdditionsKeepLimits, AlternativesKeepLimits, FieldsKeepLimits, KeepsLimits, addition_count, has_tag, optional, same_tag, size_fits}
@@ -280,15 +280,7 @@ mutual
   value_sorted (extensible_sequence fs more) wf d path = extensible_sorted fs more path (λ s. fields_sorted fs wf.0 d.0 path 0 s) (λ x. extension_sorted x more path (λ s. additions_sorted more wf.1 d.1 path 0 s))
   value_sorted (sequence_of size T) wf d path = list_sorted size T path (wf.1, d) (λ i. reads T (path ++ (to_item i ∷ [])) (value_sorted T wf.1 d (path ++ (to_item i ∷ []))))
   value_sorted (choice extensible more) wf d path = choice_sorted extensible more path (λ t. alternative_sorted more wf d path t)
-  value_sorted boolean wf d path = λ n ls b a. leaf_sorted boolean path n ls b refl a
-  value_sorted null wf d path = λ n ls b a. leaf_sorted null path n ls b refl a
-  value_sorted (integer low high) wf d path = λ n ls b a. leaf_sorted (integer low high) path n ls b refl a
-  value_sorted (enumerated numbers x) wf d path = λ n ls b a. leaf_sorted (enumerated numbers x) path n ls b refl a
-  value_sorted (bit_string s) wf d path = λ n ls b a. leaf_sorted (bit_string s) path n ls b refl a
-  value_sorted object_id wf d path = λ n ls b a. leaf_sorted object_id path n ls b refl a
-  value_sorted (restricted_string kind s) wf d path = λ n ls b a. leaf_sorted (restricted_string kind s) path n ls b refl a
-  value_sorted (utf8_string s) wf d path = λ n ls b a. leaf_sorted (utf8_string s) path n ls b refl a
-  value_sorted (octet_string s) wf d path = λ n ls b a. leaf_sorted (octet_string s) path n ls b refl a
+  value_sorted (leaf kind) wf d path = λ n ls b a. leaf_sorted (leaf kind) path n ls b refl a
 
   fields_sorted : (fs : Fields) → FieldsKeepLimits fs → FieldDefaultsFit fs → (path : List Step) (i : ℕ) (s : List Bool) → Sorts (AreFields fs path i s) (SpellsFields fs s) (SplitsFields fs i s) path
   fields_sorted no_fields wf d path i s = λ n ls b a. (no_places, [], (refl, a.1), (refl, a.1), none_sorted path n ls a.0)

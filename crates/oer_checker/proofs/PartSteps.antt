@@ -3,7 +3,7 @@ use Rattle.std.proofs.Common.{◌≡◌, ℕ, zero, suc, Bool, true, false, List
 use Rattle.oer_units.specs.declared.tagging.Tag.{Tag}
 use Rattle.oer_units.specs.Reader.{Outcome, Place, Reader, bind, choose, give, got, refuse, refused, then_read}
 use Rattle.oer_units.specs.Reading.{counted_octets, open_type, tag}
-use Rattle.oer_types.specs.AsnType.{Additions, Alternatives, AsnType, Fields, Need, addition, alternative, bit_string, boolean, choice, default, enumerated, extensible_sequence, field, integer, later, may, must, no_additions, no_alternatives, no_fields, null, object_id, octet_string, restricted_string, sequence, sequence_of, utf8_string}
+use Rattle.oer_types.specs.AsnType.{Additions, Alternatives, AsnType, Fields, Need, addition, alternative, choice, default, extensible_sequence, field, later, leaf, may, must, no_additions, no_alternatives, no_fields, sequence, sequence_of}
 use Rattle.oer_types.specs.Bits.{first_bit, later_bits}
 use Rattle.oer_types.specs.Checking.{check_value}
 use Rattle.oer_types.specs.Constraints.{addition_count, has_tag, optional, same_tag}
@@ -148,12 +148,4 @@ no_such (choice x more) (to_component i) p e a = choice_none_of x more p (to_com
 no_such (choice x more) (to_addition i) p e a = choice_none_of x more p (to_addition i) refl a
 no_such (choice x more) (to_item i) p e a = choice_none_of x more p (to_item i) refl a
 no_such (choice x more) to_chosen p e a = absurd (cc)
-no_such boolean st p e a = refl
-no_such null st p e a = refl
-no_such (integer low high) st p e a = refl
-no_such (enumerated numbers x) st p e a = refl
-no_such (bit_string z) st p e a = refl
-no_such object_id st p e a = refl
-no_such (restricted_string kind z) st p e a = refl
-no_such (utf8_string z) st p e a = refl
-no_such (octet_string z) st p e a = refl
+no_such (leaf kind) st p e a = refl

@@ -1,6 +1,6 @@
 -- Steps that a shape doesn't have.
 use Rattle.std.proofs.Common.{◌≡◌, ◌⊎◌, inl, inr, ⊎_elim, ℕ, suc, ltb, length, List, [], ◌∷◌, false, Option, Some, None, Vec, Box, Global, refl, ap, sym, ◌∙◌}
-use Rattle.oer_types.specs.AsnType.{AsnType, bit_string, boolean, choice, enumerated, extensible_sequence, integer, null, object_id, octet_string, restricted_string, sequence, sequence_of, utf8_string}
+use Rattle.oer_types.specs.AsnType.{AsnType, choice, extensible_sequence, leaf, sequence, sequence_of}
 use Rattle.oer_types.specs.Parts.{Step, field_count, knows, to_addition, to_chosen, to_component, to_item}
 use Rattle.oer_types.specs.ShapeView.{SeenField, SeenAddition, SeenAlternative, addition_step, alt_step, choice_with, field_step, fields_of, sequence_with, shape_step, type_of}
 use Rattle.oer_types.specs.declared.size.Size.{Size}
@@ -110,45 +110,21 @@ known_has (extensible_sequence fs more) (to_item i) e = refl
 known_has (extensible_sequence fs more) to_chosen e = refl
 known_has (sequence_of s T) st e = refl
 known_has (choice x more) st e = refl
-known_has boolean st e = refl
-known_has null st e = refl
-known_has (integer low high) st e = refl
-known_has (enumerated numbers x) st e = refl
-known_has (bit_string z) st e = refl
-known_has object_id st e = refl
-known_has (restricted_string kind z) st e = refl
-known_has (utf8_string z) st e = refl
-known_has (octet_string z) st e = refl
+known_has (leaf kind) st e = refl
 
 never_item : (T : AsnType) (i : ℕ) → false ≡ knows T (to_item i)
 never_item (sequence fs) i = refl
 never_item (extensible_sequence fs more) i = refl
 never_item (sequence_of s T) i = refl
 never_item (choice x more) i = refl
-never_item boolean i = refl
-never_item null i = refl
-never_item (integer low high) i = refl
-never_item (enumerated numbers x) i = refl
-never_item (bit_string z) i = refl
-never_item object_id i = refl
-never_item (restricted_string kind z) i = refl
-never_item (utf8_string z) i = refl
-never_item (octet_string z) i = refl
+never_item (leaf kind) i = refl
 
 never_chosen : (T : AsnType) → false ≡ knows T to_chosen
 never_chosen (sequence fs) = refl
 never_chosen (extensible_sequence fs more) = refl
 never_chosen (sequence_of s T) = refl
 never_chosen (choice x more) = refl
-never_chosen boolean = refl
-never_chosen null = refl
-never_chosen (integer low high) = refl
-never_chosen (enumerated numbers x) = refl
-never_chosen (bit_string z) = refl
-never_chosen object_id = refl
-never_chosen (restricted_string kind z) = refl
-never_chosen (utf8_string z) = refl
-never_chosen (octet_string z) = refl
+never_chosen (leaf kind) = refl
 
 pub not_known : (shape : Shape) → ((root : Vec Field Global) (more : Option (Vec Addition Global)) → shape ≡ Sequence root more → ⊥) → (st : Step) → false ≡ knows (type_of shape) st
 not_known shape none (to_component i) = known_has (type_of shape) (to_component i) (not_sequence shape none (to_component i) (λ j e. absurd (cc)) (λ e. absurd (cc)))

@@ -1,5 +1,5 @@
 -- The parts of a shape are smaller.
-use Rattle.std.proofs.Common.{◌≡◌, ℕ, ◌+◌, ◌*◌, ◌<◌, ◌≤◌, List, Option, Some, Vec, Global, arith, refl, sym, subst, rules}
+use Rattle.std.proofs.Common.{◌≡◌, ℕ, ◌+◌, ◌*◌, ◌<◌, ◌≤◌, List, Option, Some, Vec, Global, length, get_or, arith, refl, sym, subst, rules}
 use borrow.Author.Sizes.{Under, under, sizes, deeper, same_size}
 use denote.Param.Weighed.{most}
 use Rattle.oer_types.specs.declared.shape.Addition.{Addition}
@@ -31,6 +31,15 @@ alternatives_under shape root more e = search (rules, the_lemmas, sizes, same_si
 
 pub alternatives_fall : (shape : Shape) (root : Vec Alt Global) (more : Option (Vec Alt Global)) (xs : List Alt) (r s t : ℕ) → shape ≡ Choice root more → xs ≡ root.items → r ≤ 3 → 4 * the_size shape + s ≡ t → 4 * most (λ x. alt.the_size x) xs + r < t
 alternatives_fall shape root more xs r s t e is small d = subst (λ (l : List Alt). 4 * most (λ x. alt.the_size x) l + r < t) (sym is) (four_times _ (the_size shape) r s t small (alternatives_under shape root more e) d)
+
+alternative_under : (xs : List Alt) (i : ℕ) (a : Alt) → i < length xs → a ≡ get_or xs i a → Under (the_size a.shape) (most (λ x. alt.the_size x) xs)
+alternative_under xs i a less is = search (rules, the_lemmas, sizes, deeper, same_size the_size)
+
+pub alternative_falls : (shape : Shape) (root : Vec Alt Global) (more : Option (Vec Alt Global)) (xs : List Alt) (i : ℕ) (a : Alt) (r s t : ℕ) → shape ≡ Choice root more → xs ≡ root.items → i < length xs → a ≡ get_or xs i a → r ≤ 3 → 4 * the_size shape + s ≡ t → 4 * the_size a.shape + r < t
+alternative_falls shape root more xs i a r s t e is less at small d = four_times _ (the_size shape) r s t small (both_under (alternative_under xs i a less at) (subst (λ (l : List Alt). Under (most (λ x. alt.the_size x) l) (the_size shape)) (sym is) (alternatives_under shape root more e))) d
+  where
+    both_under : {m n k : ℕ} → Under m n → Under n k → Under m k
+    both_under (under h) (under g) = under (omega arith)
 
 later_under : (shape : Shape) (root : Vec Alt Global) (more : Option (Vec Alt Global)) (later : Vec Alt Global) → shape ≡ Choice root more → more ≡ Some later → Under (most (λ x. alt.the_size x) later.items) (the_size shape)
 later_under shape root more later e f = search (rules, the_lemmas, sizes, deeper, same_size the_size)

@@ -100,21 +100,31 @@ first_more xs i a t less is none before = ap (λ (k : ℕ). has_tag t (root_of (
 pub first_none : (xs : List Alt) (i : ℕ) (t : Tag) → length xs ≤ i → has_tag t (root_of (take i xs) no_alternatives) ≡ false → has_tag t (root_of xs no_alternatives) ≡ false
 first_none xs i t le before = ap (λ (l : List Alt). has_tag t (root_of l no_alternatives)) (sym (take_all i xs le)) ∙ before
 
+or_left : (b r : Bool) → (b || r) ≡ false → b ≡ false
+or_left true r e = absurd (cc)
+or_left false r e = refl
+
+or_right : (b r : Bool) → (b || r) ≡ false → r ≡ false
+or_right true r e = absurd (cc)
+or_right false r e = e
+
+-- it is the one that is checked
+pub first_value : (xs : List Alt) (i : ℕ) (a : Alt) (t : Tag) → i < length xs → a ≡ get_or xs i a → same_tag a.tag t ≡ true → has_tag t (root_of (take i xs) no_alternatives) ≡ false
+    → (true ≡ has_tag t (root_of xs no_alternatives)) × (check_value (type_of a.shape) ≡ check_alternative (root_of xs no_alternatives) t)
+first_value [] i a t less is same before = absurd (omega arith)
+first_value (x ∷ xs) zero a t less is same before =
+    let has : true ≡ same_tag x.tag t = sym (ap (λ (y : Alt). same_tag y.tag t) (sym is) ∙ same) in (
+      ap (λ (b : Bool). b || has_tag t (root_of xs no_alternatives)) has,
+      ap (λ (y : Alt). check_value (type_of y.shape)) is ∙ ap (λ (b : Bool). check_by_tag b (check_value (type_of x.shape)) (check_alternative (root_of xs no_alternatives) t)) has,
+    )
+first_value (x ∷ xs) (suc i) a t less is same before =
+    let other : false ≡ same_tag x.tag t = sym (or_left (same_tag x.tag t) (has_tag t (root_of (take i xs) no_alternatives)) before) in
+    let rest = first_value xs i a t (omega arith) is same (or_right (same_tag x.tag t) (has_tag t (root_of (take i xs) no_alternatives)) before) in (
+      rest.0 ∙ ap (λ (b : Bool). b || has_tag t (root_of xs no_alternatives)) other,
+      rest.1 ∙ ap (λ (b : Bool). check_by_tag b (check_value (type_of x.shape)) (check_alternative (root_of xs no_alternatives) t)) other,
+    )
+
 -- ---- in a loop
-
-pub root_here : (xs : List Alt) (i : ℕ) (a : Alt) (t : Tag) (whole : Reader Bool) → i < length xs → a ≡ get_or xs i a → true ≡ same_tag a.tag t → check_alternative (root_of (drop i xs) no_alternatives) t ≡ whole → check_value (type_of a.shape) ≡ whole
-root_here xs i a t whole less is same e =
-    ap (λ (b : Bool). check_by_tag b (check_value (type_of a.shape)) (check_alternative (root_of (drop (i + 1) xs) no_alternatives) t)) same
-    ∙ ap (λ (l : List Alt). check_alternative (root_of l no_alternatives) t) (sym (here xs i a less is)) ∙ e
-
-pub root_next : (xs : List Alt) (i : ℕ) (a : Alt) (t : Tag) (whole : Reader Bool) → i < length xs → a ≡ get_or xs i a → false ≡ same_tag a.tag t → check_alternative (root_of (drop i xs) no_alternatives) t ≡ whole → check_alternative (root_of (drop (i + 1) xs) no_alternatives) t ≡ whole
-root_next xs i a t whole less is other e =
-    ap (λ (b : Bool). check_by_tag b (check_value (type_of a.shape)) (check_alternative (root_of (drop (i + 1) xs) no_alternatives) t)) other
-    ∙ ap (λ (l : List Alt). check_alternative (root_of l no_alternatives) t) (sym (here xs i a less is)) ∙ e
-
-pub root_end : (xs : List Alt) (i : ℕ) (t : Tag) (whole : Reader Bool) (p : Place) → length xs ≤ i → check_alternative (root_of (drop i xs) no_alternatives) t ≡ whole → refused UnknownAlternative p.input ≡ whole p
-unfolding refuse
-root_end xs i t whole p le e = ap (λ (r : Reader Bool). r p) (ap (λ (l : List Alt). check_alternative (root_of l no_alternatives) t) (sym (drop_all i xs le)) ∙ e)
 
 pub later_here : (xs : List Alt) (i : ℕ) (a : Alt) (t : Tag) (whole : Reader Bool) → i < length xs → a ≡ get_or xs i a → true ≡ same_tag a.tag t → check_later (later_of (drop i xs)) t ≡ whole → check_open (check_value (type_of a.shape)) ≡ whole
 later_here xs i a t whole less is same e =

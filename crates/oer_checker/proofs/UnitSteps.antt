@@ -1,5 +1,5 @@
 -- A unit that was read at a place.
-use Rattle.std.proofs.Common.{◌≡◌, ◌≢◌, ℕ, ◌+◌, ◌-◌, ◌≤◌, true, false, List, [], ◌∷◌, ◌++◌, length, drop, Option, Some, None, Result, Ok, Err, arith, refl, sym, ap, ap₂, ◌∙◌, subst, length-append}
+use Rattle.std.proofs.Common.{◌≡◌, ◌≢◌, ℕ, ◌+◌, ◌-◌, ◌≤◌, true, false, List, [], ◌∷◌, ◌++◌, length, drop, take, Option, Some, None, Result, Ok, Err, arith, refl, sym, ap, ap₂, ◌∙◌, subst, length-append}
 use Rattle.std.specs.Prelude.{IfErr, OnOk}
 use Rattle.std.specs.Borrow.{GName}
 use Rattle.oer_units.specs.declared.fault.Why.{Why}
@@ -12,10 +12,15 @@ use Rattle.oer_units.proofs.Closure.{got_value}
 use Rattle.oer_checker.specs.declared.place.Place as rust_place
 use Rattle.oer_checker.specs.declared.stop.Stop.{Stop}
 use Rattle.oer_checker.specs.Places.{ended, outcome, place_of, same}
-use Rattle.oer_units.specs.Reader.{give}
+use Rattle.oer_units.specs.Reader.{give, group}
+use Rattle.oer_units.specs.Fixed.{signed_fixed_at, unsigned_fixed_at}
+use Rattle.oer_units.specs.Numbers.{signed, unsigned}
+use Rattle.oer_units.specs.Width.{octets_of_width}
+use Rattle.oer_units.specs.declared.width.Width.{Width}
 use Rattle.oer_units.specs.Reading.{subidentifier}
 use Rattle.oer_checker.specs.Plain.{is_plain}
 use Rattle.oer_checker.specs.Steps.{subidentifier_size}
+use Rattle.oer_checker.proofs.BitLists.{take_all}
 use Rattle.oer_checker.proofs.Joins.{bind_got, bind_stop, give_got}
 
 -- what is known of what was read as r reads, from the octets xs under a limit n
@@ -108,3 +113,27 @@ sub_err k name xs n s s' e m is none memory h =
 pub range_ok : (P : ℤ → Type 0) (z : ℤ) (r : Result (ℤ × rust_place.Place) Stop) (p : Place) (taken : ℕ) → outcome same r ≡ ended p (Ok z) taken → P z → IfOk r (λ y. P y.0)
 range_ok P z (Ok y) p taken e fits = subst P (sym (got_value y.0 z (place_of y.1) (at (drop taken p.input) (p.left - taken)) e)) fits
 range_ok P z (Err s) p taken e fits = tt
+
+-- ---- a number of fixed size
+
+pub fixed_got : (width : Width) (n : ℕ) (p q : Place) (w : List ℕ) → n ≡ octets_of_width width → got w q ≡ group n p → got (unsigned w) q ≡ unsigned_fixed_at width p
+unfolding unsigned_fixed_at
+fixed_got width n p q w is e = bind_got (group (octets_of_width width)) (λ w. give (unsigned w)) p q w (got (unsigned w) q) (e ∙ ap (λ (k : ℕ). group k p) is) (give_got (unsigned w) q)
+
+pub fixed_stop : (width : Width) (n : ℕ) (p : Place) (why : Why) (rest : List ℕ) → n ≡ octets_of_width width → refused why rest ≡ group n p → refused why rest ≡ unsigned_fixed_at width p
+unfolding unsigned_fixed_at
+fixed_stop width n p why rest is e = bind_stop (group (octets_of_width width)) (λ w. give (unsigned w)) p why rest (e ∙ ap (λ (k : ℕ). group k p) is)
+
+pub signed_got : (width : Width) (n : ℕ) (p q : Place) (w : List ℕ) → n ≡ octets_of_width width → got w q ≡ group n p → got (signed w) q ≡ signed_fixed_at width p
+unfolding signed_fixed_at
+signed_got width n p q w is e = bind_got (group (octets_of_width width)) (λ w. give (signed w)) p q w (got (signed w) q) (e ∙ ap (λ (k : ℕ). group k p) is) (give_got (signed w) q)
+
+pub signed_stop : (width : Width) (n : ℕ) (p : Place) (why : Why) (rest : List ℕ) → n ≡ octets_of_width width → refused why rest ≡ group n p → refused why rest ≡ signed_fixed_at width p
+unfolding signed_fixed_at
+signed_stop width n p why rest is e = bind_stop (group (octets_of_width width)) (λ w. give (signed w)) p why rest (e ∙ ap (λ (k : ℕ). group k p) is)
+
+-- ---- the only octet that was asked for
+
+pub one_pulled : (xs : List ℕ) → xs ≡ take 1 (take 1 xs) ++ take (length xs - 1) (drop 1 xs)
+one_pulled [] = refl
+one_pulled (x ∷ xs) = ap (λ (l : List ℕ). x ∷ l) (sym (take_all (length (x ∷ xs) - 1) xs (omega arith)))

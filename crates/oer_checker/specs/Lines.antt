@@ -3,7 +3,7 @@ use Rattle.std.specs.Prelude.{◌≡◌, ℕ, zero, suc, ◌+◌, List, [], ◌�
 use Rattle.oer_units.specs.Numbers.{unsigned}
 use Rattle.oer_units.specs.Spelling.{IsCounted, IsLength, IsTag, StandsFor}
 use Rattle.oer_units.specs.declared.tagging.Tag.{Tag}
-use Rattle.oer_types.specs.AsnType.{Additions, Alternatives, AsnType, Fields, addition, alternative, choice, extensible_sequence, field, later, no_additions, no_alternatives, no_fields, sequence, sequence_of}
+use Rattle.oer_types.specs.AsnType.{Additions, Alternatives, AsnType, Fields, addition, alternative, choice, extensible_sequence, field, later, leaf, no_additions, no_alternatives, no_fields, sequence, sequence_of}
 use Rattle.oer_types.specs.AsnValue.{AsnValue}
 use Rattle.oer_types.specs.Bits.{IsPreamble, all_false, first_bit, later_bits}
 use Rattle.oer_types.specs.Constraints.{addition_count, has_tag, optional, same_tag, size_fits}
@@ -84,7 +84,7 @@ abbrev mutual
       (λ t. AreEither (has_tag t more) (AreAlternative more (path ++ (to_chosen ∷ [])) t)
       (AreEither extensible (AreUnknown (path ++ (to_chosen ∷ []))) AreNever))
   -- a type without parts
-  AreLines T path = λ n ls b. IsOne path Contents n ls b × ((v : AsnValue) × IsSpelling T v b)
+  AreLines (leaf kind) path = λ n ls b. IsOne path Contents n ls b × ((v : AsnValue) × IsSpelling (leaf kind) v b)
 
   -- components of a root, from the one with the number i on, by their presence bits
   pub AreFields : Fields → List Step → ℕ → List Bool → ℕ → List Line → List ℕ → Type 0

@@ -4,7 +4,7 @@ use Rattle.std.specs.declared.alloc.Global.{Global}
 use Rattle.oer_units.specs.Reader.{Outcome, Place, Reader, at, got, group, refused}
 use Rattle.oer_units.specs.Reading.{tag}
 use Rattle.oer_units.specs.declared.tagging.Tag.{Tag}
-use Rattle.oer_types.specs.AsnType.{Additions, Alternatives, AsnType, Fields, addition, alternative, choice, extensible_sequence, field, later, no_additions, no_alternatives, no_fields, sequence, sequence_of}
+use Rattle.oer_types.specs.AsnType.{Additions, Alternatives, AsnType, Fields, addition, alternative, choice, extensible_sequence, field, later, leaf, no_additions, no_alternatives, no_fields, sequence, sequence_of}
 use Rattle.oer_types.specs.Bits.{first_bit, later_bits}
 use Rattle.oer_types.specs.Checking.{check_value}
 use Rattle.oer_types.specs.Constraints.{addition_count, has_tag, optional, same_tag}
@@ -125,7 +125,7 @@ abbrev mutual
   walk_value (choice extensible more) total path = row total path TagRole tag
       (λ t. walk_chosen extensible more (walk_alternative more total (path ++ (to_chosen ∷ [])) t)
       (walk_unknown total (path ++ (to_chosen ∷ []))) t)
-  walk_value T total path = row total path Contents (check_value T) (λ f. stay)
+  walk_value (leaf kind) total path = row total path Contents (check_value (leaf kind)) (λ f. stay)
 
   -- components of a root, from the one with the number i on, by their presence bits
   pub walk_fields : Fields → ℕ → List Step → ℕ → List Bool → Walker

@@ -1,5 +1,5 @@
 //! BIT STRING, and the presence bits of a SEQUENCE.
-ghost use Rattle.std.specs.Prelude.{◌≡◌, ◌≤◌, ◌<◌, ◌-◌, ◌*◌, List, Bool, None, IfOk, drop, leb, length, not, take, ◌&&◌};
+ghost use Rattle.std.specs.Prelude.{◌≡◌, ◌≤◌, ◌<◌, ◌-◌, ◌*◌, ◌%◌, ◌^◌, List, Bool, None, IfOk, drop, eqb, leb, length, not, take, ◌&&◌};
 ghost use Rattle.oer_units.specs.Reader.{bind, give, group, guard};
 ghost use Rattle.oer_units.specs.declared.fault.Why.TheVariants as reason;
 ghost use Rattle.oer_types.specs.AsnType.{bit_string};
@@ -126,17 +126,23 @@ fn spare(count: u64) -> u8
     ((8 - count % 8) % 8) as u8
 }
 
+// Whether the last so many bits of the octet are zero.
+fn is_clear_below(octet: u8, count: u8) -> bool
+    requires { count ≤ 7 }
+    ensures { result ≡ eqb (octet % 2 ^ count) 0 }
+{
+    octet % (1 << count) == 0
+}
+
 // Whether the last so many bits are zero.
 fn ends_in_zeros(octets: &[u8], unused: u8) -> bool
     requires { unused ≤ 7 }
     ensures { result ≡ last_are_zero unused octets.now }
 {
-    let last = Bits {
-        octets: &octets[octets.len().saturating_sub(1)..],
-        from: 0,
-        to: 8,
-    };
-    last.are_clear_from(8 - u64::from(unused))
+    if octets.is_empty() {
+        return true;
+    }
+    is_clear_below(octets[octets.len() - 1], unused)
 }
 
 // Whether octets are as short as a bit string of so many bits can be, and its unused bits are 0.

@@ -1,8 +1,7 @@
 //! What holds of a type holds of its parts. These functions do nothing; their contracts say so.
-ghost use Rattle.oer_types.specs.AsnType.{no_alternatives};
 ghost use Rattle.oer_types.specs.Constraints.{AdditionsKeepLimits, AlternativesKeepLimits, FieldsKeepLimits, KeepsLimits};
 ghost use Rattle.oer_types.specs.Fits.{AdditionDefaultsFit, AlternativeDefaultsFit, DefaultFits, DefaultsFit, FieldDefaultsFit, Fits};
-ghost use Rattle.oer_types.specs.ShapeView.{additions_of, fields_of, later_of, need_of, root_of, type_of};
+ghost use Rattle.oer_types.specs.ShapeView.{additions_of, fields_of, later_of, need_of, type_of};
 ghost use Rattle.oer_checker.specs.Facts.{IsOne};
 
 use oer_types::{Addition, Alt, Field};
@@ -24,15 +23,6 @@ pub(crate) fn addition_fits(additions: &[Addition], addition: &Addition)
     requires defaults { AdditionDefaultsFit (additions_of additions.now) }
     ensures limits { KeepsLimits (type_of addition.now.shape) }
     ensures defaults { DefaultsFit (type_of addition.now.shape) }
-{}
-
-/// An alternative of a root.
-pub(crate) fn alternative_fits(alternatives: &[Alt], alternative: &Alt)
-    requires one { IsOne alternatives.now alternative.now }
-    requires limits { AlternativesKeepLimits (root_of alternatives.now no_alternatives) }
-    requires defaults { AlternativeDefaultsFit (root_of alternatives.now no_alternatives) }
-    ensures limits { KeepsLimits (type_of alternative.now.shape) }
-    ensures defaults { DefaultsFit (type_of alternative.now.shape) }
 {}
 
 /// An alternative after an extension marker.

@@ -1,12 +1,12 @@
 //! Units, read at a place.
 ghost use Rattle.std.specs.Io.{ReadsAtMost};
 ghost use Rattle.std.specs.Io.KnownBytes.{ReadConsumes};
-ghost use Rattle.std.specs.Prelude.{◌≡◌, ◌≤◌, ◌+◌, ◌≤ℤ◌, FitsSigned, Some, IfOk, pos};
+ghost use Rattle.std.specs.Prelude.{◌≡◌, ◌≤◌, ◌<◌, ◌+◌, ◌/◌, ◌%◌, ◌≤ℤ◌, FitsSigned, Some, IfOk, pos};
 ghost use Rattle.std.specs.Int.{w64, w128};
 ghost use Rattle.oer_units.specs.Fixed.{signed_fixed_at as signed_fixed_read, unsigned_fixed_at as unsigned_fixed_read};
 ghost use Rattle.oer_units.specs.Numbers.{natural, signed};
 ghost use Rattle.oer_units.specs.Reader.{group};
-ghost use Rattle.oer_units.specs.Reading.{counted_length, counted_number, enumerated as enumerated_read, is_int128, octet as octet_read, tag as tag_read};
+ghost use Rattle.oer_units.specs.Reading.{class_of, counted_length, counted_number, enumerated as enumerated_read, is_int128, octet as octet_read, tag as tag_read};
 ghost use Rattle.oer_units.specs.Stream.{counted_read};
 ghost use Rattle.oer_checker.specs.Places.{outcome, place_of, same};
 ghost use Rattle.oer_checker.specs.Steps.{subidentifier_size};
@@ -14,8 +14,8 @@ ghost use Rattle.oer_checker.specs.Steps.{subidentifier_size};
 use crate::place::Place;
 use crate::stop::Stop;
 use oer_units::{
-    Source, Tag, Why, Width, Window, enumerated, length, octet, signed_counted, signed_fixed,
-    subidentifier, tag, unsigned_counted, unsigned_fixed,
+    Source, Tag, Why, Width, Window, class, enumerated, length, signed_counted, signed_of,
+    subidentifier, tag, unsigned_counted, unsigned_of,
 };
 use std::io;
 use std::io::Read;
@@ -32,7 +32,12 @@ impl<'a> Source for Octets<'a> {
     ghost failed = { λ _. 0 };
 
     fn pull(&mut self, into: &mut [u8]) -> io::Result<usize> {
-        self.rest.read(into)
+        if into.len() != 1 || self.rest.is_empty() {
+            return self.rest.read(into);
+        }
+        into.copy_from_slice(&self.rest[..1]);
+        self.rest = &self.rest[1..];
+        Ok(1)
     }
 
     fn failures(&self) -> u64 {
@@ -69,14 +74,30 @@ pub(crate) fn group_at<'a>(place: Place<'a>, count: u64) -> Result<(&'a [u8], Pl
 pub(crate) fn octet_at<'a>(place: Place<'a>) -> Result<(u8, Place<'a>), Stop<'a>>
     ensures { outcome same result ≡ octet_read (place_of place.entry) }
 {
-    let mut source = Octets { rest: place.rest };
-    let mut w = Window::new(&mut source, place.left);
-    let answer = octet(&mut w);
-    place.after(answer, w.taken())
+    let (octets, next) = group_at(place, 1)?;
+    Ok((octets[0], next))
 }
 
 /// A length determinant (X.696, 8.6) that is not above what is left after it.
 pub(crate) fn length_at<'a>(place: Place<'a>) -> Result<(u64, Place<'a>), Stop<'a>>
+    ensures { outcome same result ≡ counted_length (place_of place.entry) }
+{
+    let (first, next) = octet_at(place)?;
+    if first >= 128 {
+        return long_length_at(place);
+    }
+    let count = first as u64;
+    if count > next.left {
+        return Err(Stop {
+            why: Why::Limit,
+            rest: next.rest,
+        });
+    }
+    Ok((count, next))
+}
+
+// A length of any form.
+fn long_length_at<'a>(place: Place<'a>) -> Result<(u64, Place<'a>), Stop<'a>>
     ensures { outcome same result ≡ counted_length (place_of place.entry) }
 {
     let mut source = Octets { rest: place.rest };
@@ -92,10 +113,8 @@ pub(crate) fn unsigned_fixed_at<'a>(
 ) -> Result<(u64, Place<'a>), Stop<'a>>
     ensures { outcome same result ≡ unsigned_fixed_read width (place_of place.entry) }
 {
-    let mut source = Octets { rest: place.rest };
-    let mut w = Window::new(&mut source, place.left);
-    let answer = unsigned_fixed(&mut w, width);
-    place.after(answer, w.taken())
+    let (octets, next) = group_at(place, width.octets() as u64)?;
+    Ok((unsigned_of(octets), next))
 }
 
 /// A number of fixed size in two's complement (X.696, 10.4).
@@ -106,14 +125,8 @@ pub(crate) fn signed_fixed_at<'a>(
     ensures number { outcome same result ≡ signed_fixed_read width (place_of place.entry) }
     ensures range { IfOk result (λ y. FitsSigned w64 y.0) }
 {
-    let mut source = Octets { rest: place.rest };
-    let mut w = Window::new(&mut source, place.left);
-    let answer = signed_fixed(&mut w, width);
-    let taken = w.taken();
-    match answer {
-        Ok(number) => place.after(Ok(number), taken),
-        Err(fault) => place.after(Err(fault), taken),
-    }
+    let (octets, next) = group_at(place, width.octets() as u64)?;
+    Ok((signed_of(octets), next))
 }
 
 /// An unsigned number after its count of octets (X.696, 10.3).
@@ -126,6 +139,19 @@ pub(crate) fn unsigned_counted_at<'a>(place: Place<'a>) -> Result<(i128, Place<'
 }
 
 fn natural_at<'a>(place: Place<'a>) -> Result<(i128, Place<'a>), Stop<'a>>
+    ensures number { outcome same result ≡ counted_number natural is_int128 (place_of place.entry) }
+    ensures range { IfOk result (λ y. FitsSigned w128 y.0) }
+{
+    let (count, next) = length_at(place)?;
+    if count == 0 || count > 8 {
+        return long_natural_at(place);
+    }
+    let (octets, end) = group_at(next, count)?;
+    Ok((unsigned_of(octets) as i128, end))
+}
+
+// An unsigned number of any number of octets.
+fn long_natural_at<'a>(place: Place<'a>) -> Result<(i128, Place<'a>), Stop<'a>>
     ensures number { outcome same result ≡ counted_number natural is_int128 (place_of place.entry) }
     ensures range { IfOk result (λ y. FitsSigned w128 y.0) }
 {
@@ -159,6 +185,18 @@ pub(crate) fn enumerated_at<'a>(place: Place<'a>) -> Result<(i64, Place<'a>), St
     ensures number { outcome same result ≡ enumerated_read (place_of place.entry) }
     ensures range { IfOk result (λ y. FitsSigned w64 y.0) }
 {
+    let (first, next) = octet_at(place)?;
+    if first >= 128 {
+        return long_enumerated_at(place);
+    }
+    Ok((first as i64, next))
+}
+
+// The number of an ENUMERATED in either form.
+fn long_enumerated_at<'a>(place: Place<'a>) -> Result<(i64, Place<'a>), Stop<'a>>
+    ensures number { outcome same result ≡ enumerated_read (place_of place.entry) }
+    ensures range { IfOk result (λ y. FitsSigned w64 y.0) }
+{
     let mut source = Octets { rest: place.rest };
     let mut w = Window::new(&mut source, place.left);
     let answer = enumerated(&mut w);
@@ -171,6 +209,29 @@ pub(crate) fn enumerated_at<'a>(place: Place<'a>) -> Result<(i64, Place<'a>), St
 
 /// A tag (X.696, 8.7).
 pub(crate) fn tag_at<'a>(place: Place<'a>) -> Result<(Tag, Place<'a>), Stop<'a>>
+    ensures { outcome same result ≡ tag_read (place_of place.entry) }
+{
+    let (first, next) = octet_at(place)?;
+    if first % 64 == 63 {
+        return long_tag_at(place);
+    }
+    Ok((short_tag(first), next))
+}
+
+// The tag that stands in one octet, whose number is below 63.
+fn short_tag(first: u8) -> Tag
+    ensures octet { first < 256 }
+    ensures class { result.class ≡ class_of (first / 64) }
+    ensures number { result.number ≡ first % 64 }
+{
+    Tag {
+        class: class(first),
+        number: (first % 64) as u32,
+    }
+}
+
+// A tag of any form.
+fn long_tag_at<'a>(place: Place<'a>) -> Result<(Tag, Place<'a>), Stop<'a>>
     ensures { outcome same result ≡ tag_read (place_of place.entry) }
 {
     let mut source = Octets { rest: place.rest };

@@ -1,10 +1,10 @@
 //! How the encoding of a value is checked.
 ghost use Rattle.std.specs.Prelude.{◌≡◌, length};
-ghost use Rattle.oer_types.specs.AsnType.{no_alternatives, sequence, sequence_of};
-ghost use Rattle.oer_types.specs.Checking.{check_additions as additions_checked, check_alternative as alternative_checked, check_extension as extension_checked, check_fields as fields_checked, check_open as open_checked, check_times, check_value};
+ghost use Rattle.oer_types.specs.AsnType.{sequence, sequence_of};
+ghost use Rattle.oer_types.specs.Checking.{check_additions as additions_checked, check_extension as extension_checked, check_fields as fields_checked, check_open as open_checked, check_times, check_value};
 ghost use Rattle.oer_types.specs.Constraints.{AdditionsKeepLimits, AlternativesKeepLimits, FieldsKeepLimits, KeepsLimits};
 ghost use Rattle.oer_types.specs.Fits.{AdditionDefaultsFit, AlternativeDefaultsFit, DefaultFits, DefaultsFit, FieldDefaultsFit, Fits};
-ghost use Rattle.oer_types.specs.ShapeView.{additions_of, fields_of, later_of, need_of, root_of, type_of};
+ghost use Rattle.oer_types.specs.ShapeView.{additions_of, fields_of, later_of, need_of, type_of};
 ghost use Rattle.oer_checker.specs.BitView.{bits_in};
 ghost use Rattle.oer_checker.specs.Facts.{IsChoice, IsExtensible};
 ghost use Rattle.oer_checker.specs.Places.{outcome, place_of, same};
@@ -13,15 +13,15 @@ ghost use Rattle.oer_checker.specs.Steps.{check_if, check_later as later_checked
 use crate::bit_strings::{addition_map, check_bit_string, preamble};
 use crate::bits::Bits;
 use crate::booleans::check_booleans;
-use crate::facts::{addition_fits, alternative_fits, field_fits, later_fits};
+use crate::facts::{addition_fits, field_fits, later_fits};
 use crate::lengths::{check_octets, leave, octets_between, sized_length_at};
 use crate::numbers::{check_boolean, check_enumerated, check_integer, sized_quantity_at};
-use crate::parts::{check_unknown, is_default, presence};
+use crate::parts::{check_unknown, is_default, presence, with_tag};
 use crate::place::{Place, both};
 use crate::stop::Stop;
 use crate::strings::{check_object_id, check_octet_string, check_text, check_utf8};
 use crate::units::tag_at;
-use oer_types::{Addition, Alphabet, Alt, Field, Shape, Size, contains_tag, is_same_tag, optional};
+use oer_types::{Addition, Alphabet, Alt, Field, Shape, Size, is_same_tag, optional};
 use oer_units::{Tag, Why};
 
 /// The encoding of a value of the type, and whether it is canonical.
@@ -117,8 +117,8 @@ fn check_choice<'a>(
     ensures { outcome same result ≡ check_value (type_of shape.now) (place_of place.entry) }
 {
     let (tag, next) = tag_at(place)?;
-    if contains_tag(alternatives, tag) {
-        return check_alternative(alternatives, tag, next);
+    if let Some(alternative) = with_tag(alternatives, tag) {
+        return check_shape(&alternative.shape, next);
     }
     match additions {
         None => Err(Stop {
@@ -287,29 +287,6 @@ pub(crate) fn check_additions<'a>(
         at = next;
     }
     Ok((is_canonical, at))
-}
-
-/// The value of the alternative of the root that has the tag.
-#[cycle(check)]
-fn check_alternative<'a>(
-    alternatives: &[Alt],
-    tag: Tag,
-    place: Place<'a>,
-) -> Result<(bool, Place<'a>), Stop<'a>>
-    requires limits { AlternativesKeepLimits (root_of alternatives.now no_alternatives) }
-    requires defaults { AlternativeDefaultsFit (root_of alternatives.now no_alternatives) }
-    ensures { outcome same result ≡ alternative_checked (root_of alternatives.now no_alternatives) tag (place_of place.entry) }
-{
-    for alternative in alternatives {
-        if is_same_tag(alternative.tag, tag) {
-            alternative_fits(alternatives, alternative);
-            return check_shape(&alternative.shape, place);
-        }
-    }
-    Err(Stop {
-        why: Why::UnknownAlternative,
-        rest: place.rest,
-    })
 }
 
 /// What follows a tag that no alternative of the root has (X.696, 20).

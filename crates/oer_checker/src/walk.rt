@@ -13,20 +13,19 @@ ghost use Rattle.oer_types.specs.ShapeView.{additions_of, fields_of, type_of};
 ghost use Rattle.oer_checker.specs.BitView.{IsWhole, bits_in};
 ghost use Rattle.oer_checker.specs.Offsets.{AreAdditions, AreFields, AreUnknown, IsBefore};
 ghost use Rattle.oer_checker.specs.Places.{place_of};
-ghost use Rattle.oer_checker.specs.Walk.{CanSplit, Enters, IsAfter, IsFirst, IsGot, LooksUp, StandsBy, Stands, read_in, step_of, type_in};
+ghost use Rattle.oer_checker.specs.Walk.{CanSplit, Enters, IsAfter, IsGot, LooksUp, StandsBy, Stands, read_in, step_of, type_in};
 
 use crate::bit_strings::{addition_map, preamble};
 use crate::bits::Bits;
 use crate::fault::PartFault;
 use crate::lengths::{octets_between, sized_length_at};
 use crate::numbers::sized_quantity_at;
-use crate::parts::{check_unknown, presence};
+use crate::parts::{check_unknown, presence, with_tag};
 use crate::place::Place;
 use crate::step::Step;
 use crate::units::{group_at, tag_at};
 use crate::value::{check_additions, check_elements, check_fields, check_shape};
-use oer_types::{Addition, Alt, Field, Shape, is_same_tag, optional};
-use oer_units::Tag;
+use oer_types::{Addition, Field, Shape, optional};
 
 /// Octets in an encoding, and their type if that is known.
 #[derive(Clone, Copy)]
@@ -287,18 +286,6 @@ fn element_of<'s, 'a>(shape: &'s Shape, index: usize, place: Place<'a>) -> Optio
         octets,
         rest: start.rest.len(),
     })
-}
-
-/// The first alternative that has the tag.
-fn with_tag<'s>(alternatives: &'s [Alt], tag: Tag) -> Option<&'s Alt>
-    ensures { IsFirst alternatives.now tag (option_map (λ a. a.now) result) }
-{
-    for alternative in alternatives {
-        if is_same_tag(alternative.tag, tag) {
-            return Some(alternative);
-        }
-    }
-    None
 }
 
 /// The alternative of a CHOICE.

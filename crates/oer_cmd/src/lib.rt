@@ -10,8 +10,11 @@ mod octets;
 mod part;
 mod program;
 mod show;
-mod type_text;
+pub mod type_text;
 mod value;
 
+pub use check::judged;
+pub use fault::Fault;
 pub use gathering::{GatherFault, gather};
-pub use program::{put_all, run};
+pub use octets::{all_octets, spelt};
+pub use program::{put_all, refused, report, run};

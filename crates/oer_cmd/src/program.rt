@@ -139,9 +139,9 @@ fn print_line<'a, W: Write>(mut line: String, output: &mut W) -> Result<(), Faul
     Ok(())
 }
 
-// Writes the line of the fault in one call, and answers the status. Where memory for the line is
-// refused, it is that of `Memory`. A failure to write it is ignored.
-fn report<E: Write>(alloc: Global, fault: Fault<'_>, errors: &mut E) -> u8
+/// Writes the line of the fault in one call, and returns the status. If memory for the line is
+/// refused, it is that of `Memory`. A failure to write it is ignored.
+pub fn report<E: Write>(alloc: Global, fault: Fault<'_>, errors: &mut E) -> u8
     ensures line { Reports fault.entry result (E.contents errors.old) (E.contents errors.new) }
     ensures status { result ≤ 2 → result ≡ status_of fault.entry }
     ensures fails { 1 ≤ result }
@@ -160,10 +160,10 @@ fn report<E: Write>(alloc: Global, fault: Fault<'_>, errors: &mut E) -> u8
     }
 }
 
-// Writes in one call what `clap` says where it takes no words: help to the output with status 0, and all
-// else to the errors with status 2. Where memory was refused, or the output fails, it writes the line of
-// that fault.
-fn refused<W: Write, E: Write>(
+/// Writes in one call what `clap` says where it takes no words: help to the output with status 0, and all
+/// else to the errors with status 2. Where memory was refused, or the output fails, it writes the line of
+/// that fault. Returns the status.
+pub fn refused<W: Write, E: Write>(
     alloc: Global,
     error: &clap::Error,
     output: &mut W,

@@ -12,7 +12,7 @@ ghost use Rattle.oer_cmd.specs.Types.{AreDefinedIn, DefinesNone, IsOnly, IsTypeI
 
 use crate::fault::Fault;
 use oer_options::Options;
-use oer_text::laws::{complete, sound};
+use oer_text::laws::{what_is_parsed_is_spelled, what_is_spelled_is_parsed};
 use oer_text::{Types, parse_type, parse_types};
 use oer_types::Schema;
 use std::alloc::Global;
@@ -59,8 +59,8 @@ pub fn one_type(alloc: Global, text: &str) -> Result<Schema, Fault<'_>>
     ensures spells { IfOk result (λ schema. IsOnly (IsTypeIn text.now) (the_type schema)) }
     ensures refused { IfErr result (λ fault. SpellsNone fault text.now) }
 {
-    sound();
-    complete();
+    what_is_parsed_is_spelled();
+    what_is_spelled_is_parsed();
     match parse_type(alloc, text) {
         Ok(schema) => Ok(schema),
         Err(fault) => Err(Fault::of_text(fault)),
@@ -73,8 +73,8 @@ pub fn definitions(alloc: Global, text: &str) -> Result<Types, Fault<'_>>
     ensures spells { IfOk result (λ types. IsOnly (AreDefinedIn text.now) (knowns types)) }
     ensures refused { IfErr result (λ fault. DefinesNone fault text.now) }
 {
-    sound();
-    complete();
+    what_is_parsed_is_spelled();
+    what_is_spelled_is_parsed();
     match parse_types(alloc, text) {
         Ok(types) => Ok(types),
         Err(fault) => Err(Fault::of_text(fault)),

@@ -8,3 +8,4 @@ pub mod Rewriting
 pub mod Headline
 pub mod MarksView
 pub mod Relaying
+pub mod Parts

@@ -9,6 +9,7 @@ ghost use Rattle.oer_types.specs.ShapeView.{additions_of, fields_of, later_of, r
 ghost use Rattle.oer_types.specs.ValueView.{places_of, value_of};
 ghost use Rattle.oer_decoder.specs.Choices.{found_in, later_at};
 ghost use Rattle.oer_decoder.specs.Memory.{NeedsNoMemory};
+ghost use Rattle.oer_decoder.specs.Parts.{IsChoice, IsExtensible};
 ghost use Rattle.oer_decoder.specs.Places.{place_by, rest_at, root_at};
 ghost use Rattle.oer_decoder.specs.Starts.{added_of, start_of};
 
@@ -65,22 +66,50 @@ pub(crate) fn read_shape<R: Source>(
         Shape::SequenceOf { size, item } => read_items(item, alloc, *size, w),
         Shape::Sequence { root, additions } => match additions {
             None => read_sequence(root, alloc, w),
-            Some(additions) => {
-                let start = read_root(root, alloc, w)?;
-                read_rest(additions, alloc, start, w)
-            }
+            Some(additions) => read_extensible(shape, root, additions, alloc, w),
         },
-        Shape::Choice { root, additions } => {
-            let tag = tag(w)?;
-            let found = read_alternative(root, alloc, tag, w)?;
-            match found {
-                Some(value) => Ok(value),
-                None => match additions {
-                    Some(additions) => read_later_alternative(additions, alloc, tag, w),
-                    None => Err(w.fault(Why::UnknownAlternative)),
-                },
-            }
-        }
+        Shape::Choice { root, additions } => read_choice(shape, root, additions, alloc, w),
+    }
+}
+
+/// A SEQUENCE with an extension marker (X.696, 16).
+#[cycle(read)]
+fn read_extensible<R: Source>(
+    shape: &Shape,
+    root: &[Field],
+    additions: &[Addition],
+    alloc: Global,
+    w: &mut Window<R>,
+) -> Result<Value, ReadFault>
+    requires is { IsExtensible shape.now root.now additions.now }
+    ensures { Reads (read_value (type_of shape.now)) (state R.remaining R.failed w.old) (seen value_of result)
+        (state R.remaining R.failed w.new) }
+{
+    let start = read_root(root, alloc, w)?;
+    read_rest(additions, alloc, start, w)
+}
+
+/// A CHOICE (X.696, 20).
+#[cycle(read)]
+fn read_choice<R: Source>(
+    shape: &Shape,
+    root: &[Alt],
+    additions: &Option<Vec<Alt>>,
+    alloc: Global,
+    w: &mut Window<R>,
+) -> Result<Value, ReadFault>
+    requires is { IsChoice shape.now root.now additions.now }
+    ensures { Reads (read_value (type_of shape.now)) (state R.remaining R.failed w.old) (seen value_of result)
+        (state R.remaining R.failed w.new) }
+{
+    let tag = tag(w)?;
+    let found = read_alternative(root, alloc, tag, w)?;
+    match found {
+        Some(value) => Ok(value),
+        None => match additions {
+            Some(additions) => read_later_alternative(additions, alloc, tag, w),
+            None => Err(w.fault(Why::UnknownAlternative)),
+        },
     }
 }
 

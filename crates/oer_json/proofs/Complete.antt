@@ -9,19 +9,23 @@ use Rattle.serde_json.specs.Data.{Data, Items, Members}
 use Rattle.serde_json.specs.Find.{get_member}
 use Rattle.oer_units.specs.Reading.{is_int64}
 use Rattle.oer_units.specs.declared.tagging.Tag.{Tag}
-use Rattle.oer_types.specs.AsnType.{Additions, Alternatives, AsnType, Fields, addition, alternative, bit_string, boolean, choice, enumerated, extensible_sequence, field, integer, later, no_additions, no_alternatives, no_fields, null, object_id, octet_string, restricted_string, sequence, sequence_of, utf8_string}
-use Rattle.oer_types.specs.AsnValue.{AsnValue, Places, Unknown, Values, absent, bit_list, bool, chosen, enum, foreign, int, items, no_places, no_values, nothing, octets, oid, present, seq, text, value}
+use Rattle.oer_types.specs.LeafType as kind
+use Rattle.oer_types.specs.LeafType.{LeafType}
+use Rattle.oer_types.specs.LeafValue.{LeafValue}
+use Rattle.oer_types.specs.LeafValue as leaf_kind
+use Rattle.oer_types.specs.AsnType.{Additions, Alternatives, AsnType, Fields, addition, alternative, bit_string, boolean, choice, enumerated, extensible_sequence, field, integer, later, leaf, no_additions, no_alternatives, no_fields, null, object_id, octet_string, restricted_string, sequence, sequence_of, utf8_string}
+use Rattle.oer_types.specs.AsnValue.{AsnValue, Places, Unknown, Values, absent, bit_list, bool, chosen, enum, foreign, int, items, leaf_value, no_places, no_values, nothing, octets, oid, present, seq, text, value}
 use Rattle.oer_types.specs.Constraints.{addition_count, has_number, has_tag, same_tag, size_fits}
 use Rattle.oer_types.specs.DefaultView.{place}
-use Rattle.oer_types.specs.FitTest.{additions_fit, all_below, all_fit, alternative_fits, fields_fit, is_fit, is_without, may_be_absent, unknown_fit, values_length}
+use Rattle.oer_types.specs.FitTest.{additions_fit, all_below, all_fit, alternative_fits, fields_fit, is_fit, is_fit_leaf, is_without, may_be_absent, unknown_fit, values_length}
 use Rattle.oer_types.specs.WellFormed.{AnyOf, Repeats, alternative_names, alternative_tags, field_names}
 use Rattle.oer_types.proofs.FitTests.{both, fit_complete}
 use Rattle.oer_types.proofs.Same.{same_tag-refl, same_tag-true}
 use Rattle.oer_json.specs.Answer.{◌>>=◌, some_or}
-use Rattle.oer_json.specs.Denotes.{DenoteAdditions, DenoteFields, DenoteItems, Denotes, DenotesAlternative, DenotesOctets, DenotesPlace, IsOneOf, only}
+use Rattle.oer_json.specs.Denotes.{DenoteAdditions, DenoteFields, DenoteItems, Denotes, DenotesAlternative, DenotesOctets, DenotesPlace, IsOneOf, LeafDenotes, only}
 use Rattle.oer_json.specs.Keys.{class_letter, is_among, tag_digits, tag_key}
 use Rattle.oer_json.specs.Laws.{OneTaken, TakenComplete}
-use Rattle.oer_json.specs.Take.{fitting, foreign_in, foreign_with, octets_in, one_member, sized, tag_of, take, take_additions, take_alternative, take_fields, take_foreign, take_items, take_place, take_unknown, taken}
+use Rattle.oer_json.specs.Take.{fitting, foreign_in, foreign_with, octets_in, one_member, sized, tag_of, take, take_additions, take_alternative, take_fields, take_foreign, take_items, take_leaf, take_place, take_unknown, taken}
 use Rattle.oer_literals.specs.Numbers.{tag_number_of}
 use Rattle.oer_json.specs.declared.fault.JsonFault.{JsonFault}
 use Rattle.oer_json.specs.declared.fault.JsonFault.TheVariants.{Misfit, Name, Range}
@@ -129,17 +133,21 @@ module _ (T : AsnType) (key : List ℕ) (d : Data) where
 
 -- ---- every type
 
+leaf_answered : (kind : LeafType) → IsNamed (leaf kind) → (j : Data) (v : LeafValue) → LeafDenotes kind v j → is_fit_leaf kind v ≡ true → take_leaf kind j ≡ Ok (leaf_value v)
+leaf_answered kind.boolean n j (leaf_kind.bool b) d h = ap (take boolean) d
+leaf_answered kind.null n j leaf_kind.nothing d h = ap (take null) d
+leaf_answered (kind.integer low high) n j (leaf_kind.int z) d h = fitted_is (integer low high) int _ z (integer_taken low high z j d h) h
+leaf_answered (kind.enumerated numbers e) n j (leaf_kind.enum z) d h = fitted_is (enumerated numbers e) enum _ z (item_taken numbers z j (items_apart numbers e n) d (both (is_int64 z) (e || has_number numbers z) h).0) h
+leaf_answered (kind.bit_string size) n j (leaf_kind.bit_list s) d h = fitted_is (bit_string size) bit_list _ s (bits_taken s j d) h
+leaf_answered (kind.octet_string size) n j (leaf_kind.octets w) d h = fitted_is (octet_string size) octets _ w (octets_taken w j d) h
+leaf_answered kind.object_id n j (leaf_kind.oid arcs) d h = fitted_is object_id oid _ arcs (arcs_taken arcs j d h) h
+leaf_answered (kind.restricted_string kind size) n j (leaf_kind.text w) d h = fitted_is (restricted_string kind size) text _ w (text_taken w j d) h
+leaf_answered (kind.utf8_string size) n j (leaf_kind.text w) d h = fitted_is (utf8_string size) text _ w (text_taken w j d) h
+leaf_answered _ n j v d h = absurd d
+
 mutual
   pub answered : (T : AsnType) → IsNamed T → (j : Data) (v : AsnValue) → Denotes T v j → is_fit T v ≡ true → take T j ≡ Ok v
-  answered boolean n j (bool b) d h = ap (take boolean) d
-  answered null n j nothing d h = ap (take null) d
-  answered (integer low high) n j (int z) d h = fitted_is (integer low high) int _ z (integer_taken low high z j d h) h
-  answered (enumerated numbers e) n j (enum z) d h = fitted_is (enumerated numbers e) enum _ z (item_taken numbers z j (items_apart numbers e n) d (both (is_int64 z) (e || has_number numbers z) h).0) h
-  answered (bit_string size) n j (bit_list s) d h = fitted_is (bit_string size) bit_list _ s (bits_taken s j d) h
-  answered (octet_string size) n j (octets w) d h = fitted_is (octet_string size) octets _ w (octets_taken w j d) h
-  answered object_id n j (oid arcs) d h = fitted_is object_id oid _ arcs (arcs_taken arcs j d h) h
-  answered (restricted_string kind size) n j (text w) d h = fitted_is (restricted_string kind size) text _ w (text_taken w j d) h
-  answered (utf8_string size) n j (text w) d h = fitted_is (utf8_string size) text _ w (text_taken w j d) h
+  answered (leaf kind) n j (leaf_value v) d h = leaf_answered kind n j v d h
   answered (sequence fs) n j (seq root added us) (ms, e, keys, d) h =
       let p = both (is_without added us) (fields_fit fs root) h in
       let w = without added us p.0 in

@@ -6,8 +6,10 @@ use Rattle.serde_json.specs.Data as json
 use Rattle.serde_json.specs.Data.{Data, Items, Members, Num}
 use Rattle.serde_json.specs.Find.{as_integer, get_member}
 use Rattle.oer_units.specs.declared.tagging.Tag.{Tag}
-use Rattle.oer_types.specs.AsnType.{Additions, Alternatives, AsnType, Fields, NamedNumber, addition, alternative, bit_string, boolean, choice, enumerated, extensible_sequence, field, integer, later, no_additions, no_alternatives, no_fields, null, object_id, octet_string, restricted_string, sequence, sequence_of, utf8_string}
-use Rattle.oer_types.specs.AsnValue.{AsnValue, Places, Unknown, Values, absent, bit_list, bool, chosen, enum, foreign, int, items, no_places, no_values, nothing, octets, oid, present, seq, text, unknown, value}
+use Rattle.oer_types.specs.LeafType.{LeafType, bit_string, boolean, enumerated, integer, null, object_id, octet_string, restricted_string, utf8_string}
+use Rattle.oer_types.specs.LeafValue.{LeafValue, bit_list, bool, enum, int, nothing, octets, oid, text}
+use Rattle.oer_types.specs.AsnType.{Additions, Alternatives, AsnType, Fields, NamedNumber, addition, alternative, choice, extensible_sequence, field, later, leaf, no_additions, no_alternatives, no_fields, sequence, sequence_of}
+use Rattle.oer_types.specs.AsnValue.{AsnValue, Places, Unknown, Values, absent, chosen, foreign, items, leaf_value, no_places, no_values, present, seq, unknown, value}
 use Rattle.oer_types.specs.Fits.{Fits}
 use Rattle.oer_types.specs.WellFormed.{AnyOf, field_names, addition_names}
 use Rattle.oer_json.specs.Keys.{EachKey, place_key, tag_key}
@@ -63,19 +65,24 @@ IsPart fs more us key = IsOneOf (field_names fs) key ⊎ (IsOneOf (addition_name
 abbrev pub only : List ℕ → Data → Data
 only key j = json.object (json.member key j json.no_members)
 
+-- the same of a value that holds no other
+abbrev pub LeafDenotes : LeafType → LeafValue → Data → Type 0
+LeafDenotes boolean (bool b) j = j ≡ json.boolean b
+LeafDenotes null nothing j = j ≡ json.null
+LeafDenotes (integer low high) (int z) j = DenotesInteger z j
+LeafDenotes (enumerated numbers extensible) (enum z) j = DenotesItem numbers z j
+LeafDenotes (bit_string size) (bit_list s) j = j ≡ json.string (map bit_digit s)
+LeafDenotes (octet_string size) (octets w) j = DenotesOctets w j
+LeafDenotes object_id (oid arcs) j = j ≡ json.string (dotted arcs)
+LeafDenotes (restricted_string kind size) (text w) j = j ≡ json.string w
+LeafDenotes (utf8_string size) (text w) j = j ≡ json.string w
+LeafDenotes kind v j = ⊥
+
 -- The JSON is of the form that the type's values have, and stands for the value; whether this fits is said apart. An
 -- object's keys come in any order, and it has none but those of parts that are there.
 abbrev mutual
   pub Denotes : AsnType → AsnValue → Data → Type 0
-  Denotes boolean (bool b) j = j ≡ json.boolean b
-  Denotes null nothing j = j ≡ json.null
-  Denotes (integer low high) (int z) j = DenotesInteger z j
-  Denotes (enumerated numbers extensible) (enum z) j = DenotesItem numbers z j
-  Denotes (bit_string size) (bit_list s) j = j ≡ json.string (map bit_digit s)
-  Denotes (octet_string size) (octets w) j = DenotesOctets w j
-  Denotes object_id (oid arcs) j = j ≡ json.string (dotted arcs)
-  Denotes (restricted_string kind size) (text w) j = j ≡ json.string w
-  Denotes (utf8_string size) (text w) j = j ≡ json.string w
+  Denotes (leaf kind) (leaf_value v) j = LeafDenotes kind v j
   Denotes (sequence fs) (seq root added us) j = (ms : Members) × (j ≡ json.object ms) × EachKey (IsOneOf (field_names fs)) ms
       × DenoteFields fs root ms
   Denotes (extensible_sequence fs more) (seq root added us) j = (ms : Members) × (j ≡ json.object ms)

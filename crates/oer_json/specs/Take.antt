@@ -8,7 +8,9 @@ use Rattle.oer_units.specs.declared.tagging.Tag.{Tag}
 use Rattle.serde_json.specs.Data as json
 use Rattle.serde_json.specs.Data.{Data, Items, Members, Num}
 use Rattle.serde_json.specs.Find.{as_null, as_bool, as_str, as_array, as_object, as_integer, get_member}
-use Rattle.oer_types.specs.AsnType.{Additions, Alternatives, AsnType, Fields, NamedNumber, addition, alternative, bit_string, boolean, choice, enumerated, extensible_sequence, field, integer, later, no_additions, no_alternatives, no_fields, null, object_id, octet_string, restricted_string, sequence, sequence_of, utf8_string}
+use Rattle.oer_types.specs.LeafType.{LeafType}
+use Rattle.oer_types.specs.LeafType as kind
+use Rattle.oer_types.specs.AsnType.{Additions, Alternatives, AsnType, Fields, NamedNumber, addition, alternative, bit_string, boolean, choice, enumerated, extensible_sequence, field, integer, later, leaf, no_additions, no_alternatives, no_fields, null, object_id, octet_string, restricted_string, sequence, sequence_of, utf8_string}
 use Rattle.oer_types.specs.AsnValue.{AsnValue, Places, Unknown, Values, bit_list, bool, chosen, enum, foreign, int, items, no_places, no_values, nothing, octets, oid, seq, text, unknown, value}
 use Rattle.oer_types.specs.Constraints.{addition_count, size_fits}
 use Rattle.oer_types.specs.DefaultView.{place}
@@ -185,17 +187,21 @@ take_foreign T true key j = foreign_in T key j
 abbrev pub is_key : List (List ℕ) → List (List ℕ) → List ℕ → Bool
 is_key root added key = is_among root key || (is_among added key || is_some (place_digits key))
 
+-- a value that holds no other
+abbrev pub take_leaf : LeafType → Data → Result AsnValue JsonFault
+take_leaf kind.boolean j = some_or Kind (as_bool j) >>= λ b. Ok (bool b)
+take_leaf kind.null j = some_or Kind (as_null j) >>= λ _. Ok nothing
+take_leaf (kind.integer low high) j = fitted (integer low high) int (integer_in j)
+take_leaf (kind.enumerated numbers extensible) j = fitted (enumerated numbers extensible) enum (item_in numbers j)
+take_leaf (kind.bit_string size) j = fitted (bit_string size) bit_list (bits_in j)
+take_leaf (kind.octet_string size) j = fitted (octet_string size) octets (octets_in j)
+take_leaf kind.object_id j = fitted object_id oid (arcs_in j)
+take_leaf (kind.restricted_string kind size) j = fitted (restricted_string kind size) text (text_in j)
+take_leaf (kind.utf8_string size) j = fitted (utf8_string size) text (text_in j)
+
 abbrev mutual
   pub take : AsnType → Data → Result AsnValue JsonFault
-  take boolean j = some_or Kind (as_bool j) >>= λ b. Ok (bool b)
-  take null j = some_or Kind (as_null j) >>= λ _. Ok nothing
-  take (integer low high) j = fitted (integer low high) int (integer_in j)
-  take (enumerated numbers extensible) j = fitted (enumerated numbers extensible) enum (item_in numbers j)
-  take (bit_string size) j = fitted (bit_string size) bit_list (bits_in j)
-  take (octet_string size) j = fitted (octet_string size) octets (octets_in j)
-  take object_id j = fitted object_id oid (arcs_in j)
-  take (restricted_string kind size) j = fitted (restricted_string kind size) text (text_in j)
-  take (utf8_string size) j = fitted (utf8_string size) text (text_in j)
+  take (leaf kind) j = take_leaf kind j
   take (sequence fs) j = members_in j
       >>= λ ms. if all_pass (is_among (field_names fs)) (keys_of ms) then
       (take_fields fs ms >>= λ root. Ok (seq root no_places [])) else Err Name

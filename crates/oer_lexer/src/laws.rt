@@ -2,11 +2,11 @@
 ghost use Rattle.oer_lexer.specs.Laws.{LexComplete, LexSound};
 
 /// Where the whole text was read, it falls into the tokens that were read.
-pub fn lex_sound()
+pub fn text_falls_into_its_tokens()
     ensures { LexSound }
 {}
 
 /// What falls into tokens is read as these, whole.
-pub fn lex_complete()
+pub fn tokens_of_a_text_are_read()
     ensures { LexComplete }
 {}

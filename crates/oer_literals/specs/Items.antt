@@ -2,23 +2,17 @@
 use Rattle.std.specs.Prelude.{ℕ, ℤ, List, [], ◌∷◌, Option, Some, None, if◌then◌else◌}
 use Rattle.std.specs.Ordering.{int_eq}
 use Rattle.std.specs.Str.{bytes_eq}
-use Rattle.oer_types.specs.AsnType.{NamedNumber, AsnType, boolean, null, integer, enumerated, bit_string, octet_string, object_id, restricted_string, utf8_string, sequence, extensible_sequence, sequence_of, choice}
+use Rattle.oer_types.specs.AsnType.{AsnType, leaf}
+use Rattle.oer_types.specs.LeafType.{LeafType, NamedNumber, enumerated}
+
+abbrev pub leaf_items : LeafType → List NamedNumber
+leaf_items (enumerated items extensible) = items
+leaf_items kind = []
 
 -- the items of an ENUMERATED; other types have none
 abbrev pub items_of : AsnType → List NamedNumber
-items_of boolean = []
-items_of null = []
-items_of (integer low high) = []
-items_of (enumerated items extensible) = items
-items_of (bit_string size) = []
-items_of (octet_string size) = []
-items_of object_id = []
-items_of (restricted_string letters size) = []
-items_of (utf8_string size) = []
-items_of (sequence _) = []
-items_of (extensible_sequence _ _) = []
-items_of (sequence_of size T) = []
-items_of (choice extensible more) = []
+items_of (leaf kind) = leaf_items kind
+items_of T = []
 
 -- the number of the first item with the name
 abbrev pub number_named : List NamedNumber → List ℕ → Option ℤ

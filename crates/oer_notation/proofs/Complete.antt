@@ -11,7 +11,8 @@ use Rattle.oer_types.specs.Nodes.{type_nodes}
 use Rattle.oer_types.specs.WellFormed.{depth, IsWellFormed}
 use Rattle.oer_types.specs.declared.fault.SchemaFault.TheVariants.{TooDeep, TooManyParts, DefaultMisfit}
 use Rattle.oer_notation.specs.Grammar.{Spells, IsType}
-use Rattle.oer_notation.specs.Parsing.{max_depth, max_parts, start, definition_at, end_by, end_of, parse}
+use Rattle.oer_types.specs.Limits.{max_depth, max_parts}
+use Rattle.oer_notation.specs.Parsing.{start, definition_at, end_by, end_of, parse}
 use Rattle.oer_notation.specs.Reading.{Known, with_parts}
 use Rattle.oer_notation.specs.State.{State, at_sign, ◌>>=◌}
 use Rattle.oer_notation.specs.declared.fault.TextFault.{TextFault}

@@ -20,8 +20,9 @@ use Rattle.oer_notation.proofs.Comes.{Comes, done, front, sole, split, recount, 
 use Rattle.oer_notation.proofs.CompleteItems.{pass_end, pass_comma, pass_dots, go_end, go_more, items_at_given, tagged_given, optional_given}
 use Rattle.oer_notation.proofs.CompleteNumbers.{bounds_given, bracketed_given, string_size_given, list_size_given}
 use Rattle.oer_notation.proofs.CompleteValues.{no_sign, need_given}
-use Rattle.oer_notation.proofs.Definitions.{some_depth, named_taken}
-use Rattle.oer_notation.proofs.SpeltWidths.{some_node}
+use Rattle.oer_types.proofs.Leaves.{some_depth}
+use Rattle.oer_notation.proofs.Definitions.{named_taken}
+use Rattle.oer_types.proofs.Leaves.{some_node}
 use Rattle.oer_notation.proofs.NamesGiven.{find_given, start_name, start_word_of}
 use Rattle.oer_notation.proofs.WordTable.{word_of}
 

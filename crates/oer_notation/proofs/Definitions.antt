@@ -1,31 +1,18 @@
 -- Names that stand for types, and types that are well-formed.
 use Rattle.std.proofs.Common.{◌≡◌, ℕ, ◌+◌, ◌-◌, ◌≤◌, ◌<◌, List, Some, Ok, Err, refl, ap, arith, lt-ltb}
 use Rattle.std.proofs.lemmas.Bool.{le-ltb}
-use Rattle.oer_types.specs.AsnType.{AsnType, boolean, null, integer, enumerated, bit_string, octet_string, object_id, restricted_string, utf8_string, sequence, extensible_sequence, sequence_of, choice}
+use Rattle.oer_types.specs.AsnType.{AsnType}
 use Rattle.oer_types.specs.Laws.{FirstFaultFound, NoFaultFound}
 use Rattle.oer_types.specs.Nodes.{type_nodes}
 use Rattle.oer_types.specs.WellFormed.{depth, IsFirstFault, IsWellFormed}
 use Rattle.oer_types.specs.declared.fault.SchemaFault.{SchemaFault}
 use Rattle.oer_types.specs.declared.fault.SchemaFault.TheVariants.{TooDeep}
-use Rattle.oer_notation.specs.Parsing.{max_depth, max_parts, faultless, checked, definition_at}
+use Rattle.oer_types.specs.Limits.{max_depth, max_parts}
+use Rattle.oer_types.proofs.Leaves.{some_depth}
+use Rattle.oer_notation.specs.Parsing.{faultless, checked, definition_at}
 use Rattle.oer_notation.specs.Reading.{Known, named_at, with_parts, type_at}
 use Rattle.oer_notation.specs.State.{State, fault, bump, full}
 use Rattle.oer_notation.specs.declared.fault.TextWhy.TheVariants as why
-
-pub some_depth : (T : AsnType) → 0 < depth T
-some_depth boolean = omega arith
-some_depth null = omega arith
-some_depth (integer low high) = omega arith
-some_depth (enumerated items extensible) = omega arith
-some_depth (bit_string s) = omega arith
-some_depth (octet_string s) = omega arith
-some_depth object_id = omega arith
-some_depth (restricted_string letters s) = omega arith
-some_depth (utf8_string s) = omega arith
-some_depth (sequence fs) = omega arith
-some_depth (extensible_sequence fs more) = omega arith
-some_depth (sequence_of s T) = omega arith
-some_depth (choice extensible more) = omega arith
 
 pub named_deep : (levels : ℕ) (T : AsnType) (s : State) → levels < depth T → named_at levels (Some T) s ≡ Err (fault (why.Schema TooDeep) s)
 unfolding named_at

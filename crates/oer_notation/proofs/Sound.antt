@@ -11,7 +11,8 @@ use Rattle.oer_types.specs.declared.fault.SchemaFault.{SchemaFault}
 use Rattle.oer_types.specs.Nodes.{type_nodes}
 use Rattle.oer_types.specs.WellFormed.{depth, IsWellFormed}
 use Rattle.oer_notation.specs.Grammar.{Spells, IsType, named_type}
-use Rattle.oer_notation.specs.Parsing.{max_depth, max_parts, start, faultless, checked, definition_at, end_by, end_among, end_of, parse}
+use Rattle.oer_types.specs.Limits.{max_depth, max_parts}
+use Rattle.oer_notation.specs.Parsing.{start, faultless, checked, definition_at, end_by, end_among, end_of, parse}
 use Rattle.oer_notation.specs.Reading.{Known, find, Start, nothing, of_word, of_name, start_at, word_type, with_parts, named_at, type_by, too_deep, entered, type_at}
 use Rattle.oer_notation.specs.State.{State, Read, first, bump, part_at, full}
 use Rattle.oer_notation.specs.declared.fault.TextFault.{TextFault}

@@ -7,16 +7,18 @@ use Rattle.std.proofs.lemmas.Bool.{eqb-true, ltb-true}
 use Rattle.std.proofs.lemmas.Slice.Eq.{bytes_eq-Decides}
 use Rattle.oer_lexer.specs.Token.{Token, word, number, bits, digits, text, sign}
 use Rattle.oer_lexer.specs.declared.token.Sign.TheVariants.{OpenBrace, CloseBrace}
-use Rattle.oer_types.specs.AsnType.{Need, must, may, default, NamedNumber, Alphabet, AsnType, boolean, null, integer, enumerated, bit_string, octet_string, object_id, restricted_string, utf8_string, sequence, extensible_sequence, sequence_of, choice}
-use Rattle.oer_types.specs.AsnValue.{AsnValue, bool, nothing, int, enum, bit_list, octets, text as string, oid}
+use Rattle.oer_types.specs.LeafType.{LeafType}
+use Rattle.oer_types.specs.LeafType as leaf_type
+use Rattle.oer_types.specs.AsnType.{Alphabet, AsnType, NamedNumber, Need, bit_string, boolean, default, integer, leaf, may, must, null, object_id, octet_string, restricted_string, utf8_string}
+use Rattle.oer_types.specs.AsnValue.{AsnValue, bit_list, bool, enum, int, nothing, octets, oid, text as string}
 use Rattle.oer_types.specs.declared.size.Size.{Size}
 use Rattle.oer_notation.specs.Grammar.{IsId, IsInteger, IsNatural, IsItemNamed, this_item, later_item, between_quotes, text_of, AreArcs, no_arcs, an_arc, IsValue, true_value, false_value, null_value, number_value as a_number_value, item_value, octets_value, digit_bits_value, bits_value as a_bits_value, text_value, utf8_value, arcs_value, IsNeed, needed, optional, with_default}
 use Rattle.oer_literals.specs.Bits.{is_one}
-use Rattle.oer_literals.specs.Items.{items_of, number_named}
+use Rattle.oer_literals.specs.Items.{items_of, number_named, leaf_items}
 use Rattle.oer_literals.specs.Numbers.{arc_of, integer_of}
 use Rattle.oer_notation.specs.Numbers.{number_at}
 use Rattle.oer_notation.specs.State.{State, first, bump, at_word, same_sign, skip_sign}
-use Rattle.oer_notation.specs.Values.{kind_of, kind_number, is_kind, inside, octets_in, digit_bits, text_in, is_number, arcs_more, arcs_at, only_for, some_value, word_value, number_value, digits_value, sign_value, value_by, value_at, need_at}
+use Rattle.oer_notation.specs.Values.{kind_of, kind_number, is_kind, inside, octets_in, digit_bits, text_in, is_number, arcs_more, arcs_at, only_for, some_value, word_value, number_value, digits_value, sign_value, value_by, value_at, need_at, leaf_kind_of}
 use Rattle.oer_notation.specs.Words.{is_id}
 use Rattle.oer_notation.specs.declared.value.ValueKind.{ValueKind}
 use Rattle.oer_notation.specs.declared.value.ValueKind.TheVariants as kind
@@ -61,20 +63,20 @@ Kinds kind.Arcs T = T ≡ object_id
 Kinds kind.Text T = ((letters : Alphabet) × (size : Size) × (T ≡ restricted_string letters size)) ⊎ ((size : Size) × (T ≡ utf8_string size))
 Kinds kind.Constructed T = Unit {0}
 
+leaf_kinds : (kind : LeafType) → Kinds (leaf_kind_of kind) (leaf kind)
+leaf_kinds leaf_type.boolean = refl
+leaf_kinds leaf_type.null = refl
+leaf_kinds (leaf_type.integer low high) = (low, high, refl)
+leaf_kinds (leaf_type.enumerated items extensible) = tt
+leaf_kinds (leaf_type.bit_string size) = (size, refl)
+leaf_kinds (leaf_type.octet_string size) = (size, refl)
+leaf_kinds leaf_type.object_id = refl
+leaf_kinds (leaf_type.restricted_string letters size) = inl (letters, size, refl)
+leaf_kinds (leaf_type.utf8_string size) = inr (size, refl)
+
 kinds : (T : AsnType) → Kinds (kind_of T) T
-kinds boolean = refl
-kinds null = refl
-kinds (integer low high) = (low, high, refl)
-kinds (enumerated items extensible) = tt
-kinds (bit_string size) = (size, refl)
-kinds (octet_string size) = (size, refl)
-kinds object_id = refl
-kinds (restricted_string letters size) = inl (letters, size, refl)
-kinds (utf8_string size) = inr (size, refl)
-kinds (sequence fs) = tt
-kinds (extensible_sequence fs more) = tt
-kinds (sequence_of size T) = tt
-kinds (choice extensible more) = tt
+kinds (leaf kind) = leaf_kinds kind
+kinds _ = tt
 
 pub of_kind : (k : ValueKind) (T : AsnType) → is_kind k T ≡ true → Kinds k T
 of_kind k T h = subst (λ k. Kinds k T) (sym (sym (back k) ∙ ap kind_back (eqb-true (kind_number k) (kind_number (kind_of T)) h) ∙ back (kind_of T))) (kinds T)
@@ -89,20 +91,13 @@ pub named_sound : (is : List NamedNumber) (w : List ℕ) (z : ℤ) → number_na
 named_sound [] w z h = absurd (cc)
 named_sound (i ∷ is) w z h = by_name (bytes_eq i.name w) i is w z refl (named_sound is w z) h
 
+leaf_item_sound : (kind : LeafType) (w : List ℕ) (z : ℤ) → IsId w → number_named (leaf_items kind) w ≡ Some z → IsValue (leaf kind) (enum z) (word w ∷ [])
+leaf_item_sound (leaf_type.enumerated items extensible) w z i h = item_value i (named_sound items w z h)
+leaf_item_sound _ w z i h = absurd (cc)
+
 item_sound : (T : AsnType) (w : List ℕ) (z : ℤ) → IsId w → number_named (items_of T) w ≡ Some z → IsValue T (enum z) (word w ∷ [])
-item_sound boolean w z i h = absurd (cc)
-item_sound null w z i h = absurd (cc)
-item_sound (integer low high) w z i h = absurd (cc)
-item_sound (enumerated items extensible) w z i h = item_value i (named_sound items w z h)
-item_sound (bit_string size) w z i h = absurd (cc)
-item_sound (octet_string size) w z i h = absurd (cc)
-item_sound object_id w z i h = absurd (cc)
-item_sound (restricted_string letters size) w z i h = absurd (cc)
-item_sound (utf8_string size) w z i h = absurd (cc)
-item_sound (sequence fs) w z i h = absurd (cc)
-item_sound (extensible_sequence fs more) w z i h = absurd (cc)
-item_sound (sequence_of size T) w z i h = absurd (cc)
-item_sound (choice extensible more) w z i h = absurd (cc)
+item_sound (leaf kind) w z i h = leaf_item_sound kind w z i h
+item_sound _ w z i h = absurd (cc)
 
 -- ---- one token
 

@@ -4,7 +4,7 @@ use Rattle.std.specs.Prelude.{FitsSigned}
 use Rattle.std.specs.Int.{Width, w64}
 use Rattle.std.proofs.lemmas.Bool.{cases_lt}
 use Rattle.oer_lexer.specs.Token.{Token}
-use Rattle.oer_types.specs.AsnType.{AsnType, boolean, null, integer, enumerated, bit_string, octet_string, object_id, restricted_string, utf8_string, sequence, extensible_sequence, sequence_of, choice, NamedNumber, Fields, Additions, Alternatives, no_alternatives, alternative, later}
+use Rattle.oer_types.specs.AsnType.{Additions, Alternatives, AsnType, Fields, NamedNumber, alternative, later, no_alternatives}
 use Rattle.oer_types.specs.FaultTest.{first_fault}
 use Rattle.oer_types.specs.Laws.{NoFaultFound}
 use Rattle.oer_types.specs.Nodes.{type_nodes, fields_nodes, additions_nodes, alternatives_nodes}
@@ -13,23 +13,9 @@ use Rattle.oer_types.specs.declared.fault.SchemaFault.TheVariants.{TooManyParts}
 use Rattle.oer_types.specs.declared.size.Size.{Size}
 use Rattle.oer_units.specs.Laws.{HasTagNumber}
 use Rattle.oer_units.specs.declared.tagging.Tag.{Tag}
+use Rattle.oer_types.proofs.Leaves.{some_node}
 use Rattle.oer_notation.specs.Grammar.{IsInteger, an_integer, IsNatural, a_natural, IsBound, no_bound, a_bound, AreBounds, no_bounds, one_number, range, IsSizeEnd, no_end, an_end, IsSize, one_size, sizes, IsBracketedSize, any_size, bracketed, IsListSize, in_brackets, bare, IsItemNumber, own_number, number_by_place, AreItems, no_items, item, items_marker, IsTag, own_tag, tag_by_place, IsDefined, this_definition, later_definition, IsType, boolean_type, null_type, object_id_type, named_type, integer_type, enumerated_type, octet_string_type, bit_string_type, restricted_string_type, utf8_string_type, empty_sequence_type, sequence_type, extensible_sequence_type, sequence_of_type, choice_type, AreComponents, no_components, component, components_marker, AreAdditions, none_added, added, AreAlternatives, none_left, an_alternative, alternatives_marker, AreLater, none_later, a_later}
 use Rattle.oer_notation.specs.Reading.{Known}
-
-pub some_node : (T : AsnType) → 1 ≤ type_nodes T
-some_node boolean = omega arith
-some_node null = omega arith
-some_node (integer low high) = omega arith
-some_node (enumerated items extensible) = omega arith
-some_node (bit_string s) = omega arith
-some_node (octet_string s) = omega arith
-some_node object_id = omega arith
-some_node (restricted_string letters s) = omega arith
-some_node (utf8_string s) = omega arith
-some_node (sequence fs) = omega arith
-some_node (extensible_sequence fs more) = omega arith
-some_node (sequence_of s T) = omega arith
-some_node (choice extensible more) = omega arith
 
 pub few_nodes : NoFaultFound → (T : AsnType) → first_fault T ≡ None → type_nodes T ≤ 4096
 few_nodes law T e = ⊎_elim (λ l. absurd ((law T).0 e TooManyParts l)) (λ g. g) (cases_lt 4096 (type_nodes T))

@@ -4,6 +4,7 @@ use Rattle.oer_lexer.specs.Lexing.{Lexed, lex}
 use Rattle.oer_lexer.specs.Token.{Token, word, number, bits, digits, text, sign, Spot}
 use Rattle.oer_lexer.specs.declared.token.Sign.TheVariants.{Assign}
 use Rattle.oer_types.specs.AsnType.{AsnType}
+use Rattle.oer_types.specs.Limits.{max_depth, max_parts}
 use Rattle.oer_types.specs.FaultTest.{first_fault}
 use Rattle.oer_types.specs.declared.fault.SchemaFault.{SchemaFault}
 use Rattle.oer_notation.specs.Reading.{Known, find, with_parts, type_at}
@@ -12,12 +13,6 @@ use Rattle.oer_notation.specs.Words.{is_name}
 use Rattle.oer_notation.specs.declared.fault.TextFault.{TextFault}
 use Rattle.oer_notation.specs.declared.fault.TextWhy.{TextWhy}
 use Rattle.oer_notation.specs.declared.fault.TextWhy.TheVariants as why
-
-abbrev pub max_depth : ℕ
-max_depth = 32
-
-abbrev pub max_parts : ℕ
-max_parts = 4096
 
 -- before the first token
 abbrev pub start : Lexed → State

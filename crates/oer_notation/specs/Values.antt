@@ -6,7 +6,8 @@ use Rattle.std.specs.Str.{chars}
 use Rattle.hex.specs.Hex.{decode_of}
 use Rattle.oer_lexer.specs.Token.{Token, word, number, bits, digits, text, sign}
 use Rattle.oer_lexer.specs.declared.token.Sign.TheVariants.{OpenBrace, CloseBrace}
-use Rattle.oer_types.specs.AsnType.{Need, must, may, default, AsnType, boolean, null, integer, enumerated, bit_string, octet_string, object_id, restricted_string, utf8_string, sequence, extensible_sequence, sequence_of, choice}
+use Rattle.oer_types.specs.LeafType.{LeafType, bit_string, boolean, enumerated, integer, null, object_id, octet_string, restricted_string, utf8_string}
+use Rattle.oer_types.specs.AsnType.{AsnType, Need, default, leaf, may, must}
 use Rattle.oer_types.specs.AsnValue.{AsnValue, bool, nothing, int, enum, bit_list, octets, text as string, oid}
 use Rattle.oer_types.specs.Bits.{bits_of, octets_for}
 use Rattle.oer_literals.specs.Bits.{is_one}
@@ -21,21 +22,21 @@ use Rattle.oer_notation.specs.declared.value.TextPlace.TheVariants as place
 use Rattle.oer_notation.specs.declared.value.ValueKind.{ValueKind}
 use Rattle.oer_notation.specs.declared.value.ValueKind.TheVariants as kind
 
+abbrev pub leaf_kind_of : LeafType → ValueKind
+leaf_kind_of boolean = kind.Truth
+leaf_kind_of null = kind.Nothing
+leaf_kind_of (integer low high) = kind.Number
+leaf_kind_of (enumerated items extensible) = kind.Named
+leaf_kind_of (bit_string size) = kind.Bits
+leaf_kind_of (octet_string size) = kind.Octets
+leaf_kind_of object_id = kind.Arcs
+leaf_kind_of (restricted_string letters size) = kind.Text
+leaf_kind_of (utf8_string size) = kind.Text
+
 -- the notation that a type's values have
 abbrev pub kind_of : AsnType → ValueKind
-kind_of boolean = kind.Truth
-kind_of null = kind.Nothing
-kind_of (integer low high) = kind.Number
-kind_of (enumerated items extensible) = kind.Named
-kind_of (bit_string size) = kind.Bits
-kind_of (octet_string size) = kind.Octets
-kind_of object_id = kind.Arcs
-kind_of (restricted_string letters size) = kind.Text
-kind_of (utf8_string size) = kind.Text
-kind_of (sequence _) = kind.Constructed
-kind_of (extensible_sequence _ _) = kind.Constructed
-kind_of (sequence_of size T) = kind.Constructed
-kind_of (choice extensible more) = kind.Constructed
+kind_of (leaf leaf_type) = leaf_kind_of leaf_type
+kind_of _ = kind.Constructed
 
 abbrev pub kind_number : ValueKind → ℕ
 kind_number kind.Truth = 0

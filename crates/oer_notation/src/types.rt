@@ -12,19 +12,13 @@ ghost use Rattle.oer_notation.specs.Views.{known, knowns};
 
 use crate::cursor::Cursor;
 use crate::fault::{TextFault, TextWhy};
-use crate::laws::{complete, sound};
+use crate::laws::{what_is_parsed_is_spelled, what_is_spelled_is_parsed};
 use crate::parse::{Definition, find, read_type};
 use crate::word::is_name;
 use oer_lexer::{Sign, Token, Tokens, lex};
-use oer_types::Schema;
 use oer_types::laws::first_fault;
+use oer_types::{MAX_DEPTH, MAX_PARTS, Schema};
 use std::alloc::Global;
-
-/// How deep types may nest.
-const MAX_DEPTH: u8 = 32;
-
-/// How many parts a type may have.
-const MAX_PARTS: u16 = 4096;
 
 /// Types by their Names.
 #[derive(Drop)]
@@ -49,8 +43,8 @@ pub fn parse_type(alloc: Global, text: &str) -> Result<Schema, TextFault>
     ensures spells { IfOk result (λ schema. Spells (the_type schema) text.now) }
     ensures refused { IfErr result (λ fault. IsNoType fault text.now) }
 {
-    sound();
-    complete();
+    what_is_parsed_is_spelled();
+    what_is_spelled_is_parsed();
     read_text(alloc, text)
 }
 
@@ -61,8 +55,8 @@ pub fn parse_types(alloc: Global, text: &str) -> Result<Types, TextFault>
     ensures spells { IfOk result (λ types. SpellsAll (knowns types) text.now) }
     ensures refused { IfErr result (λ fault. AreNoTypes fault text.now) }
 {
-    sound();
-    complete();
+    what_is_parsed_is_spelled();
+    what_is_spelled_is_parsed();
     read_definitions(alloc, text)
 }
 

@@ -1,7 +1,7 @@
 -- What the words of some command lines ask for.
 use Rattle.std.specs.Prelude.{◌≡◌, List, [], ◌∷◌, ◌++◌, Option, Some, None, true, codes}
 use Rattle.clap.specs.Words.{Text, takes}
-use Rattle.oer_options.specs.Words.{Texts, asked, given, given_number, oer, texts_in}
+use Rattle.oer_options.specs.Words.{Texts, asked, default_limit, given, given_number, oer, texts_in}
 
 -- the words are taken, and ask for the task with the type, the digits and the limit
 pub record AsksFor (words : List Text) (name : Text) (types : Texts) (hex_value limit_value : Option Text) : Type 0 where
@@ -22,12 +22,12 @@ named t n = record { one = None; types = Some t; name = Some n }
 abbrev pub WithEqualSigns : Type 0
 WithEqualSigns = (t h : Text)
     → AsksFor (codes "oer" ∷ codes "canon" ∷ (codes "--type=" ++ t) ∷ (codes "--hex=" ++ h) ∷ []) (codes "canon") (one t) (Some h)
-    (Some (codes "1048576"))
+    (Some default_limit)
 
 abbrev pub WithName : Type 0
 WithName = (t n h : Text)
     → AsksFor (codes "oer" ∷ codes "canon" ∷ (codes "--types=" ++ t) ∷ (codes "--name=" ++ n) ∷ (codes "--hex=" ++ h) ∷ [])
-    (codes "canon") (named t n) (Some h) (Some (codes "1048576"))
+    (codes "canon") (named t n) (Some h) (Some default_limit)
 
 abbrev pub WithoutDigits : Type 0
 WithoutDigits = (t : Text)
@@ -37,7 +37,7 @@ WithoutDigits = (t : Text)
 abbrev pub StoredRun : Type 0
 StoredRun = AsksFor (codes "oer" ∷ codes "canon" ∷ codes "--type" ∷ codes "INTEGER (0..MAX)" ∷ codes "--hex" ∷ codes "020005"
     ∷ []) (codes "canon")
-    (one (codes "INTEGER (0..MAX)")) (Some (codes "020005")) (Some (codes "1048576"))
+    (one (codes "INTEGER (0..MAX)")) (Some (codes "020005")) (Some default_limit)
 
 abbrev pub ShowHex : Type 0
 ShowHex = (t h : Text)
@@ -47,11 +47,11 @@ ShowHex = (t h : Text)
 abbrev pub CheckHex : Type 0
 CheckHex = (t h : Text)
     → AsksFor (codes "oer" ∷ codes "check" ∷ (codes "--hex=" ++ h) ∷ (codes "--type=" ++ t) ∷ []) (codes "check") (one t) (Some h)
-    (Some (codes "1048576"))
+    (Some default_limit)
 
 abbrev pub MakeJson : Type 0
 MakeJson = (t j : Text) → let words = codes "oer" ∷ codes "make" ∷ (codes "--json=" ++ j) ∷ (codes "--type=" ++ t) ∷ [] in
-    AsksFor words (codes "make") (one t) None (Some (codes "1048576")) × (given words (codes "json") ≡ Some j)
+    AsksFor words (codes "make") (one t) None (Some default_limit) × (given words (codes "json") ≡ Some j)
 
 abbrev pub PartWithPath : Type 0
 PartWithPath = (t p : Text)

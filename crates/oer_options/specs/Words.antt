@@ -15,10 +15,14 @@ use Rattle.clap.specs.declared.builder.value_parser.ValueParser.TheVariants as v
 abbrev pub option_rule : Text → Rule
 option_rule id = record (new_rule id) { long = Some id; value_names = 1 }
 
+-- how many octets a value may take where no limit is given
+abbrev pub default_limit : Text
+default_limit = codes "1048576"
+
 abbrev pub limit_rule : Rule
 limit_rule = record (option_rule (codes "limit")) {
   parser = Some (vp.Unsigned 0 18446744073709551615);
-  defaults = codes "1048576" ∷ [];
+  defaults = default_limit ∷ [];
 }
 
 -- the command of a task, with the options that all tasks have

@@ -5,4 +5,5 @@ mod help;
 pub mod laws;
 mod options;
 
-pub use options::{Options, Task, parsed};
+pub use help::{HEX, NAME, TYPE, TYPES, VERSION};
+pub use options::{DEFAULT_LIMIT, Options, Task, option, parsed};

@@ -50,7 +50,7 @@ pub struct Options<'a> {
 }
 
 /// An option that takes a value, with its help, which calls the value by this name.
-fn option<'a>(alloc: Global, id: &'a str, value_name: &'a str, help: &'a str) -> Arg<'a>
+pub fn option<'a>(alloc: Global, id: &'a str, value_name: &'a str, help: &'a str) -> Arg<'a>
     ensures rule { rule_of result ≡ option_rule id.entry.now }
     ensures local { result.global ≡ false }
 {
@@ -60,6 +60,9 @@ fn option<'a>(alloc: Global, id: &'a str, value_name: &'a str, help: &'a str) ->
         .help(help)
 }
 
+/// How many octets the value may take where the arguments give no limit, in decimal digits.
+pub const DEFAULT_LIMIT: &str = "1048576";
+
 /// The option that bounds how many octets the value may take.
 fn limit_option<'a>(alloc: Global) -> Arg<'a>
     ensures rule { rule_of result ≡ limit_rule }
@@ -67,7 +70,7 @@ fn limit_option<'a>(alloc: Global) -> Arg<'a>
 {
     option(alloc, "limit", "N", help::LIMIT)
         .value_parser(clap::value_parser!(u64))
-        .default_value("1048576")
+        .default_value(DEFAULT_LIMIT)
 }
 
 /// A command with its help.

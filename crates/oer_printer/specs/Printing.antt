@@ -15,8 +15,10 @@ use Rattle.oer_units.specs.declared.tagging.Class.TheVariants.{Universal, Applic
 use Rattle.oer_units.specs.declared.tagging.Tag.{Tag}
 use Rattle.oer_literals.specs.Bits.{bit_digit}
 use Rattle.oer_literals.specs.Items.{items_of, name_of}
-use Rattle.oer_types.specs.AsnType.{Need, must, may, default, NamedNumber, Alphabet, ia5, visible, numeric, printable, AsnType, boolean, null, integer, enumerated, bit_string, octet_string, object_id, restricted_string, utf8_string, sequence, extensible_sequence, sequence_of, choice, Fields, no_fields, field, Additions, no_additions, addition, Alternatives, no_alternatives, alternative, later}
-use Rattle.oer_types.specs.AsnValue.{AsnValue, bool, nothing, int, enum, bit_list, octets, text as string, oid, seq, items as list, chosen, foreign}
+use Rattle.oer_types.specs.LeafType.{LeafType, bit_string, boolean, enumerated, integer, null, object_id, octet_string, restricted_string, utf8_string}
+use Rattle.oer_types.specs.AsnType.{Additions, Alphabet, Alternatives, AsnType, Fields, NamedNumber, Need, addition, alternative, choice, default, extensible_sequence, field, ia5, later, leaf, may, must, no_additions, no_alternatives, no_fields, numeric, printable, sequence, sequence_of, visible}
+use Rattle.oer_types.specs.AsnValue.{AsnValue, leaf_value}
+use Rattle.oer_types.specs.LeafValue.{LeafValue, bit_list, bool, enum, int, nothing, octets, oid, text as string}
 use Rattle.oer_types.specs.declared.size.Size.{Size}
 
 -- ---- tokens
@@ -111,20 +113,21 @@ abbrev pub name_tokens : Option (List ℕ) → List Token
 name_tokens None = []
 name_tokens (Some w) = word w ∷ []
 
+-- a value that holds no other, of a type with these items
+abbrev pub leaf_value_tokens : List NamedNumber → LeafValue → List Token
+leaf_value_tokens is (bool b) = word (truth_word b) ∷ []
+leaf_value_tokens is nothing = word (codes "NULL") ∷ []
+leaf_value_tokens is (int z) = integer_token z ∷ []
+leaf_value_tokens is (enum z) = name_tokens (name_of is z)
+leaf_value_tokens is (bit_list bs) = bits (quote ∷ (map bit_digit bs ++ codes "'B")) ∷ []
+leaf_value_tokens is (octets xs) = digits (quote ∷ (encode_upper xs ++ codes "'H")) ∷ []
+leaf_value_tokens is (string w) = text (quoted_text w) ∷ []
+leaf_value_tokens is (oid arcs) = sign OpenBrace ∷ (map natural_token arcs ++ sign CloseBrace ∷ [])
+
 -- a value of a type with these items
 abbrev pub value_tokens : List NamedNumber → AsnValue → List Token
-value_tokens is (bool b) = word (truth_word b) ∷ []
-value_tokens is nothing = word (codes "NULL") ∷ []
-value_tokens is (int z) = integer_token z ∷ []
-value_tokens is (enum z) = name_tokens (name_of is z)
-value_tokens is (bit_list bs) = bits (quote ∷ (map bit_digit bs ++ codes "'B")) ∷ []
-value_tokens is (octets xs) = digits (quote ∷ (encode_upper xs ++ codes "'H")) ∷ []
-value_tokens is (string w) = text (quoted_text w) ∷ []
-value_tokens is (oid arcs) = sign OpenBrace ∷ (map natural_token arcs ++ sign CloseBrace ∷ [])
-value_tokens is (seq root added more) = []
-value_tokens is (list vs) = []
-value_tokens is (chosen t v) = []
-value_tokens is (foreign t xs) = []
+value_tokens is (leaf_value v) = leaf_value_tokens is v
+value_tokens is v = []
 
 abbrev pub need_tokens : List NamedNumber → Need → List Token
 need_tokens is must = []
@@ -139,17 +142,20 @@ component_tokens name type need = word name ∷ (type ++ need)
 abbrev pub alternative_tokens : List ℕ → Tag → List Token → List Token
 alternative_tokens name tag type = word name ∷ (tag_tokens tag ++ type)
 
+abbrev pub leaf_tokens : LeafType → List Token
+leaf_tokens boolean = word (codes "BOOLEAN") ∷ []
+leaf_tokens null = word (codes "NULL") ∷ []
+leaf_tokens (integer low high) = word (codes "INTEGER") ∷ bounds_tokens low high
+leaf_tokens (enumerated is extensible) = word (codes "ENUMERATED") ∷ in_braces (map item_tokens is ++ marker_if extensible)
+leaf_tokens (bit_string size) = word (codes "BIT") ∷ word (codes "STRING") ∷ size_tokens size
+leaf_tokens (octet_string size) = word (codes "OCTET") ∷ word (codes "STRING") ∷ size_tokens size
+leaf_tokens object_id = word (codes "OBJECT") ∷ word (codes "IDENTIFIER") ∷ []
+leaf_tokens (restricted_string letters size) = word (alphabet_name letters) ∷ size_tokens size
+leaf_tokens (utf8_string size) = word (codes "UTF8String") ∷ size_tokens size
+
 abbrev mutual
   pub type_tokens : AsnType → List Token
-  type_tokens boolean = word (codes "BOOLEAN") ∷ []
-  type_tokens null = word (codes "NULL") ∷ []
-  type_tokens (integer low high) = word (codes "INTEGER") ∷ bounds_tokens low high
-  type_tokens (enumerated is extensible) = word (codes "ENUMERATED") ∷ in_braces (map item_tokens is ++ marker_if extensible)
-  type_tokens (bit_string size) = word (codes "BIT") ∷ word (codes "STRING") ∷ size_tokens size
-  type_tokens (octet_string size) = word (codes "OCTET") ∷ word (codes "STRING") ∷ size_tokens size
-  type_tokens object_id = word (codes "OBJECT") ∷ word (codes "IDENTIFIER") ∷ []
-  type_tokens (restricted_string letters size) = word (alphabet_name letters) ∷ size_tokens size
-  type_tokens (utf8_string size) = word (codes "UTF8String") ∷ size_tokens size
+  type_tokens (leaf kind) = leaf_tokens kind
   type_tokens (sequence fs) = word (codes "SEQUENCE") ∷ in_braces (field_parts fs)
   type_tokens (extensible_sequence fs more) = word (codes "SEQUENCE") ∷ in_braces (field_parts fs ++ marker ∷ addition_parts more)
   type_tokens (sequence_of size T) = word (codes "SEQUENCE") ∷ (size_tokens size ++ word (codes "OF") ∷ type_tokens T)
@@ -182,20 +188,15 @@ abbrev pub is_visible : List ℕ → Bool
 is_visible [] = true
 is_visible (c ∷ cs) = if nat_lt c 32 then false else is_visible cs
 
+abbrev pub leaf_has_notation : List NamedNumber → LeafValue → Bool
+leaf_has_notation is (enum z) = is_some (name_of is z)
+leaf_has_notation is (string w) = is_visible (chars w)
+leaf_has_notation is v = true
+
 -- all but values of constructed type, numbers that no item has, and texts with control characters
 abbrev pub value_has_notation : List NamedNumber → AsnValue → Bool
-value_has_notation is (bool b) = true
-value_has_notation is nothing = true
-value_has_notation is (int z) = true
-value_has_notation is (enum z) = is_some (name_of is z)
-value_has_notation is (bit_list bs) = true
-value_has_notation is (octets xs) = true
-value_has_notation is (string w) = is_visible (chars w)
-value_has_notation is (oid arcs) = true
-value_has_notation is (seq root added more) = false
-value_has_notation is (list vs) = false
-value_has_notation is (chosen t v) = false
-value_has_notation is (foreign t xs) = false
+value_has_notation is (leaf_value v) = leaf_has_notation is v
+value_has_notation is v = false
 
 abbrev pub need_has_notation : List NamedNumber → Need → Bool
 need_has_notation is must = true
@@ -205,15 +206,7 @@ need_has_notation is (default v) = value_has_notation is v
 abbrev mutual
   -- all defaults in the type have one
   pub has_notation : AsnType → Bool
-  has_notation boolean = true
-  has_notation null = true
-  has_notation (integer low high) = true
-  has_notation (enumerated is extensible) = true
-  has_notation (bit_string size) = true
-  has_notation (octet_string size) = true
-  has_notation object_id = true
-  has_notation (restricted_string letters size) = true
-  has_notation (utf8_string size) = true
+  has_notation (leaf kind) = true
   has_notation (sequence fs) = have_notation fs
   has_notation (extensible_sequence fs more) = have_notation fs && additions_have_notation more
   has_notation (sequence_of size T) = has_notation T

@@ -5,18 +5,20 @@ use Rattle.std.proofs.lemmas.Bool.{and_parts}
 use Rattle.oer_lexer.specs.FallsInto.{FallsInto}
 use Rattle.oer_lexer.specs.Token.{Token, sign}
 use Rattle.oer_lexer.specs.declared.token.Sign.TheVariants.{Comma}
-use Rattle.oer_types.specs.AsnType.{Need, must, may, default, ia5, visible, numeric, printable, AsnType, boolean, null, integer, enumerated, bit_string, octet_string, object_id, restricted_string, utf8_string, sequence, extensible_sequence, sequence_of, choice, Fields, no_fields, field, Additions, no_additions, addition, Alternatives, no_alternatives, alternative, later}
+use Rattle.oer_types.specs.LeafType as kind
+use Rattle.oer_types.specs.LeafType.{LeafType}
+use Rattle.oer_types.specs.AsnType.{Additions, Alternatives, AsnType, Fields, Need, addition, alternative, choice, default, extensible_sequence, field, ia5, later, leaf, may, must, no_additions, no_alternatives, no_fields, numeric, printable, sequence, sequence_of, visible}
 use Rattle.oer_types.specs.Fits.{Fits, DefaultFits, DefaultsFit, FieldDefaultsFit, AdditionDefaultsFit, AlternativeDefaultsFit}
 use Rattle.oer_types.specs.Laws.{WellFormedDefaults}
 use Rattle.oer_types.specs.WellFormed.{AnyOf, Repeats, Somewhere, InFields, InAdditions, InAlternatives, HasNoItems, IsWellFormed, is_identifier, names, item_names, field_names, addition_names, alternative_names}
-use Rattle.oer_types.specs.Widths.{AreLater as AllLater, AreInOrder, HasWidths, FieldsHaveWidths, AdditionsHaveWidths, AlternativesHaveWidths}
+use Rattle.oer_types.specs.Widths.{AdditionsHaveWidths, AlternativesHaveWidths, AreInOrder, AreLater as AllLater, FieldsHaveWidths, HasWidths, LeafHasWidths}
 use Rattle.oer_types.specs.declared.fault.SchemaFault.TheVariants.{BadName, RepeatedName, NoItems}
 use Rattle.oer_units.specs.Laws.{HasTagNumber}
 use Rattle.oer_units.specs.declared.tagging.Tag.{Tag}
 use Rattle.oer_notation.specs.Grammar.{Spells, IsNeed, needed, optional, with_default, plain_addition, in_brackets, IsType, boolean_type, null_type, object_id_type, integer_type, enumerated_type, octet_string_type, bit_string_type, restricted_string_type, utf8_string_type, empty_sequence_type, sequence_type, extensible_sequence_type, sequence_of_type, choice_type, AreComponents, no_components, component, components_marker, AreAdditions, none_added, added, AreAlternatives, none_left, an_alternative, alternatives_marker, AreLater, none_later, a_later}
 use Rattle.oer_notation.specs.Laws.{ParseComplete}
 use Rattle.oer_notation.specs.Parsing.{parse}
-use Rattle.oer_literals.specs.Items.{items_of}
+use Rattle.oer_literals.specs.Items.{items_of, leaf_items}
 use Rattle.oer_printer.specs.Printing.{printed, spaced, after_commas, marker, marker_if, need_tokens, type_tokens, field_parts, addition_parts, root_parts, later_parts, has_notation, need_has_notation, have_notation, additions_have_notation, alternatives_have_notation}
 use Rattle.oer_text.proofs.PrintedNumbers.{AllIds, ids, split_ids, id_given, worded}
 use Rattle.oer_text.proofs.PrintedParts.{bounds_given, size_given, items_given, tag_given}
@@ -40,35 +42,21 @@ record Clean (S : (AsnType → Type 0) → Type 0) : Type 0 where
 narrow : {S R : (AsnType → Type 0) → Type 0} → Clean S → ((Q : AsnType → Type 0) → R Q → S Q) → Clean R
 narrow c f = record { named = λ r. c.named (f HasBadNames r); once = λ r. c.once (f RepeatsNames r); some = λ r. c.some (f HasNoItems r) }
 
+leaf_item_ids : (kind : LeafType) → (HasBadNames (leaf kind) → ⊥) → AllIds (item_names (leaf_items kind))
+leaf_item_ids (kind.enumerated is _) h = ids (item_names is) h
+leaf_item_ids _ h = tt
+
 item_ids : (T : AsnType) → (Somewhere HasBadNames T → ⊥) → AllIds (item_names (items_of T))
-item_ids boolean h = tt
-item_ids null h = tt
-item_ids (integer low high) h = tt
-item_ids (enumerated is _) h = ids (item_names is) h
-item_ids (bit_string size) h = tt
-item_ids (octet_string size) h = tt
-item_ids object_id h = tt
-item_ids (restricted_string letters size) h = tt
-item_ids (utf8_string size) h = tt
-item_ids (sequence fs) h = tt
-item_ids (extensible_sequence fs more) h = tt
-item_ids (sequence_of size T) h = tt
-item_ids (choice _ more) h = tt
+item_ids (leaf kind) h = leaf_item_ids kind h
+item_ids _ h = tt
+
+leaf_items_once : (kind : LeafType) → (RepeatsNames (leaf kind) → ⊥) → Repeats (item_names (leaf_items kind)) → ⊥
+leaf_items_once (kind.enumerated is _) h r = h r
+leaf_items_once _ h r = r
 
 items_once : (T : AsnType) → (Somewhere RepeatsNames T → ⊥) → Repeats (item_names (items_of T)) → ⊥
-items_once boolean h r = r
-items_once null h r = r
-items_once (integer low high) h r = r
-items_once (enumerated is _) h r = h r
-items_once (bit_string size) h r = r
-items_once (octet_string size) h r = r
-items_once object_id h r = r
-items_once (restricted_string letters size) h r = r
-items_once (utf8_string size) h r = r
-items_once (sequence fs) h r = r
-items_once (extensible_sequence fs more) h r = r
-items_once (sequence_of size T) h r = r
-items_once (choice _ more) h r = r
+items_once (leaf kind) h r = leaf_items_once kind h r
+items_once _ h r = r
 
 -- ---- parts
 
@@ -127,23 +115,26 @@ later_step place name t T more i l d r =
 
 -- ---- types
 
+leaf_type_given : (kind : LeafType) → Clean (λ Q. Q (leaf kind)) → LeafHasWidths kind → has_notation (leaf kind) ≡ true → Printed (leaf kind)
+leaf_type_given kind.boolean c h n = (boolean_type, worded (codes "BOOLEAN") refl no_tokens)
+leaf_type_given kind.null c h n = (null_type, worded (codes "NULL") refl no_tokens)
+leaf_type_given (kind.integer low high) c h n = let b = bounds_given low high h.0 h.1 in (integer_type b.0, worded (codes "INTEGER") refl b.1)
+leaf_type_given (kind.enumerated [] extensible) c h n = absurd (c.some tt)
+leaf_type_given (kind.enumerated (i ∷ is) extensible) c h n =
+    let r = items_given (i ∷ is) extensible 0 (ids (item_names (i ∷ is)) c.named) h in
+    (enumerated_type r.0, worded (codes "ENUMERATED") refl (single refl (both (drop_comma r.1) (single refl no_tokens))))
+leaf_type_given (kind.bit_string size) c h n = let z = size_given size h in (bit_string_type z.0, worded (codes "BIT") refl (worded (codes "STRING") refl z.1))
+leaf_type_given (kind.octet_string size) c h n = let z = size_given size h in (octet_string_type z.0, worded (codes "OCTET") refl (worded (codes "STRING") refl z.1))
+leaf_type_given kind.object_id c h n = (object_id_type, worded (codes "OBJECT") refl (worded (codes "IDENTIFIER") refl no_tokens))
+leaf_type_given (kind.restricted_string ia5 size) c h n = let z = size_given size h in (restricted_string_type z.0, worded (codes "IA5String") refl z.1)
+leaf_type_given (kind.restricted_string visible size) c h n = let z = size_given size h in (restricted_string_type z.0, worded (codes "VisibleString") refl z.1)
+leaf_type_given (kind.restricted_string numeric size) c h n = let z = size_given size h in (restricted_string_type z.0, worded (codes "NumericString") refl z.1)
+leaf_type_given (kind.restricted_string printable size) c h n = let z = size_given size h in (restricted_string_type z.0, worded (codes "PrintableString") refl z.1)
+leaf_type_given (kind.utf8_string size) c h n = let z = size_given size h in (utf8_string_type z.0, worded (codes "UTF8String") refl z.1)
+
 mutual
   types_given : (T : AsnType) → Clean (λ Q. Somewhere Q T) → DefaultsFit T → HasWidths T → has_notation T ≡ true → Printed T
-  types_given boolean c d h n = (boolean_type, worded (codes "BOOLEAN") refl no_tokens)
-  types_given null c d h n = (null_type, worded (codes "NULL") refl no_tokens)
-  types_given (integer low high) c d h n = let b = bounds_given low high h.0 h.1 in (integer_type b.0, worded (codes "INTEGER") refl b.1)
-  types_given (enumerated [] extensible) c d h n = absurd (c.some tt)
-  types_given (enumerated (i ∷ is) extensible) c d h n =
-      let r = items_given (i ∷ is) extensible 0 (ids (item_names (i ∷ is)) c.named) h in
-      (enumerated_type r.0, worded (codes "ENUMERATED") refl (single refl (both (drop_comma r.1) (single refl no_tokens))))
-  types_given (bit_string size) c d h n = let z = size_given size h in (bit_string_type z.0, worded (codes "BIT") refl (worded (codes "STRING") refl z.1))
-  types_given (octet_string size) c d h n = let z = size_given size h in (octet_string_type z.0, worded (codes "OCTET") refl (worded (codes "STRING") refl z.1))
-  types_given object_id c d h n = (object_id_type, worded (codes "OBJECT") refl (worded (codes "IDENTIFIER") refl no_tokens))
-  types_given (restricted_string ia5 size) c d h n = let z = size_given size h in (restricted_string_type z.0, worded (codes "IA5String") refl z.1)
-  types_given (restricted_string visible size) c d h n = let z = size_given size h in (restricted_string_type z.0, worded (codes "VisibleString") refl z.1)
-  types_given (restricted_string numeric size) c d h n = let z = size_given size h in (restricted_string_type z.0, worded (codes "NumericString") refl z.1)
-  types_given (restricted_string printable size) c d h n = let z = size_given size h in (restricted_string_type z.0, worded (codes "PrintableString") refl z.1)
-  types_given (utf8_string size) c d h n = let z = size_given size h in (utf8_string_type z.0, worded (codes "UTF8String") refl z.1)
+  types_given (leaf kind) c d h n = leaf_type_given kind c h n
   types_given (sequence fs) c d h n =
       let r = fields_given fs (ids (field_names fs) (λ a. c.named (inl a))) (narrow c (λ Q q. inr q)) d h n None [] (no_components, no_tokens) in
       sequence_from fs (subst (PrintedFields fs None) (append-nil (field_parts fs)) r)

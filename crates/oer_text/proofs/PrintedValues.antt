@@ -15,14 +15,16 @@ use Rattle.oer_lexer.specs.Characters.{is_bit}
 use Rattle.oer_lexer.specs.FallsInto.{IsToken, bits_token, digits_token, text_token, IsRun, run_end, run_char, IsQuoted, quote_end, quote_char, quote_twice}
 use Rattle.oer_lexer.specs.Token.{word, bits, text}
 use Rattle.oer_units.specs.Octets.{IsOctets}
-use Rattle.oer_types.specs.AsnType.{NamedNumber, Alphabet, ia5, visible, numeric, printable, AsnType, boolean, null, integer, enumerated, bit_string, octet_string, object_id, restricted_string, utf8_string, sequence, extensible_sequence, sequence_of, choice}
-use Rattle.oer_types.specs.AsnValue.{AsnValue, bool, int, enum, bit_list, octets, text as string, oid}
+use Rattle.oer_types.specs.LeafType as kind
+use Rattle.oer_types.specs.LeafType.{LeafType}
+use Rattle.oer_types.specs.AsnType.{Alphabet, AsnType, NamedNumber, bit_string, boolean, choice, enumerated, extensible_sequence, ia5, integer, leaf, null, numeric, object_id, octet_string, printable, restricted_string, sequence, sequence_of, utf8_string, visible}
+use Rattle.oer_types.specs.AsnValue.{AsnValue, bit_list, bool, enum, int, octets, oid, text as string}
 use Rattle.oer_types.specs.Constraints.{in_range, is_character, all_characters}
-use Rattle.oer_types.specs.Fits.{Fits, AllBelow}
+use Rattle.oer_types.specs.Fits.{AllBelow, Fits, FitsLeaf}
 use Rattle.oer_types.specs.WellFormed.{AnyOf, Repeats, item_names}
 use Rattle.oer_types.specs.declared.size.Size.{Size}
 use Rattle.oer_literals.specs.Bits.{is_one, bit_digit}
-use Rattle.oer_literals.specs.Items.{items_of, name_of}
+use Rattle.oer_literals.specs.Items.{items_of, name_of, leaf_items}
 use Rattle.oer_literals.proofs.Numerals.{range_128}
 use Rattle.oer_notation.specs.Grammar.{IsId, IsItemNamed, this_item, later_item, between_quotes, AreOctets, no_octets, an_octet, unquoted, text_of, AreArcs, no_arcs, an_arc, IsValue, true_value, false_value, null_value, number_value, item_value, octets_value, bits_value, text_value, utf8_value, arcs_value}
 use Rattle.oer_printer.specs.Printing.{natural_token, inside_quotes, doubled, quoted_text, value_tokens, is_visible, value_has_notation}
@@ -265,27 +267,30 @@ given_oid a b rest h =
 none : {A : Type 0} (is : List NamedNumber) (v u : AsnValue) → v ≡ u → value_has_notation is u ≡ false → value_has_notation is v ≡ true → A
 none is v u e n h = absurd (let k : value_has_notation is u ≡ true = subst (λ x. value_has_notation is x ≡ true) e h in cc)
 
-pub value_given : (T : AsnType) (v : AsnValue) → AllIds (item_names (items_of T)) → (Repeats (item_names (items_of T)) → ⊥) → Fits T v → value_has_notation (items_of T) v ≡ true → IsGiven T v
-value_given boolean v a n f h = subst (IsGiven boolean) (sym f.1) (given_bool f.0)
-value_given null v a n f h = subst (IsGiven null) (sym f) (null_value, worded (codes "NULL") refl no_tokens)
-value_given (integer low high) v a n f h = subst (IsGiven (integer low high)) (sym f.1) (given_int low high f.0 f.2)
-value_given (enumerated is marker) v a n f h =
+leaf_value_given : (kind : LeafType) (v : AsnValue) → AllIds (item_names (leaf_items kind)) → (Repeats (item_names (leaf_items kind)) → ⊥) → FitsLeaf kind v → value_has_notation (leaf_items kind) v ≡ true → IsGiven (leaf kind) v
+leaf_value_given kind.boolean v a n f h = subst (IsGiven boolean) (sym f.1) (given_bool f.0)
+leaf_value_given kind.null v a n f h = subst (IsGiven null) (sym f) (null_value, worded (codes "NULL") refl no_tokens)
+leaf_value_given (kind.integer low high) v a n f h = subst (IsGiven (integer low high)) (sym f.1) (given_int low high f.0 f.2)
+leaf_value_given (kind.enumerated is marker) v a n f h =
     let k : is_some (name_of is f.0) ≡ true = subst (λ x. value_has_notation is x ≡ true) f.1 h in
     subst (IsGiven (enumerated is marker)) (sym f.1) (given_enum is marker f.0 (named is f.0 a n k))
-value_given (bit_string size) v a n f h = subst (IsGiven (bit_string size)) (sym f.1) (given_bits size f.0)
-value_given (octet_string size) v a n f h = subst (IsGiven (octet_string size)) (sym f.1) (given_octets size f.0 f.2)
-value_given object_id v a n f h =
+leaf_value_given (kind.bit_string size) v a n f h = subst (IsGiven (bit_string size)) (sym f.1) (given_bits size f.0)
+leaf_value_given (kind.octet_string size) v a n f h = subst (IsGiven (octet_string size)) (sym f.1) (given_octets size f.0 f.2)
+leaf_value_given kind.object_id v a n f h =
     let p = f.2 in
     let first = p.4 in
     let second = p.6 in
     let e : v ≡ oid (p.0 ∷ p.1 ∷ p.2) = f.1 ∙ ap oid p.3 in
     subst (IsGiven object_id) (sym e) (given_oid p.0 p.1 p.2 (omega (arith, first), (omega (arith, first, second), p.7)))
-value_given (restricted_string letters size) v a n f h =
+leaf_value_given (kind.restricted_string letters size) v a n f h =
     let k : is_visible (chars f.0) ≡ true = subst (λ x. value_has_notation [] x ≡ true) f.1 h in
     subst (IsGiven (restricted_string letters size)) (sym f.1) (given_string letters size f.0 (IsUtf8-from_ascii f.0 (chars_low letters f.0 f.3)) k)
-value_given (utf8_string size) v a n f h =
+leaf_value_given (kind.utf8_string size) v a n f h =
     let k : is_visible (chars f.0) ≡ true = subst (λ x. value_has_notation [] x ≡ true) f.1 h in
     subst (IsGiven (utf8_string size)) (sym f.1) (given_utf8 size f.0 (IsUtf8-from_is_utf8 f.0 f.3) k)
+
+pub value_given : (T : AsnType) (v : AsnValue) → AllIds (item_names (items_of T)) → (Repeats (item_names (items_of T)) → ⊥) → Fits T v → value_has_notation (items_of T) v ≡ true → IsGiven T v
+value_given (leaf kind) v a n f h = leaf_value_given kind v a n f h
 value_given (sequence fs) v a n f h = none [] v _ f.1 refl h
 value_given (extensible_sequence fs more) v a n f h = none [] v _ f.3 refl h
 value_given (sequence_of size T) v a n f h = none [] v _ f.1 refl h

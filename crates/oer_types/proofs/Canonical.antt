@@ -7,14 +7,16 @@ use Rattle.oer_units.specs.declared.tagging.Tag.{Tag}
 use Rattle.oer_units.proofs.Digits.{base128_one, tag_one}
 use Rattle.oer_units.proofs.OneSpelling.{unsigned_one, len_one, counted_least, signed_one}
 use Rattle.oer_types.proofs.Unique.{preamble_one, bits_one}
-use Rattle.oer_types.specs.AsnType.{NamedNumber, Need, must, may, default, AsnType, boolean, null, integer, enumerated, bit_string, object_id, restricted_string, utf8_string, octet_string, sequence, extensible_sequence, sequence_of, choice, Fields, no_fields, field, Additions, no_additions, addition, Alternatives, no_alternatives, alternative, later}
+use Rattle.oer_types.specs.LeafType as kind
+use Rattle.oer_types.specs.LeafType.{LeafType}
+use Rattle.oer_types.specs.AsnType.{Additions, Alternatives, AsnType, Fields, NamedNumber, Need, addition, alternative, boolean, choice, default, enumerated, extensible_sequence, field, integer, later, leaf, may, must, no_additions, no_alternatives, no_fields, object_id, octet_string, restricted_string, sequence, sequence_of, utf8_string}
 use Rattle.oer_types.specs.AsnValue.{Unknown, unknown, AsnValue, bool, int, enum, bit_list, text, oid, octets, seq, items, chosen, foreign, Places, no_places, absent, present}
 use Rattle.oer_types.specs.Bits.{all_false}
 use Rattle.oer_types.specs.Constraints.{same_tag, size_fits, fixed, all_characters, Form, unsigned_fixed, signed_fixed, unsigned_counted, signed_counted, form_of, optional, optional_with, addition_count}
 use Rattle.oer_types.specs.Encoding.{SpellsInteger, SpellsOctets, SpellsText, IsPresent, IsAbsent, ByBit, ByTag, IsItself, SpellsUnknown, IsSpelling}
 use Rattle.oer_types.specs.Filling.{map_sequence, map_values, map_items, map_chosen, filled_absent, filled_place, filled_by_tag, filled, filled_fields, filled_additions, filled_alternative}
 use Rattle.oer_types.specs.Fits.{after_last, listed, all_absent}
-use Rattle.oer_types.specs.Strict.{IsCanonical, IsLeastSpelling, StrictCounted, StrictBits, StrictBitString, StrictPreamble, StrictQuantity, StrictNeed, StrictChosen, StrictExtension, IsStrictSpelling, SpellsFieldsStrictly, SpellsAdditionsStrictly, SpellsAlternativeStrictly}
+use Rattle.oer_types.specs.Strict.{IsCanonical, IsLeastSpelling, IsStrictLeafSpelling, IsStrictSpelling, SpellsAdditionsStrictly, SpellsAlternativeStrictly, SpellsFieldsStrictly, StrictBitString, StrictBits, StrictChosen, StrictCounted, StrictExtension, StrictNeed, StrictPreamble, StrictQuantity}
 use Rattle.oer_types.specs.declared.size.Size.{Size}
 
 naturals : (w z : List ℕ) → IsOctets w → IsOctets z → length w ≡ length z → unsigned w ≡ unsigned z → w ≡ z
@@ -334,20 +336,23 @@ choice_one extensible more f S one v w b c (t, p, d, e, tag, inr (x, is, o, none
     let q = counted_one (λ w. w) IsItself itself_one x x' d d' k k' words in
     (is ∙ both ∙ sym is', e ∙ ap₂ (λ x y. x ++ y) h q.1 ∙ sym e')
 
+leaf_one : (kind : LeafType) → IsOne (λ v. v) (IsStrictLeafSpelling kind)
+leaf_one kind.boolean v w b c s t same = boolean_one v w b c s t same
+leaf_one kind.null v w b c s t same = (same, s.1 ∙ sym t.1)
+leaf_one (kind.integer low high) v w b c s t same = (same, integer_one low high v b c s (subst (λ w. IsLeastSpelling (integer low high) w c) (sym same) t))
+leaf_one (kind.enumerated numbers extensible) v w b c s t same = (same, enumerated_one numbers extensible v b c s (subst (λ w. IsLeastSpelling (enumerated numbers extensible) w c) (sym same) t))
+leaf_one (kind.bit_string size) v w b c (s, is, x) (t, is', y) same =
+    let both : bit_list s ≡ bit_list t = sym is ∙ same ∙ is' in
+    let h : s ≡ t = cc in
+    (same, bit_string_one (fixed size) size s b c x (subst (λ s. StrictBitString (fixed size) size s c) (sym h) y))
+leaf_one kind.object_id v w b c s t same = (same, oid_one v b c s (subst (λ w. IsLeastSpelling object_id w c) (sym same) t))
+leaf_one (kind.restricted_string kind size) v w b c s t same = (same, text_one (all_characters kind) size v b c (s, subst (λ w. IsLeastSpelling (restricted_string kind size) w c) (sym same) t))
+leaf_one (kind.utf8_string size) v w b c s t same = (same, utf8_one size v b c s (subst (λ w. IsLeastSpelling (utf8_string size) w c) (sym same) t))
+leaf_one (kind.octet_string size) v w b c s t same = (same, octet_string_one size v b c s (subst (λ w. IsLeastSpelling (octet_string size) w c) (sym same) t))
+
 mutual
   value_one : (T : AsnType) → IsOne (filled T) (IsStrictSpelling T)
-  value_one boolean v w b c s t same = boolean_one v w b c s t same
-  value_one null v w b c s t same = (same, s.1 ∙ sym t.1)
-  value_one (integer low high) v w b c s t same = (same, integer_one low high v b c s (subst (λ w. IsLeastSpelling (integer low high) w c) (sym same) t))
-  value_one (enumerated numbers extensible) v w b c s t same = (same, enumerated_one numbers extensible v b c s (subst (λ w. IsLeastSpelling (enumerated numbers extensible) w c) (sym same) t))
-  value_one (bit_string size) v w b c (s, is, x) (t, is', y) same =
-      let both : bit_list s ≡ bit_list t = sym is ∙ same ∙ is' in
-      let h : s ≡ t = cc in
-      (same, bit_string_one (fixed size) size s b c x (subst (λ s. StrictBitString (fixed size) size s c) (sym h) y))
-  value_one object_id v w b c s t same = (same, oid_one v b c s (subst (λ w. IsLeastSpelling object_id w c) (sym same) t))
-  value_one (restricted_string kind size) v w b c s t same = (same, text_one (all_characters kind) size v b c (s, subst (λ w. IsLeastSpelling (restricted_string kind size) w c) (sym same) t))
-  value_one (utf8_string size) v w b c s t same = (same, utf8_one size v b c s (subst (λ w. IsLeastSpelling (utf8_string size) w c) (sym same) t))
-  value_one (octet_string size) v w b c s t same = (same, octet_string_one size v b c s (subst (λ w. IsLeastSpelling (octet_string size) w c) (sym same) t))
+  value_one (leaf kind) v w b c s t same = leaf_one kind v w b c s t same
   value_one (sequence fs) v w b c s t same = sequence_one (optional fs) (filled_fields fs) (SpellsFieldsStrictly fs) (fields_one fs) v w b c s t same
   value_one (extensible_sequence fs more) v w b c s t same = extensible_one (optional fs) (filled_fields fs) (SpellsFieldsStrictly fs) more (fields_one fs) (adds_one more) v w b c s t same
   value_one (sequence_of size T) v w b c s t same = items_one size (filled T) (IsStrictSpelling T) (value_one T) v w b c s t same

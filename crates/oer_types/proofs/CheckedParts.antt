@@ -23,17 +23,19 @@ use Rattle.oer_types.proofs.Same.{same_list-true, same_list-refl}
 use Rattle.oer_types.proofs.StrictEnc.{HasCanonicalForm, extension_within, bit_within, adds_within, alts_within, fields_within, counted_within, unknown_within, strict_within, canon_tells, bit_string_within}
 use Rattle.oer_types.proofs.Trimming.{trims_from_fills}
 use Rattle.oer_types.proofs.CanonicalForms.{form_of_canonical}
-use Rattle.oer_types.specs.AsnType.{Need, must, may, default, AsnType, boolean, null, integer, enumerated, bit_string, object_id, restricted_string, utf8_string, octet_string, sequence, extensible_sequence, sequence_of, choice, Fields, no_fields, field, Additions, no_additions, addition, Alternatives, no_alternatives, alternative, later}
+use Rattle.oer_types.specs.LeafType as kind
+use Rattle.oer_types.specs.LeafType.{LeafType}
+use Rattle.oer_types.specs.AsnType.{Additions, Alternatives, AsnType, Fields, Need, addition, alternative, choice, default, extensible_sequence, field, later, leaf, may, must, no_additions, no_alternatives, no_fields, sequence, sequence_of}
 use Rattle.oer_types.specs.AsnValue.{Unknown, unknown, AsnValue, seq, items, chosen, foreign, Places, no_places, absent, present}
 use Rattle.oer_types.specs.Bits.{all_false, first_bit, later_bits, IsPreamble}
 use Rattle.oer_types.specs.Canonical.{same_list, bitmap_octets, plain_octets, canonical_octets}
-use Rattle.oer_types.specs.Checking.{judged, and_also, both, unlike, is_least, are_least_bits, check_open, check_group, check_octets, check_times, check_bit, check_need, check_by_tag, check_unknown, ends_set, is_bitmap, check_extension, check_sequence, check_extensible, quantity_octets, check_items, check_chosen, check_choice, check_value, check_fields, check_additions, check_alternative}
+use Rattle.oer_types.specs.Checking.{and_also, are_least_bits, both, check_additions, check_alternative, check_bit, check_by_tag, check_choice, check_chosen, check_extensible, check_extension, check_fields, check_group, check_items, check_leaf, check_need, check_octets, check_open, check_sequence, check_times, check_unknown, check_value, ends_set, is_bitmap, is_least, judged, quantity_octets, unlike}
 use Rattle.oer_types.specs.Constraints.{has_tag, same_tag, size_fits, optional, addition_count, KeepsLimits, FieldsKeepLimits, AdditionsKeepLimits, AlternativesKeepLimits, any_size}
 use Rattle.oer_types.specs.Encoding.{IsItself, SpellsUnknown, IsPresent, IsAbsent, ByBit, ByTag, SpellsChosen, SpellsExtension, IsSpelling, SpellsFields, SpellsAdditions, SpellsAlternative, SpellsBitmap}
 use Rattle.oer_types.specs.Filling.{filled}
 use Rattle.oer_types.specs.Fits.{after_last, listed, all_absent, Fits, DefaultFits, DefaultsFit, FieldDefaultsFit, AdditionDefaultsFit, AlternativeDefaultsFit}
-use Rattle.oer_types.specs.Reading.{preamble, bitmap, quantity, read_unknown, read_both, read_present, read_absent, read_by_bit, read_by_need, read_by_tag, read_sequence, read_extensible, read_extension, read_items, read_chosen, read_choice, read_value, read_fields, read_additions, read_alternative}
-use Rattle.oer_types.specs.Strict.{StrictCounted, StrictPreamble, StrictQuantity, StrictNeed, StrictExtension, StrictChosen, IsStrictSpelling, SpellsFieldsStrictly, SpellsAdditionsStrictly, SpellsAlternativeStrictly, StrictBitmap}
+use Rattle.oer_types.specs.Reading.{bitmap, preamble, quantity, read_absent, read_additions, read_alternative, read_both, read_by_bit, read_by_need, read_by_tag, read_choice, read_chosen, read_extensible, read_extension, read_fields, read_items, read_leaf, read_present, read_sequence, read_unknown, read_value}
+use Rattle.oer_types.specs.Strict.{IsStrictLeafSpelling, IsStrictSpelling, SpellsAdditionsStrictly, SpellsAlternativeStrictly, SpellsFieldsStrictly, StrictBitmap, StrictChosen, StrictCounted, StrictExtension, StrictNeed, StrictPreamble, StrictQuantity}
 use Rattle.oer_types.specs.declared.size.Size.{Size}
 use Rattle.oer_units.specs.declared.fault.Why.TheVariants as reason
 
@@ -372,17 +374,20 @@ refuse_checked {A} why S = record {
   tells = λ p x q e. absurd (cc);
 }
 
+leaf_is_checked : (kind : LeafType) → KeepsLimits (leaf kind) → Checked flag (read_leaf kind) (check_leaf kind) (IsStrictLeafSpelling kind)
+leaf_is_checked kind.boolean wf = boolean_checked
+leaf_is_checked kind.null wf = null_checked
+leaf_is_checked (kind.integer low high) wf = integer_checked low high
+leaf_is_checked (kind.enumerated numbers extensible) wf = enumerated_checked numbers extensible
+leaf_is_checked (kind.bit_string z) wf = bit_string_checked z
+leaf_is_checked kind.object_id wf = object_id_checked
+leaf_is_checked (kind.restricted_string kind z) wf = text_checked kind z wf
+leaf_is_checked (kind.utf8_string z) wf = utf8_checked z wf
+leaf_is_checked (kind.octet_string z) wf = octet_string_checked z wf
+
 mutual
   pub value_checked : (T : AsnType) → KeepsLimits T → DefaultsFit T → Checked flag (read_value T) (check_value T) (IsStrictSpelling T)
-  value_checked boolean wf d = boolean_checked
-  value_checked null wf d = null_checked
-  value_checked (integer low high) wf d = integer_checked low high
-  value_checked (enumerated numbers extensible) wf d = enumerated_checked numbers extensible
-  value_checked (bit_string z) wf d = bit_string_checked z
-  value_checked object_id wf d = object_id_checked
-  value_checked (restricted_string kind z) wf d = text_checked kind z wf
-  value_checked (utf8_string z) wf d = utf8_checked z wf
-  value_checked (octet_string z) wf d = octet_string_checked z wf
+  value_checked (leaf kind) wf d = leaf_is_checked kind wf
   value_checked (sequence fs) wf d = sequence_checked (optional fs) (read_fields fs) (check_fields fs) (SpellsFields fs) (SpellsFieldsStrictly fs) (fields_lawful fs wf) (fields_within fs) (fields_checked fs wf d)
   value_checked (extensible_sequence fs more) wf d = extensible_checked (optional fs) (read_fields fs) (check_fields fs) (SpellsFields fs) (SpellsFieldsStrictly fs) (fields_lawful fs wf.0) (fields_within fs) (fields_checked fs wf.0 d.0)
       (λ x. read_extension x more (read_additions more)) (λ x. check_extension x more (check_additions more)) (λ x. SpellsExtension x more (SpellsAdditions more)) (λ x. StrictExtension x more (SpellsAdditionsStrictly more))

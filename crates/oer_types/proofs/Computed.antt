@@ -19,16 +19,18 @@ use Rattle.oer_types.proofs.Unique.{preamble_one, bits_one}
 use Rattle.oer_types.proofs.UnknownBits.{unknown_rises, marks_length, unknown_plain}
 use Rattle.oer_types.proofs.CanonicalForms.{form_of_canonical}
 use Rattle.oer_types.proofs.StrictEnc.{HasCanonicalForm}
-use Rattle.oer_types.specs.AsnType.{NamedNumber, Need, must, may, default, AsnType, boolean, null, integer, enumerated, bit_string, object_id, restricted_string, utf8_string, octet_string, sequence, extensible_sequence, sequence_of, choice, Fields, no_fields, field, Additions, no_additions, addition, Alternatives, no_alternatives, alternative, later}
+use Rattle.oer_types.specs.LeafType as kind
+use Rattle.oer_types.specs.LeafType.{LeafType}
+use Rattle.oer_types.specs.AsnType.{Additions, Alternatives, AsnType, Fields, NamedNumber, Need, addition, alternative, bit_string, boolean, choice, default, enumerated, extensible_sequence, field, integer, later, leaf, may, must, no_additions, no_alternatives, no_fields, object_id, octet_string, restricted_string, sequence, sequence_of, utf8_string}
 use Rattle.oer_types.specs.AsnValue.{Unknown, AsnValue, int, enum, seq, items, chosen, value, Places, no_places, absent, present}
 use Rattle.oer_types.specs.Bits.{all_false, padded, spare_bits}
-use Rattle.oer_types.specs.Canonical.{same, trimmed_present, trimmed_place, trimmed, trimmed_fields, trimmed_additions, trimmed_alternative, integer_octets, string_octets, bit_octets, bitmap_octets, count, all_octets, place_octets, place_bits, root_bits, addition_bits, unknown_marks, unknown_octets, any_present, any_unknown, extension_octets, by_tag_octets, plain_octets, plain_field_octets, plain_addition_octets, plain_alternative_octets, canonical_octets}
+use Rattle.oer_types.specs.Canonical.{addition_bits, all_octets, any_present, any_unknown, bit_octets, bitmap_octets, by_tag_octets, canonical_octets, count, extension_octets, integer_octets, leaf_octets, place_bits, place_octets, plain_addition_octets, plain_alternative_octets, plain_field_octets, plain_octets, root_bits, same, string_octets, trimmed, trimmed_additions, trimmed_alternative, trimmed_fields, trimmed_place, trimmed_present, unknown_marks, unknown_octets}
 use Rattle.oer_types.specs.Constraints.{same_tag, size_fits, fixed, all_characters, form_of, optional, optional_with, addition_count, any_size}
 use Rattle.oer_types.specs.Encoding.{SpellsInteger, SpellsOctets, SpellsText, IsItself, IsPresent, IsAbsent, ByTag}
 use Rattle.oer_types.specs.Filling.{map_values, filled_by_tag, filled}
 use Rattle.oer_types.specs.Fits.{listed, all_absent}
 use Rattle.oer_types.specs.Laws.{CanonicalComputed}
-use Rattle.oer_types.specs.Strict.{IsLeastSpelling, StrictCounted, StrictBits, StrictBitString, StrictNeed, StrictExtension, IsStrictSpelling, SpellsFieldsStrictly, SpellsAdditionsStrictly, SpellsAlternativeStrictly}
+use Rattle.oer_types.specs.Strict.{IsLeastSpelling, IsStrictLeafSpelling, IsStrictSpelling, SpellsAdditionsStrictly, SpellsAlternativeStrictly, SpellsFieldsStrictly, StrictBitString, StrictBits, StrictCounted, StrictExtension, StrictNeed}
 use Rattle.oer_types.specs.declared.size.Size.{Size}
 
 integer_plain : (low high : Option ℤ) (v : AsnValue) (b : List ℕ) → IsLeastSpelling (integer low high) v b → b ≡ plain_octets (integer low high) v
@@ -179,17 +181,20 @@ nil_bits : (s : List Bool) → length s ≡ 0 → s ≡ []
 nil_bits [] i = refl
 nil_bits (x ∷ s) i = absurd (omega arith)
 
+leaf_plain : (kind : LeafType) → ArePlain (λ v. v) (leaf_octets kind) (IsStrictLeafSpelling kind)
+leaf_plain kind.boolean v b (x, is, e) = (refl, e ∙ sym (ap (plain_octets boolean) is))
+leaf_plain kind.null v b (is, e) = (refl, e)
+leaf_plain (kind.integer low high) v b s = (refl, integer_plain low high v b s)
+leaf_plain (kind.enumerated numbers extensible) v b s = (refl, enumerated_plain numbers extensible v b s)
+leaf_plain (kind.bit_string size) v b (s, is, x) = (refl, bit_string_plain (fixed size) size s b x ∙ sym (ap (plain_octets (bit_string size)) is))
+leaf_plain kind.object_id v b (o, (w, is, s), least) = (refl, word_only IsObjectId w (object_id_octets w) (λ c r. oid_only w c r) b (o, s, λ d od sd. least d od (w, is, sd)) ∙ sym (ap (plain_octets object_id) is))
+leaf_plain (kind.restricted_string kind size) v b (o, (w, is, s), least) = (refl, letters_plain (all_characters kind) size w b (o, s, λ d od sd. least d od (w, is, sd)) ∙ sym (ap (plain_octets (restricted_string kind size)) is))
+leaf_plain (kind.utf8_string size) v b (o, (w, is, ok, fits, s), least) = (refl, word_only IsItself w w (λ c r. r) b (o, s, λ d od sd. least d od (w, is, ok, fits, sd)) ∙ sym (ap (plain_octets (utf8_string size)) is))
+leaf_plain (kind.octet_string size) v b s = (refl, octet_string_plain size v b s)
+
 mutual
   pub value_plain : (T : AsnType) → ArePlain (trimmed T) (plain_octets T) (IsStrictSpelling T)
-  value_plain boolean v b (x, is, e) = (refl, e ∙ sym (ap (plain_octets boolean) is))
-  value_plain null v b (is, e) = (refl, e)
-  value_plain (integer low high) v b s = (refl, integer_plain low high v b s)
-  value_plain (enumerated numbers extensible) v b s = (refl, enumerated_plain numbers extensible v b s)
-  value_plain (bit_string size) v b (s, is, x) = (refl, bit_string_plain (fixed size) size s b x ∙ sym (ap (plain_octets (bit_string size)) is))
-  value_plain object_id v b (o, (w, is, s), least) = (refl, word_only IsObjectId w (object_id_octets w) (λ c r. oid_only w c r) b (o, s, λ d od sd. least d od (w, is, sd)) ∙ sym (ap (plain_octets object_id) is))
-  value_plain (restricted_string kind size) v b (o, (w, is, s), least) = (refl, letters_plain (all_characters kind) size w b (o, s, λ d od sd. least d od (w, is, sd)) ∙ sym (ap (plain_octets (restricted_string kind size)) is))
-  value_plain (utf8_string size) v b (o, (w, is, ok, fits, s), least) = (refl, word_only IsItself w w (λ c r. r) b (o, s, λ d od sd. least d od (w, is, ok, fits, sd)) ∙ sym (ap (plain_octets (utf8_string size)) is))
-  value_plain (octet_string size) v b s = (refl, octet_string_plain size v b s)
+  value_plain (leaf kind) v b s = leaf_plain kind v b s
   value_plain (sequence fs) v b (root, s, p, r, is, e, i, pre, x) =
       let o = fields_plain fs s root r i x in (
         ap (trimmed (sequence fs)) is ∙ ap (λ root. seq root no_places []) o.0 ∙ sym is,

@@ -1,5 +1,6 @@
 -- The tests say which faults hold.
 use Rattle.std.proofs.Common.{◌≡◌, ℕ, zero, suc, List, [], ◌∷◌, Bool, true, false, not, ◌&&◌, ◌||◌, eqb, ℤ, pos, negsuc, ◌<ℤ◌, ◌≤ℤ◌, int_lt, int_le, T, Option, Some, None, refl, sym, ap, ap₂, ◌∙◌, subst, arith}
+use Rattle.std.specs.Prelude.{IsSomeAnd}
 use Rattle.std.specs.Bool.{Decides}
 use Rattle.std.specs.Str.{bytes_eq}
 use Rattle.std.proofs.lemmas.Bool.Decides.{Decides-or, Decides-not, Decides-ltb, Decides-like}
@@ -11,12 +12,14 @@ use Rattle.oer_units.specs.Spelling.{class_number}
 use Rattle.oer_units.specs.declared.tagging.Class.{Class}
 use Rattle.oer_units.specs.declared.tagging.Class.TheVariants.{Universal, Application, Context, Private}
 use Rattle.oer_units.specs.declared.tagging.Tag.{Tag}
-use Rattle.oer_types.specs.AsnType.{Additions, Alternatives, AsnType, Fields, NamedNumber, Need, addition, alternative, bit_string, choice, default, enumerated, extensible_sequence, field, integer, later, may, must, no_additions, no_alternatives, no_fields, octet_string, restricted_string, sequence, sequence_of, utf8_string}
+use Rattle.oer_types.specs.LeafType.{string_size}
+use Rattle.oer_types.specs.AsnType.{Additions, Alternatives, AsnType, Fields, NamedNumber, Need, addition, alternative, choice, default, enumerated, extensible_sequence, field, integer, later, leaf, may, must, no_additions, no_alternatives, no_fields, sequence, sequence_of}
 use Rattle.oer_types.specs.Constraints.{has_number, has_tag, may_be_empty, same_tag}
 use Rattle.oer_types.specs.FitTest.{is_fit}
-use Rattle.oer_types.specs.FaultTest.{any_bad_name, any_misfit, contains_name, has_crossed_bounds, has_crossed_size, has_empty_element, has_fault, has_misfit, has_no_items, has_repeated_number, has_repeated_tag, in_additions, in_alternatives, in_fields, is_below, is_misfit, names_repeat, numbers_repeat, somewhere, tags_repeat}
+use Rattle.oer_types.specs.FaultTest.{any_bad_name, any_misfit, contains_name, has_crossed_bounds, has_crossed_size, has_crossed_string_size, has_empty_element, has_fault, has_misfit, has_no_items, has_repeated_number, has_repeated_tag, in_additions, in_alternatives, in_fields, is_below, is_misfit, names_repeat, numbers_repeat, somewhere, tags_repeat}
 use Rattle.oer_types.specs.Nodes.{type_nodes}
-use Rattle.oer_types.specs.WellFormed.{AnyMisfit, AnyOf, HasCrossedBounds, HasCrossedSize, HasEmptyElement, HasFault, HasMisfit, HasNoItems, HasRepeatedNumber, HasRepeatedTag, InAdditions, InAlternatives, InFields, IsBelow, IsMisfit, Repeats, Somewhere, alternative_tags, depth, is_identifier, item_numbers, names}
+use Rattle.oer_types.specs.WellFormed.{AnyMisfit, AnyOf, HasCrossedBounds, HasCrossedSize, HasEmptyElement, HasFault, HasMisfit, HasNoItems, HasRepeatedNumber, HasRepeatedTag, IsCrossed, InAdditions, InAlternatives, InFields, IsBelow, IsMisfit, Repeats, Somewhere, alternative_tags, depth, is_identifier, item_numbers, names}
+use Rattle.oer_types.specs.declared.size.Size.{Size}
 use Rattle.oer_types.specs.declared.fault.SchemaFault.{SchemaFault}
 use Rattle.oer_types.specs.declared.fault.SchemaFault.TheVariants.{TooDeep, TooManyParts, BoundOrder, SizeOrder, BadName, RepeatedName, NoItems, RepeatedNumber, RepeatedTag, DefaultMisfit, EmptyElement}
 use Rattle.oer_types.proofs.FitTests.{both, and_true, fit_sound, fit_complete}
@@ -67,11 +70,12 @@ below_decides : (high : Option ℕ) (n : ℕ) → Decides (is_below high n) (IsB
 below_decides None n = never
 below_decides (Some h) n = Decides-ltb h n
 
+string_size_decides : (size : Option Size) → Decides (has_crossed_string_size size) (IsSomeAnd size IsCrossed)
+string_size_decides None = never
+string_size_decides (Some s) = below_decides s.high s.low
+
 size_decides : (T : AsnType) → Decides (has_crossed_size T) (HasCrossedSize T)
-size_decides (bit_string s) = below_decides s.high s.low
-size_decides (octet_string s) = below_decides s.high s.low
-size_decides (restricted_string kind s) = below_decides s.high s.low
-size_decides (utf8_string s) = below_decides s.high s.low
+size_decides (leaf kind) = string_size_decides (string_size kind)
 size_decides (sequence_of s T) = below_decides s.high s.low
 size_decides T = never
 

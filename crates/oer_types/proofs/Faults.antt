@@ -1,8 +1,11 @@
 -- The fault of least number, and what holds where there is none.
 use Rattle.std.proofs.Common.{◌≡◌, ⊎_elim, ℕ, zero, suc, ◌<◌, ◌≤◌, List, [], ◌∷◌, Bool, true, false, not, ◌||◌, ltb, if◌then◌else◌, Option, Some, None, refl, sym, ap, ◌∙◌, subst, arith}
+use Rattle.std.specs.Prelude.{IfSome}
 use Rattle.std.specs.Option.{MatchOption}
 use Rattle.std.proofs.lemmas.Bool.{le-leb, lt-ltb, cases_lt}
-use Rattle.oer_types.specs.AsnType.{Additions, Alternatives, AsnType, Fields, Need, addition, alternative, bit_string, boolean, choice, default, enumerated, extensible_sequence, field, integer, later, may, must, no_additions, no_alternatives, no_fields, null, object_id, octet_string, restricted_string, sequence, sequence_of, utf8_string}
+use Rattle.oer_types.specs.LeafType as kind
+use Rattle.oer_types.specs.LeafType.{LeafType, string_size}
+use Rattle.oer_types.specs.AsnType.{Additions, Alternatives, AsnType, Fields, Need, addition, alternative, choice, default, extensible_sequence, field, later, leaf, may, must, no_additions, no_alternatives, no_fields, sequence, sequence_of}
 use Rattle.oer_types.specs.Constraints.{AdditionsKeepLimits, AlternativesKeepLimits, FieldsKeepLimits, HasSizeLimit, KeepsLimits, addition_count, may_be_empty}
 use Rattle.oer_types.specs.FaultTest.{first_fault, first_in, has_empty_element, has_fault, has_misfit, any_misfit, is_misfit, in_additions, in_alternatives, in_fields, later_faults, somewhere}
 use Rattle.oer_types.specs.FitTest.{is_fit}
@@ -10,11 +13,12 @@ use Rattle.oer_types.specs.Fits.{AdditionDefaultsFit, AlternativeDefaultsFit, De
 use Rattle.oer_types.specs.Laws.{FaultlessIsWellFormed, FirstFaultFound, NoFaultFound, OneFirstFault}
 use Rattle.oer_types.specs.Nodes.{additions_nodes, alternatives_nodes, fields_nodes, type_nodes}
 use Rattle.oer_types.specs.WellFormed.{HasFault, IsFirstFault, IsWellFormed, fault_number}
-use Rattle.oer_types.specs.Widths.{AdditionsHaveWidths, AlternativesHaveWidths, FieldsHaveWidths, HasSizeWidths, HasWidths}
+use Rattle.oer_types.specs.Widths.{AdditionsHaveWidths, AlternativesHaveWidths, FieldsHaveWidths, HasSizeWidths, HasWidths, LeafHasWidths}
 use Rattle.oer_types.specs.declared.size.Size.{Size}
 use Rattle.oer_types.specs.declared.fault.SchemaFault.{SchemaFault}
 use Rattle.oer_types.specs.declared.fault.SchemaFault.TheVariants.{TooDeep, TooManyParts, BoundOrder, SizeOrder, BadName, RepeatedName, NoItems, RepeatedNumber, RepeatedTag, DefaultMisfit, EmptyElement}
 use Rattle.oer_types.proofs.FitTests.{fit_sound}
+use Rattle.oer_types.proofs.Leaves.{some_node}
 use Rattle.oer_types.proofs.FaultTests.{fault_decides}
 
 -- the fault of a number
@@ -126,37 +130,23 @@ or_right true b h = cc
 few_additions : (more : Additions) → addition_count more ≤ additions_nodes more
 few_additions no_additions = omega arith
 few_additions (addition name T more) = let n = few_additions more in let p = some_node T in omega arith
-  where
-    some_node : (T : AsnType) → 1 ≤ type_nodes T
-    some_node (sequence fs) = omega arith
-    some_node (extensible_sequence fs more) = omega arith
-    some_node (sequence_of s T) = omega arith
-    some_node (choice e more) = omega arith
-    some_node (enumerated xs e) = omega arith
-    some_node boolean = omega arith
-    some_node null = omega arith
-    some_node (integer low high) = omega arith
-    some_node (bit_string s) = omega arith
-    some_node object_id = omega arith
-    some_node (restricted_string kind s) = omega arith
-    some_node (utf8_string s) = omega arith
-    some_node (octet_string s) = omega arith
 
 size_limit : (s : Size) → HasSizeWidths s → HasSizeLimit s
 size_limit s h = le-leb s.low 18446744073709551615 (omega arith)
 
+some_limit : (size : Option Size) → IfSome size HasSizeWidths → IfSome size HasSizeLimit
+some_limit None h = tt
+some_limit (Some s) h = size_limit s h
+
 -- the limits follow from the widths of numbers, the number of parts, and that no element may be empty
+leaf_limits : (kind : LeafType) → LeafHasWidths kind → KeepsLimits (leaf kind)
+leaf_limits (kind.integer low high) r = tt
+leaf_limits (kind.enumerated xs x) r = tt
+leaf_limits k r = some_limit (string_size k) r
+
 mutual
   limits_from : (T : AsnType) → HasWidths T → type_nodes T ≤ 4096 → somewhere has_empty_element T ≡ false → KeepsLimits T
-  limits_from boolean r n e = tt
-  limits_from null r n e = tt
-  limits_from (integer low high) r n e = tt
-  limits_from (enumerated xs x) r n e = tt
-  limits_from (bit_string s) r n e = size_limit s r
-  limits_from object_id r n e = tt
-  limits_from (restricted_string kind s) r n e = size_limit s r
-  limits_from (utf8_string s) r n e = size_limit s r
-  limits_from (octet_string s) r n e = size_limit s r
+  limits_from (leaf kind) r n e = leaf_limits kind r
   limits_from (sequence fs) r n e = fields_limits fs r (omega arith) e
   limits_from (extensible_sequence fs more) r n e =
       let f = few_additions more in (
@@ -238,15 +228,7 @@ default_fits T (default d) e = fit_sound T d (not_off (is_fit T d) e)
 
 mutual
   defaults_from : (T : AsnType) → somewhere has_misfit T ≡ false → DefaultsFit T
-  defaults_from boolean e = tt
-  defaults_from null e = tt
-  defaults_from (integer low high) e = tt
-  defaults_from (enumerated xs x) e = tt
-  defaults_from (bit_string s) e = tt
-  defaults_from object_id e = tt
-  defaults_from (restricted_string kind s) e = tt
-  defaults_from (utf8_string s) e = tt
-  defaults_from (octet_string s) e = tt
+  defaults_from (leaf kind) e = tt
   defaults_from (sequence fs) e = field_defaults fs (or_left (any_misfit fs) (in_fields has_misfit fs) e) (or_right (any_misfit fs) (in_fields has_misfit fs) e)
   defaults_from (extensible_sequence fs more) e =
       let k = or_right (any_misfit fs) (in_fields has_misfit fs || in_additions has_misfit more) e in (

@@ -1,5 +1,5 @@
 -- Filling, part by part.
-use Rattle.std.proofs.Common.{◌≡◌, ◌↔◌, ℕ, ◌==◌, List, [], ◌∷◌, ◌++◌, length, map, Bool, true, false, not, ◌||◌, if◌then◌else◌, Option, Some, None, option_map, Vec, Global, IsTrue, eqb, ◌&&◌, refl, sym, ap, ◌∙◌, arith, rules}
+use Rattle.std.proofs.Common.{◌≡◌, ◌↔◌, ℕ, ◌==◌, List, [], ◌∷◌, ◌++◌, length, map, Bool, true, false, not, if◌then◌else◌, Option, Some, None, option_map, Vec, Global, IsTrue, eqb, ◌&&◌, refl, sym, ap, ◌∙◌, arith, rules}
 use denote.Enum.Bare.{sameb}
 use Rattle.std.proofs.lemmas.Grind.{common_steps}
 use Rattle.std.proofs.Math.Dec.{eqb-suc-zero}
@@ -9,7 +9,7 @@ use Rattle.oer_types.specs.AsnType.{AsnType, Need, must, may, default, Fields, A
 use Rattle.oer_types.specs.AsnValue.{AsnValue, Places, Values, absent, chosen, Unknown, items, no_places, no_values, present, seq, value}
 use Rattle.oer_types.specs.DefaultView.{with_default, place}
 use Rattle.oer_types.specs.Filling.{filled, filled_additions, filled_fields, map_values}
-use Rattle.oer_types.specs.ShapeView.{type_of, additions_from, additions_of, fields_from, fields_of, known_additions, sequence_with, SeenAddition, SeenField}
+use Rattle.oer_types.specs.ShapeView.{additions_from, additions_of, fields_from, fields_of, known_additions, sequence_with, SeenAddition, SeenField}
 use Rattle.oer_types.specs.ValueView.{attached, value_of, values_from, values_of, places_of}
 use Rattle.oer_types.specs.declared.shape.Addition.{Addition}
 use Rattle.oer_types.specs.declared.shape.Field.{Field}

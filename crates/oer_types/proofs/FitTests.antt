@@ -5,11 +5,15 @@ use Rattle.std.specs.Str.{is_utf8, chars}
 use Rattle.oer_units.specs.Octets.{IsOctets}
 use Rattle.oer_units.specs.Reading.{is_int64}
 use Rattle.oer_units.specs.declared.tagging.Tag.{Tag}
-use Rattle.oer_types.specs.AsnType.{Additions, Alternatives, AsnType, Fields, addition, alternative, bit_string, boolean, choice, default, enumerated, extensible_sequence, field, integer, later, may, must, no_additions, no_alternatives, no_fields, null, object_id, octet_string, restricted_string, sequence, sequence_of, utf8_string}
-use Rattle.oer_types.specs.AsnValue.{AsnValue, Places, Unknown, Values, absent, bit_list, bool, chosen, enum, foreign, int, items, no_places, no_values, nothing, octets, oid, present, seq, text, unknown, value}
+use Rattle.oer_types.specs.LeafType as kind
+use Rattle.oer_types.specs.LeafType.{LeafType}
+use Rattle.oer_types.specs.LeafValue.{LeafValue}
+use Rattle.oer_types.specs.LeafValue as leaf_kind
+use Rattle.oer_types.specs.AsnType.{Additions, Alternatives, AsnType, Fields, addition, alternative, bit_string, boolean, choice, default, enumerated, extensible_sequence, field, integer, later, leaf, may, must, no_additions, no_alternatives, no_fields, null, object_id, octet_string, restricted_string, sequence, sequence_of, utf8_string}
+use Rattle.oer_types.specs.AsnValue.{AsnValue, Places, Unknown, Values, absent, chosen, foreign, items, leaf_value, no_places, no_values, present, seq, unknown, value}
 use Rattle.oer_types.specs.Constraints.{addition_count, all_characters, has_number, has_tag, same_tag, size_fits}
-use Rattle.oer_types.specs.Fits.{AllBelow, AllFit, AreArcs, Fits, FitsAdditions, FitsAlternative, FitsByTag, FitsFields, FitsUnknown, listed}
-use Rattle.oer_types.specs.FitTest.{all_below, first_arcs, arcs_fit, values_length, all_fit, unknown_fit, is_without, is_fit, fields_fit, additions_fit, alternative_fits}
+use Rattle.oer_types.specs.Fits.{AllBelow, AllFit, AreArcs, Fits, FitsAdditions, FitsAlternative, FitsByTag, FitsFields, FitsLeaf, FitsUnknown, listed}
+use Rattle.oer_types.specs.FitTest.{additions_fit, all_below, all_fit, alternative_fits, arcs_fit, fields_fit, first_arcs, is_fit, is_fit_leaf, is_without, unknown_fit, values_length}
 
 pub both : (a b : Bool) → (a && b) ≡ true → (a ≡ true) × (b ≡ true)
 both true b h = (refl, h)
@@ -130,23 +134,27 @@ tag_complete : (b : Bool) (P R : AsnValue → Type 0) (v : AsnValue) (x y : Bool
 tag_complete true P R v x y f g h = f h
 tag_complete false P R v x y f g h = g h
 
+leaf_sound : (kind : LeafType) (v : LeafValue) → is_fit_leaf kind v ≡ true → FitsLeaf kind (leaf_value v)
+leaf_sound kind.boolean (leaf_kind.bool x) h = (x, refl)
+leaf_sound kind.null leaf_kind.nothing h = refl
+leaf_sound (kind.integer low high) (leaf_kind.int z) h = (z, refl, h)
+leaf_sound (kind.enumerated xs e) (leaf_kind.enum z) h = let k = both (is_int64 z) (e || has_number xs z) h in (z, refl, k.0, k.1)
+leaf_sound (kind.bit_string s) (leaf_kind.bit_list bits) h = (bits, refl, h)
+leaf_sound kind.object_id (leaf_kind.oid arcs) h = (arcs, refl, arcs_sound arcs h)
+leaf_sound (kind.restricted_string kind s) (leaf_kind.text w) h =
+    let k = both (all_below 256 w) (all_characters kind w && size_fits s (length w)) h in
+    let l = both (all_characters kind w) (size_fits s (length w)) k.1 in
+    (w, refl, below_octets w k.0, l.0, l.1)
+leaf_sound (kind.utf8_string s) (leaf_kind.text w) h =
+    let k = both (all_below 256 w) (is_utf8 w && size_fits s (length (chars w))) h in
+    let l = both (is_utf8 w) (size_fits s (length (chars w))) k.1 in
+    (w, refl, below_octets w k.0, l.0, l.1)
+leaf_sound (kind.octet_string s) (leaf_kind.octets w) h = let k = both (all_below 256 w) (size_fits s (length w)) h in (w, refl, below_octets w k.0, k.1)
+leaf_sound kind v h = absurd (cc)
+
 mutual
   pub fit_sound : (T : AsnType) (v : AsnValue) → is_fit T v ≡ true → Fits T v
-  fit_sound boolean (bool x) h = (x, refl)
-  fit_sound null nothing h = refl
-  fit_sound (integer low high) (int z) h = (z, refl, h)
-  fit_sound (enumerated xs e) (enum z) h = let k = both (is_int64 z) (e || has_number xs z) h in (z, refl, k.0, k.1)
-  fit_sound (bit_string s) (bit_list bits) h = (bits, refl, h)
-  fit_sound object_id (oid arcs) h = (arcs, refl, arcs_sound arcs h)
-  fit_sound (restricted_string kind s) (text w) h =
-      let k = both (all_below 256 w) (all_characters kind w && size_fits s (length w)) h in
-      let l = both (all_characters kind w) (size_fits s (length w)) k.1 in
-      (w, refl, below_octets w k.0, l.0, l.1)
-  fit_sound (utf8_string s) (text w) h =
-      let k = both (all_below 256 w) (is_utf8 w && size_fits s (length (chars w))) h in
-      let l = both (is_utf8 w) (size_fits s (length (chars w))) k.1 in
-      (w, refl, below_octets w k.0, l.0, l.1)
-  fit_sound (octet_string s) (octets w) h = let k = both (all_below 256 w) (size_fits s (length w)) h in (w, refl, below_octets w k.0, k.1)
+  fit_sound (leaf kind) (leaf_value v) h = leaf_sound kind v h
   fit_sound (sequence fs) (seq root added us) h =
       let k = both (is_without added us) (fields_fit fs root) h in
       let e = is_without_sound added us k.0 in
@@ -191,19 +199,22 @@ mutual
   alternative_sound (alternative name u T more) t v h = tag_sound (same_tag u t) (Fits T) (FitsAlternative more t) v (is_fit T v) (alternative_fits more t v) (fit_sound T v) (alternative_sound more t v) h
   alternative_sound (later name u T more) t v h = tag_sound (same_tag u t) (Fits T) (FitsAlternative more t) v (is_fit T v) (alternative_fits more t v) (fit_sound T v) (alternative_sound more t v) h
 
+leaf_complete : (kind : LeafType) (v : AsnValue) → FitsLeaf kind v → is_fit (leaf kind) v ≡ true
+leaf_complete kind.boolean v (x, e) = ap (is_fit boolean) e
+leaf_complete kind.null v e = ap (is_fit null) e
+leaf_complete (kind.integer low high) v (z, e, h) = ap (is_fit (integer low high)) e ∙ h
+leaf_complete (kind.enumerated xs x) v (z, e, h, k) = ap (is_fit (enumerated xs x)) e ∙ and_true (is_int64 z) (x || has_number xs z) h k
+leaf_complete (kind.bit_string s) v (bits, e, h) = ap (is_fit (bit_string s)) e ∙ h
+leaf_complete kind.object_id v (arcs, e, h) = ap (is_fit object_id) e ∙ arcs_complete arcs h
+leaf_complete (kind.restricted_string kind s) v (w, e, o, h, k) =
+    ap (is_fit (restricted_string kind s)) e ∙ and_true (all_below 256 w) (all_characters kind w && size_fits s (length w)) (octets_below w o) (and_true (all_characters kind w) (size_fits s (length w)) h k)
+leaf_complete (kind.utf8_string s) v (w, e, o, h, k) =
+    ap (is_fit (utf8_string s)) e ∙ and_true (all_below 256 w) (is_utf8 w && size_fits s (length (chars w))) (octets_below w o) (and_true (is_utf8 w) (size_fits s (length (chars w))) h k)
+leaf_complete (kind.octet_string s) v (w, e, o, h) = ap (is_fit (octet_string s)) e ∙ and_true (all_below 256 w) (size_fits s (length w)) (octets_below w o) h
+
 mutual
   pub fit_complete : (T : AsnType) (v : AsnValue) → Fits T v → is_fit T v ≡ true
-  fit_complete boolean v (x, e) = ap (is_fit boolean) e
-  fit_complete null v e = ap (is_fit null) e
-  fit_complete (integer low high) v (z, e, h) = ap (is_fit (integer low high)) e ∙ h
-  fit_complete (enumerated xs x) v (z, e, h, k) = ap (is_fit (enumerated xs x)) e ∙ and_true (is_int64 z) (x || has_number xs z) h k
-  fit_complete (bit_string s) v (bits, e, h) = ap (is_fit (bit_string s)) e ∙ h
-  fit_complete object_id v (arcs, e, h) = ap (is_fit object_id) e ∙ arcs_complete arcs h
-  fit_complete (restricted_string kind s) v (w, e, o, h, k) =
-      ap (is_fit (restricted_string kind s)) e ∙ and_true (all_below 256 w) (all_characters kind w && size_fits s (length w)) (octets_below w o) (and_true (all_characters kind w) (size_fits s (length w)) h k)
-  fit_complete (utf8_string s) v (w, e, o, h, k) =
-      ap (is_fit (utf8_string s)) e ∙ and_true (all_below 256 w) (is_utf8 w && size_fits s (length (chars w))) (octets_below w o) (and_true (is_utf8 w) (size_fits s (length (chars w))) h k)
-  fit_complete (octet_string s) v (w, e, o, h) = ap (is_fit (octet_string s)) e ∙ and_true (all_below 256 w) (size_fits s (length w)) (octets_below w o) h
+  fit_complete (leaf kind) v f = leaf_complete kind v f
   fit_complete (sequence fs) v (root, e, f) = ap (is_fit (sequence fs)) e ∙ fields_complete fs root f
   fit_complete (extensible_sequence fs more) v (root, added, us, e, f, a, u) =
       ap (is_fit (extensible_sequence fs more)) e ∙ and_true (fields_fit fs root) (additions_fit more added && unknown_fit (addition_count more) us) (fields_complete fs root f)

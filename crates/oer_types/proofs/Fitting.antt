@@ -7,13 +7,15 @@ use Rattle.oer_units.specs.declared.tagging.Tag.{Tag}
 use Rattle.oer_units.proofs.Lengths.{true_both}
 use Rattle.oer_units.proofs.OneSpelling.{octets_split}
 use Rattle.oer_types.proofs.Parts.{length-bits_of}
-use Rattle.oer_types.specs.AsnType.{Need, must, may, default, AsnType, boolean, null, integer, enumerated, bit_string, object_id, restricted_string, utf8_string, octet_string, sequence, extensible_sequence, sequence_of, choice, Fields, no_fields, field, Additions, no_additions, addition, Alternatives, no_alternatives, alternative, later}
+use Rattle.oer_types.specs.LeafType as kind
+use Rattle.oer_types.specs.LeafType.{LeafType}
+use Rattle.oer_types.specs.AsnType.{Additions, Alternatives, AsnType, Fields, Need, addition, alternative, choice, default, extensible_sequence, field, later, leaf, may, must, no_additions, no_alternatives, no_fields, sequence, sequence_of}
 use Rattle.oer_types.specs.AsnValue.{Unknown, unknown, AsnValue, text, Places}
 use Rattle.oer_types.specs.Bits.{bits_of, octets_for, first_bit, later_bits, all_false}
 use Rattle.oer_units.specs.Laws.{HasTagNumber}
 use Rattle.oer_types.specs.Constraints.{addition_count, same_tag, HasSizeLimit, size_fits, at_most, fixed, fixed_by, all_characters, KeepsLimits, FieldsKeepLimits, AdditionsKeepLimits, AlternativesKeepLimits}
-use Rattle.oer_types.specs.Encoding.{IsPresent, ByBit, ByNeed, ByTag, SpellsOctets, SpellsBits, SpellsText, IsItself, SpellsUnknown, SpellsExtension, IsSpelling, SpellsFields, SpellsAdditions, SpellsAlternative}
-use Rattle.oer_types.specs.Fits.{all_absent, AllBelow, IsText, AllFit, IsThere, FitsUnknown, FitsPlace, FitsByTag, Fits, FitsFields, FitsAdditions, FitsAlternative}
+use Rattle.oer_types.specs.Encoding.{ByBit, ByNeed, ByTag, IsItself, IsLeafSpelling, IsPresent, IsSpelling, SpellsAdditions, SpellsAlternative, SpellsBits, SpellsExtension, SpellsFields, SpellsOctets, SpellsText, SpellsUnknown}
+use Rattle.oer_types.specs.Fits.{AllBelow, AllFit, Fits, FitsAdditions, FitsAlternative, FitsByTag, FitsFields, FitsLeaf, FitsPlace, FitsUnknown, IsText, IsThere, all_absent}
 use Rattle.oer_types.specs.declared.size.Size.{Size}
 
 fixed_fits : (low : ℕ) (high : Option ℕ) (n : ℕ) → fixed_by low high ≡ Some n → leb low 18446744073709551615 ≡ true → (leb low n && at_most high n && leb n 18446744073709551615) ≡ true
@@ -116,17 +118,20 @@ extension_fits true more few f ps us b o (s, m, a, u, e, k, zeros, x, r) =
 text_fits : (test : List ℕ → Bool) (size : Size) → HasSizeLimit size → AlwaysFits (λ v b. (w : List ℕ) × (v ≡ text w) × SpellsText test (fixed size) size w b) (IsText test size)
 text_fits test size small v b o (w, is, (s, ok)) = let both = octets_fit (fixed size) size w b refl small o s in (w, is, both.0, ok, both.1)
 
+leaf_fits : (kind : LeafType) → KeepsLimits (leaf kind) → AlwaysFits (IsLeafSpelling kind) (FitsLeaf kind)
+leaf_fits kind.boolean wf v b o (x, e, is) = (_, is)
+leaf_fits kind.null wf v b o (is, e) = is
+leaf_fits (kind.integer low high) wf v b o (z, is, ok, s) = (z, is, ok)
+leaf_fits (kind.enumerated numbers extensible) wf v b o (z, is, ok, known, s) = (z, is, ok, known)
+leaf_fits (kind.bit_string size) wf v b o (s, is, x) = (s, is, bits_fit (fixed size) size s b refl wf x)
+leaf_fits kind.object_id wf v b o (arcs, is, (l, c, e, len, (x, y, rest, f, low, under, (b1, b2, g, s, r)))) = (arcs, is, (x, y, rest, f, low, under, s.1, all_below rest b2 r))
+leaf_fits (kind.restricted_string kind size) wf v b o s = text_fits (all_characters kind) size wf v b o s
+leaf_fits (kind.utf8_string size) wf v b o (w, is, ok, fits, s) = (w, is, itself_fits w b o s, ok, fits)
+leaf_fits (kind.octet_string size) wf v b o (w, is, s) = let both = octets_fit (fixed size) size w b refl wf o s in (w, is, both.0, both.1)
+
 mutual
   pub enc_fits : (T : AsnType) → KeepsLimits T → AlwaysFits (IsSpelling T) (Fits T)
-  enc_fits boolean wf v b o (x, e, is) = (_, is)
-  enc_fits null wf v b o (is, e) = is
-  enc_fits (integer low high) wf v b o (z, is, ok, s) = (z, is, ok)
-  enc_fits (enumerated numbers extensible) wf v b o (z, is, ok, known, s) = (z, is, ok, known)
-  enc_fits (bit_string size) wf v b o (s, is, x) = (s, is, bits_fit (fixed size) size s b refl wf x)
-  enc_fits object_id wf v b o (arcs, is, (l, c, e, len, (x, y, rest, f, low, under, (b1, b2, g, s, r)))) = (arcs, is, (x, y, rest, f, low, under, s.1, all_below rest b2 r))
-  enc_fits (restricted_string kind size) wf v b o s = text_fits (all_characters kind) size wf v b o s
-  enc_fits (utf8_string size) wf v b o (w, is, ok, fits, s) = (w, is, itself_fits w b o s, ok, fits)
-  enc_fits (octet_string size) wf v b o (w, is, s) = let both = octets_fit (fixed size) size w b refl wf o s in (w, is, both.0, both.1)
+  enc_fits (leaf kind) wf v b o s = leaf_fits kind wf v b o s
   enc_fits (sequence fs) wf v b o (root, s, p, r, is, e, i, pre, x) = (root, is, fields_fit fs wf s root r (octets_split p r (subst IsOctets e o)).1 x)
   enc_fits (extensible_sequence fs more) wf v b o (root, added, us, x, s, p, r, a, is, e, i, pre, f, ext) =
       let parts = octets_split r a (octets_split p (r ++ a) (subst IsOctets e o)).1 in

@@ -21,17 +21,19 @@ use Rattle.oer_types.proofs.Trimming.{fill_trimmed}
 use Rattle.oer_types.proofs.UnknownBits.{fits_rise, marks_length, AreShort, unknown_exists, marks_set, last_below}
 use Rattle.oer_types.proofs.StrictOctets.{strict_octets}
 use Rattle.oer_types.proofs.TrimmedFits.{trim_fits}
-use Rattle.oer_types.specs.AsnType.{NamedNumber, Need, must, may, default, AsnType, boolean, null, integer, enumerated, bit_string, object_id, restricted_string, utf8_string, octet_string, sequence, extensible_sequence, sequence_of, choice, Fields, no_fields, field, Additions, no_additions, addition, Alternatives, no_alternatives, alternative, later}
+use Rattle.oer_types.specs.LeafType as kind
+use Rattle.oer_types.specs.LeafType.{LeafType}
+use Rattle.oer_types.specs.AsnType.{Additions, Alternatives, AsnType, Fields, NamedNumber, Need, addition, alternative, bit_string, boolean, choice, default, enumerated, extensible_sequence, field, integer, later, leaf, may, must, no_additions, no_alternatives, no_fields, object_id, octet_string, restricted_string, sequence, sequence_of, utf8_string}
 use Rattle.oer_types.specs.AsnValue.{Unknown, unknown, AsnValue, int, enum, text, oid, octets, items, Places, absent, present}
 use Rattle.oer_types.specs.Bits.{all_false, padded, spare_bits}
-use Rattle.oer_types.specs.Canonical.{same, trimmed_place, trimmed, trimmed_fields, trimmed_additions, trimmed_alternative, integer_octets, string_octets, bit_octets, bitmap_octets, count, all_octets, place_octets, place_bits, root_bits, addition_bits, unknown_marks, unknown_octets, any_present, any_unknown, extension_octets, by_tag_octets, plain_octets, plain_field_octets, plain_addition_octets, plain_alternative_octets, canonical_octets}
+use Rattle.oer_types.specs.Canonical.{addition_bits, all_octets, any_present, any_unknown, bit_octets, bitmap_octets, by_tag_octets, canonical_octets, count, extension_octets, integer_octets, leaf_octets, place_bits, place_octets, plain_addition_octets, plain_alternative_octets, plain_field_octets, plain_octets, root_bits, same, string_octets, trimmed, trimmed_additions, trimmed_alternative, trimmed_fields, trimmed_place, unknown_marks, unknown_octets}
 use Rattle.oer_units.specs.Laws.{HasTagNumber}
 use Rattle.oer_types.specs.Constraints.{same_tag, size_fits, at_most, fixed, fixed_by, all_characters, form_of, in_range, has_number, optional, optional_with, addition_count, KeepsLimits, FieldsKeepLimits, AdditionsKeepLimits, AlternativesKeepLimits, any_size}
 use Rattle.oer_types.specs.Encoding.{SpellsInteger, SpellsOctets, SpellsText, IsItself, IsPresent, IsAbsent, ByTag}
 use Rattle.oer_types.specs.Filling.{filled_by_tag, filled}
-use Rattle.oer_types.specs.Fits.{after_last, listed, all_absent, AreArcs, AllFit, FitsPlace, FitsByTag, FitsUnknown, Fits, FitsFields, FitsAdditions, FitsAlternative}
+use Rattle.oer_types.specs.Fits.{AllFit, AreArcs, Fits, FitsAdditions, FitsAlternative, FitsByTag, FitsFields, FitsLeaf, FitsPlace, FitsUnknown, after_last, all_absent, listed}
 use Rattle.oer_types.specs.Laws.{CanonicalGiven}
-use Rattle.oer_types.specs.Strict.{IsLeastSpelling, StrictCounted, StrictBits, StrictBitString, StrictQuantity, StrictNeed, StrictExtension, IsStrictSpelling, SpellsFieldsStrictly, SpellsAdditionsStrictly, SpellsAlternativeStrictly}
+use Rattle.oer_types.specs.Strict.{IsLeastSpelling, IsStrictLeafSpelling, IsStrictSpelling, SpellsAdditionsStrictly, SpellsAlternativeStrictly, SpellsFieldsStrictly, StrictBitString, StrictBits, StrictCounted, StrictExtension, StrictNeed, StrictQuantity}
 use Rattle.oer_types.specs.declared.size.Size.{Size}
 
 -- fewer than 2 ^ 64 octets
@@ -314,17 +316,20 @@ items_given size T vs f a one s =
       every_given (Fits T) (trimmed T) (plain_octets T) (IsStrictSpelling T) one vs a (small_right (counted (unsigned_octets (count (listed ws)))) (all_octets (plain_octets T) (listed ws)) s),
     )
 
+leaf_given : (kind : LeafType) → KeepsLimits (leaf kind) → AreGiven (FitsLeaf kind) (λ v. v) (leaf_octets kind) (IsStrictLeafSpelling kind)
+leaf_given kind.boolean w v (x, is) = λ s. (x, is, ap (plain_octets boolean) is)
+leaf_given kind.null w v is = λ s. (is, refl)
+leaf_given (kind.integer low high) w v (z, is, ok) = subst (IsGiven (integer low high)) (sym is) (λ s. integer_leaf low high z ok)
+leaf_given (kind.enumerated numbers extensible) w v (z, is, ok, known) = subst (IsGiven (enumerated numbers extensible)) (sym is) (λ s. enumerated_leaf numbers extensible z ok known)
+leaf_given (kind.bit_string size) w v (b, is, f) = subst (IsGiven (bit_string size)) (sym is) (λ s. (b, refl, bit_string_exists (fixed size) size b refl f s))
+leaf_given kind.object_id w v (x, is, a) = subst (IsGiven object_id) (sym is) (λ s. oid_leaf x a s)
+leaf_given (kind.restricted_string kind size) w v (x, is, o, ok, f) = subst (IsGiven (restricted_string kind size)) (sym is) (λ s. letters_exist (all_characters kind) size x o ok f)
+leaf_given (kind.utf8_string size) w v (x, is, o, ok, f) = subst (IsGiven (utf8_string size)) (sym is) (λ s. utf8_exists size x o ok f s)
+leaf_given (kind.octet_string size) w v (x, is, o, f) = subst (IsGiven (octet_string size)) (sym is) (λ s. octet_string_exists size x o f)
+
 mutual
   pub value_given : (T : AsnType) → KeepsLimits T → AreGiven (Fits T) (trimmed T) (plain_octets T) (IsStrictSpelling T)
-  value_given boolean w v (x, is) = λ s. (x, is, ap (plain_octets boolean) is)
-  value_given null w v is = λ s. (is, refl)
-  value_given (integer low high) w v (z, is, ok) = subst (IsGiven (integer low high)) (sym is) (λ s. integer_leaf low high z ok)
-  value_given (enumerated numbers extensible) w v (z, is, ok, known) = subst (IsGiven (enumerated numbers extensible)) (sym is) (λ s. enumerated_leaf numbers extensible z ok known)
-  value_given (bit_string size) w v (b, is, f) = subst (IsGiven (bit_string size)) (sym is) (λ s. (b, refl, bit_string_exists (fixed size) size b refl f s))
-  value_given object_id w v (x, is, a) = subst (IsGiven object_id) (sym is) (λ s. oid_leaf x a s)
-  value_given (restricted_string kind size) w v (x, is, o, ok, f) = subst (IsGiven (restricted_string kind size)) (sym is) (λ s. letters_exist (all_characters kind) size x o ok f)
-  value_given (utf8_string size) w v (x, is, o, ok, f) = subst (IsGiven (utf8_string size)) (sym is) (λ s. utf8_exists size x o ok f s)
-  value_given (octet_string size) w v (x, is, o, f) = subst (IsGiven (octet_string size)) (sym is) (λ s. octet_string_exists size x o f)
+  value_given (leaf kind) w v f = leaf_given kind w v f
   value_given (sequence fs) w v (root, is, f) = subst (λ v. IsGiven (sequence fs) (trimmed (sequence fs) v)) (sym is)
       (λ s. (
         trimmed_fields fs root,

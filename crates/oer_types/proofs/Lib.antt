@@ -1,4 +1,5 @@
 pub mod Values
+pub mod Leaves
 pub mod Shapes
 pub mod Packing
 pub mod Parts

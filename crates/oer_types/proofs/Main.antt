@@ -15,12 +15,14 @@ use Rattle.oer_units.proofs.ObjectIds.{object_identifier_lawful}
 use Rattle.oer_units.proofs.Units.{mapped_lawful, tested_lawful}
 use Rattle.oer_types.proofs.Parts.{form_lawful, octets_lawful, by_bit_lawful, by_need_lawful, by_tag_lawful, extension_lawful, sequence_lawful, extensible_lawful, items_lawful, choice_lawful, bits_lawful}
 use Rattle.oer_types.proofs.Strings.{text_lawful, utf8_lawful}
-use Rattle.oer_types.specs.AsnType.{must, may, default, AsnType, boolean, null, integer, enumerated, bit_string, object_id, restricted_string, utf8_string, octet_string, sequence, extensible_sequence, sequence_of, choice, Fields, no_fields, field, Additions, no_additions, addition, Alternatives, no_alternatives, alternative, later}
+use Rattle.oer_types.specs.LeafType as kind
+use Rattle.oer_types.specs.LeafType.{LeafType}
+use Rattle.oer_types.specs.AsnType.{Additions, Alternatives, AsnType, Fields, addition, alternative, choice, default, extensible_sequence, field, later, leaf, may, must, no_additions, no_alternatives, no_fields, sequence, sequence_of}
 use Rattle.oer_types.specs.AsnValue.{AsnValue, bool, nothing, int, enum, bit_list, text, oid, octets, Places, no_places}
 use Rattle.oer_types.specs.Bits.{first_bit, later_bits, octets_for, IsPreamble, IsBits}
-use Rattle.oer_types.specs.Constraints.{has_tag, same_tag, size_fits, fixed, Form, unsigned_fixed, signed_fixed, unsigned_counted, signed_counted, form_of, in_range, has_number, all_characters, optional, is_zero, may_be_empty, may_all_be_empty, KeepsLimits, FieldsKeepLimits, AdditionsKeepLimits, AlternativesKeepLimits}
-use Rattle.oer_types.specs.Encoding.{SpellsInteger, SpellsOctets, SpellsBits, SpellsText, SpellsExtension, IsItself, ByTag, IsSpelling, SpellsFields, SpellsAdditions, SpellsAlternative}
-use Rattle.oer_types.specs.Reading.{read_integer, read_octets, read_bits, read_text, read_utf8, read_extension, read_value, read_fields, read_additions, read_alternative}
+use Rattle.oer_types.specs.Constraints.{AdditionsKeepLimits, AlternativesKeepLimits, FieldsKeepLimits, Form, KeepsLimits, all_characters, fixed, form_of, has_number, has_tag, in_range, is_zero, leaf_may_be_empty, may_all_be_empty, may_be_empty, optional, same_tag, signed_counted, signed_fixed, size_fits, unsigned_counted, unsigned_fixed}
+use Rattle.oer_types.specs.Encoding.{ByTag, IsItself, IsLeafSpelling, IsSpelling, SpellsAdditions, SpellsAlternative, SpellsBits, SpellsExtension, SpellsFields, SpellsInteger, SpellsOctets, SpellsText}
+use Rattle.oer_types.specs.Reading.{read_additions, read_alternative, read_bits, read_extension, read_fields, read_integer, read_leaf, read_octets, read_text, read_utf8, read_value}
 use Rattle.oer_types.specs.declared.size.Size.{Size}
 use Rattle.oer_units.specs.Reading as unit
 
@@ -138,17 +140,20 @@ either_some : (one others : Bool) → (one && others) ≡ false → (b b1 b2 : L
 either_some false others e b b1 b2 g f h = omega (arith, ap length g, length-append b1 b2, f refl)
 either_some true others e b b1 b2 g f h = omega (arith, ap length g, length-append b1 b2, h e)
 
+leaf_takes_some : (kind : LeafType) → leaf_may_be_empty kind ≡ false → (v : AsnValue) (b : List ℕ) → IsLeafSpelling kind v b → 1 ≤ length b
+leaf_takes_some kind.boolean e v b (x, f, g) = omega (arith, ap length f)
+leaf_takes_some kind.null e v b s = absurd (cc)
+leaf_takes_some (kind.integer low high) e v b (z, f, g, s) = form_some (form_of low high) z b (form_wide low high).is_wide s
+leaf_takes_some (kind.enumerated numbers extensible) e v b (z, f, g, h, s) = enum_some z b s
+leaf_takes_some (kind.bit_string s) e v b (w, f, g) = bits_some (fixed s) s w b e g
+leaf_takes_some kind.object_id e v b (w, f, s) = counted_some IsObjectId w b s
+leaf_takes_some (kind.restricted_string kind s) e v b (w, f, (g, t)) = octets_some (fixed s) s w b e g
+leaf_takes_some (kind.utf8_string s) e v b (w, f, t, u, g) = counted_some IsItself w b g
+leaf_takes_some (kind.octet_string s) e v b (w, f, g) = octets_some (fixed s) s w b e g
+
 mutual
   pub takes_some : (T : AsnType) → may_be_empty T ≡ false → (v : AsnValue) (b : List ℕ) → IsSpelling T v b → 1 ≤ length b
-  takes_some boolean e v b (x, f, g) = omega (arith, ap length f)
-  takes_some null e v b s = absurd (cc)
-  takes_some (integer low high) e v b (z, f, g, s) = form_some (form_of low high) z b (form_wide low high).is_wide s
-  takes_some (enumerated numbers extensible) e v b (z, f, g, h, s) = enum_some z b s
-  takes_some (bit_string s) e v b (w, f, g) = bits_some (fixed s) s w b e g
-  takes_some object_id e v b (w, f, s) = counted_some IsObjectId w b s
-  takes_some (restricted_string kind s) e v b (w, f, (g, t)) = octets_some (fixed s) s w b e g
-  takes_some (utf8_string s) e v b (w, f, t, u, g) = counted_some IsItself w b g
-  takes_some (octet_string s) e v b (w, f, g) = octets_some (fixed s) s w b e g
+  takes_some (leaf kind) e v b s = leaf_takes_some kind e v b s
   takes_some (sequence fs) e v b (root, s, p, r, f, g, n, pre, t) = sequence_some (optional fs) (may_all_be_empty fs) e s p r b g n pre (λ all none. all_take_some fs all none s root r t)
   takes_some (extensible_sequence fs more) e v b (root, added, us, x, s, p, r, a, f, g, n, pre, t, u) = omega (arith, ap length g, length-append p (r ++ a), preamble_some (x ∷ s) p (omega arith) pre)
   takes_some (sequence_of s T) e v b (vs, q, es, f, g, t, fits, every) = omega (arith, ap length g, length-append q es, counted_some (λ n w. (1 ≤ length w) × (unsigned w ≡ n)) (length vs) q t)
@@ -160,24 +165,27 @@ mutual
   all_take_some (field name may T fs) e none s ps b t = absurd (omega arith)
   all_take_some (field name (default d) T fs) e none s ps b t = absurd (omega arith)
 
+leaf_lawful : (kind : LeafType) → Lawful (read_leaf kind) (IsLeafSpelling kind)
+leaf_lawful kind.boolean = same_spellings (mapped_lawful (λ x. bool (not (eqb x 0))) octet (λ x b. b ≡ x ∷ []) octet_lawful)
+    (λ v b (x, e, f). (x, f, e)) (λ v b (x, f, e). (x, e, f))
+leaf_lawful kind.null = give_lawful nothing
+leaf_lawful (kind.integer low high) = same_spellings (mapped_lawful int (read_integer (form_of low high) (in_range low high)) (λ z b. (in_range low high z ≡ true) × SpellsInteger (form_of low high) z b) (form_lawful (form_of low high) (in_range low high)))
+    (λ v b (z, e, (f, g)). (z, e, f, g)) (λ v b (z, e, f, g). (z, e, (f, g)))
+leaf_lawful (kind.enumerated numbers extensible) = same_spellings
+    (bind_lawful unit.enumerated (λ z. guard (extensible || has_number numbers z) UnknownEnum (give (enum z))) (λ z b. (is_int64 z ≡ true) × IsEnumerated z b) (λ z v b. ((extensible || has_number numbers z) ≡ true) × ((v ≡ enum z) × (b ≡ []))) enumeration_lawful
+    (λ z. tested_lawful (extensible || has_number numbers z) UnknownEnum (give (enum z)) (λ v b. (v ≡ enum z) × (b ≡ [])) unknown_goes_on (give_lawful (enum z))))
+    (λ v b (z, b1, b2, (f, g), (t, (is, none)), e). (z, is, f, t, subst (λ w. IsEnumerated z w) (sym (e ∙ ap (λ w. b1 ++ w) none ∙ append-nil b1)) g))
+    (λ v b (z, is, f, t, g). (z, b, [], (f, g), (t, (is, refl)), sym (append-nil b)))
+leaf_lawful (kind.bit_string s) = mapped_lawful bit_list (read_bits (fixed s) s) (SpellsBits (fixed s) s) (bits_lawful (fixed s) s)
+leaf_lawful kind.object_id = mapped_lawful oid object_identifier (IsCounted IsObjectId) object_identifier_lawful
+leaf_lawful (kind.restricted_string kind s) = mapped_lawful text (read_text (all_characters kind) (fixed s) s) (SpellsText (all_characters kind) (fixed s) s) (text_lawful (all_characters kind) (fixed s) s)
+leaf_lawful (kind.utf8_string s) = same_spellings (mapped_lawful text (read_utf8 s) (λ w b. (is_utf8 w ≡ true) × (size_fits s (length (chars w)) ≡ true) × IsCounted IsItself w b) (utf8_lawful s))
+    (λ v b (w, is, (t, u, s)). (w, is, t, u, s)) (λ v b (w, is, t, u, s). (w, is, (t, u, s)))
+leaf_lawful (kind.octet_string s) = mapped_lawful octets (read_octets (fixed s) s) (SpellsOctets (fixed s) s) (octets_lawful (fixed s) s)
+
 mutual
   pub value_lawful : (T : AsnType) → KeepsLimits T → Lawful (read_value T) (IsSpelling T)
-  value_lawful boolean w = same_spellings (mapped_lawful (λ x. bool (not (eqb x 0))) octet (λ x b. b ≡ x ∷ []) octet_lawful)
-      (λ v b (x, e, f). (x, f, e)) (λ v b (x, f, e). (x, e, f))
-  value_lawful null w = give_lawful nothing
-  value_lawful (integer low high) w = same_spellings (mapped_lawful int (read_integer (form_of low high) (in_range low high)) (λ z b. (in_range low high z ≡ true) × SpellsInteger (form_of low high) z b) (form_lawful (form_of low high) (in_range low high)))
-      (λ v b (z, e, (f, g)). (z, e, f, g)) (λ v b (z, e, f, g). (z, e, (f, g)))
-  value_lawful (enumerated numbers extensible) w = same_spellings
-      (bind_lawful unit.enumerated (λ z. guard (extensible || has_number numbers z) UnknownEnum (give (enum z))) (λ z b. (is_int64 z ≡ true) × IsEnumerated z b) (λ z v b. ((extensible || has_number numbers z) ≡ true) × ((v ≡ enum z) × (b ≡ []))) enumeration_lawful
-      (λ z. tested_lawful (extensible || has_number numbers z) UnknownEnum (give (enum z)) (λ v b. (v ≡ enum z) × (b ≡ [])) unknown_goes_on (give_lawful (enum z))))
-      (λ v b (z, b1, b2, (f, g), (t, (is, none)), e). (z, is, f, t, subst (λ w. IsEnumerated z w) (sym (e ∙ ap (λ w. b1 ++ w) none ∙ append-nil b1)) g))
-      (λ v b (z, is, f, t, g). (z, b, [], (f, g), (t, (is, refl)), sym (append-nil b)))
-  value_lawful (bit_string s) w = mapped_lawful bit_list (read_bits (fixed s) s) (SpellsBits (fixed s) s) (bits_lawful (fixed s) s)
-  value_lawful object_id w = mapped_lawful oid object_identifier (IsCounted IsObjectId) object_identifier_lawful
-  value_lawful (restricted_string kind s) w = mapped_lawful text (read_text (all_characters kind) (fixed s) s) (SpellsText (all_characters kind) (fixed s) s) (text_lawful (all_characters kind) (fixed s) s)
-  value_lawful (utf8_string s) w = same_spellings (mapped_lawful text (read_utf8 s) (λ w b. (is_utf8 w ≡ true) × (size_fits s (length (chars w)) ≡ true) × IsCounted IsItself w b) (utf8_lawful s))
-      (λ v b (w, is, (t, u, s)). (w, is, t, u, s)) (λ v b (w, is, t, u, s). (w, is, (t, u, s)))
-  value_lawful (octet_string s) w = mapped_lawful octets (read_octets (fixed s) s) (SpellsOctets (fixed s) s) (octets_lawful (fixed s) s)
+  value_lawful (leaf kind) w = leaf_lawful kind
   value_lawful (sequence fs) w = sequence_lawful (optional fs) (read_fields fs) (SpellsFields fs) (fields_lawful fs w)
   value_lawful (extensible_sequence fs more) w = extensible_lawful (optional fs) (read_fields fs) (SpellsFields fs) (fields_lawful fs w.0)
       (λ x. read_extension x more (read_additions more)) (λ x. SpellsExtension x more (SpellsAdditions more)) (λ x. extension_lawful x more (read_additions more) (SpellsAdditions more) (adds_lawful more w.1))

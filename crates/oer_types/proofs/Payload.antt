@@ -6,11 +6,13 @@ use Rattle.oer_units.proofs.Counted.{every_long}
 use Rattle.oer_types.proofs.Main.{len_some}
 use Rattle.oer_types.proofs.Parts.{length-bits_of}
 use Rattle.oer_types.proofs.Sizes.{unknown_long, counted_octets_long}
-use Rattle.oer_types.specs.AsnType.{Need, must, may, default, AsnType, boolean, null, integer, enumerated, bit_string, object_id, restricted_string, utf8_string, octet_string, sequence, extensible_sequence, sequence_of, choice, Fields, no_fields, field, Additions, no_additions, addition, Alternatives, no_alternatives, alternative, later}
+use Rattle.oer_types.specs.LeafType as kind
+use Rattle.oer_types.specs.LeafType.{LeafType}
+use Rattle.oer_types.specs.AsnType.{Additions, Alternatives, AsnType, Fields, Need, addition, alternative, choice, default, extensible_sequence, field, later, leaf, may, must, no_additions, no_alternatives, no_fields, sequence, sequence_of}
 use Rattle.oer_types.specs.AsnValue.{Unknown, AsnValue, Places}
 use Rattle.oer_types.specs.Bits.{bits_of, octets_for, first_bit, later_bits}
 use Rattle.oer_types.specs.Constraints.{same_tag, fixed, addition_count}
-use Rattle.oer_types.specs.Encoding.{IsPresent, ByBit, ByNeed, ByTag, SpellsOctets, SpellsBits, SpellsExtension, IsSpelling, SpellsFields, SpellsAdditions, SpellsAlternative}
+use Rattle.oer_types.specs.Encoding.{ByBit, ByNeed, ByTag, IsLeafSpelling, IsPresent, IsSpelling, SpellsAdditions, SpellsAlternative, SpellsBits, SpellsExtension, SpellsFields, SpellsOctets}
 use Rattle.oer_types.specs.Fits.{listed, all_absent}
 use Rattle.oer_types.specs.Nodes.{contents, payload, values_payload, places_payload}
 use Rattle.oer_types.specs.declared.size.Size.{Size}
@@ -75,17 +77,20 @@ extension_paid true more S f ps us b (s, k, a, u, e, j, zeros, x, r) =
     let whole : length b ≡ length k + (length a + length u) = omega (arith, ap length e, length-append k (a ++ u), length-append a u) in
     omega (arith, f s ps a x, unknown_long (addition_count more) (drop (addition_count more) s) us u r)
 
+leaf_paid : (kind : LeafType) → Paid payload (IsLeafSpelling kind)
+leaf_paid kind.boolean v b (x, e, is) = omega (arith, ap payload is)
+leaf_paid kind.null v b (is, e) = omega (arith, ap payload is)
+leaf_paid (kind.integer low high) v b (z, is, ok, s) = omega (arith, ap payload is)
+leaf_paid (kind.enumerated numbers extensible) v b (z, is, ok, l, s) = omega (arith, ap payload is)
+leaf_paid (kind.bit_string size) v b (s, is, x) = omega (arith, ap payload is, bits_paid (fixed size) size s b x)
+leaf_paid kind.object_id v b (w, is, x) = omega (arith, ap payload is, oid_paid w b x)
+leaf_paid (kind.restricted_string kind size) v b (w, is, x) = omega (arith, ap payload is, octets_paid (fixed size) size w b x.0)
+leaf_paid (kind.utf8_string size) v b (w, is, ok, l, x) = omega (arith, ap payload is, counted_octets_long w b x)
+leaf_paid (kind.octet_string size) v b (w, is, x) = omega (arith, ap payload is, octets_paid (fixed size) size w b x)
+
 mutual
   pub value_paid : (T : AsnType) → Paid payload (IsSpelling T)
-  value_paid boolean v b (x, e, is) = omega (arith, ap payload is)
-  value_paid null v b (is, e) = omega (arith, ap payload is)
-  value_paid (integer low high) v b (z, is, ok, s) = omega (arith, ap payload is)
-  value_paid (enumerated numbers extensible) v b (z, is, ok, l, s) = omega (arith, ap payload is)
-  value_paid (bit_string size) v b (s, is, x) = omega (arith, ap payload is, bits_paid (fixed size) size s b x)
-  value_paid object_id v b (w, is, x) = omega (arith, ap payload is, oid_paid w b x)
-  value_paid (restricted_string kind size) v b (w, is, x) = omega (arith, ap payload is, octets_paid (fixed size) size w b x.0)
-  value_paid (utf8_string size) v b (w, is, ok, l, x) = omega (arith, ap payload is, counted_octets_long w b x)
-  value_paid (octet_string size) v b (w, is, x) = omega (arith, ap payload is, octets_paid (fixed size) size w b x)
+  value_paid (leaf kind) v b s = leaf_paid kind v b s
   value_paid (sequence fs) v b (root, s, p, r, is, e, i, pre, x) = omega (arith, ap payload is, ap length e, length-append p r, fields_paid fs s root r x)
   value_paid (extensible_sequence fs more) v b (root, added, us, x, s, p, r, a, is, e, i, pre, f, ext) =
       omega (arith, ap payload is, ap length e, length-append p (r ++ a), length-append r a, fields_paid fs s root r f, extension_paid x more (SpellsAdditions more) (adds_paid more) added us a ext)

@@ -2,7 +2,7 @@
 use Rattle.std.proofs.Common.{◌≡◌, inl, inr, ℕ, suc, List, [], ◌∷◌, ◌++◌, length, drop, Bool, true, false, if◌then◌else◌, Some, None, refl, ap, ap₂, sym, ◌∙◌, subst}
 use Rattle.oer_units.specs.Spelling.{IsCounted, IsJoined}
 use Rattle.oer_units.specs.declared.tagging.Tag.{Tag}
-use Rattle.oer_types.specs.AsnType.{Additions, Alternatives, AsnType, Fields, Need, addition, alternative, boolean, null, integer, enumerated, bit_string, object_id, restricted_string, utf8_string, octet_string, choice, default, extensible_sequence, field, later, may, must, no_additions, no_alternatives, no_fields, sequence, sequence_of}
+use Rattle.oer_types.specs.AsnType.{Additions, Alternatives, AsnType, Fields, Need, addition, alternative, choice, default, extensible_sequence, field, later, leaf, may, must, no_additions, no_alternatives, no_fields, sequence, sequence_of}
 use Rattle.oer_types.specs.AsnValue.{AsnValue, Places, Unknown, Values, absent, chosen, foreign, items, no_places, no_values, present, seq, unknown, value}
 use Rattle.oer_types.specs.Bits.{first_bit, later_bits}
 use Rattle.oer_types.specs.Constraints.{KeepsLimits, FieldsKeepLimits, AdditionsKeepLimits, AlternativesKeepLimits, addition_count, same_tag}
@@ -62,7 +62,7 @@ pieces (sequence fs) v = in_seq (λ root added us. field_pieces fs 0 root) v
 pieces (extensible_sequence fs more) v = in_seq (λ root added us. field_pieces fs 0 root ++ (addition_pieces more 0 added ++ unknown_pieces us)) v
 pieces (sequence_of size T) v = in_items (item_pieces T 0) v
 pieces (choice extensible more) v = in_choice (alternative_pieces more) v
-pieces T v = []
+pieces (leaf kind) v = []
 
 -- the parts spell the pieces, one for one
 abbrev pub Spelt : List Piece → List Part → Type 0
@@ -158,15 +158,7 @@ splits (choice extensible more) v b (t, p, c, e, tag, inl (x, is, s)) =
     (o.0, (t, p, c, e, tag, inl o.1), subst (λ v. Spelt (pieces (choice extensible more) v) o.0) (sym is) o.2)
 splits (choice extensible more) v b (t, p, c, e, tag, inr (w, is, o, none, s)) =
     (part to_chosen None w ∷ [], (t, p, c, e, tag, inr (none, (w, refl, s))), subst (λ v. Spelt (pieces (choice extensible more) v) (part to_chosen None w ∷ [])) (sym is) ([], refl, refl))
-splits boolean v b s = ([], refl, refl)
-splits null v b s = ([], refl, refl)
-splits (integer low high) v b s = ([], refl, refl)
-splits (enumerated numbers extensible) v b s = ([], refl, refl)
-splits (bit_string z) v b s = ([], refl, refl)
-splits object_id v b s = ([], refl, refl)
-splits (restricted_string kind z) v b s = ([], refl, refl)
-splits (utf8_string z) v b s = ([], refl, refl)
-splits (octet_string z) v b s = ([], refl, refl)
+splits (leaf kind) v b s = ([], refl, refl)
 
 -- what a step leads to in a value
 pub data Child : Type 0 where
@@ -257,15 +249,7 @@ kept (extensible_sequence fs more) w d v = seq_kept (λ root added us. field_pie
     (λ root added us. kept_join (field_pieces fs 0 root) (addition_pieces more 0 added ++ unknown_pieces us) (fields_kept fs w.0 d.0 0 root) (kept_join (addition_pieces more 0 added) (unknown_pieces us) (additions_kept more w.1 d.1 0 added) (unknown_kept us))) v
 kept (sequence_of size T) w d v = in_items_kept (item_pieces T 0) (items_kept T w.1 d 0) v
 kept (choice extensible more) w d v = choice_kept (alternative_pieces more) (alternatives_kept more w d) v
-kept boolean w d v = tt
-kept null w d v = tt
-kept (integer low high) w d v = tt
-kept (enumerated numbers extensible) w d v = tt
-kept (bit_string z) w d v = tt
-kept object_id w d v = tt
-kept (restricted_string kind z) w d v = tt
-kept (utf8_string z) w d v = tt
-kept (octet_string z) w d v = tt
+kept (leaf kind) w d v = tt
 
 abbrev pub KeptChild : Child → Type 0
 KeptChild (typed need T v) = KeepsLimits T × DefaultsFit T

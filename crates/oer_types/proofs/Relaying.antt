@@ -7,7 +7,7 @@ use Rattle.oer_types.proofs.Pieces.{Child, KeptChild, Led, Piece, addition_piece
 use Rattle.oer_types.proofs.Same.{same-true}
 use Rattle.oer_types.proofs.StrictEnc.{strict_within}
 use Rattle.oer_types.proofs.Trimming.{trims_from_fills}
-use Rattle.oer_types.specs.AsnType.{Additions, Alternatives, AsnType, Fields, Need, addition, alternative, boolean, null, integer, enumerated, bit_string, object_id, restricted_string, utf8_string, octet_string, choice, default, extensible_sequence, field, later, may, must, no_additions, no_alternatives, no_fields, sequence, sequence_of}
+use Rattle.oer_types.specs.AsnType.{Additions, Alternatives, AsnType, Fields, Need, addition, alternative, choice, default, extensible_sequence, field, later, leaf, may, must, no_additions, no_alternatives, no_fields, sequence, sequence_of}
 use Rattle.oer_types.specs.AsnValue.{AsnValue, Places, Unknown, Values, absent, chosen, foreign, items, no_places, no_values, present, seq, unknown, value}
 use Rattle.oer_types.specs.Canonical.{same, trimmed, trimmed_additions, trimmed_alternative, trimmed_fields}
 use Rattle.oer_types.specs.Constraints.{KeepsLimits, same_tag}
@@ -239,15 +239,7 @@ follows (sequence_of size T) _ step = inl refl
 follows (choice extensible more) (chosen t x) step = inl (alternatives_trim more t x step)
 follows (choice extensible more) (foreign t w) step = inl (raw_trims (same_step to_chosen step) w nothing_there refl)
 follows (choice extensible more) _ step = inl refl
-follows boolean v step = inl refl
-follows null v step = inl refl
-follows (integer low high) v step = inl refl
-follows (enumerated numbers extensible) v step = inl refl
-follows (bit_string z) v step = inl refl
-follows object_id v step = inl refl
-follows (restricted_string kind z) v step = inl refl
-follows (utf8_string z) v step = inl refl
-follows (octet_string z) v step = inl refl
+follows (leaf kind) v step = inl refl
 
 child_down : (P P' : AsnType → AsnValue → Type 0) (Q : List ℕ → Type 0) → ((T : AsnType) (v : AsnValue) → P T (trimmed T v) → P' T v) → (f g : Child) → Follows f g → ByChild g P Q → ByChild f P' Q
 child_down P P' Q next f g (inl e) x = by_child f (subst (λ g. ByChild g P Q) e x)
@@ -364,15 +356,7 @@ need_is (sequence_of size T) _ step = tt
 need_is (choice extensible more) (chosen t x) step = alternatives_must more t x step
 need_is (choice extensible more) (foreign t w) step = raw_must (same_step to_chosen step) w nothing_there tt
 need_is (choice extensible more) _ step = tt
-need_is boolean v step = tt
-need_is null v step = tt
-need_is (integer low high) v step = tt
-need_is (enumerated numbers extensible) v step = tt
-need_is (bit_string z) v step = tt
-need_is object_id v step = tt
-need_is (restricted_string kind z) v step = tt
-need_is (utf8_string z) v step = tt
-need_is (octet_string z) v step = tt
+need_is (leaf kind) v step = tt
 
 enters : (path : List Step) (T : AsnType) → KeepsLimits T → DefaultsFit T → (v : AsnValue) (b : List ℕ) → IsSpelling T v b → DefaultAt T v path → EntersDefault T b path
 enters [] T w d v b x e = absurd e

@@ -5,8 +5,10 @@ use Rattle.oer_units.specs.Reading.{class_of}
 use Rattle.oer_units.specs.Spelling.{class_number}
 use Rattle.oer_units.specs.declared.tagging.Tag.{Tag}
 use Rattle.oer_units.proofs.TagReaders.{class_is}
-use Rattle.oer_types.specs.AsnValue.{Unknown, unknown, AsnValue, bool, nothing, int, enum, bit_list, text, oid, octets, seq, items, chosen, foreign, Values, no_values, value, Places, no_places, absent, present}
-use Rattle.oer_types.specs.Canonical.{same, same_values, same_places, same_bool, same_int, same_list, same_bits, same_unknown}
+use Rattle.oer_types.specs.LeafValue as kind
+use Rattle.oer_types.specs.LeafValue.{LeafValue}
+use Rattle.oer_types.specs.AsnValue.{AsnValue, Places, Unknown, Values, absent, chosen, foreign, items, leaf_value, no_places, no_values, present, seq, unknown, value}
+use Rattle.oer_types.specs.Canonical.{same, same_bits, same_bool, same_int, same_leaf, same_list, same_places, same_unknown, same_values}
 use Rattle.oer_types.specs.Constraints.{same_tag}
 
 and_left : (a b : Bool) → (a && b) ≡ true → a ≡ true
@@ -91,16 +93,20 @@ same_unknown-refl : (x : List Unknown) → same_unknown x x ≡ true
 same_unknown-refl [] = refl
 same_unknown-refl (unknown n w ∷ us) = and_both (eqb n n && same_list w w) (same_unknown us us) (and_both (eqb n n) (same_list w w) (eq-eqb n n refl) (same_list-refl w)) (same_unknown-refl us)
 
+same_leaf-true : (v w : LeafValue) → same_leaf v w ≡ true → v ≡ w
+same_leaf-true (kind.bool a) (kind.bool b) e = ap kind.bool (same_bool-true a b e)
+same_leaf-true kind.nothing kind.nothing e = refl
+same_leaf-true (kind.int x) (kind.int y) e = ap kind.int (same_int-true x y e)
+same_leaf-true (kind.enum x) (kind.enum y) e = ap kind.enum (same_int-true x y e)
+same_leaf-true (kind.bit_list x) (kind.bit_list y) e = ap kind.bit_list (same_bits-true x y e)
+same_leaf-true (kind.text x) (kind.text y) e = ap kind.text (same_list-true x y e)
+same_leaf-true (kind.oid x) (kind.oid y) e = ap kind.oid (same_list-true x y e)
+same_leaf-true (kind.octets x) (kind.octets y) e = ap kind.octets (same_list-true x y e)
+same_leaf-true _ _ e = absurd (false≢true e)
+
 mutual
   pub same-true : (v w : AsnValue) → same v w ≡ true → v ≡ w
-  same-true (bool a) (bool b) e = ap bool (same_bool-true a b e)
-  same-true nothing nothing e = refl
-  same-true (int x) (int y) e = ap int (same_int-true x y e)
-  same-true (enum x) (enum y) e = ap enum (same_int-true x y e)
-  same-true (bit_list x) (bit_list y) e = ap bit_list (same_bits-true x y e)
-  same-true (text x) (text y) e = ap text (same_list-true x y e)
-  same-true (oid x) (oid y) e = ap oid (same_list-true x y e)
-  same-true (octets x) (octets y) e = ap octets (same_list-true x y e)
+  same-true (leaf_value v) (leaf_value w) e = ap leaf_value (same_leaf-true v w e)
   same-true (seq r a us) (seq s b vs) e =
       let both = and_left (same_places r s && same_places a b) (same_unknown us vs) e in
       let p = same_places-true r s (and_left (same_places r s) (same_places a b) both) in
@@ -135,16 +141,19 @@ mutual
       cc
   same_places-true _ _ e = absurd (false≢true e)
 
+same_leaf-refl : (v : LeafValue) → same_leaf v v ≡ true
+same_leaf-refl (kind.bool a) = same_bool-refl a
+same_leaf-refl kind.nothing = refl
+same_leaf-refl (kind.int x) = same_int-refl x
+same_leaf-refl (kind.enum x) = same_int-refl x
+same_leaf-refl (kind.bit_list x) = same_bits-refl x
+same_leaf-refl (kind.text x) = same_list-refl x
+same_leaf-refl (kind.oid x) = same_list-refl x
+same_leaf-refl (kind.octets x) = same_list-refl x
+
 mutual
   pub same-refl : (v : AsnValue) → same v v ≡ true
-  same-refl (bool a) = same_bool-refl a
-  same-refl nothing = refl
-  same-refl (int x) = same_int-refl x
-  same-refl (enum x) = same_int-refl x
-  same-refl (bit_list x) = same_bits-refl x
-  same-refl (text x) = same_list-refl x
-  same-refl (oid x) = same_list-refl x
-  same-refl (octets x) = same_list-refl x
+  same-refl (leaf_value v) = same_leaf-refl v
   same-refl (seq r a us) = and_both (same_places r r && same_places a a) (same_unknown us us) (and_both (same_places r r) (same_places a a) (same_places-refl r) (same_places-refl a)) (same_unknown-refl us)
   same-refl (foreign t w) = and_both (same_tag t t) (same_list w w) (same_tag-refl t) (same_list-refl w)
   same-refl (items vs) = same_values-refl vs

@@ -2,14 +2,16 @@
 use Rattle.std.proofs.Common.{◌≡◌, ℕ, suc, inl, inr, drop, ◌+◌, ◌*◌, ◌≤◌, max, List, [], ◌∷◌, ◌++◌, length, Bool, true, false, ap, ◌∙◌, arith, length-append, mul-le-mul_left, mul-pos}
 use Rattle.oer_units.specs.Spelling.{IsCounted, IsJoined}
 use Rattle.oer_units.specs.declared.tagging.Tag.{Tag}
+use Rattle.oer_types.proofs.Leaves.{leaf_is, leaf_some}
 use Rattle.oer_types.proofs.Main.{takes_some, len_some, preamble_some, tag_some}
-use Rattle.oer_types.specs.AsnType.{Need, must, may, default, AsnType, boolean, null, integer, enumerated, bit_string, object_id, restricted_string, utf8_string, octet_string, sequence, extensible_sequence, sequence_of, choice, Fields, no_fields, field, Additions, no_additions, addition, Alternatives, no_alternatives, alternative, later}
-use Rattle.oer_types.specs.AsnValue.{Unknown, AsnValue, Places}
+use Rattle.oer_types.specs.LeafType.{LeafType}
+use Rattle.oer_types.specs.AsnType.{Additions, Alternatives, AsnType, Fields, Need, addition, alternative, boolean, choice, default, extensible_sequence, field, later, leaf, may, must, no_additions, no_alternatives, no_fields, sequence, sequence_of}
+use Rattle.oer_types.specs.AsnValue.{AsnValue, Places, Unknown}
 use Rattle.oer_types.specs.Bits.{first_bit, later_bits}
 use Rattle.oer_types.specs.Constraints.{addition_count, same_tag, KeepsLimits, FieldsKeepLimits, AdditionsKeepLimits, AlternativesKeepLimits}
-use Rattle.oer_types.specs.Encoding.{IsPresent, IsAbsent, ByBit, ByNeed, ByTag, IsItself, SpellsUnknown, SpellsExtension, IsSpelling, SpellsFields, SpellsAdditions, SpellsAlternative}
+use Rattle.oer_types.specs.Encoding.{ByBit, ByNeed, ByTag, IsAbsent, IsItself, IsLeafSpelling, IsPresent, IsSpelling, SpellsAdditions, SpellsAlternative, SpellsExtension, SpellsFields, SpellsUnknown}
 use Rattle.oer_types.specs.Fits.{listed, all_absent}
-use Rattle.oer_types.specs.Nodes.{contents, type_nodes, fields_nodes, additions_nodes, alternatives_nodes, nodes, values_nodes, places_nodes}
+use Rattle.oer_types.specs.Nodes.{additions_nodes, alternatives_nodes, contents, fields_nodes, leaf_nodes, nodes, places_nodes, type_nodes, values_nodes}
 
 some_nodes : (T : AsnType) → 1 ≤ type_nodes T
 some_nodes boolean = omega arith
@@ -81,17 +83,12 @@ extension_bounded true more S f ps us b m some fits (s, k, a, u, e, j, zeros, x,
 leaf_bounded : (n m k : ℕ) → k ≡ 1 → 1 ≤ n → 1 ≤ m → k ≤ n * m
 leaf_bounded n m k e l some = let i = one_node n m l some in omega arith
 
+leaf_is_bounded : (kind : LeafType) → Bounded nodes (leaf_nodes kind) (IsLeafSpelling kind)
+leaf_is_bounded kind v b m some fits s = leaf_bounded (leaf_nodes kind) m (nodes v) (ap nodes (leaf_is kind v b s).1) (leaf_some kind) some
+
 mutual
   pub value_bounded : (T : AsnType) → KeepsLimits T → Bounded nodes (type_nodes T) (IsSpelling T)
-  value_bounded boolean w v b m some fits (x, e, is) = leaf_bounded 1 m (nodes v) (ap nodes is) (omega arith) some
-  value_bounded null w v b m some fits (is, e) = leaf_bounded 1 m (nodes v) (ap nodes is) (omega arith) some
-  value_bounded (integer low high) w v b m some fits (z, is, ok, s) = leaf_bounded 1 m (nodes v) (ap nodes is) (omega arith) some
-  value_bounded (enumerated numbers extensible) w v b m some fits (z, is, ok, l, s) = leaf_bounded (suc (length numbers)) m (nodes v) (ap nodes is) (omega arith) some
-  value_bounded (bit_string size) w v b m some fits (s, is, x) = leaf_bounded 1 m (nodes v) (ap nodes is) (omega arith) some
-  value_bounded object_id w v b m some fits (s, is, x) = leaf_bounded 1 m (nodes v) (ap nodes is) (omega arith) some
-  value_bounded (restricted_string kind size) w v b m some fits (s, is, x) = leaf_bounded 1 m (nodes v) (ap nodes is) (omega arith) some
-  value_bounded (utf8_string size) w v b m some fits (s, is, ok, l, x) = leaf_bounded 1 m (nodes v) (ap nodes is) (omega arith) some
-  value_bounded (octet_string size) w v b m some fits (s, is, x) = leaf_bounded 1 m (nodes v) (ap nodes is) (omega arith) some
+  value_bounded (leaf kind) w v b m some fits s = leaf_is_bounded kind v b m some fits s
   value_bounded (sequence fs) w v b m some fits (root, s, p, r, is, e, i, pre, x) =
       let j = fields_bounded fs w s root r m some (omega (arith, ap length e, length-append p r)) x in omega (arith, ap nodes is)
   value_bounded (extensible_sequence fs more) w v b m some fits (root, added, us, x, s, p, r, a, is, e, i, pre, f, ext) =

@@ -16,7 +16,7 @@ use Rattle.oer_types.proofs.Checked.{Checked, between, between_is, flag}
 use Rattle.oer_types.proofs.CheckedParts.{value_checked}
 use Rattle.oer_types.proofs.Main.{open_is_lawful, value_lawful}
 use Rattle.oer_types.proofs.Parts.{bitmap_lawful, preamble_lawful, quantity_lawful, size_small}
-use Rattle.oer_types.specs.AsnType.{boolean, null, integer, enumerated, bit_string, object_id, restricted_string, utf8_string, octet_string, Additions, Alternatives, AsnType, Fields, Need, addition, alternative, choice, default, extensible_sequence, field, later, may, must, no_additions, no_alternatives, no_fields, sequence, sequence_of}
+use Rattle.oer_types.specs.AsnType.{Additions, Alternatives, AsnType, Fields, Need, addition, alternative, choice, default, extensible_sequence, field, later, leaf, may, must, no_additions, no_alternatives, no_fields, sequence, sequence_of}
 use Rattle.oer_types.specs.Bits.{IsPreamble, first_bit, later_bits}
 use Rattle.oer_types.specs.Checking.{check_value}
 use Rattle.oer_types.specs.Constraints.{KeepsLimits, FieldsKeepLimits, AdditionsKeepLimits, AlternativesKeepLimits, addition_count, has_tag, optional, same_tag}
@@ -175,12 +175,4 @@ split_read (sequence_of size T) wf d parts b (n, q, es, e, (l, c, f, len, (some,
 split_read (choice extensible more) wf d parts b (t, p, c, e, tagged, x) = whole_read (read_parts (choice extensible more)) _
     (bind_lawful tag (λ t. choose (has_tag t more) (alternative_parts more t) (read_alone None counted_octets)) IsTag (Chosen more) tag_lawful (chosen_split more wf d))
     parts b (t, p, c, tagged, x, e)
-split_read boolean wf d parts b s = sym s
-split_read null wf d parts b s = sym s
-split_read (integer low high) wf d parts b s = sym s
-split_read (enumerated numbers extensible) wf d parts b s = sym s
-split_read (bit_string z) wf d parts b s = sym s
-split_read object_id wf d parts b s = sym s
-split_read (restricted_string kind z) wf d parts b s = sym s
-split_read (utf8_string z) wf d parts b s = sym s
-split_read (octet_string z) wf d parts b s = sym s
+split_read (leaf kind) wf d parts b s = sym s

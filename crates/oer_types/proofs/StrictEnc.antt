@@ -4,13 +4,15 @@ use Rattle.oer_units.specs.Spelling.{IsCounted, IsJoined}
 use Rattle.oer_units.specs.declared.tagging.Tag.{Tag}
 use Rattle.oer_units.proofs.Closure.{is_one}
 use Rattle.oer_types.proofs.Main.{value_lawful}
-use Rattle.oer_types.specs.AsnType.{Need, must, may, default, AsnType, boolean, null, integer, enumerated, bit_string, object_id, restricted_string, utf8_string, octet_string, sequence, extensible_sequence, sequence_of, choice, Fields, no_fields, field, Additions, no_additions, addition, Alternatives, no_alternatives, alternative, later}
+use Rattle.oer_types.specs.LeafType as kind
+use Rattle.oer_types.specs.LeafType.{LeafType}
+use Rattle.oer_types.specs.AsnType.{Additions, Alternatives, AsnType, Fields, Need, addition, alternative, boolean, choice, default, extensible_sequence, field, later, leaf, may, must, no_additions, no_alternatives, no_fields, sequence, sequence_of}
 use Rattle.oer_types.specs.AsnValue.{Unknown, AsnValue, Places}
 use Rattle.oer_types.specs.Bits.{bits_of, first_bit, later_bits, octets_for, IsBits}
 use Rattle.oer_types.specs.Constraints.{same_tag, fixed, addition_count, KeepsLimits, any_size}
-use Rattle.oer_types.specs.Encoding.{IsPresent, ByBit, ByNeed, ByTag, IsItself, SpellsUnknown, SpellsBits, SpellsExtension, IsSpelling, SpellsFields, SpellsAdditions, SpellsAlternative}
+use Rattle.oer_types.specs.Encoding.{ByBit, ByNeed, ByTag, IsItself, IsLeafSpelling, IsPresent, IsSpelling, SpellsAdditions, SpellsAlternative, SpellsBits, SpellsExtension, SpellsFields, SpellsUnknown}
 use Rattle.oer_types.specs.Filling.{filled}
-use Rattle.oer_types.specs.Strict.{StrictCounted, StrictBits, StrictBitString, StrictNeed, StrictExtension, IsStrictSpelling, SpellsFieldsStrictly, SpellsAdditionsStrictly, SpellsAlternativeStrictly}
+use Rattle.oer_types.specs.Strict.{IsStrictLeafSpelling, IsStrictSpelling, SpellsAdditionsStrictly, SpellsAlternativeStrictly, SpellsFieldsStrictly, StrictBitString, StrictBits, StrictCounted, StrictExtension, StrictNeed}
 use Rattle.oer_types.specs.declared.size.Size.{Size}
 
 -- what is spelt by the one is spelt by the other
@@ -71,17 +73,15 @@ boolean_within : Within (IsStrictSpelling boolean) (IsSpelling boolean)
 boolean_within v b (true, is, e) = (255, e, is)
 boolean_within v b (false, is, e) = (0, e, is)
 
+leaf_within : (kind : LeafType) → Within (IsStrictLeafSpelling kind) (IsLeafSpelling kind)
+leaf_within kind.boolean v b s = boolean_within v b s
+leaf_within kind.null v b s = s
+leaf_within (kind.bit_string size) v b (s, is, x) = (s, is, bit_string_within (fixed size) size s b x)
+leaf_within kind v b s = s.1
+
 mutual
   pub strict_within : (T : AsnType) → Within (IsStrictSpelling T) (IsSpelling T)
-  strict_within boolean v b s = boolean_within v b s
-  strict_within null v b s = s
-  strict_within (integer low high) v b s = s.1
-  strict_within (enumerated numbers extensible) v b s = s.1
-  strict_within (bit_string size) v b (s, is, x) = (s, is, bit_string_within (fixed size) size s b x)
-  strict_within object_id v b s = s.1
-  strict_within (restricted_string kind size) v b s = s.1
-  strict_within (utf8_string size) v b s = s.1
-  strict_within (octet_string size) v b s = s.1
+  strict_within (leaf kind) v b s = leaf_within kind v b s
   strict_within (sequence fs) v b (root, s, p, r, is, e, i, (o, pre), x) = (root, s, p, r, is, e, i, pre, fields_within fs s root r x)
   strict_within (extensible_sequence fs more) v b (root, added, us, x, s, p, r, a, is, e, i, (o, pre), f, ext) =
       (root, added, us, x, s, p, r, a, is, e, i, pre, fields_within fs s root r f, extension_within x more (SpellsAdditionsStrictly more) (adds_within more) added us a ext)

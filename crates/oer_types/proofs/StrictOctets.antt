@@ -6,14 +6,16 @@ use Rattle.oer_units.specs.declared.tagging.Tag.{Tag}
 use Rattle.oer_units.proofs.LeastDigits.{base128_octet}
 use Rattle.oer_units.proofs.OneSpelling.{octets_join}
 use Rattle.oer_units.proofs.TagReaders.{class_below}
-use Rattle.oer_types.specs.AsnType.{Need, must, may, default, AsnType, boolean, null, integer, enumerated, bit_string, object_id, restricted_string, utf8_string, octet_string, sequence, extensible_sequence, sequence_of, choice, Fields, no_fields, field, Additions, no_additions, addition, Alternatives, no_alternatives, alternative, later}
+use Rattle.oer_types.specs.LeafType as kind
+use Rattle.oer_types.specs.LeafType.{LeafType}
+use Rattle.oer_types.specs.AsnType.{Additions, Alternatives, AsnType, Fields, Need, addition, alternative, choice, default, extensible_sequence, field, later, leaf, may, must, no_additions, no_alternatives, no_fields, sequence, sequence_of}
 use Rattle.oer_types.specs.AsnValue.{Unknown, AsnValue, seq, items, chosen, foreign, Places, no_places, absent, present}
 use Rattle.oer_types.specs.Bits.{first_bit, later_bits}
 use Rattle.oer_types.specs.Constraints.{addition_count, same_tag, fixed}
 use Rattle.oer_types.specs.Encoding.{IsPresent, ByBit, ByTag, IsItself, SpellsUnknown}
 use Rattle.oer_types.specs.Filling.{filled}
-use Rattle.oer_types.specs.Fits.{listed, AllFit, IsThere, IsMissing, FitsUnknown, FitsPlace, FitsByTag, Fits, FitsFields, FitsAdditions, FitsAlternative}
-use Rattle.oer_types.specs.Strict.{StrictCounted, StrictBitString, StrictNeed, StrictExtension, StrictChosen, IsStrictSpelling, SpellsFieldsStrictly, SpellsAdditionsStrictly, SpellsAlternativeStrictly}
+use Rattle.oer_types.specs.Fits.{AllFit, Fits, FitsAdditions, FitsAlternative, FitsByTag, FitsFields, FitsLeaf, FitsPlace, FitsUnknown, IsMissing, IsThere, listed}
+use Rattle.oer_types.specs.Strict.{IsStrictLeafSpelling, IsStrictSpelling, SpellsAdditionsStrictly, SpellsAlternativeStrictly, SpellsFieldsStrictly, StrictBitString, StrictChosen, StrictCounted, StrictExtension, StrictNeed}
 use Rattle.oer_types.specs.declared.size.Size.{Size}
 
 -- what has P is spelt by octets
@@ -100,18 +102,16 @@ chosen_are extensible more f t v c (inr (u, z, is', o', none', tag, os)) (inr (w
     let words : z ≡ w = cc in
     itself_are w c (subst IsOctets words os) k
 
+leaf_are_octets : (kind : LeafType) → AreOctets (FitsLeaf kind) (IsStrictLeafSpelling kind)
+leaf_are_octets kind.boolean v b f (true, is, e) = subst IsOctets (sym e) (omega arith, tt)
+leaf_are_octets kind.boolean v b f (false, is, e) = subst IsOctets (sym e) (omega arith, tt)
+leaf_are_octets kind.null v b f (is, e) = subst IsOctets (sym e) tt
+leaf_are_octets (kind.bit_string size) v b f (s, is, x) = bit_string_are (fixed size) size s b x
+leaf_are_octets kind v b f s = s.0
+
 mutual
   pub strict_octets : (T : AsnType) → AreOctets (Fits T) (IsStrictSpelling T)
-  strict_octets boolean v b f (true, is, e) = subst IsOctets (sym e) (omega arith, tt)
-  strict_octets boolean v b f (false, is, e) = subst IsOctets (sym e) (omega arith, tt)
-  strict_octets null v b f (is, e) = subst IsOctets (sym e) tt
-  strict_octets (integer low high) v b f s = s.0
-  strict_octets (enumerated numbers extensible) v b f s = s.0
-  strict_octets (bit_string size) v b f (s, is, x) = bit_string_are (fixed size) size s b x
-  strict_octets object_id v b f s = s.0
-  strict_octets (restricted_string kind size) v b f s = s.0
-  strict_octets (utf8_string size) v b f s = s.0
-  strict_octets (octet_string size) v b f s = s.0
+  strict_octets (leaf kind) v b f s = leaf_are_octets kind v b f s
   strict_octets (sequence fs) v b (root', is', p') (root, s, p, r, is, e, i, (o, pre), x) =
       let same = same_root root' root no_places no_places [] [] (sym is' ∙ is) in
       subst IsOctets (sym e) (octets_join p r o (fields_octets fs s root r (subst (FitsFields fs) same.0 p') x))

@@ -1,13 +1,14 @@
 -- That a type is well-formed has at most one proof, as the fact of a ghost field must.
-use Rattle.std.specs.Prelude.{ℕ, ℤ, FitsSigned, List, [], ◌∷◌, Bool, Option, Some, None}
+use Rattle.std.specs.Prelude.{ℕ, ℤ, FitsSigned, List, [], ◌∷◌, Bool, Option, Some, None, IfSome}
 use Rattle.std.specs.Int.{Width, w64, w128}
 use Rattle.std.specs.Coded.{×_prop, Unit-prop}
 use Rattle.std.proofs.Props.{props}
-use Rattle.oer_types.specs.AsnType.{Additions, Alternatives, AsnType, Fields, NamedNumber, addition, alternative, bit_string, boolean, choice, enumerated, extensible_sequence, field, integer, later, no_additions, no_alternatives, no_fields, null, object_id, octet_string, restricted_string, sequence, sequence_of, utf8_string}
+use Rattle.oer_types.specs.LeafType.{LeafType, enumerated, integer, string_size}
+use Rattle.oer_types.specs.AsnType.{Additions, Alternatives, AsnType, Fields, NamedNumber, addition, alternative, choice, extensible_sequence, field, later, leaf, no_additions, no_alternatives, no_fields, sequence, sequence_of}
 use Rattle.oer_units.specs.Laws.{HasTagNumber}
 use Rattle.oer_types.specs.Constraints.{AdditionsKeepLimits, AlternativesKeepLimits, FieldsKeepLimits, HasSizeLimit, KeepsLimits}
 use Rattle.oer_types.specs.WellFormed.{IsWellFormed}
-use Rattle.oer_types.specs.Widths.{AdditionsHaveWidths, AlternativesHaveWidths, AreInOrder, AreLater, FieldsHaveWidths, HasBoundWidth, HasEndWidth, HasSizeWidths, HasWidths, HaveItemWidths}
+use Rattle.oer_types.specs.Widths.{AdditionsHaveWidths, AlternativesHaveWidths, AreInOrder, AreLater, FieldsHaveWidths, HasBoundWidth, HasEndWidth, HasSizeWidths, HasWidths, HaveItemWidths, LeafHasWidths}
 use Rattle.oer_types.specs.declared.size.Size.{Size}
 use Rattle.oer_units.specs.declared.tagging.Tag.{Tag}
 
@@ -17,21 +18,17 @@ size_prop s = hlevel props
 tag_prop : (t : Tag) → IsProp (HasTagNumber t)
 tag_prop t = hlevel props
 
+some_prop : {A : Type 0} (o : Option A) (P : A → Type 0) → ((x : A) → IsProp (P x)) → IsProp (IfSome o P)
+some_prop None P p = Unit-prop
+some_prop (Some x) P p = p x
+
 mutual
   pub limits_prop : (T : AsnType) → IsProp (KeepsLimits T)
-  limits_prop (bit_string s) = size_prop s
-  limits_prop (restricted_string kind s) = size_prop s
-  limits_prop (utf8_string s) = size_prop s
-  limits_prop (octet_string s) = size_prop s
+  limits_prop (leaf kind) = some_prop (string_size kind) HasSizeLimit size_prop
   limits_prop (sequence fs) = fields_prop fs
   limits_prop (extensible_sequence fs more) = hlevel (props, fields_prop fs, additions_prop more)
   limits_prop (sequence_of s T) = hlevel (props, limits_prop T)
   limits_prop (choice extensible more) = alternatives_prop more
-  limits_prop boolean = Unit-prop
-  limits_prop null = Unit-prop
-  limits_prop (integer low high) = Unit-prop
-  limits_prop (enumerated numbers extensible) = Unit-prop
-  limits_prop object_id = Unit-prop
 
   fields_prop : (fs : Fields) → IsProp (FieldsKeepLimits fs)
   fields_prop no_fields = Unit-prop
@@ -74,21 +71,18 @@ order_prop marker no_alternatives = Unit-prop
 order_prop marker (alternative name t T more) = order_prop marker more
 order_prop marker (later name t T more) = hlevel (props, later_prop more)
 
+leaf_widths_prop : (kind : LeafType) → IsProp (LeafHasWidths kind)
+leaf_widths_prop (integer low high) = ×_prop (bound_prop low) (bound_prop high)
+leaf_widths_prop (enumerated is extensible) = items_prop is
+leaf_widths_prop kind = some_prop (string_size kind) HasSizeWidths ends_prop
+
 mutual
   pub widths_prop : (T : AsnType) → IsProp (HasWidths T)
-  widths_prop (integer low high) = ×_prop (bound_prop low) (bound_prop high)
-  widths_prop (enumerated is extensible) = items_prop is
-  widths_prop (bit_string s) = ends_prop s
-  widths_prop (octet_string s) = ends_prop s
-  widths_prop (restricted_string letters s) = ends_prop s
-  widths_prop (utf8_string s) = ends_prop s
+  widths_prop (leaf kind) = leaf_widths_prop kind
   widths_prop (sequence fs) = field_widths_prop fs
   widths_prop (extensible_sequence fs more) = ×_prop (field_widths_prop fs) (addition_widths_prop more)
   widths_prop (sequence_of s T) = ×_prop (ends_prop s) (widths_prop T)
   widths_prop (choice extensible more) = ×_prop (order_prop extensible more) (alternative_widths_prop more)
-  widths_prop boolean = Unit-prop
-  widths_prop null = Unit-prop
-  widths_prop object_id = Unit-prop
 
   field_widths_prop : (fs : Fields) → IsProp (FieldsHaveWidths fs)
   field_widths_prop no_fields = Unit-prop

@@ -2,8 +2,10 @@
 use Rattle.std.specs.Prelude.{ℕ, suc, ◌-◌, List, [], ◌∷◌, ◌++◌, length, replicate, Bool, true, false, ◌&&◌, ◌||◌, eqb, if◌then◌else◌, ℤ, pos, negsuc, Option, Some, None}
 use Rattle.oer_units.specs.Least.{big_endian, counted, enumerated_octets, fixed_signed_octets, object_id_octets, signed_octets, tag_octets, unsigned_octets}
 use Rattle.oer_units.specs.declared.tagging.Tag.{Tag}
-use Rattle.oer_types.specs.AsnType.{Additions, Alternatives, AsnType, Fields, Need, addition, alternative, bit_string, boolean, choice, default, enumerated, extensible_sequence, field, integer, later, may, must, no_additions, no_alternatives, no_fields, null, object_id, octet_string, restricted_string, sequence, sequence_of, utf8_string}
-use Rattle.oer_types.specs.AsnValue.{AsnValue, Places, Unknown, Values, absent, bit_list, bool, chosen, enum, foreign, int, items, no_places, no_values, nothing, octets, oid, present, seq, text, unknown, value}
+use Rattle.oer_types.specs.LeafType.{LeafType, bit_string, boolean, enumerated, integer, null, object_id, octet_string, restricted_string, utf8_string}
+use Rattle.oer_types.specs.LeafValue.{LeafValue, bit_list, bool, enum, int, nothing, octets, oid, text}
+use Rattle.oer_types.specs.AsnType.{Additions, Alternatives, AsnType, Fields, Need, addition, alternative, choice, default, extensible_sequence, field, later, leaf, may, must, no_additions, no_alternatives, no_fields, sequence, sequence_of}
+use Rattle.oer_types.specs.AsnValue.{AsnValue, Places, Unknown, Values, absent, chosen, foreign, items, leaf_value, no_places, no_values, present, seq, unknown, value}
 use Rattle.oer_types.specs.Bits.{padded, spare_bits}
 use Rattle.oer_types.specs.Constraints.{Form, addition_count, fixed, form_of, same_tag, signed_counted, signed_fixed, unsigned_counted, unsigned_fixed}
 use Rattle.oer_types.specs.Filling.{filled, filled_by_tag, map_chosen, map_items, map_sequence}
@@ -37,16 +39,21 @@ same_unknown (unknown n w ∷ us) (unknown m x ∷ vs) = eqb n m && same_list w 
 same_unknown [] (v ∷ vs) = false
 same_unknown (u ∷ us) [] = false
 
+-- of values that hold no other
+abbrev pub same_leaf : LeafValue → LeafValue → Bool
+same_leaf (bool a) (bool b) = same_bool a b
+same_leaf nothing nothing = true
+same_leaf (int x) (int y) = same_int x y
+same_leaf (enum x) (enum y) = same_int x y
+same_leaf (bit_list s) (bit_list t) = same_bits s t
+same_leaf (text w) (text x) = same_list w x
+same_leaf (oid w) (oid x) = same_list w x
+same_leaf (octets w) (octets x) = same_list w x
+same_leaf _ _ = false
+
 abbrev mutual
   pub same : AsnValue → AsnValue → Bool
-  same (bool a) (bool b) = same_bool a b
-  same nothing nothing = true
-  same (int x) (int y) = same_int x y
-  same (enum x) (enum y) = same_int x y
-  same (bit_list s) (bit_list t) = same_bits s t
-  same (text w) (text x) = same_list w x
-  same (oid w) (oid x) = same_list w x
-  same (octets w) (octets x) = same_list w x
+  same (leaf_value v) (leaf_value w) = same_leaf v w
   same (seq r a us) (seq s b vs) = same_places r s && same_places a b && same_unknown us vs
   same (items vs) (items ws) = same_values vs ws
   same (chosen t v) (chosen u w) = same_tag t u && same v w
@@ -79,11 +86,11 @@ trimmed_place need h f g (present v ps) = trimmed_present need h f v (g ps)
 -- v with each DEFAULT component left out that equals its default after filling
 abbrev mutual
   pub trimmed : AsnType → AsnValue → AsnValue
+  trimmed (leaf kind) v = v
   trimmed (sequence fs) v = map_sequence (trimmed_fields fs) (λ ps. ps) v
   trimmed (extensible_sequence fs more) v = map_sequence (trimmed_fields fs) (trimmed_additions more) v
   trimmed (sequence_of s T) v = map_items (trimmed T) v
   trimmed (choice extensible more) v = map_chosen (trimmed_alternative more) v
-  trimmed T v = v
 
   pub trimmed_fields : Fields → Places → Places
   trimmed_fields no_fields ps = ps
@@ -100,31 +107,31 @@ abbrev mutual
 
 -- f of what the value holds; no octets for a value of another kind, here and below
 abbrev pub at_bool : (Bool → List ℕ) → AsnValue → List ℕ
-at_bool f (bool x) = f x
+at_bool f (leaf_value (bool x)) = f x
 at_bool f _ = []
 
 abbrev pub at_int : (ℤ → List ℕ) → AsnValue → List ℕ
-at_int f (int x) = f x
+at_int f (leaf_value (int x)) = f x
 at_int f _ = []
 
 abbrev pub at_enum : (ℤ → List ℕ) → AsnValue → List ℕ
-at_enum f (enum x) = f x
+at_enum f (leaf_value (enum x)) = f x
 at_enum f _ = []
 
 abbrev pub at_bits : (List Bool → List ℕ) → AsnValue → List ℕ
-at_bits f (bit_list s) = f s
+at_bits f (leaf_value (bit_list s)) = f s
 at_bits f _ = []
 
 abbrev pub at_text : (List ℕ → List ℕ) → AsnValue → List ℕ
-at_text f (text w) = f w
+at_text f (leaf_value (text w)) = f w
 at_text f _ = []
 
 abbrev pub at_oid : (List ℕ → List ℕ) → AsnValue → List ℕ
-at_oid f (oid w) = f w
+at_oid f (leaf_value (oid w)) = f w
 at_oid f _ = []
 
 abbrev pub at_octets : (List ℕ → List ℕ) → AsnValue → List ℕ
-at_octets f (octets w) = f w
+at_octets f (leaf_value (octets w)) = f w
 at_octets f _ = []
 
 abbrev pub at_seq : (Places → Places → List Unknown → List ℕ) → AsnValue → List ℕ
@@ -228,18 +235,22 @@ abbrev pub by_tag_octets : Bool → (AsnValue → List ℕ) → (AsnValue → Li
 by_tag_octets true f g v = f v
 by_tag_octets false f g v = g v
 
+-- those of a value that holds no other
+abbrev pub leaf_octets : LeafType → AsnValue → List ℕ
+leaf_octets boolean v = at_bool (λ x. (if x then 255 else 0) ∷ []) v
+leaf_octets null v = []
+leaf_octets (integer low high) v = at_int (integer_octets (form_of low high)) v
+leaf_octets (enumerated numbers extensible) v = at_enum enumerated_octets v
+leaf_octets (bit_string size) v = at_bits (bit_octets (fixed size)) v
+leaf_octets object_id v = at_oid (λ w. counted (object_id_octets w)) v
+leaf_octets (restricted_string kind size) v = at_text (string_octets (fixed size)) v
+leaf_octets (utf8_string size) v = at_text counted v
+leaf_octets (octet_string size) v = at_octets (string_octets (fixed size)) v
+
 -- The octets of a value as it stands.
 abbrev mutual
   pub plain_octets : AsnType → AsnValue → List ℕ
-  plain_octets boolean v = at_bool (λ x. (if x then 255 else 0) ∷ []) v
-  plain_octets null v = []
-  plain_octets (integer low high) v = at_int (integer_octets (form_of low high)) v
-  plain_octets (enumerated numbers extensible) v = at_enum enumerated_octets v
-  plain_octets (bit_string size) v = at_bits (bit_octets (fixed size)) v
-  plain_octets object_id v = at_oid (λ w. counted (object_id_octets w)) v
-  plain_octets (restricted_string kind size) v = at_text (string_octets (fixed size)) v
-  plain_octets (utf8_string size) v = at_text counted v
-  plain_octets (octet_string size) v = at_octets (string_octets (fixed size)) v
+  plain_octets (leaf kind) v = leaf_octets kind v
   plain_octets (sequence fs) v = at_seq (λ root added us. padded (root_bits fs root) ++ plain_field_octets fs root) v
   plain_octets (extensible_sequence fs more) v =
       at_seq (λ root added us. padded ((any_present added || any_unknown us) ∷ root_bits fs root) ++ (plain_field_octets fs root

@@ -1,9 +1,11 @@
 -- Sizes, bounds, characters and tags of types.
-use Rattle.std.specs.Prelude.{◌≡◌, ℕ, suc, ◌^◌, ◌≤◌, List, [], ◌∷◌, Bool, true, false, ◌&&◌, ◌||◌, leb, eqb, if◌then◌else◌, ℤ, pos, neg_ℤ, ◌-ℤ◌, int_le, Option, Some, None}
+use Rattle.std.specs.Prelude.{◌≡◌, ℕ, suc, ◌^◌, ◌≤◌, List, [], ◌∷◌, Bool, true, false, ◌&&◌, ◌||◌, leb, eqb, if◌then◌else◌, ℤ, pos, neg_ℤ, ◌-ℤ◌, int_le, Option, Some, None, IfSome}
 use Rattle.oer_units.specs.Laws.{HasTagNumber}
 use Rattle.oer_units.specs.Spelling.{class_number}
 use Rattle.oer_units.specs.declared.tagging.Tag.{Tag}
-use Rattle.oer_types.specs.AsnType.{Additions, Alphabet, Alternatives, AsnType, Fields, NamedNumber, Need, addition, alternative, bit_string, boolean, choice, default, enumerated, extensible_sequence, field, ia5, integer, later, may, must, no_additions, no_alternatives, no_fields, null, numeric, object_id, octet_string, printable, restricted_string, sequence, sequence_of, utf8_string, visible}
+use Rattle.oer_types.specs.Limits.{addition_places}
+use Rattle.oer_types.specs.LeafType.{LeafType, bit_string, null, octet_string, restricted_string, string_size}
+use Rattle.oer_types.specs.AsnType.{Additions, Alphabet, Alternatives, AsnType, Fields, NamedNumber, Need, addition, alternative, choice, default, extensible_sequence, field, ia5, later, leaf, may, must, no_additions, no_alternatives, no_fields, numeric, printable, sequence, sequence_of, visible}
 use Rattle.oer_types.specs.declared.size.Size.{Size}
 
 -- not above the upper end, if there is one
@@ -135,18 +137,18 @@ abbrev pub is_zero : Option ℕ → Bool
 is_zero None = false
 is_zero (Some n) = eqb n 0
 
+-- the type, which holds no other, may take no octets
+abbrev pub leaf_may_be_empty : LeafType → Bool
+leaf_may_be_empty null = true
+leaf_may_be_empty (bit_string size) = is_zero (fixed size)
+leaf_may_be_empty (restricted_string letters size) = is_zero (fixed size)
+leaf_may_be_empty (octet_string size) = is_zero (fixed size)
+leaf_may_be_empty kind = false
+
 -- the type may take no octets
 abbrev mutual
   pub may_be_empty : AsnType → Bool
-  may_be_empty boolean = false
-  may_be_empty null = true
-  may_be_empty (integer low high) = false
-  may_be_empty (enumerated numbers extensible) = false
-  may_be_empty (bit_string s) = is_zero (fixed s)
-  may_be_empty object_id = false
-  may_be_empty (restricted_string kind s) = is_zero (fixed s)
-  may_be_empty (utf8_string s) = false
-  may_be_empty (octet_string s) = is_zero (fixed s)
+  may_be_empty (leaf kind) = leaf_may_be_empty kind
   may_be_empty (sequence fs) = eqb (optional fs) 0 && may_all_be_empty fs
   may_be_empty (extensible_sequence fs more) = false
   may_be_empty (sequence_of s T) = false
@@ -161,20 +163,12 @@ abbrev pub HasSizeLimit : Size → Type 0
 HasSizeLimit s = leb s.low 18446744073709551615 ≡ true
 
 -- What encodings need of a type, part of its being well-formed: no element may take no octets; the lower ends of the
--- sizes of strings have 64 bits, tag numbers 32 bits; no more than 65,536 additions.
+-- sizes of strings have 64 bits, tag numbers 32 bits; no more additions than places.
 abbrev mutual
   pub KeepsLimits : AsnType → Type 0
-  KeepsLimits boolean = Unit {0}
-  KeepsLimits null = Unit {0}
-  KeepsLimits (integer low high) = Unit {0}
-  KeepsLimits (enumerated numbers extensible) = Unit {0}
-  KeepsLimits (bit_string s) = HasSizeLimit s
-  KeepsLimits object_id = Unit {0}
-  KeepsLimits (restricted_string kind s) = HasSizeLimit s
-  KeepsLimits (utf8_string s) = HasSizeLimit s
-  KeepsLimits (octet_string s) = HasSizeLimit s
+  KeepsLimits (leaf kind) = IfSome (string_size kind) HasSizeLimit
   KeepsLimits (sequence fs) = FieldsKeepLimits fs
-  KeepsLimits (extensible_sequence fs more) = FieldsKeepLimits fs × AdditionsKeepLimits more × (addition_count more ≤ 65536)
+  KeepsLimits (extensible_sequence fs more) = FieldsKeepLimits fs × AdditionsKeepLimits more × (addition_count more ≤ addition_places)
   KeepsLimits (sequence_of s T) = (may_be_empty T ≡ false) × KeepsLimits T
   KeepsLimits (choice extensible more) = AlternativesKeepLimits more
 

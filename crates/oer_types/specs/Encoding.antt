@@ -6,7 +6,9 @@ use Rattle.oer_units.specs.Octets.{IsOctets}
 use Rattle.oer_units.specs.Reading.{is_int64}
 use Rattle.oer_units.specs.Spelling.{IsCounted, IsEnumerated, IsJoined, IsObjectId, IsTag, StandsFor}
 use Rattle.oer_units.specs.declared.tagging.Tag.{Tag}
-use Rattle.oer_types.specs.AsnType.{Additions, Alternatives, AsnType, Fields, Need, addition, alternative, bit_string, boolean, choice, default, enumerated, extensible_sequence, field, integer, later, may, must, no_additions, no_alternatives, no_fields, null, object_id, octet_string, restricted_string, sequence, sequence_of, utf8_string}
+use Rattle.oer_types.specs.Limits.{addition_places}
+use Rattle.oer_types.specs.LeafType.{LeafType, bit_string, boolean, enumerated, integer, null, object_id, octet_string, restricted_string, utf8_string}
+use Rattle.oer_types.specs.AsnType.{Additions, Alternatives, AsnType, Fields, Need, addition, alternative, choice, default, extensible_sequence, field, later, leaf, may, must, no_additions, no_alternatives, no_fields, sequence, sequence_of}
 use Rattle.oer_types.specs.AsnValue.{AsnValue, Places, Unknown, absent, bit_list, bool, chosen, enum, foreign, int, items, no_places, nothing, octets, oid, present, seq, text, unknown}
 use Rattle.oer_types.specs.Bits.{IsBits, IsPreamble, all_false, bits_of, first_bit, later_bits, octets_for}
 use Rattle.oer_types.specs.Constraints.{Form, addition_count, all_characters, any_size, fixed, form_of, has_number, has_tag, in_range, optional, same_tag, signed_counted, signed_fixed, size_fits, unsigned_counted, unsigned_fixed}
@@ -75,12 +77,12 @@ SpellsUnknown S place (true ∷ s) us b = (w : List ℕ) × (rest : List Unknown
     × (us ≡ unknown place w ∷ rest) × (b ≡ b1 ++ b2) × S w b1 × SpellsUnknown S (suc place) s rest b2
 SpellsUnknown S place (false ∷ s) us b = SpellsUnknown S (suc place) s us b
 
--- The additions (X.696, 16.4): without the extension bit none; with it a bitmap, no bit of it set past place 65,535,
+-- The additions (X.696, 16.4): without the extension bit none; with it a bitmap, no bit of it set past the last place,
 -- and then each addition whose bit is set, as an open type.
 abbrev pub SpellsExtension : Bool → Additions → (List Bool → Places → List ℕ → Type 0) → Places → List Unknown → List ℕ → Type 0
 SpellsExtension false more S added us e = (added ≡ all_absent more) × (us ≡ []) × (e ≡ [])
 SpellsExtension true more S added us e = (s : List Bool) × (m : List ℕ) × (a : List ℕ) × (u : List ℕ) × (e ≡ m ++ (a ++ u))
-    × SpellsBitmap s m × (all_false (drop 65536 s) ≡ true) × S s added a
+    × SpellsBitmap s m × (all_false (drop addition_places s) ≡ true) × S s added a
     × SpellsUnknown (IsCounted IsItself) (addition_count more) (drop (addition_count more) s) us u
 
 -- an alternative of the type, spelt by S; or one that it doesn't know, where there is an extension marker, as an open type
@@ -88,29 +90,33 @@ abbrev pub SpellsChosen : Bool → Alternatives → (AsnValue → List ℕ → T
 SpellsChosen extensible more S t v c = ((x : AsnValue) × (v ≡ chosen t x) × S x c)
     ⊎ ((w : List ℕ) × (v ≡ foreign t w) × (extensible ≡ true) × (has_tag t more ≡ false) × IsCounted IsItself w c)
 
--- b spells v by Basic-OER: any length, any number of octets for a number in a counted form, any octet but 0 for TRUE.
+-- b spells v, which holds no other value: any length, any number of octets for a number in a counted form, any octet but 0 for TRUE.
+abbrev pub IsLeafSpelling : LeafType → AsnValue → List ℕ → Type 0
+-- BOOLEAN (X.696, 9): one octet, which is 0 exactly if v is FALSE.
+IsLeafSpelling boolean v b = (x : ℕ) × (b ≡ x ∷ []) × (v ≡ bool (not (eqb x 0)))
+-- NULL (15): no octets.
+IsLeafSpelling null v b = (v ≡ nothing) × (b ≡ [])
+-- INTEGER (10): by the form that the bounds choose.
+IsLeafSpelling (integer low high) v b = (z : ℤ) × (v ≡ int z) × (in_range low high z ≡ true) × SpellsInteger (form_of low high) z b
+-- ENUMERATED (11): a listed number, or any of 64 bits where there is an extension marker.
+IsLeafSpelling (enumerated numbers extensible) v b = (z : ℤ) × (v ≡ enum z) × (is_int64 z ≡ true)
+    × ((extensible || has_number numbers z) ≡ true) × IsEnumerated z b
+-- BIT STRING (13).
+IsLeafSpelling (bit_string size) v b = (s : List Bool) × (v ≡ bit_list s) × SpellsBits (fixed size) size s b
+-- OBJECT IDENTIFIER (21): the contents of X.690 after a length.
+IsLeafSpelling object_id v b = (arcs : List ℕ) × (v ≡ oid arcs) × IsCounted IsObjectId arcs b
+-- IA5String, VisibleString, NumericString, PrintableString (27): an octet for each character.
+IsLeafSpelling (restricted_string kind size) v b = (w : List ℕ) × (v ≡ text w) × SpellsText (all_characters kind) (fixed size) size w b
+-- UTF8String (27): UTF-8 after a length; the size counts characters.
+IsLeafSpelling (utf8_string size) v b = (w : List ℕ) × (v ≡ text w) × (is_utf8 w ≡ true)
+    × (size_fits size (length (chars w)) ≡ true) × IsCounted IsItself w b
+-- OCTET STRING (14).
+IsLeafSpelling (octet_string size) v b = (w : List ℕ) × (v ≡ octets w) × SpellsOctets (fixed size) size w b
+
+-- b spells v by Basic-OER.
 abbrev mutual
   pub IsSpelling : AsnType → AsnValue → List ℕ → Type 0
-  -- BOOLEAN (X.696, 9): one octet, which is 0 exactly if v is FALSE.
-  IsSpelling boolean v b = (x : ℕ) × (b ≡ x ∷ []) × (v ≡ bool (not (eqb x 0)))
-  -- NULL (15): no octets.
-  IsSpelling null v b = (v ≡ nothing) × (b ≡ [])
-  -- INTEGER (10): by the form that the bounds choose.
-  IsSpelling (integer low high) v b = (z : ℤ) × (v ≡ int z) × (in_range low high z ≡ true) × SpellsInteger (form_of low high) z b
-  -- ENUMERATED (11): a listed number, or any of 64 bits where there is an extension marker.
-  IsSpelling (enumerated numbers extensible) v b = (z : ℤ) × (v ≡ enum z) × (is_int64 z ≡ true)
-      × ((extensible || has_number numbers z) ≡ true) × IsEnumerated z b
-  -- BIT STRING (13).
-  IsSpelling (bit_string size) v b = (s : List Bool) × (v ≡ bit_list s) × SpellsBits (fixed size) size s b
-  -- OBJECT IDENTIFIER (21): the contents of X.690 after a length.
-  IsSpelling object_id v b = (arcs : List ℕ) × (v ≡ oid arcs) × IsCounted IsObjectId arcs b
-  -- IA5String, VisibleString, NumericString, PrintableString (27): an octet for each character.
-  IsSpelling (restricted_string kind size) v b = (w : List ℕ) × (v ≡ text w) × SpellsText (all_characters kind) (fixed size) size w b
-  -- UTF8String (27): UTF-8 after a length; the size counts characters.
-  IsSpelling (utf8_string size) v b = (w : List ℕ) × (v ≡ text w) × (is_utf8 w ≡ true)
-      × (size_fits size (length (chars w)) ≡ true) × IsCounted IsItself w b
-  -- OCTET STRING (14).
-  IsSpelling (octet_string size) v b = (w : List ℕ) × (v ≡ octets w) × SpellsOctets (fixed size) size w b
+  IsSpelling (leaf kind) v b = IsLeafSpelling kind v b
   -- SEQUENCE (16): the preamble p of one presence bit for each component that may be absent, and the components r.
   IsSpelling (sequence fs) v b = (root : Places) × (s : List Bool) × (p : List ℕ) × (r : List ℕ)
       × (v ≡ seq root no_places []) × (b ≡ p ++ r) × (length s ≡ optional fs) × IsPreamble s p × SpellsFields fs s root r

@@ -1,7 +1,9 @@
 -- The faults of types, as tests.
 use Rattle.std.specs.Prelude.{ℕ, List, [], ◌∷◌, Bool, true, false, not, ◌||◌, ltb, if◌then◌else◌, int_lt, Option, Some, None}
 use Rattle.std.specs.Str.{bytes_eq}
-use Rattle.oer_types.specs.AsnType.{Additions, Alternatives, AsnType, Fields, NamedNumber, Need, addition, alternative, bit_string, choice, default, enumerated, extensible_sequence, field, integer, later, may, must, no_additions, no_alternatives, no_fields, octet_string, restricted_string, sequence, sequence_of, utf8_string}
+use Rattle.oer_types.specs.Limits.{max_depth, max_parts}
+use Rattle.oer_types.specs.LeafType.{string_size}
+use Rattle.oer_types.specs.AsnType.{Additions, Alternatives, AsnType, Fields, NamedNumber, Need, addition, alternative, choice, default, enumerated, extensible_sequence, field, integer, later, leaf, may, must, no_additions, no_alternatives, no_fields, sequence, sequence_of}
 use Rattle.oer_types.specs.Constraints.{has_number, has_tag, may_be_empty}
 use Rattle.oer_types.specs.FitTest.{is_fit}
 use Rattle.oer_types.specs.Nodes.{type_nodes}
@@ -68,11 +70,12 @@ is_below (Some high) n = ltb high n
 abbrev pub is_crossed : Size → Bool
 is_crossed s = is_below s.high s.low
 
+abbrev pub has_crossed_string_size : Option Size → Bool
+has_crossed_string_size None = false
+has_crossed_string_size (Some s) = is_crossed s
+
 abbrev pub has_crossed_size : AsnType → Bool
-has_crossed_size (bit_string s) = is_crossed s
-has_crossed_size (octet_string s) = is_crossed s
-has_crossed_size (restricted_string kind s) = is_crossed s
-has_crossed_size (utf8_string s) = is_crossed s
+has_crossed_size (leaf kind) = has_crossed_string_size (string_size kind)
 has_crossed_size (sequence_of s T) = is_crossed s
 has_crossed_size T = false
 
@@ -124,8 +127,8 @@ has_fault_here EmptyElement T = has_empty_element T
 
 -- of the type or of a type in it
 abbrev pub has_fault : SchemaFault → AsnType → Bool
-has_fault TooDeep T = ltb 32 (depth T)
-has_fault TooManyParts T = ltb 4096 (type_nodes T)
+has_fault TooDeep T = ltb max_depth (depth T)
+has_fault TooManyParts T = ltb max_parts (type_nodes T)
 has_fault fault T = somewhere (has_fault_here fault) T
 
 -- the faults after the first two, in the order of their numbers

@@ -1,7 +1,7 @@
 -- Values with their defaults filled in.
 use Rattle.std.specs.Prelude.{Bool, true, false}
 use Rattle.oer_units.specs.declared.tagging.Tag.{Tag}
-use Rattle.oer_types.specs.AsnType.{Additions, Alternatives, AsnType, Fields, Need, addition, alternative, choice, default, extensible_sequence, field, later, may, must, no_additions, no_alternatives, no_fields, sequence, sequence_of}
+use Rattle.oer_types.specs.AsnType.{Additions, Alternatives, AsnType, Fields, Need, addition, alternative, choice, default, extensible_sequence, field, later, leaf, may, must, no_additions, no_alternatives, no_fields, sequence, sequence_of}
 use Rattle.oer_types.specs.AsnValue.{AsnValue, Places, Values, absent, chosen, items, no_places, no_values, present, seq, value}
 use Rattle.oer_types.specs.Constraints.{same_tag}
 
@@ -45,11 +45,11 @@ filled_by_tag false f g v = g v
 -- v with every absent root DEFAULT component replaced by its default, filled too, at every depth
 abbrev mutual
   pub filled : AsnType → AsnValue → AsnValue
+  filled (leaf kind) v = v
   filled (sequence fs) v = map_sequence (filled_fields fs) (λ ps. ps) v
   filled (extensible_sequence fs more) v = map_sequence (filled_fields fs) (filled_additions more) v
   filled (sequence_of s T) v = map_items (filled T) v
   filled (choice extensible more) v = map_chosen (filled_alternative more) v
-  filled T v = v
 
   pub filled_fields : Fields → Places → Places
   filled_fields no_fields ps = ps

@@ -3,8 +3,11 @@ use Rattle.std.specs.Prelude.{ℕ, suc, ◌+◌, ◌*◌, ◌^◌, List, [], ◌
 use Rattle.std.specs.Str.{is_utf8, chars}
 use Rattle.oer_units.specs.Reading.{is_int64}
 use Rattle.oer_units.specs.declared.tagging.Tag.{Tag}
-use Rattle.oer_types.specs.AsnType.{Additions, Alternatives, AsnType, Fields, Need, addition, alternative, bit_string, boolean, choice, default, enumerated, extensible_sequence, field, integer, later, may, must, no_additions, no_alternatives, no_fields, null, object_id, octet_string, restricted_string, sequence, sequence_of, utf8_string}
-use Rattle.oer_types.specs.AsnValue.{AsnValue, Places, Unknown, Values, absent, bit_list, bool, chosen, enum, foreign, int, items, no_places, no_values, nothing, octets, oid, present, seq, text, unknown, value}
+use Rattle.oer_types.specs.Limits.{last_place}
+use Rattle.oer_types.specs.LeafType.{LeafType, bit_string, boolean, enumerated, integer, null, object_id, octet_string, restricted_string, utf8_string}
+use Rattle.oer_types.specs.LeafValue.{LeafValue, bit_list, bool, enum, int, nothing, octets, oid, text}
+use Rattle.oer_types.specs.AsnType.{Additions, Alternatives, AsnType, Fields, Need, addition, alternative, choice, default, extensible_sequence, field, later, leaf, may, must, no_additions, no_alternatives, no_fields, sequence, sequence_of}
+use Rattle.oer_types.specs.AsnValue.{AsnValue, Places, Unknown, Values, absent, chosen, foreign, items, leaf_value, no_places, no_values, present, seq, unknown, value}
 use Rattle.oer_types.specs.Constraints.{addition_count, all_characters, has_number, has_tag, in_range, same_tag, size_fits}
 
 -- each is below n
@@ -36,23 +39,28 @@ may_be_absent (default v) = true
 
 abbrev pub unknown_fit : ℕ → List Unknown → Bool
 unknown_fit lowest [] = true
-unknown_fit lowest (unknown place w ∷ us) = (leb lowest place && leb place 65535 && all_below 256 w) && unknown_fit (suc place) us
+unknown_fit lowest (unknown place w ∷ us) = (leb lowest place && leb place last_place && all_below 256 w) && unknown_fit (suc place) us
 
 abbrev pub is_without : Places → List Unknown → Bool
 is_without no_places [] = true
 is_without ps us = false
 
+-- of values that hold no other
+abbrev pub is_fit_leaf : LeafType → LeafValue → Bool
+is_fit_leaf boolean (bool x) = true
+is_fit_leaf null nothing = true
+is_fit_leaf (integer low high) (int z) = in_range low high z
+is_fit_leaf (enumerated xs extensible) (enum z) = is_int64 z && (extensible || has_number xs z)
+is_fit_leaf (bit_string s) (bit_list bits) = size_fits s (length bits)
+is_fit_leaf object_id (oid arcs) = arcs_fit arcs
+is_fit_leaf (restricted_string kind s) (text w) = all_below 256 w && (all_characters kind w && size_fits s (length w))
+is_fit_leaf (utf8_string s) (text w) = all_below 256 w && (is_utf8 w && size_fits s (length (chars w)))
+is_fit_leaf (octet_string s) (octets w) = all_below 256 w && size_fits s (length w)
+is_fit_leaf kind v = false
+
 abbrev mutual
   pub is_fit : AsnType → AsnValue → Bool
-  is_fit boolean (bool x) = true
-  is_fit null nothing = true
-  is_fit (integer low high) (int z) = in_range low high z
-  is_fit (enumerated xs extensible) (enum z) = is_int64 z && (extensible || has_number xs z)
-  is_fit (bit_string s) (bit_list bits) = size_fits s (length bits)
-  is_fit object_id (oid arcs) = arcs_fit arcs
-  is_fit (restricted_string kind s) (text w) = all_below 256 w && (all_characters kind w && size_fits s (length w))
-  is_fit (utf8_string s) (text w) = all_below 256 w && (is_utf8 w && size_fits s (length (chars w)))
-  is_fit (octet_string s) (octets w) = all_below 256 w && size_fits s (length w)
+  is_fit (leaf kind) (leaf_value v) = is_fit_leaf kind v
   is_fit (sequence fs) (seq root added us) = is_without added us && fields_fit fs root
   is_fit (extensible_sequence fs more) (seq root added us) =
       fields_fit fs root && (additions_fit more added && unknown_fit (addition_count more) us)

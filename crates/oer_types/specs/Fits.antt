@@ -4,7 +4,9 @@ use Rattle.std.specs.Str.{is_utf8, chars}
 use Rattle.oer_units.specs.Octets.{IsOctets}
 use Rattle.oer_units.specs.Reading.{is_int64}
 use Rattle.oer_units.specs.declared.tagging.Tag.{Tag}
-use Rattle.oer_types.specs.AsnType.{Additions, Alternatives, AsnType, Fields, Need, addition, alternative, bit_string, boolean, choice, default, enumerated, extensible_sequence, field, integer, later, may, must, no_additions, no_alternatives, no_fields, null, object_id, octet_string, restricted_string, sequence, sequence_of, utf8_string}
+use Rattle.oer_types.specs.Limits.{last_place}
+use Rattle.oer_types.specs.LeafType.{LeafType, bit_string, boolean, enumerated, integer, null, object_id, octet_string, restricted_string, utf8_string}
+use Rattle.oer_types.specs.AsnType.{Additions, Alternatives, AsnType, Fields, Need, addition, alternative, choice, default, extensible_sequence, field, later, leaf, may, must, no_additions, no_alternatives, no_fields, sequence, sequence_of}
 use Rattle.oer_types.specs.AsnValue.{AsnValue, Places, Unknown, Values, absent, bit_list, bool, chosen, enum, foreign, int, items, no_places, no_values, nothing, octets, oid, present, seq, text, unknown, value}
 use Rattle.oer_units.specs.Laws.{HasTagNumber}
 use Rattle.oer_types.specs.Constraints.{addition_count, all_characters, has_number, has_tag, in_range, same_tag, size_fits}
@@ -64,28 +66,32 @@ abbrev pub FitsByTag : Bool → (AsnValue → Type 0) → (AsnValue → Type 0) 
 FitsByTag true P Rest v = P v
 FitsByTag false P Rest v = Rest v
 
--- the unknown additions: their places rise from the lowest to 65,535
+-- the unknown additions: their places rise from the lowest to the last one
 abbrev pub FitsUnknown : ℕ → List Unknown → Type 0
 FitsUnknown lowest [] = Unit {0}
-FitsUnknown lowest (unknown place w ∷ us) = (lowest ≤ place) × (place ≤ 65535) × IsOctets w × FitsUnknown (suc place) us
+FitsUnknown lowest (unknown place w ∷ us) = (lowest ≤ place) × (place ≤ last_place) × IsOctets w × FitsUnknown (suc place) us
 
 -- an alternative of the type; or one that it doesn't know, where there is an extension marker
 abbrev pub FitsChosen : Bool → Alternatives → (Tag → AsnValue → Type 0) → AsnValue → Type 0
 FitsChosen extensible more P v = ((t : Tag) × (x : AsnValue) × (v ≡ chosen t x) × P t x)
     ⊎ ((t : Tag) × (w : List ℕ) × (v ≡ foreign t w) × (extensible ≡ true) × (has_tag t more ≡ false) × HasTagNumber t × IsOctets w)
 
+-- which values fit a type that holds no other
+abbrev pub FitsLeaf : LeafType → AsnValue → Type 0
+FitsLeaf boolean v = (x : Bool) × (v ≡ bool x)
+FitsLeaf null v = v ≡ nothing
+FitsLeaf (integer low high) v = (z : ℤ) × (v ≡ int z) × (in_range low high z ≡ true)
+FitsLeaf (enumerated numbers extensible) v = (z : ℤ) × (v ≡ enum z) × (is_int64 z ≡ true) × ((extensible || has_number numbers z) ≡ true)
+FitsLeaf (bit_string size) v = (s : List Bool) × (v ≡ bit_list s) × (size_fits size (length s) ≡ true)
+FitsLeaf object_id v = (arcs : List ℕ) × (v ≡ oid arcs) × AreArcs arcs
+FitsLeaf (restricted_string kind size) v = IsText (all_characters kind) size v
+FitsLeaf (utf8_string size) v = (w : List ℕ) × (v ≡ text w) × IsOctets w × (is_utf8 w ≡ true) × (size_fits size (length (chars w)) ≡ true)
+FitsLeaf (octet_string size) v = (w : List ℕ) × (v ≡ octets w) × IsOctets w × (size_fits size (length w) ≡ true)
+
 -- Which values fit a type: of its kind, within its bounds and sizes, each part fitting (X.680).
 abbrev mutual
   pub Fits : AsnType → AsnValue → Type 0
-  Fits boolean v = (x : Bool) × (v ≡ bool x)
-  Fits null v = v ≡ nothing
-  Fits (integer low high) v = (z : ℤ) × (v ≡ int z) × (in_range low high z ≡ true)
-  Fits (enumerated numbers extensible) v = (z : ℤ) × (v ≡ enum z) × (is_int64 z ≡ true) × ((extensible || has_number numbers z) ≡ true)
-  Fits (bit_string size) v = (s : List Bool) × (v ≡ bit_list s) × (size_fits size (length s) ≡ true)
-  Fits object_id v = (arcs : List ℕ) × (v ≡ oid arcs) × AreArcs arcs
-  Fits (restricted_string kind size) v = IsText (all_characters kind) size v
-  Fits (utf8_string size) v = (w : List ℕ) × (v ≡ text w) × IsOctets w × (is_utf8 w ≡ true) × (size_fits size (length (chars w)) ≡ true)
-  Fits (octet_string size) v = (w : List ℕ) × (v ≡ octets w) × IsOctets w × (size_fits size (length w) ≡ true)
+  Fits (leaf kind) v = FitsLeaf kind v
   Fits (sequence fs) v = (root : Places) × (v ≡ seq root no_places []) × FitsFields fs root
   Fits (extensible_sequence fs more) v = (root : Places) × (added : Places) × (us : List Unknown) × (v ≡ seq root added us)
       × FitsFields fs root × FitsAdditions more added × FitsUnknown (addition_count more) us
@@ -114,11 +120,11 @@ DefaultFits (default d) P = P d
 -- each default in the type fits its component's type
 abbrev mutual
   pub DefaultsFit : AsnType → Type 0
+  DefaultsFit (leaf kind) = Unit {0}
   DefaultsFit (sequence fs) = FieldDefaultsFit fs
   DefaultsFit (extensible_sequence fs more) = FieldDefaultsFit fs × AdditionDefaultsFit more
   DefaultsFit (sequence_of size T) = DefaultsFit T
   DefaultsFit (choice extensible more) = AlternativeDefaultsFit more
-  DefaultsFit T = Unit {0}
 
   pub FieldDefaultsFit : Fields → Type 0
   FieldDefaultsFit no_fields = Unit {0}

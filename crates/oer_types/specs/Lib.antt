@@ -1,3 +1,6 @@
+pub mod Limits
+pub mod LeafValue
+pub mod LeafType
 pub mod AsnValue
 pub mod AsnType
 pub mod Bits

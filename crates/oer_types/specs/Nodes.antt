@@ -1,18 +1,24 @@
 -- How many parts types and values have, and how many octets values hold.
 use Rattle.std.specs.Prelude.{ℕ, suc, ◌+◌, List, [], ◌∷◌, length}
-use Rattle.oer_types.specs.AsnType.{Additions, Alternatives, AsnType, Fields, addition, alternative, choice, enumerated, extensible_sequence, field, later, no_additions, no_alternatives, no_fields, sequence, sequence_of}
-use Rattle.oer_types.specs.AsnValue.{AsnValue, Places, Unknown, Values, absent, bit_list, chosen, foreign, items, no_places, no_values, octets, oid, present, seq, text, unknown, value}
+use Rattle.oer_types.specs.LeafType.{LeafType, enumerated}
+use Rattle.oer_types.specs.LeafValue.{LeafValue, bit_list, octets, oid, text}
+use Rattle.oer_types.specs.AsnType.{Additions, Alternatives, AsnType, Fields, addition, alternative, choice, extensible_sequence, field, later, leaf, no_additions, no_alternatives, no_fields, sequence, sequence_of}
+use Rattle.oer_types.specs.AsnValue.{AsnValue, Places, Unknown, Values, absent, chosen, foreign, items, leaf_value, no_places, no_values, present, seq, unknown, value}
 use Rattle.oer_types.specs.Bits.{octets_for}
+
+-- the type, and each item of an enumeration
+abbrev pub leaf_nodes : LeafType → ℕ
+leaf_nodes (enumerated numbers extensible) = suc (length numbers)
+leaf_nodes kind = 1
 
 -- each type in it, itself included, and each item of an enumeration
 abbrev mutual
   pub type_nodes : AsnType → ℕ
-  type_nodes (enumerated numbers extensible) = suc (length numbers)
+  type_nodes (leaf kind) = leaf_nodes kind
   type_nodes (sequence fs) = suc (fields_nodes fs)
   type_nodes (extensible_sequence fs more) = suc (fields_nodes fs + additions_nodes more)
   type_nodes (sequence_of s T) = suc (type_nodes T)
   type_nodes (choice extensible more) = suc (alternatives_nodes more)
-  type_nodes T = 1
 
   pub fields_nodes : Fields → ℕ
   fields_nodes no_fields = 0
@@ -30,11 +36,11 @@ abbrev mutual
 -- each value in it, itself included, each absent place and each unknown part
 abbrev mutual
   pub nodes : AsnValue → ℕ
+  nodes (leaf_value v) = 1
   nodes (seq root added us) = suc (places_nodes root + places_nodes added + length us)
   nodes (items vs) = suc (values_nodes vs)
   nodes (chosen t v) = suc (nodes v)
   nodes (foreign t w) = 2
-  nodes v = 1
 
   pub values_nodes : Values → ℕ
   values_nodes no_values = 0
@@ -50,18 +56,22 @@ abbrev pub contents : List Unknown → ℕ
 contents [] = 0
 contents (unknown place w ∷ us) = length w + contents us
 
+-- the octets of a string, of bits or of a text, and the arcs
+abbrev pub leaf_payload : LeafValue → ℕ
+leaf_payload (bit_list s) = octets_for (length s)
+leaf_payload (text w) = length w
+leaf_payload (oid arcs) = length arcs
+leaf_payload (octets w) = length w
+leaf_payload v = 0
+
 -- the octets of strings, bits, texts and unknown parts, and the arcs
 abbrev mutual
   pub payload : AsnValue → ℕ
-  payload (bit_list s) = octets_for (length s)
-  payload (text w) = length w
-  payload (oid arcs) = length arcs
-  payload (octets w) = length w
+  payload (leaf_value v) = leaf_payload v
   payload (seq root added us) = places_payload root + places_payload added + contents us
   payload (items vs) = values_payload vs
   payload (chosen t v) = payload v
   payload (foreign t w) = length w
-  payload v = 0
 
   pub values_payload : Values → ℕ
   values_payload no_values = 0

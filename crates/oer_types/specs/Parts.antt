@@ -6,7 +6,7 @@ use Rattle.oer_units.specs.Reading.{counted_octets, open_type, tag}
 use Rattle.oer_units.specs.Spelling.{IsCounted, IsTag, StandsFor}
 use Rattle.oer_units.specs.declared.fault.Why.TheVariants.{UnknownAlternative}
 use Rattle.oer_units.specs.declared.tagging.Tag.{Tag}
-use Rattle.oer_types.specs.AsnType.{Additions, Alternatives, AsnType, Fields, Need, addition, alternative, choice, default, extensible_sequence, field, later, may, must, no_additions, no_alternatives, no_fields, sequence, sequence_of}
+use Rattle.oer_types.specs.AsnType.{Additions, Alternatives, AsnType, Fields, Need, addition, alternative, choice, default, extensible_sequence, field, later, leaf, may, must, no_additions, no_alternatives, no_fields, sequence, sequence_of}
 use Rattle.oer_types.specs.AsnValue.{AsnValue}
 use Rattle.oer_types.specs.Bits.{IsPreamble, first_bit, later_bits}
 use Rattle.oer_types.specs.Checking.{check_value}
@@ -107,7 +107,7 @@ IsSplit (sequence_of size T) parts b = (n : ℕ) × (q : List ℕ) × (es : List
     × (size_fits size n ≡ true) × SplitsItems T 0 n parts es
 IsSplit (choice extensible more) parts b = (t : Tag) × (p : List ℕ) × (c : List ℕ) × (b ≡ p ++ c) × IsTag t p
     × (SplitsAlternative more t parts c ⊎ ((has_tag t more ≡ false) × IsAlone None (IsCounted IsItself) parts c))
-IsSplit T parts b = parts ≡ []
+IsSplit (leaf kind) parts b = parts ≡ []
 
 -- what is found at the end of a path: octets of a type, if that is known; or why there are none
 pub data Answer : Type 0 where
@@ -202,7 +202,7 @@ read_parts (extensible_sequence fs more) =
     bind (preamble (suc (optional fs))) (λ s. join_parts (field_parts fs 0 (later_bits s)) (extension_parts (first_bit s) more))
 read_parts (sequence_of size T) = bind quantity (item_parts T 0)
 read_parts (choice extensible more) = bind tag (λ t. choose (has_tag t more) (alternative_parts more t) (read_alone None counted_octets))
-read_parts T = give []
+read_parts (leaf kind) = give []
 
 abbrev pub parts_in : Outcome (List Part) → List Part
 parts_in (got parts q) = parts

@@ -8,7 +8,9 @@ use Rattle.oer_units.specs.Reader.{Reader, bind, choose, give, group, guard, ref
 use Rattle.oer_units.specs.Reading.{counted_number, counted_octets, number, object_identifier, octet, open_type, tag, with_length}
 use Rattle.oer_units.specs.declared.fault.Why.TheVariants.{BitUnused, Character, IntegerRange, PreamblePadding, UnknownAddition, UnknownAlternative, UnknownEnum}
 use Rattle.oer_units.specs.declared.tagging.Tag.{Tag}
-use Rattle.oer_types.specs.AsnType.{Additions, Alternatives, AsnType, Fields, Need, addition, alternative, bit_string, boolean, choice, default, enumerated, extensible_sequence, field, integer, later, may, must, no_additions, no_alternatives, no_fields, null, object_id, octet_string, restricted_string, sequence, sequence_of, utf8_string}
+use Rattle.oer_types.specs.Limits.{addition_places}
+use Rattle.oer_types.specs.LeafType.{LeafType, bit_string, boolean, enumerated, integer, null, object_id, octet_string, restricted_string, utf8_string}
+use Rattle.oer_types.specs.AsnType.{Additions, Alternatives, AsnType, Fields, Need, addition, alternative, choice, default, extensible_sequence, field, later, leaf, may, must, no_additions, no_alternatives, no_fields, sequence, sequence_of}
 use Rattle.oer_types.specs.AsnValue.{AsnValue, Places, Unknown, absent, bit_list, bool, chosen, enum, foreign, int, items, no_places, nothing, octets, oid, present, seq, text, unknown}
 use Rattle.oer_types.specs.Bits.{all_false, bits_of, first_bit, later_bits, octets_for}
 use Rattle.oer_types.specs.Constraints.{Form, addition_count, all_characters, any_size, fixed, form_of, has_number, has_tag, in_range, optional, same_tag, signed_counted, signed_fixed, size_fits, unsigned_counted, unsigned_fixed}
@@ -87,7 +89,7 @@ read_both r q = bind r (λ added. bind q (λ us. give (added, us)))
 abbrev pub read_extension : Bool → Additions → (List Bool → Reader Places) → Reader (Places × List Unknown)
 read_extension false more r = give (all_absent more, [])
 read_extension true more r =
-    bind bitmap (λ s. guard (all_false (drop 65536 s)) UnknownAddition
+    bind bitmap (λ s. guard (all_false (drop addition_places s)) UnknownAddition
     (read_both (r s) (read_unknown (addition_count more) (drop (addition_count more) s))))
 
 -- k presence bits, and then the root
@@ -121,19 +123,23 @@ read_text test fix s = bind (read_octets fix s) (λ w. guard (test w) Character 
 abbrev pub read_utf8 : Size → Reader (List ℕ)
 read_utf8 s = bind counted_octets (λ w. guard (is_utf8 w) Character (guard (size_fits s (length (chars w))) reason.Size (give w)))
 
+-- a value that holds no other, case by case as IsLeafSpelling has them
+abbrev pub read_leaf : LeafType → Reader AsnValue
+read_leaf boolean = bind octet (λ x. give (bool (not (eqb x 0))))
+read_leaf null = give nothing
+read_leaf (integer low high) = bind (read_integer (form_of low high) (in_range low high)) (λ z. give (int z))
+read_leaf (enumerated numbers extensible) =
+    bind unit.enumerated (λ z. guard (extensible || has_number numbers z) UnknownEnum (give (enum z)))
+read_leaf (bit_string s) = bind (read_bits (fixed s) s) (λ w. give (bit_list w))
+read_leaf object_id = bind object_identifier (λ w. give (oid w))
+read_leaf (restricted_string kind s) = bind (read_text (all_characters kind) (fixed s) s) (λ w. give (text w))
+read_leaf (utf8_string s) = bind (read_utf8 s) (λ w. give (text w))
+read_leaf (octet_string s) = bind (read_octets (fixed s) s) (λ w. give (octets w))
+
 -- How a value is read, case by case as IsSpelling has them.
 abbrev mutual
   pub read_value : AsnType → Reader AsnValue
-  read_value boolean = bind octet (λ x. give (bool (not (eqb x 0))))
-  read_value null = give nothing
-  read_value (integer low high) = bind (read_integer (form_of low high) (in_range low high)) (λ z. give (int z))
-  read_value (enumerated numbers extensible) =
-      bind unit.enumerated (λ z. guard (extensible || has_number numbers z) UnknownEnum (give (enum z)))
-  read_value (bit_string s) = bind (read_bits (fixed s) s) (λ w. give (bit_list w))
-  read_value object_id = bind object_identifier (λ w. give (oid w))
-  read_value (restricted_string kind s) = bind (read_text (all_characters kind) (fixed s) s) (λ w. give (text w))
-  read_value (utf8_string s) = bind (read_utf8 s) (λ w. give (text w))
-  read_value (octet_string s) = bind (read_octets (fixed s) s) (λ w. give (octets w))
+  read_value (leaf kind) = read_leaf kind
   read_value (sequence fs) = read_sequence (optional fs) (read_fields fs)
   read_value (extensible_sequence fs more) =
       read_extensible (optional fs) (read_fields fs) (λ x. read_extension x more (read_additions more))

@@ -4,7 +4,9 @@ use Rattle.oer_units.specs.Numbers.{unsigned}
 use Rattle.oer_units.specs.Octets.{IsOctets, IsShortest}
 use Rattle.oer_units.specs.Spelling.{IsCounted, StandsFor, IsJoined, IsLength, IsTag}
 use Rattle.oer_units.specs.declared.tagging.Tag.{Tag}
-use Rattle.oer_types.specs.AsnType.{Additions, Alternatives, AsnType, Fields, Need, addition, alternative, bit_string, boolean, choice, default, extensible_sequence, field, later, may, must, no_additions, no_alternatives, no_fields, null, sequence, sequence_of}
+use Rattle.oer_types.specs.Limits.{addition_places}
+use Rattle.oer_types.specs.LeafType.{LeafType, bit_string, boolean, null}
+use Rattle.oer_types.specs.AsnType.{Additions, Alternatives, AsnType, Fields, Need, addition, alternative, choice, default, extensible_sequence, field, later, leaf, may, must, no_additions, no_alternatives, no_fields, sequence, sequence_of}
 use Rattle.oer_types.specs.AsnValue.{AsnValue, Places, Unknown, bit_list, bool, chosen, foreign, items, no_places, nothing, seq}
 use Rattle.oer_types.specs.Bits.{IsPreamble, all_false, bits_of, first_bit, later_bits}
 use Rattle.oer_types.specs.Constraints.{addition_count, any_size, fixed, has_tag, optional, same_tag, size_fits}
@@ -58,7 +60,7 @@ StrictExtension false more S added us e = (added ≡ all_absent more) × (us ≡
 StrictExtension true more S added us e = (s : List Bool) × (z : List Bool) × (m : List ℕ) × (a : List ℕ) × (u : List ℕ)
     × (e ≡ m ++ (a ++ u)) × StrictBitmap (s ++ z) m
     × (length s ≡ addition_count more) × (length (s ++ z) ≡ max (addition_count more) (after_last us))
-    × (all_false (s ++ z) ≡ false) × (all_false (drop 65536 (s ++ z)) ≡ true) × S s added a
+    × (all_false (s ++ z) ≡ false) × (all_false (drop addition_places (s ++ z)) ≡ true) × S s added a
     × SpellsUnknown (StrictCounted IsItself) (addition_count more) z us u
 
 -- as SpellsChosen, with a length in its least form
@@ -66,13 +68,21 @@ abbrev pub StrictChosen : Bool → Alternatives → (AsnValue → List ℕ → T
 StrictChosen extensible more S t v c = ((x : AsnValue) × (v ≡ chosen t x) × S x c)
     ⊎ ((w : List ℕ) × (v ≡ foreign t w) × (extensible ≡ true) × (has_tag t more ≡ false) × StrictCounted IsItself w c)
 
+-- b spells v, which holds no other value, by Canonical-OER.
+abbrev pub IsStrictLeafSpelling : LeafType → AsnValue → List ℕ → Type 0
+-- BOOLEAN (X.696, 9.2): TRUE is ff.
+IsStrictLeafSpelling boolean v b = (x : Bool) × (v ≡ bool x) × (b ≡ (if x then 255 else 0) ∷ [])
+-- NULL: no octets.
+IsStrictLeafSpelling null v b = (v ≡ nothing) × (b ≡ [])
+-- BIT STRING: unused bits are 0.
+IsStrictLeafSpelling (bit_string size) v b = (s : List Bool) × (v ≡ bit_list s) × StrictBitString (fixed size) size s b
+-- Every other type: the least spelling.
+IsStrictLeafSpelling kind v b = IsLeastSpelling (leaf kind) v b
+
 -- b spells v by Canonical-OER: the cases of IsSpelling with the strict forms of their parts.
 abbrev mutual
   pub IsStrictSpelling : AsnType → AsnValue → List ℕ → Type 0
-  -- BOOLEAN (X.696, 9.2): TRUE is ff.
-  IsStrictSpelling boolean v b = (x : Bool) × (v ≡ bool x) × (b ≡ (if x then 255 else 0) ∷ [])
-  -- NULL: no octets.
-  IsStrictSpelling null v b = (v ≡ nothing) × (b ≡ [])
+  IsStrictSpelling (leaf kind) v b = IsStrictLeafSpelling kind v b
   -- SEQUENCE: no DEFAULT component is there that equals its default.
   IsStrictSpelling (sequence fs) v b = (root : Places) × (s : List Bool) × (p : List ℕ) × (r : List ℕ)
       × (v ≡ seq root no_places []) × (b ≡ p ++ r) × (length s ≡ optional fs) × StrictPreamble s p × SpellsFieldsStrictly fs s root r
@@ -88,10 +98,6 @@ abbrev mutual
   -- CHOICE.
   IsStrictSpelling (choice extensible more) v b = (t : Tag) × (p : List ℕ) × (c : List ℕ) × (b ≡ p ++ c) × IsTag t p
       × StrictChosen extensible more (SpellsAlternativeStrictly more t) t v c
-  -- BIT STRING: unused bits are 0.
-  IsStrictSpelling (bit_string size) v b = (s : List Bool) × (v ≡ bit_list s) × StrictBitString (fixed size) size s b
-  -- Every other type: the least spelling.
-  IsStrictSpelling T v b = IsLeastSpelling T v b
 
   pub SpellsFieldsStrictly : Fields → List Bool → Places → List ℕ → Type 0
   SpellsFieldsStrictly no_fields s ps b = (ps ≡ no_places) × (b ≡ [])

@@ -1,7 +1,9 @@
 -- Which types are well-formed: the faults of types, each by itself, and the one of least number.
-use Rattle.std.specs.Prelude.{◌≡◌, ℕ, suc, ◌<◌, ◌⊎◌, max, List, [], ◌∷◌, ◌++◌, Bool, true, false, ◌&&◌, ◌||◌, eqb, ℤ, ◌<ℤ◌, Option, Some, None}
+use Rattle.std.specs.Prelude.{◌≡◌, ℕ, suc, ◌<◌, ◌⊎◌, max, List, [], ◌∷◌, ◌++◌, Bool, true, false, ◌&&◌, ◌||◌, eqb, ℤ, ◌<ℤ◌, Option, Some, None, IsSomeAnd}
 use Rattle.oer_units.specs.declared.tagging.Tag.{Tag}
-use Rattle.oer_types.specs.AsnType.{Additions, Alternatives, AsnType, Fields, NamedNumber, Need, addition, alternative, bit_string, choice, default, enumerated, extensible_sequence, field, integer, later, may, must, no_additions, no_alternatives, no_fields, octet_string, restricted_string, sequence, sequence_of, utf8_string}
+use Rattle.oer_types.specs.Limits.{max_depth, max_parts}
+use Rattle.oer_types.specs.LeafType.{string_size}
+use Rattle.oer_types.specs.AsnType.{Additions, Alternatives, AsnType, Fields, NamedNumber, Need, addition, alternative, choice, default, enumerated, extensible_sequence, field, integer, later, leaf, may, must, no_additions, no_alternatives, no_fields, sequence, sequence_of}
 use Rattle.oer_types.specs.Constraints.{KeepsLimits, is_within, may_be_empty}
 use Rattle.oer_types.specs.Fits.{Fits}
 use Rattle.oer_types.specs.Nodes.{type_nodes}
@@ -13,11 +15,11 @@ use Rattle.oer_types.specs.declared.fault.SchemaFault.TheVariants.{TooDeep, TooM
 -- how many levels of types there are; a type without parts has one
 abbrev mutual
   pub depth : AsnType → ℕ
+  depth (leaf kind) = 1
   depth (sequence fs) = suc (fields_depth fs)
   depth (extensible_sequence fs more) = suc (max (fields_depth fs) (additions_depth more))
   depth (sequence_of s T) = suc (depth T)
   depth (choice extensible more) = suc (alternatives_depth more)
-  depth T = 1
 
   pub fields_depth : Fields → ℕ
   fields_depth no_fields = 0
@@ -35,11 +37,11 @@ abbrev mutual
 -- Q holds of the type or of a type in it
 abbrev mutual
   pub Somewhere : (AsnType → Type 0) → AsnType → Type 0
+  Somewhere Q (leaf kind) = Q (leaf kind)
   Somewhere Q (sequence fs) = Q (sequence fs) ⊎ InFields Q fs
   Somewhere Q (extensible_sequence fs more) = Q (extensible_sequence fs more) ⊎ (InFields Q fs ⊎ InAdditions Q more)
   Somewhere Q (sequence_of s T) = Q (sequence_of s T) ⊎ Somewhere Q T
   Somewhere Q (choice extensible more) = Q (choice extensible more) ⊎ InAlternatives Q more
-  Somewhere Q T = Q T
 
   pub InFields : (AsnType → Type 0) → Fields → Type 0
   InFields Q no_fields = ⊥
@@ -133,10 +135,7 @@ IsCrossed s = IsBelow s.high s.low
 
 -- a size's lower end is above its upper end
 abbrev pub HasCrossedSize : AsnType → Type 0
-HasCrossedSize (bit_string s) = IsCrossed s
-HasCrossedSize (octet_string s) = IsCrossed s
-HasCrossedSize (restricted_string kind s) = IsCrossed s
-HasCrossedSize (utf8_string s) = IsCrossed s
+HasCrossedSize (leaf kind) = IsSomeAnd (string_size kind) IsCrossed
 HasCrossedSize (sequence_of s T) = IsCrossed s
 HasCrossedSize T = ⊥
 
@@ -179,8 +178,8 @@ HasEmptyElement T = ⊥
 
 -- Where each fault holds. Its depth and its number of parts are of the whole type; every other fault is of a type in it, or of itself.
 abbrev pub HasFault : AsnType → SchemaFault → Type 0
-HasFault T TooDeep = 32 < depth T
-HasFault T TooManyParts = 4096 < type_nodes T
+HasFault T TooDeep = max_depth < depth T
+HasFault T TooManyParts = max_parts < type_nodes T
 HasFault T BoundOrder = Somewhere HasCrossedBounds T
 HasFault T SizeOrder = Somewhere HasCrossedSize T
 HasFault T BadName = Somewhere (λ U. AnyOf (λ name. is_identifier name ≡ false) (names U)) T

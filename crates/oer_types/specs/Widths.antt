@@ -1,7 +1,8 @@
 -- The numbers in a type have the widths of those in a `Shape`, and alternatives behind the extension marker are the last.
-use Rattle.std.specs.Prelude.{◌≡◌, ℕ, ◌^◌, ◌<◌, ℤ, FitsSigned, List, [], ◌∷◌, Bool, true, Option, Some, None}
+use Rattle.std.specs.Prelude.{◌≡◌, ℕ, ◌^◌, ◌<◌, ℤ, FitsSigned, List, [], ◌∷◌, Bool, true, Option, Some, None, IfSome}
 use Rattle.std.specs.Int.{w64, w128}
-use Rattle.oer_types.specs.AsnType.{Additions, Alternatives, AsnType, Fields, NamedNumber, addition, alternative, bit_string, boolean, choice, enumerated, extensible_sequence, field, integer, later, no_additions, no_alternatives, no_fields, null, object_id, octet_string, restricted_string, sequence, sequence_of, utf8_string}
+use Rattle.oer_types.specs.LeafType.{LeafType, enumerated, integer, string_size}
+use Rattle.oer_types.specs.AsnType.{Additions, Alternatives, AsnType, Fields, NamedNumber, addition, alternative, choice, extensible_sequence, field, later, leaf, no_additions, no_alternatives, no_fields, sequence, sequence_of}
 use Rattle.oer_types.specs.declared.size.Size.{Size}
 use Rattle.oer_units.specs.Laws.{HasTagNumber}
 
@@ -35,18 +36,15 @@ AreInOrder marker no_alternatives = Unit {0}
 AreInOrder marker (alternative name t T more) = AreInOrder marker more
 AreInOrder marker (later name t T more) = (marker ≡ true) × AreLater more
 
+abbrev pub LeafHasWidths : LeafType → Type 0
+LeafHasWidths (integer low high) = HasBoundWidth low × HasBoundWidth high
+LeafHasWidths (enumerated is extensible) = HaveItemWidths is
+LeafHasWidths kind = IfSome (string_size kind) HasSizeWidths
+
 -- Bounds have 128 bits, the ends of sizes and the numbers of items 64, tag numbers 32; alternatives stand in order.
 abbrev mutual
   pub HasWidths : AsnType → Type 0
-  HasWidths boolean = Unit {0}
-  HasWidths null = Unit {0}
-  HasWidths (integer low high) = HasBoundWidth low × HasBoundWidth high
-  HasWidths (enumerated is extensible) = HaveItemWidths is
-  HasWidths (bit_string s) = HasSizeWidths s
-  HasWidths (octet_string s) = HasSizeWidths s
-  HasWidths object_id = Unit {0}
-  HasWidths (restricted_string letters s) = HasSizeWidths s
-  HasWidths (utf8_string s) = HasSizeWidths s
+  HasWidths (leaf kind) = LeafHasWidths kind
   HasWidths (sequence fs) = FieldsHaveWidths fs
   HasWidths (extensible_sequence fs more) = FieldsHaveWidths fs × AdditionsHaveWidths more
   HasWidths (sequence_of s T) = HasSizeWidths s × HasWidths T

@@ -30,7 +30,7 @@ pub use fault::SchemaFault;
 pub use fill::same_filled_at;
 pub use fit::{contains_number, fits_shape, is_in_range};
 pub use form::Form;
-pub use schema::Schema;
+pub use schema::{MAX_DEPTH, MAX_PARTS, Schema};
 pub use shape::{Addition, Alt, Field, Item, Need, Shape, optional};
 pub use size::Size;
 pub use tag::{contains_tag, is_same_tag};

@@ -9,9 +9,12 @@ use crate::fault::SchemaFault;
 use crate::rule::is_somewhere;
 use crate::shape::Shape;
 
-const MAX_DEPTH: u8 = 32;
+/// How many levels of types a type may have. The innermost type counts, as does the outermost.
+pub const MAX_DEPTH: u8 = 32;
 
-const MAX_PARTS: u16 = 4096;
+/// How many parts a type may have: each type in it, itself included, and each item of an
+/// ENUMERATED.
+pub const MAX_PARTS: u16 = 4096;
 
 /// A well-formed type: a shape of which no fault holds.
 #[derive(Drop)]

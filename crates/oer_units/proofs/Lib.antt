@@ -2,6 +2,7 @@ pub mod ReadSteps
 pub mod ReadExits
 pub mod ReadGroups
 pub mod ReadNumbers
+pub mod ReadFixed
 pub mod ReadLengths
 pub mod ReadCounted
 pub mod ReadDigits

@@ -1,19 +1,17 @@
 -- Counted numbers, step by step.
-use Rattle.std.proofs.Common.{◌≡◌, ◌≢◌, ℕ, ◌+◌, ◌-◌, ◌*◌, ◌^◌, ◌<◌, ◌≤◌, Bool, true, false, leb, ltb, List, Result, Ok, Err, arith, refl, sym, ap, ◌∙◌, subst, pos, ℤ}
+use Rattle.std.proofs.Common.{◌≡◌, ◌≢◌, ℕ, ◌-◌, ◌^◌, ◌<◌, ◌≤◌, Bool, true, false, leb, ltb, List, Result, Ok, Err, arith, refl, sym, ap, ◌∙◌, pos, ℤ}
 use Rattle.std.proofs.lemmas.Bool.{le-leb, lt-leb, le-ltb, lt-ltb}
 use Rattle.oer_units.specs.declared.fault.Why.TheVariants.{Device, EmptyNumber, EnumForm, IntegerRange}
 use Rattle.oer_units.specs.declared.fault.ReadFault.{ReadFault}
 use Rattle.oer_units.specs.declared.twos.Twos.{Twos}
-use Rattle.oer_units.specs.declared.width.Width.{Width}
-use Rattle.oer_units.specs.Width.{octets_of_width}
 use Rattle.oer_units.specs.Reader.{Reader, guard}
 use Rattle.oer_units.specs.Reading.{number, counted_length, counted_number, is_int128, is_int64, octet, enumerated, enumerated_after}
 use Rattle.oer_units.specs.Numbers.{unsigned, signed, natural}
-use Rattle.oer_units.specs.Fixed.{group_as, unsigned_fixed_at, signed_fixed_at}
+use Rattle.oer_units.specs.Fixed.{group_as}
 use Rattle.oer_units.specs.ReadingSteps.{size_after, twos_of_octets, int_of}
 use Rattle.oer_units.specs.Reads.{named, State, Reads}
 use Rattle.oer_units.proofs.ReadSteps.{Reads-then, Reads-stop, Reads-give, Reads-refused}
-use Rattle.oer_units.proofs.ReadNumbers.{refused_as, unsigned_width, signed_width, width_some, got_as, number_in, number_out, number_stop, unsigned_is, signed_is, signed_out128, signed_out64, size_whole, out_int128, in_int64}
+use Rattle.oer_units.proofs.ReadNumbers.{got_as, number_in, number_out, number_stop, unsigned_is, signed_is, signed_out128, signed_out64, size_whole, out_int128, in_int64}
 use Rattle.oer_units.proofs.ReadLengths.{with_stop, with_then}
 
 -- ---- counted numbers
@@ -69,9 +67,6 @@ natural_large w v e le = let h = size_whole w in out_int128 false (unsigned w) (
 pub natural_out : (n : ℕ) (v : ℕ) (s s' : State) → 2 ^ 127 ≤ v → Reads (group_as n (size_after false 0)) s (Ok v) s' → Reads (group_as n (λ w. is_int128 (natural w))) s (Ok false) s'
 natural_out n v s s' le p = got_as n (size_after false 0) (λ w. is_int128 (natural w)) v false s s' (λ w l fits e. natural_large w v e le) p
 
-pub unsigned_got : (n : ℕ) (v : ℕ) (s s' : State) → v < 2 ^ 64 → Reads (group_as n (size_after false 0)) s (Ok v) s' → Reads (group_as n unsigned) s (Ok v) s'
-unsigned_got n v s s' less p = got_as n (size_after false 0) unsigned v v s s' (λ w l fits e. unsigned_is w v e (omega arith)) p
-
 -- a signed number
 pub signed_got : (n : ℕ) (t : Twos) (s s' : State) → 1 ≤ n → t.size < 2 ^ 127 → Reads (group_as n twos_of_octets) s (Ok t) s' → Reads (group_as n signed) s (Ok (int_of t)) s'
 signed_got n t s s' some less p = got_as n twos_of_octets signed t (int_of t) s s' (λ w l fits e. signed_is w t (omega arith) fits e less) p
@@ -81,28 +76,6 @@ signed_large n t s s' some le p = got_as n twos_of_octets (λ w. is_int128 (sign
 
 signed_large64 : (n : ℕ) (t : Twos) (s s' : State) → 1 ≤ n → 2 ^ 63 ≤ t.size → Reads (group_as n twos_of_octets) s (Ok t) s' → Reads (group_as n (λ w. is_int64 (signed w))) s (Ok false) s'
 signed_large64 n t s s' some le p = got_as n twos_of_octets (λ w. is_int64 (signed w)) t false s s' (λ w l fits e. signed_out64 w t (omega arith) fits e le) p
-
--- ---- numbers of fixed size
-
-pub unsigned_fixed_stop : (width : Width) (s s' : State) (e : ReadFault) (k : ℕ) → k ≡ octets_of_width width → Reads (group_as k (size_after false 0)) s (Err e) s' → Reads (unsigned_fixed_at width) s (Err e) s'
-unfolding unsigned_fixed_at
-unsigned_fixed_stop width s s' e k is p = refused_as (octets_of_width width) (size_after false 0) unsigned s s' e (subst (λ (j : ℕ). Reads (group_as j (size_after false 0)) s (Err e) s') is p)
-
-pub unsigned_fixed_got : (width : Width) (s s' : State) (v k : ℕ) → k ≡ octets_of_width width → v < 256 ^ k → Reads (group_as k (size_after false 0)) s (Ok v) s' → Reads (unsigned_fixed_at width) s (Ok v) s'
-unfolding unsigned_fixed_at
-unsigned_fixed_got width s s' v k is less p =
-    let small = unsigned_width width v (subst (λ (j : ℕ). v < 256 ^ j) is less) in
-    unsigned_got (octets_of_width width) v s s' small (subst (λ (j : ℕ). Reads (group_as j (size_after false 0)) s (Ok v) s') is p)
-
-pub signed_fixed_stop : (width : Width) (s s' : State) (e : ReadFault) (k : ℕ) → k ≡ octets_of_width width → Reads (group_as k twos_of_octets) s (Err e) s' → Reads (signed_fixed_at width) s (Err e) s'
-unfolding signed_fixed_at
-signed_fixed_stop width s s' e k is p = refused_as (octets_of_width width) twos_of_octets signed s s' e (subst (λ (j : ℕ). Reads (group_as j twos_of_octets) s (Err e) s') is p)
-
-pub signed_fixed_got : (width : Width) (s s' : State) (t : Twos) (k : ℕ) → k ≡ octets_of_width width → t.size + 1 ≤ 128 * 256 ^ (k - 1) → Reads (group_as k twos_of_octets) s (Ok t) s' → Reads (signed_fixed_at width) s (Ok (int_of t)) s'
-unfolding signed_fixed_at
-signed_fixed_got width s s' t k is le p =
-    let small : t.size < 2 ^ 63 = signed_width width t.size (subst (λ (j : ℕ). t.size + 1 ≤ 128 * 256 ^ (j - 1)) is le) in
-    signed_got (octets_of_width width) t s s' (width_some width) (omega arith) (subst (λ (j : ℕ). Reads (group_as j twos_of_octets) s (Ok t) s') is p)
 
 -- ---- enumerations
 

@@ -4,15 +4,12 @@ use Rattle.std.specs.List.{AllByRecursion}
 use Rattle.std.proofs.lemmas.Bool.{le-leb, lt-leb, cases_lt}
 use Rattle.std.proofs.lemmas.List.{length-append, length-drop, length-take-le, at_drop_all}
 use Rattle.std.proofs.Math.Seq.{take-append_seam}
-use Rattle.std.proofs.Math.Nat.{pow-suc, pow-succ', mul-le-mul_right}
+use Rattle.std.proofs.Math.Nat.{pow-le-pow_right, pow-suc, pow-succ', mul-le-mul_right}
 use Rattle.std.proofs.lemmas.Int.{ints}
 use Rattle.oer_units.specs.declared.fault.Why.{Why}
 use Rattle.oer_units.specs.declared.fault.Why.TheVariants.{Device}
 use Rattle.oer_units.specs.declared.fault.ReadFault.{ReadFault}
 use Rattle.oer_units.specs.declared.twos.Twos.{Twos}
-use Rattle.oer_units.specs.declared.width.Width.{Width}
-use Rattle.oer_units.specs.declared.width.Width.TheVariants.{One, Two, Four, Eight}
-use Rattle.oer_units.specs.Width.{octets_of_width}
 use Rattle.oer_units.specs.Reader.{Place, at, Outcome, got, refused, Reader, bind, give, refuse, guard, group, group_by, then_read}
 use Rattle.oer_units.specs.Reading.{octet, number, is_int128, is_int64}
 use Rattle.oer_units.specs.Numbers.{unsigned, unsigned_after, signed}
@@ -241,25 +238,6 @@ digit_small x less = elim (cases_lt x 128) [
 pub start_room : (start size p : ℕ) → size + 1 ≤ (start + 1) * p → start ≤ 127 → size + 1 ≤ 128 * p
 start_room start size p le small = let less : start + 1 ≤ 128 = omega arith in let more = mul-le-mul_right p less in omega arith
 
--- so many octets hold a number of 64 bits
-pub unsigned_width : (width : Width) (n : ℕ) → n < 256 ^ octets_of_width width → n < 2 ^ 64
-unsigned_width One n less = omega arith
-unsigned_width Two n less = omega arith
-unsigned_width Four n less = omega arith
-unsigned_width Eight n less = omega arith
-
-pub signed_width : (width : Width) (n : ℕ) → n + 1 ≤ 128 * 256 ^ (octets_of_width width - 1) → n < 2 ^ 63
-signed_width One n le = omega arith
-signed_width Two n le = omega arith
-signed_width Four n le = omega arith
-signed_width Eight n le = omega arith
-
-pub width_some : (width : Width) → 1 ≤ octets_of_width width
-width_some One = omega arith
-width_some Two = omega arith
-width_some Four = omega arith
-width_some Eight = omega arith
-
 -- ---- numbers that are tested
 
 number_is : {A : Type 0} (why : Why) (f : List ℕ → A) (test : A → Bool) (n : ℕ) (p : Place) → bind (group n) (λ w. guard (test (f w)) why (give (f w))) p ≡ number why f test n p
@@ -321,3 +299,37 @@ read_as n m f s s' xs (Err e) is h = subst (λ (k : ℕ). Reads (group_as k f) s
 
 pub size_end : (below : Bool) (v start : ℕ) (xs : List ℕ) (i : ℕ) → length xs ≤ i → size_after below v (drop i xs) ≡ size_after below start xs → v ≡ size_after below start xs
 size_end below v start xs i le same = sym (at_drop_all (λ (l : List ℕ). size_after below v l) xs i le) ∙ same
+
+-- a number of fewer than eight octets
+pub few_small : (v size i : ℕ) → v < 256 → i < 7 → size + 1 ≤ (v + 1) * 256 ^ i → size < 2 ^ 56
+few_small v size i low less room =
+    let a : (v + 1) * 256 ^ i ≤ 256 * 256 ^ i = mul-le-mul_right (256 ^ i) (omega arith) in
+    let some : 0 < 256 = omega arith in
+    let six : i ≤ 6 = omega arith in
+    let b : 256 ^ i ≤ 256 ^ 6 = pow-le-pow_right some six in
+    omega arith
+
+-- ---- a number from 0 on, of at most eight octets
+
+pub unsigned_at : (v v' : ℕ) (xs : List ℕ) (i x : ℕ) → i < length xs → x ≡ get_or xs i 0 → 256 * v + x ≡ v' → unsigned_after v' (drop (i + 1) xs) ≡ unsigned_after v (drop i xs)
+unsigned_at v v' xs i x less is same =
+    let e : drop i xs ≡ get_or xs i 0 ∷ drop (i + 1) xs = drop-cons xs i 0 less ∙ ap (λ (k : ℕ). get_or xs i 0 ∷ drop k xs) (sym (add-one i)) in
+    sym (ap (λ (l : List ℕ). unsigned_after v l) e
+    ∙ ap (λ (y : ℕ). unsigned_after (256 * v + y) (drop (i + 1) xs)) (sym is)
+    ∙ ap (λ (y : ℕ). unsigned_after y (drop (i + 1) xs)) same)
+
+pub unsigned_end : (v : ℕ) (xs : List ℕ) (i : ℕ) → length xs ≤ i → unsigned_after v (drop i xs) ≡ unsigned_after 0 xs → v ≡ unsigned xs
+unfolding unsigned
+unsigned_end v xs i le same = sym (at_drop_all (λ (l : List ℕ). unsigned_after v l) xs i le) ∙ same
+
+pub eight_small : (size i : ℕ) → i < 8 → size + 1 ≤ 256 ^ i → size < 2 ^ 56
+eight_small size i less room =
+    let some : 0 < 256 = omega arith in
+    let seven : i ≤ 7 = omega arith in
+    let b : 256 ^ i ≤ 256 ^ 7 = pow-le-pow_right some seven in
+    omega arith
+
+pub unsigned_room : (size d size' i : ℕ) → size + 1 ≤ 256 ^ i → d ≤ 255 → size' ≤ size * 256 + d → size' + 1 ≤ 256 ^ (i + 1)
+unsigned_room size d size' i le small more =
+    let e : 256 ^ (i + 1) ≡ 256 ^ i * 256 = rw (add-one, pow-suc) refl in
+    omega arith

@@ -15,8 +15,8 @@ mod writing;
 
 pub use fault::{ReadFault, SinkFault, Why};
 pub use reading::{
-    enumerated, length, octet, octets, octets_into, signed_counted, signed_fixed, subidentifier,
-    tag, unsigned_counted, unsigned_fixed,
+    class, enumerated, length, octet, octets, octets_into, signed_counted, signed_fixed, signed_of,
+    subidentifier, tag, unsigned_counted, unsigned_fixed, unsigned_of,
 };
 pub use stream::{Metered, Sink, Source};
 pub use tagging::{Class, Tag};

@@ -1,7 +1,7 @@
 //! Readers of one unit each.
 ghost use Rattle.std.specs.Prelude.{◌≡◌, ◌≤◌, ◌<◌, ◌-◌, ◌+◌, ◌*◌, ◌/◌, ◌^◌, false, drop, take, length, IfOk, OnOk, vec_len};
 ghost use Rattle.oer_units.specs.Reader.{group};
-ghost use Rattle.oer_units.specs.Numbers.{natural, signed};
+ghost use Rattle.oer_units.specs.Numbers.{natural, signed, unsigned};
 ghost use Rattle.oer_units.specs.Reading.{octet as octet_at, counted_length, counted_number, number as number_read, is_int128, is_int64, enumerated as enumerated_at, subidentifier as subidentifier_at, long_number, class_of, tag as tag_at};
 ghost use Rattle.oer_units.specs.Fixed.{group_as, unsigned_fixed_at, signed_fixed_at};
 ghost use Rattle.oer_units.specs.ReadingSteps.{long_length_at, digit as digit_of, size_after, twos_of_octets, IsOfForm, digits_within, base128_within};
@@ -30,7 +30,7 @@ pub fn octet<R: Source>(w: &mut Window<R>) -> Result<u8, ReadFault>
 // How many octets room is made for at once: at least, and at most.
 const LEAST_ROOM: usize = 256;
 
-const MOST_ROOM: usize = 65536;
+const MOST_ROOM: usize = 2048;
 
 // Makes room for some octets more, up to `most`: as many as there are, between these two numbers.
 fn grow(octets: &mut Vec<u8>, most: usize) -> Result<(), AllocError>
@@ -92,6 +92,18 @@ pub fn octets_into<R: Source>(w: &mut Window<R>, into: &mut [u8]) -> Result<(), 
     w.fill_all(into)
 }
 
+/// The number for which at most eight octets stand, the first being the most significant (X.696, 10.3).
+pub fn unsigned_of(octets: &[u8]) -> u64
+    requires { length octets.now ≤ 8 }
+    ensures { result ≡ unsigned octets.now }
+{
+    let mut number = 0;
+    for octet in octets {
+        number = number * 256 + *octet as u64;
+    }
+    number
+}
+
 // What an octet adds to the size of a number: below 0 its complement.
 fn digit(is_below: bool, octet: u8) -> u8
     ensures { result ≡ digit_of is_below octet }
@@ -99,11 +111,43 @@ fn digit(is_below: bool, octet: u8) -> u8
     if is_below { 255 - octet } else { octet }
 }
 
+// The size of a number that goes on from `value` in a few octets.
+fn few_of(octets: &[u8], is_below: bool, value: u64) -> u64
+    requires few { length octets.now < 8 }
+    requires value { value < 256 }
+    ensures value { result ≡ size_after is_below value octets.now }
+    ensures room { result + 1 ≤ (value + 1) * 256 ^ length octets.now }
+{
+    let mut size = value;
+    for octet in octets {
+        size = size * 256 + digit(is_below, *octet) as u64;
+    }
+    size
+}
+
+/// The number for which one to eight octets stand in two's complement, the first being the most
+/// significant (X.696, 10.4).
+pub fn signed_of(octets: &[u8]) -> i64
+    requires some { 1 ≤ length octets.now }
+    requires few { length octets.now ≤ 8 }
+    ensures { result ≡ signed octets.now }
+{
+    let first = octets[0];
+    let is_below = first >= 128;
+    let start = digit(is_below, first) as u64;
+    let size = few_of(&octets[1..], is_below, start) as u128;
+    let number = Twos { is_below, size };
+    number.narrow()
+}
+
 // The size of a number that goes on from `value` in these octets; `u128::MAX` for a greater one.
 fn size_of(octets: &[u8], is_below: bool, value: u128) -> u128
     ensures value { result ≡ size_after is_below value octets.now }
     ensures room { result + 1 ≤ (value + 1) * 256 ^ length octets.now }
 {
+    if octets.len() < 8 && value < 256 {
+        return few_of(octets, is_below, value as u64) as u128;
+    }
     let mut size = value;
     for octet in octets {
         let more = digit(is_below, *octet) as u128;
@@ -223,6 +267,9 @@ pub fn length<R: Source>(w: &mut Window<R>) -> Result<u64, ReadFault>
     }
 }
 
+// How many octets a number of fixed size has at most.
+const MOST_FIXED: usize = 8;
+
 /// An unsigned number of fixed size (X.696, 10.3).
 pub fn unsigned_fixed<R: Source>(w: &mut Window<R>, width: Width) -> Result<u64, ReadFault>
     ensures bound { Keeps (bound_of w.old) (bound_of w.new) }
@@ -230,8 +277,10 @@ pub fn unsigned_fixed<R: Source>(w: &mut Window<R>, width: Width) -> Result<u64,
     ensures reads { Reads (unsigned_fixed_at width) (state R.remaining R.failed w.old) result
         (state R.remaining R.failed w.new) }
 {
-    let number = number(w, width.octets() as u64)?;
-    Ok(number as u64)
+    let mut buffer = [0u8; MOST_FIXED];
+    let octets = &mut buffer[..width.octets()];
+    octets_into(w, octets)?;
+    Ok(unsigned_of(octets))
 }
 
 /// A number of fixed size in two's complement (X.696, 10.4).
@@ -241,8 +290,10 @@ pub fn signed_fixed<R: Source>(w: &mut Window<R>, width: Width) -> Result<i64, R
     ensures reads { Reads (signed_fixed_at width) (state R.remaining R.failed w.old) result
         (state R.remaining R.failed w.new) }
 {
-    let number = twos(w, width.octets() as u64)?;
-    Ok(number.narrow())
+    let mut buffer = [0u8; MOST_FIXED];
+    let octets = &mut buffer[..width.octets()];
+    octets_into(w, octets)?;
+    Ok(signed_of(octets))
 }
 
 /// An unsigned number after its count of octets (X.696, 10.3), with any number of zeros in front. A
@@ -410,8 +461,8 @@ fn tag_number<R: Source>(w: &mut Window<R>) -> Result<u32, ReadFault>
     }
 }
 
-// The class that bits 8 and 7 of a tag's first octet tell.
-fn class(first: u8) -> Class
+/// The class that bits 8 and 7 of a tag's first octet tell (X.696, 8.7.2).
+pub fn class(first: u8) -> Class
     ensures { result ≡ class_of (first / 64) }
 {
     match first / 64 {

@@ -12,8 +12,8 @@ pub enum Width {
 }
 
 impl Width {
-    // The number of octets.
-    pub(crate) fn octets(self) -> usize
+    /// The number of octets.
+    pub fn octets(self) -> usize
         ensures { result ≡ octets_of_width self }
     {
         match self {

@@ -25,7 +25,7 @@ use Rattle.oer_writer.proofs.Places.{counted_additions}
 
 -- ---- the root
 
-field_first : (n : List ℕ) (need : Need) (T : AsnType) (fs : Fields) (p : Option AsnValue) (ps : List (Option AsnValue)) → field_octets (field n need T fs) (places_from (p ∷ ps)) ≡ place_octets_of T (kept_place need T p) ++ field_octets fs (places_from ps)
+pub field_first : (n : List ℕ) (need : Need) (T : AsnType) (fs : Fields) (p : Option AsnValue) (ps : List (Option AsnValue)) → field_octets (field n need T fs) (places_from (p ∷ ps)) ≡ place_octets_of T (kept_place need T p) ++ field_octets fs (places_from ps)
 field_first n must T fs None ps = refl
 field_first n may T fs None ps = refl
 field_first n (default d) T fs None ps = refl
@@ -171,7 +171,7 @@ present_same (addition n T more) no_places = refl
 present_same (addition n T more) (absent ps) = present_same more ps
 present_same (addition n T more) (present v ps) = refl
 
-extended_is : (fs : Fields) (more : Additions) (ps qs : Places) (us : List Unknown) (x : Bool) → x ≡ (any_present qs || any_unknown us)
+pub extended_is : (fs : Fields) (more : Additions) (ps qs : Places) (us : List Unknown) (x : Bool) → x ≡ (any_present qs || any_unknown us)
     → canonical_octets (extensible_sequence fs more) (seq ps qs us) ≡ root_octets (Some x) fs ps ++ extension_octets x (addition_octets more qs us)
 extended_is fs more ps qs us x e =
     ap (λ b. padded ((b || any_unknown us) ∷ field_bits fs ps) ++ (field_octets fs ps ++ extension_octets (b || any_unknown us) (addition_octets more qs us))) (present_same more qs)

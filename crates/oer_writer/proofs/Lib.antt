@@ -8,3 +8,4 @@ pub mod Elements
 pub mod Sizes
 pub mod WholeValues
 pub mod Compared
+pub mod Bounds

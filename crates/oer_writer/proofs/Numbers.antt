@@ -69,3 +69,10 @@ unfolding octets_for bitmap_octets
 bitmap_long s count is h =
     let many : 2 ^ 64 ≤ (count + 7) / 8 + 1 = omega (arith, h) in
     omega (arith, many, ap (λ n. (n + 7) / 8) is, length-padded s, length-append (length_octets (length (spare_bits (length s) ∷ padded s))) (spare_bits (length s) ∷ padded s))
+
+pub bits_padded : (a b : List Bool) (first rest n : ℕ) → first ≡ length a → rest ≡ length b → n ≡ (first + rest + 7) / 8 → n ≡ length (padded (a ++ b))
+unfolding octets_for
+bits_padded a b first rest n f r e = e ∙ ap (λ (k : ℕ). (k + 7) / 8) (let sum : first + rest ≡ length (a ++ b) = omega (arith, f, r, length-append a b) in sum) ∙ sym (length-padded (a ++ b))
+
+pub more_bits : (done n : ℕ) (whole part a b : List Bool) → part ≡ a ++ b → n ≡ length a → done + length part ≡ length whole → done + n + length b ≡ length whole
+more_bits done n whole part a b is e h = omega (arith, ap length is, length-append a b, e, h)

@@ -1,5 +1,5 @@
 -- Bits that are taken one after another.
-use Rattle.std.proofs.Common.{◌≡◌, ℕ, ◌+◌, List, [], ◌∷◌, ◌++◌, length, Bool, Option, Result, Ok, Err, arith, refl, sym, ap, ◌∙◌, append_assoc, append-nil, suc, ◌*◌, take, replicate, false, subst}
+use Rattle.std.proofs.Common.{◌≡◌, ℕ, ◌+◌, List, [], ◌∷◌, ◌++◌, length, Bool, Option, Result, Ok, Err, arith, refl, sym, ap, ◌∙◌, append_assoc, append-nil, suc, ◌*◌, replicate, false, subst}
 use Rattle.std.specs.Result.{IsErrAnd}
 use Rattle.std.proofs.lemmas.Result.{err_from_is_err_and}
 use Rattle.oer_units.specs.declared.fault.SinkFault.{SinkFault}
@@ -73,16 +73,16 @@ packed_is (a ∷ b ∷ c ∷ d ∷ e ∷ f ∷ []) = ap (λ x. x ∷ []) (omega 
 packed_is (a ∷ b ∷ c ∷ d ∷ e ∷ f ∷ g ∷ []) = ap (λ x. x ∷ []) (omega arith)
 
 -- with no bit so far
-pub pending_new : (p : Packer) (s : List Bool) → p.full ≡ 0 → p.octet ≡ 0 → p.weight ≡ 128 → padded s ≡ pending p s
-pending_new p s a b c = sym (ap (λ n. take n p.octets ++ packed_from p.weight p.octet s) a ∙ ap (λ n. packed_from p.weight n s) b ∙ ap (λ n. packed_from n 0 s) c ∙ packed_is s)
+pub pending_new : (p : Packer) (s : List Bool) → p.octet ≡ 0 → p.weight ≡ 128 → padded s ≡ pending p s
+pending_new p s b c = sym (ap (λ n. packed_from p.weight n s) b ∙ ap (λ n. packed_from n 0 s) c ∙ packed_is s)
 
 -- two lists of bits, and the last octets
-module _ (start : ℕ) (a b : List Bool) (p₀ : Packer) (whole : List ℕ) (old : Option (List ℕ)) (f : ℕ) (is : whole ≡ padded (a ++ b)) (full : p₀.full ≡ 0) (octet : p₀.octet ≡ 0) (weight : p₀.weight ≡ 128) where
+module _ (start : ℕ) (a b : List Bool) (p₀ : Packer) (whole : List ℕ) (old : Option (List ℕ)) (f : ℕ) (is : whole ≡ padded (a ++ b)) (octet : p₀.octet ≡ 0) (weight : p₀.weight ≡ 128) where
   begin : Through start (a ++ b) p₀ old f start old f p₀ (a ++ b)
-  begin = through_start start (a ++ b) (a ++ b) p₀ old f ((omega arith, omega arith, omega arith), omega arith) refl
+  begin = through_start start (a ++ b) (a ++ b) p₀ old f (omega arith, omega arith, omega arith) refl
 
   are : whole ≡ pending p₀ (a ++ b)
-  are = is ∙ pending_new p₀ (a ++ b) full octet weight
+  are = is ∙ pending_new p₀ (a ++ b) octet weight
 
   pub first_failed : (r : Result ℕ SinkFault) (e : SinkFault) (q : Packer) (new : Option (List ℕ)) (f' : ℕ) → IsErrAnd r (λ y. y ≡ e) → Packs a p₀ q start old f (Err e) new f' → Wrote start whole old f r new f'
   first_failed r e q new f' exit step = through_stopped r e start start (a ++ b) (a ++ b) a b p₀ p₀ q whole old old new f f f' are begin refl exit step

@@ -55,7 +55,7 @@ known_bits_end xs i ps h = ap (λ l. known_bits (additions_of l) (places_of ps))
 
 -- ---- the root
 
-field_bits_first : (n : List ℕ) (need : Need) (T : AsnType) (fs : Fields) (p : Option AsnValue) (ps : List (Option AsnValue)) → field_bits (field n need T fs) (places_from (p ∷ ps)) ≡ place_bit need (kept_place need T p) ++ field_bits fs (places_from ps)
+pub field_bits_first : (n : List ℕ) (need : Need) (T : AsnType) (fs : Fields) (p : Option AsnValue) (ps : List (Option AsnValue)) → field_bits (field n need T fs) (places_from (p ∷ ps)) ≡ place_bit need (kept_place need T p) ++ field_bits fs (places_from ps)
 field_bits_first n must T fs None ps = refl
 field_bits_first n may T fs None ps = refl
 field_bits_first n (default d) T fs None ps = refl

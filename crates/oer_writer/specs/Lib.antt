@@ -4,3 +4,4 @@ pub mod Packing
 pub mod Write
 pub mod Comparing
 pub mod Gathering
+pub mod Bounds

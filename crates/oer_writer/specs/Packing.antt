@@ -1,5 +1,5 @@
 -- Bits on their way into octets.
-use Rattle.std.specs.Prelude.{ℕ, ◌+◌, ◌*◌, ◌/◌, ◌<◌, ◌≤◌, List, [], ◌∷◌, ◌++◌, take, Bool, eqb, if◌then◌else◌, Option, Result, MatchResult}
+use Rattle.std.specs.Prelude.{ℕ, ◌+◌, ◌*◌, ◌/◌, ◌≤◌, List, [], ◌∷◌, ◌++◌, Bool, eqb, if◌then◌else◌, Option, Result, MatchResult}
 use Rattle.oer_types.specs.Bits.{bit_value}
 use Rattle.oer_units.specs.declared.fault.SinkFault.{SinkFault}
 use Rattle.oer_writer.specs.declared.packer.Packer.{Packer}
@@ -13,15 +13,11 @@ packed_from weight octet (b ∷ s) =
 
 -- the octets that are still to be written, with further bits
 abbrev pub pending : Packer → List Bool → List ℕ
-pending p s = take p.full p.octets ++ packed_from p.weight p.octet s
+pending p s = packed_from p.weight p.octet s
 
 -- the octet that is begun has room
-abbrev pub HasRoom : Packer → Type 0
-HasRoom p = (1 ≤ p.weight) × (p.weight ≤ 128) × (p.octet + 2 * p.weight ≤ 256)
-
--- and so has the buffer
 abbrev pub IsReady : Packer → Type 0
-IsReady p = HasRoom p × (p.full < 32)
+IsReady p = (1 ≤ p.weight) × (p.weight ≤ 128) × (p.octet + 2 * p.weight ≤ 256)
 
 -- The bits were taken: of the octets with any bits after them all but those still pending were written.
 abbrev pub Packs : List Bool → Packer → Packer → ℕ → Option (List ℕ) → ℕ → Result ℕ SinkFault → Option (List ℕ) → ℕ → Type 0

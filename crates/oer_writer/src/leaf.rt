@@ -26,15 +26,21 @@ pub(crate) fn put_tag_octets<W: Sink>(tag: Tag, done: u64, w: &mut W) -> Result<
     settle(done, tag_len(tag), put_tag(tag, w))
 }
 
+// How many octets the number of elements has.
+pub(crate) fn quantity_len(count: usize) -> u64
+    ensures { result ≡ length (counted (unsigned_octets count)) }
+{
+    unsigned_counted_len(count as i128)
+}
+
 // Writes how many elements there are (X.696, 17.2).
 pub(crate) fn put_quantity<W: Sink>(count: usize, done: u64, w: &mut W) -> Result<u64, SinkFault>
     ensures { Wrote done (counted (unsigned_octets count)) (W.contents w.old) (W.failed w.old) result (W.contents w.new) (W.failed w.new) }
 {
-    let count = count as i128;
     settle(
         done,
-        unsigned_counted_len(count),
-        put_unsigned_counted(count, w),
+        quantity_len(count),
+        put_unsigned_counted(count as i128, w),
     )
 }
 

@@ -2,6 +2,7 @@
 #![tactic(auto)]
 
 mod booleans;
+mod bound;
 mod calls;
 mod comparison;
 mod fault;

@@ -12,7 +12,7 @@ ghost use Rattle.oer_writer.specs.Wrote.{Measures};
 
 use crate::booleans::measured_booleans;
 use crate::leaf::{put_leaf, put_quantity, put_tag_octets};
-use crate::presence::{is_extended, kept, put_bitmap, put_preamble, put_unknown};
+use crate::presence::{is_extended, kept, measured_preamble, put_bitmap, put_unknown};
 use crate::slice::Nowhere;
 use oer_types::{Addition, Alt, Field, Shape, Unknown, Value, contains_tag, is_same_tag};
 use oer_units::{Tag, length_len};
@@ -72,7 +72,7 @@ fn measured_root(
 ) -> Option<u64>
     ensures { Measures done (root_octets extended (fields_of fields.now) (places_of places.now)) result }
 {
-    let done = put_preamble(extended, fields, places, done, &mut Nowhere).ok()?;
+    let done = measured_preamble(extended, fields, places, done)?;
     measured_fields(fields, places, done)
 }
 

@@ -1,16 +1,15 @@
 //! Bits, eight to an octet.
-ghost use Rattle.std.specs.Prelude.{◌≡◌, ◌<◌, ◌≤◌, ◌∷◌, [], List, Bool};
-ghost use Rattle.oer_writer.specs.Packing.{pending, HasRoom, IsReady, Packs};
+ghost use Rattle.std.specs.Prelude.{◌≡◌, ◌+◌, ◌*◌, ◌≤◌, ◌∷◌, [], List, Bool, MatchOption};
+ghost use Rattle.oer_types.specs.Bits.{bit_value};
+ghost use Rattle.oer_writer.specs.Packing.{pending, IsReady, Packs};
 ghost use Rattle.oer_writer.specs.Wrote.{Wrote};
 
 use crate::slice::put_slice;
 use oer_units::{Sink, SinkFault};
 
-// Octets that wait, the octet that is begun, and what its next bit is worth.
+// The octet that is begun, and what its next bit is worth.
 #[derive(Drop)]
 pub(crate) struct Packer {
-    octets: [u8; 32],
-    full: usize,
     octet: u8,
     weight: u8,
 }
@@ -18,61 +17,63 @@ pub(crate) struct Packer {
 impl Packer {
     // With no bit so far.
     pub(crate) fn new() -> Packer
-        ensures full { result.full ≡ 0 }
         ensures octet { result.octet ≡ 0 }
         ensures weight { result.weight ≡ 128 }
     {
         Packer {
-            octets: [0; 32],
-            full: 0,
             octet: 0,
             weight: 128,
         }
     }
 
-    fn take(&mut self, bit: bool)
-        requires { IsReady self.old }
-        ensures room { HasRoom self.new }
-        ensures most { self.new.full ≤ 32 }
-        ensures same { (s : List Bool) → pending self.old (bit ∷ s) ≡ pending self.new s }
+    // The octet with one bit more.
+    fn with(&self, bit: bool) -> u8
+        requires { IsReady self.now }
+        ensures { result ≡ self.now.octet + self.now.weight * bit_value bit }
     {
         if bit {
-            self.octet += self.weight;
-        }
-        if self.weight > 1 {
-            self.weight /= 2;
+            self.octet + self.weight
         } else {
-            self.octets[self.full] = self.octet;
-            self.full += 1;
-            self.octet = 0;
-            self.weight = 128;
+            self.octet
         }
     }
 
-    // Takes a bit. The octets go to the sink where no further one can wait.
+    // Takes a bit, and hands out the octet where it is the last one.
+    fn take(&mut self, bit: bool) -> Option<u8>
+        requires { IsReady self.old }
+        ensures ready { IsReady self.new }
+        ensures same { (s : List Bool) → MatchOption result (pending self.old (bit ∷ s) ≡ pending self.new s) (λ x. pending self.old (bit ∷ s) ≡ x ∷ pending self.new s) }
+    {
+        let octet = self.with(bit);
+        if self.weight > 1 {
+            self.octet = octet;
+            self.weight /= 2;
+            return None;
+        }
+        self.octet = 0;
+        self.weight = 128;
+        Some(octet)
+    }
+
+    // Takes a bit. A whole octet goes to the sink.
     pub(crate) fn put<W: Sink>(&mut self, bit: bool, done: u64, w: &mut W) -> Result<u64, SinkFault>
         requires { IsReady self.old }
         ensures { Packs (bit ∷ []) self.old self.new done (W.contents w.old) (W.failed w.old) result (W.contents w.new) (W.failed w.new) }
     {
-        self.take(bit);
-        if self.full < 32 {
-            return Ok(done);
+        match self.take(bit) {
+            None => Ok(done),
+            Some(octet) => put_slice(&[octet], done, w),
         }
-        self.full = 0;
-        put_slice(&self.octets, done, w)
     }
 
-    // Writes the octets that wait, the last one with zeros at its end.
+    // Writes the octet that is begun, with zeros at its end.
     pub(crate) fn finish<W: Sink>(self, done: u64, w: &mut W) -> Result<u64, SinkFault>
         requires { IsReady self }
         ensures { Wrote done (pending self []) (W.contents w.old) (W.failed w.old) result (W.contents w.new) (W.failed w.new) }
     {
-        let mut octets = self.octets;
-        let mut full = self.full;
         if self.weight < 128 {
-            octets[full] = self.octet;
-            full += 1;
+            return put_slice(&[self.octet], done, w);
         }
-        put_slice(&octets[..full], done, w)
+        Ok(done)
     }
 }

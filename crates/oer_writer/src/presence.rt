@@ -1,16 +1,17 @@
 //! Which components are there, and their bits.
 ghost use Rattle.std.specs.Prelude.{◌≡◌, ◌↔◌, ◌≤◌, ◌<◌, ◌*◌, ◌++◌, ◌||◌, ◌∷◌, [], IsTrue, Option, Some, None, List, Bool, false, true, length, map, option_map, replicate};
 ghost use Rattle.oer_types.specs.Canonical.{any_present, any_unknown, bitmap_octets, unknown_marks, unknown_octets};
+ghost use Rattle.oer_types.specs.AsnValue.{AsnValue};
 ghost use Rattle.oer_types.specs.Bits.{padded};
 ghost use Rattle.oer_types.specs.ShapeView.{additions_of, fields_of, need_of, type_of};
 ghost use Rattle.oer_types.specs.ValueView.{places_of, unknown_of, value_of};
 ghost use Rattle.oer_writer.specs.Packing.{IsReady, Packs};
 ghost use Rattle.oer_writer.specs.Parts.{field_bits, first_bits, kept_place, known_bits, place_bit};
-ghost use Rattle.oer_writer.specs.Wrote.{Wrote};
+ghost use Rattle.oer_writer.specs.Wrote.{Measures, Wrote};
 
 use crate::leaf::{put_bits_head, unused_bits};
 use crate::packer::Packer;
-use crate::slice::put_counted;
+use crate::slice::{added, put_counted};
 use oer_types::{Addition, Field, Need, Unknown, Value, same_filled_at};
 use oer_units::{Sink, SinkFault};
 
@@ -164,6 +165,59 @@ fn put_first_bit<W: Sink>(
         None => Ok(done),
         Some(bit) => packer.put(bit, done, w),
     }
+}
+
+// How many bits there are before the others.
+fn count_first_bits(first: Option<bool>) -> usize
+    ensures value { result ≡ length (first_bits first) }
+    ensures most { result ≤ 1 }
+{
+    match first {
+        None => 0,
+        Some(_) => 1,
+    }
+}
+
+// How many presence bits a component has.
+fn count_place_bits(need: &Need) -> usize
+    ensures value { (place : Option AsnValue) → result ≡ length (place_bit (need_of need.now) place) }
+    ensures most { result ≤ 1 }
+{
+    match need {
+        Need::Must => 0,
+        Need::May => 1,
+        Need::Default(_) => 1,
+    }
+}
+
+// How many presence bits a root has.
+fn count_root_bits(fields: &[Field], places: &[Option<Value>]) -> usize
+    ensures value { result ≡ length (field_bits (fields_of fields.now) (places_of places.now)) }
+    ensures most { result ≤ length fields.now }
+{
+    let mut count = 0;
+    let mut rest = places;
+    for field in fields {
+        let Some((_place, more)) = rest.split_first() else {
+            return count;
+        };
+        count += count_place_bits(&field.need);
+        rest = more;
+    }
+    count
+}
+
+// Adds the octets of a preamble to those done, or answers none where they come to 2^64.
+pub(crate) fn measured_preamble(
+    first: Option<bool>,
+    fields: &[Field],
+    places: &[Option<Value>],
+    done: u64,
+) -> Option<u64>
+    ensures { Measures done (padded (first_bits first ++ field_bits (fields_of fields.now) (places_of places.now))) result }
+{
+    let count = count_first_bits(first) + count_root_bits(fields, places);
+    added(done, (count as u64 + 7) / 8)
 }
 
 // Writes a preamble (X.696, 16.2).

@@ -1,12 +1,12 @@
 //! Octets and counted octets, with the number of octets written so far.
-ghost use Rattle.std.specs.Prelude.{◌≡◌, ℕ, None, Some, Option, length, if◌then◌else◌};
+ghost use Rattle.std.specs.Prelude.{◌≡◌, ℕ, List, None, Some, Option, length, if◌then◌else◌};
 ghost use Rattle.std.specs.Io.{WritesAtMost};
 ghost use Rattle.std.specs.Io.KnownBytes.{WriteAppends};
 ghost use Rattle.oer_units.specs.Least.{counted, length_octets};
 ghost use Rattle.oer_units.specs.Stream.{counted_write};
 ghost use Rattle.oer_types.specs.Canonical.{string_octets};
 ghost use Rattle.oer_types.specs.Constraints.{fixed};
-ghost use Rattle.oer_writer.specs.Wrote.{Wrote, Settles};
+ghost use Rattle.oer_writer.specs.Wrote.{Measures, Wrote, Settles};
 
 use oer_types::Size;
 use oer_units::{Sink, SinkFault, length_len, put_length, put_octets};
@@ -39,6 +39,13 @@ pub(crate) fn settle(done: u64, count: u64, put: Result<(), SinkFault>) -> Resul
             None => Err(SinkFault { written: done }),
         },
     }
+}
+
+// Adds so many octets to those done, or answers none where they come to 2^64.
+pub(crate) fn added(done: u64, count: u64) -> Option<u64>
+    ensures { (octets : List ℕ) → count ≡ length octets → Measures done octets result }
+{
+    done.checked_add(count)
 }
 
 // Writes the octets, in one push where the sink takes them.

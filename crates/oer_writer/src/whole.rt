@@ -1,10 +1,11 @@
 //! A value from its first octet to its last.
-ghost use Rattle.std.specs.Prelude.{◌<◌, ◌^◌, length};
+ghost use Rattle.std.specs.Prelude.{◌↔◌, ◌<◌, ◌^◌, IsTrue, length};
 ghost use Rattle.oer_types.specs.Canonical.{canonical_octets};
 ghost use Rattle.oer_types.specs.ShapeView.{type_of};
 ghost use Rattle.oer_types.specs.ValueView.{value_of};
 ghost use Rattle.oer_writer.specs.Write.{Counts, Writes};
 
+use crate::bound::bound;
 use crate::fault::WriteFault;
 use crate::measure::measured;
 use crate::put::put;
@@ -33,11 +34,21 @@ fn put_few<W: Sink>(octets: &[u8], w: &mut W) -> Result<u64, WriteFault>
     }
 }
 
+// Whether the value has fewer than 2^64 octets. Only where the bound doesn't tell are they counted.
+fn is_short_enough(shape: &Shape, value: &Value) -> bool
+    ensures { IsTrue result ↔ length (canonical_octets (type_of shape.now) (value_of value.now)) < 2 ^ 64 }
+{
+    match bound(value, 0) {
+        Some(_) => true,
+        None => measured(shape, value, 0).is_some(),
+    }
+}
+
 // Writes the octets of a value with more of them than there is room for.
 fn put_many<W: Sink>(shape: &Shape, value: &Value, w: &mut W) -> Result<u64, WriteFault>
     ensures { Writes (canonical_octets (type_of shape.now) (value_of value.now)) (W.contents w.old) (W.failed w.old) result (W.contents w.new) (W.failed w.new) }
 {
-    if measured(shape, value, 0).is_none() {
+    if !is_short_enough(shape, value) {
         return Err(WriteFault::TooLong);
     }
     match put(shape, value, 0, w) {

@@ -12,7 +12,7 @@ use Rattle.oer_checker.proofs.Exits.{at_stop}
 use Rattle.oer_checker.proofs.Joins.{give_got}
 use Rattle.oer_checker.proofs.LineSteps.{additions_end, additions_next, additions_stop, at_inner, bits_stop, both_stop, both_then, by_walk, choice_later, choice_none, choice_root, extension_none, extension_stop, extension_then, fields_end, fields_next, fields_stop, if_not, if_so, inside_ends, inside_left, inside_stop, later_end, later_here, later_next, leaf_arm, no_inner, root_end, root_here, root_next, root_stop, root_then, sticks, tag_stop, tag_then, taken_stop, taken_then, times_end, times_next, times_start, times_stop, type_arm}
 use Rattle.oer_checker.proofs.Sizes.{additions_fall, alternatives_fall, fields_fall, later_fall}
-use Rattle.oer_types.proofs.Shapes.{type_of-BitString, type_of-Integer, type_of-OctetString, type_of-Utf8}
+use Rattle.oer_types.proofs.Shapes.{type_of-BitString, type_of-Ia5, type_of-Integer, type_of-Numeric, type_of-OctetString, type_of-Printable, type_of-Utf8, type_of-Visible}
 use Rattle.oer_checker.proofs.Shapes.{type_of-Boolean, type_of-Null, type_of-ObjectId}
 use Rattle.oer_checker.proofs.TypeSteps.{as_choice, as_closed, as_extensible, as_open}
 use Rattle.oer_checker.proofs.trace.+list.Goals as goal
@@ -295,3 +295,15 @@ list_shape-list_extensible-requires t c =
     let s = c.in-Sequence in
     let d = c.decreases in
     (omega arith, (s.root, c.in-Some.additions, s.is ∙ ap (λ (m : Option (Vec Addition Global)). Sequence s.root m) c.in-Some.is, c.deref-in-Some.ensures.value, c.deref-in-Some-2.ensures.value))
+
+pub list_shape-returns-in-Ia5 : goal.list_shape-returns-in-Ia5
+list_shape-returns-in-Ia5 t c = rw (c.in-Ia5.is, type_of-Ia5 c.in-Ia5.size) c.list_text.ensures
+
+pub list_shape-returns-in-Visible : goal.list_shape-returns-in-Visible
+list_shape-returns-in-Visible t c = rw (c.in-Visible.is, type_of-Visible c.in-Visible.size) c.list_text-in-Visible.ensures
+
+pub list_shape-returns-in-Numeric : goal.list_shape-returns-in-Numeric
+list_shape-returns-in-Numeric t c = rw (c.in-Numeric.is, type_of-Numeric c.in-Numeric.size) c.list_text-in-Numeric.ensures
+
+pub list_shape-returns-in-Printable : goal.list_shape-returns-in-Printable
+list_shape-returns-in-Printable t c = rw (c.in-Printable.is, type_of-Printable c.in-Printable.size) c.list_text-in-Printable.ensures

@@ -1,11 +1,12 @@
-use Rattle.std.proofs.Common.{SFits}
-use Rattle.std.specs.Prelude.{FitsSigned, ℤ}
 use Rattle.std.specs.Int.{w64}
-use Rattle.std.proofs.lemmas.Int.{to_z-of_z}
-use Rattle.oer_checker.proofs.UnitSteps.{range_ok}
+use Rattle.std.proofs.lemmas.Int.{to_z_pos}
+use Rattle.std.proofs.Common.{arith}
+use Rattle.oer_checker.proofs.Exits.{at_stop}
+use Rattle.oer_checker.proofs.ShortUnits.{enumerated_cut, enumerated_short}
 use Rattle.oer_checker.proofs.units.enumerated_at.Goals as goal
 
-pub returns-in-Ok-clause-range : goal.returns-in-Ok-clause-range
-returns-in-Ok-clause-range c =
-    let fits : SFits w64 c.in-Ok.number = record { sfits = (rw c.in-Ok.is at c.enumerated-answer.type_inv).1.1.1.1.0.1 } in
-    range_ok (λ (x : ℤ). FitsSigned w64 x) c.in-Ok.number c.after.result _ c.taken-taken.result (rw (to_z-of_z w64 c.in-Ok.number fits) at c.after.ensures) fits
+pub returns-in_err-first-clause-number : goal.returns-in_err-first-clause-number
+returns-in_err-first-clause-number c = rw (at_stop c.from_residual.result c.in_err-first.field-0.0 c.from_residual.ensures.1) (enumerated_cut _ _ _ c.in_err-first.ensures)
+
+pub returns-clause-number : goal.returns-clause-number
+returns-clause-number c = rw (to_z_pos w64 c.in_ok-first.first (omega arith)) (enumerated_short _ _ c.in_ok-first.first c.in_ok-first.ensures c.if-first-ge128.false)

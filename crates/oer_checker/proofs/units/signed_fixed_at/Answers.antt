@@ -1,11 +1,22 @@
-use Rattle.std.proofs.Common.{SFits}
-use Rattle.std.specs.Prelude.{FitsSigned, ℤ}
+use Rattle.std.proofs.Common.{arith}
 use Rattle.std.specs.Int.{w64}
 use Rattle.std.proofs.lemmas.Int.{to_z-of_z}
-use Rattle.oer_checker.proofs.UnitSteps.{range_ok}
+use Rattle.oer_units.proofs.ReadFixed.{width_few, width_some}
+use Rattle.oer_checker.proofs.StringSteps.{group_size}
+use Rattle.oer_checker.proofs.Exits.{at_stop}
+use Rattle.oer_checker.proofs.UnitSteps.{signed_got, signed_stop}
 use Rattle.oer_checker.proofs.units.signed_fixed_at.Goals as goal
 
-pub returns-in-Ok-clause-range : goal.returns-in-Ok-clause-range
-returns-in-Ok-clause-range c =
-    let fits : SFits w64 c.in-Ok.number = record { sfits = (rw c.in-Ok.is at c.signed_fixed-answer.type_inv).1.1.1.1.0.1 } in
-    range_ok (λ (x : ℤ). FitsSigned w64 x) c.in-Ok.number c.after.result _ c.taken-taken.result (rw (to_z-of_z w64 c.in-Ok.number fits) at c.after.ensures) fits
+pub signed_of-requires : goal.signed_of-requires
+signed_of-requires c =
+    let few = width_few c.args.width in
+    let some = width_some c.args.width in
+    let size = group_size c.octets.result _ _ _ c.in_ok-octets.ensures in
+    let is = c.octets.ensures in
+    record { some = omega arith; few = omega arith }
+
+pub returns-in_err-octets-clause-number : goal.returns-in_err-octets-clause-number
+returns-in_err-octets-clause-number c = rw (at_stop c.from_residual.result c.in_err-octets.field-0.0 c.from_residual.ensures.1) (signed_stop c.args.width c.octets.result _ _ _ c.octets.ensures c.in_err-octets.ensures)
+
+pub returns-clause-number : goal.returns-clause-number
+returns-clause-number c = rw (to_z-of_z w64 c.signed_of.result (record { sfits = c.signed_of.type_inv }), c.signed_of.ensures) (signed_got c.args.width c.octets.result _ _ _ c.octets.ensures c.in_ok-octets.ensures)

@@ -16,8 +16,8 @@ use Rattle.oer_checker.proofs.FieldSteps.{additions_end, additions_next, additio
 use Rattle.oer_checker.proofs.Joins.{give_got}
 use Rattle.oer_checker.proofs.LengthSteps.{open_stop, open_then}
 use Rattle.oer_checker.proofs.Shapes.{type_of-Boolean, type_of-Null}
-use Rattle.oer_checker.proofs.TagSteps.{choice_later, choice_none, choice_root, choice_stop, later_end, later_here, later_next, root_end, root_here, root_next}
-use Rattle.oer_checker.proofs.Sizes.{additions_fall, alternatives_fall, fields_fall, later_fall}
+use Rattle.oer_checker.proofs.TagSteps.{choice_later, choice_none, choice_root, choice_stop, later_end, later_here, later_next, first_value, root_defaults, root_limits}
+use Rattle.oer_checker.proofs.Sizes.{additions_fall, alternative_falls, fields_fall, later_fall}
 use Rattle.oer_checker.proofs.TypeSteps.{as_choice, as_closed, as_extensible, as_items, as_open, as_sequence, by_type, choice_defaults, choice_limits, open_defaults, open_limits}
 use Rattle.oer_checker.proofs.value.+check.Goals as goal
 
@@ -44,15 +44,6 @@ check_fields-returns-in_err-is_field t c = rw (at_stop c.from_residual.result c.
 
 pub check_fields-returns : goal.check_fields-returns
 check_fields-returns t c = fields_end c.args.fields.now c.loop-field.field-index (bits_in c.loop-field.left) c.loop-field.is_canonical _ _ c.loop-field-test.false c.loop-field.invariant
-
-pub check_alternative-returns-then-is_same_tag : goal.check_alternative-returns-then-is_same_tag
-check_alternative-returns-then-is_same_tag t c = c.check_shape.ensures ∙ ap (λ (r : Reader Bool). r (place_of c.args.place)) (root_here c.args.alternatives.now c.loop-alternative.alternative-index c.alternative-item.result c.args.tag _ c.loop-alternative-test.true c.alternative-item.is (sym c.if-is_same_tag.true ∙ c.is_same_tag.ensures) c.loop-alternative.invariant)
-
-pub check_alternative-loop-alternative-preserved : goal.check_alternative-loop-alternative-preserved
-check_alternative-loop-alternative-preserved t c = root_next c.args.alternatives.now c.loop-alternative.alternative-index c.alternative-item.result c.args.tag _ c.loop-alternative-test.true c.alternative-item.is (sym c.if-is_same_tag.false ∙ c.is_same_tag.ensures) c.loop-alternative.invariant
-
-pub check_alternative-returns : goal.check_alternative-returns
-check_alternative-returns t c = root_end c.args.alternatives.now c.loop-alternative.alternative-index c.args.tag _ (place_of c.args.place) c.loop-alternative-test.false c.loop-alternative.invariant
 
 pub check_later-returns-then-is_same_tag : goal.check_later-returns-then-is_same_tag
 check_later-returns-then-is_same_tag t c = c.check_open.ensures ∙ ap (λ (r : Reader Bool). r (place_of c.args.place)) (later_here c.args.alternatives.now c.loop-alternative.alternative-index c.alternative-item.result c.args.tag _ c.loop-alternative-test.true c.alternative-item.is (sym c.if-is_same_tag.true ∙ c.is_same_tag.ensures) c.loop-alternative.invariant)
@@ -175,41 +166,45 @@ check_choice-returns-in_err-tag t c =
     let o = as_choice c.args.shape.now h.0 c.args.additions.now xs h.1 h.2 in
     rw (at_stop c.from_residual.result c.in_err-tag.field-0.0 c.from_residual.ensures.1) (by_type (type_of c.args.shape.now) (choice o.extensible (root_of xs o.after)) _ _ o.is (choice_stop o.extensible (root_of xs o.after) _ _ _ c.in_err-tag.ensures))
 
-pub check_choice-returns-then-contains_tag : goal.check_choice-returns-then-contains_tag
-check_choice-returns-then-contains_tag t c =
+pub check_choice-returns-in-Some : goal.check_choice-returns-in-Some
+check_choice-returns-in-Some t c =
     let h = c.requires.is in
     let xs = c.args.alternatives.now in
     let o = as_choice c.args.shape.now h.0 c.args.additions.now xs h.1 h.2 in
-    by_type (type_of c.args.shape.now) (choice o.extensible (root_of xs o.after)) _ _ o.is (choice_root o.extensible xs o.after _ _ c.in_ok-tag.tag _ c.in_ok-tag.ensures (sym c.if-contains_tag.true ∙ c.contains_tag.ensures) c.check_alternative.ensures)
+    let first = c.in-Some.ensures in
+    let found = first_value xs first.0 c.in-Some.alternative.now c.in_ok-tag.tag first.1 first.2 first.3 first.4 in
+    by_type (type_of c.args.shape.now) (choice o.extensible (root_of xs o.after)) _ _ o.is (choice_root o.extensible xs o.after _ _ c.in_ok-tag.tag _ c.in_ok-tag.ensures found.0 (c.check_shape.ensures ∙ ap (λ (r : Reader Bool). r (place_of c.in_ok-tag.next)) found.1))
 
 pub check_choice-returns-in-None : goal.check_choice-returns-in-None
 check_choice-returns-in-None t c =
     let h = c.requires.is in
     let xs = c.args.alternatives.now in
-    by_type (type_of c.args.shape.now) (choice false (root_of xs no_alternatives)) _ _ (as_closed c.args.shape.now h.0 c.args.additions.now xs h.1 c.in-None.is h.2) (choice_none xs _ _ c.in_ok-tag.tag c.in_ok-tag.ensures (sym c.if-contains_tag.false ∙ c.contains_tag.ensures))
+    by_type (type_of c.args.shape.now) (choice false (root_of xs no_alternatives)) _ _ (as_closed c.args.shape.now h.0 c.args.additions.now xs h.1 c.in-None.is h.2) (choice_none xs _ _ c.in_ok-tag.tag c.in_ok-tag.ensures (sym c.in_default.ensures))
 
-pub check_choice-returns-in-Some : goal.check_choice-returns-in-Some
-check_choice-returns-in-Some t c =
+pub check_choice-returns-in-Some-additions : goal.check_choice-returns-in-Some-additions
+check_choice-returns-in-Some-additions t c =
     let h = c.requires.is in
     let xs = c.args.alternatives.now in
     let ys = c.deref.result.now in
-    let is = as_open c.args.shape.now h.0 c.args.additions.now c.in-Some.additions xs ys h.1 c.in-Some.is h.2 c.deref.ensures.value in
-    by_type (type_of c.args.shape.now) (choice true (root_of xs (later_of ys))) _ _ is (choice_later xs ys _ _ c.in_ok-tag.tag _ c.in_ok-tag.ensures (sym c.if-contains_tag.false ∙ c.contains_tag.ensures) c.check_later.ensures)
+    let is = as_open c.args.shape.now h.0 c.args.additions.now c.in-Some-additions.additions xs ys h.1 c.in-Some-additions.is h.2 c.deref.ensures.value in
+    by_type (type_of c.args.shape.now) (choice true (root_of xs (later_of ys))) _ _ is (choice_later xs ys _ _ c.in_ok-tag.tag _ c.in_ok-tag.ensures (sym c.in_default.ensures) c.check_later.ensures)
 
-pub check_choice-check_alternative-requires : goal.check_choice-check_alternative-requires
-check_choice-check_alternative-requires t c =
+pub check_choice-check_shape-requires : goal.check_choice-check_shape-requires
+check_choice-check_shape-requires t c =
     let h = c.requires.is in
     let xs = c.args.alternatives.now in
     let more = c.args.additions.now in
-    (alternatives_fall c.args.shape.now h.0 more xs _ _ t h.1 h.2 (omega arith) c.decreases, (choice_limits c.args.shape.now h.0 more xs h.1 h.2 c.requires.limits, choice_defaults c.args.shape.now h.0 more xs h.1 h.2 c.requires.defaults))
+    let first = c.in-Some.ensures in
+    let a = c.in-Some.alternative.now in
+    (alternative_falls c.args.shape.now h.0 more xs first.0 a _ _ t h.1 h.2 first.1 first.2 (omega arith) c.decreases, (root_limits xs first.0 a first.1 first.2 (choice_limits c.args.shape.now h.0 more xs h.1 h.2 c.requires.limits), root_defaults xs first.0 a first.1 first.2 (choice_defaults c.args.shape.now h.0 more xs h.1 h.2 c.requires.defaults)))
 
 pub check_choice-check_later-requires : goal.check_choice-check_later-requires
 check_choice-check_later-requires t c =
     let h = c.requires.is in
     let more = c.args.additions.now in
-    let later = c.in-Some.additions in
+    let later = c.in-Some-additions.additions in
     let ys = c.deref.result.now in
-    (later_fall c.args.shape.now h.0 more later ys _ _ t h.1 c.in-Some.is c.deref.ensures.value (omega arith) c.decreases, (open_limits c.args.shape.now h.0 more later ys h.1 c.in-Some.is c.deref.ensures.value c.requires.limits, open_defaults c.args.shape.now h.0 more later ys h.1 c.in-Some.is c.deref.ensures.value c.requires.defaults))
+    (later_fall c.args.shape.now h.0 more later ys _ _ t h.1 c.in-Some-additions.is c.deref.ensures.value (omega arith) c.decreases, (open_limits c.args.shape.now h.0 more later ys h.1 c.in-Some-additions.is c.deref.ensures.value c.requires.limits, open_defaults c.args.shape.now h.0 more later ys h.1 c.in-Some-additions.is c.deref.ensures.value c.requires.defaults))
 
 pub check_shape-returns-in-SequenceOf : goal.check_shape-returns-in-SequenceOf
 check_shape-returns-in-SequenceOf t c =
@@ -243,9 +238,6 @@ check_fields-field_fits-requires t c = record { one = (c.loop-field.field-index,
 
 pub check_additions-addition_fits-requires : goal.check_additions-addition_fits-requires
 check_additions-addition_fits-requires t c = record { one = (c.loop-addition.addition-index, c.loop-addition-test.true, c.addition-item.is); limits = c.requires.limits; defaults = c.requires.defaults }
-
-pub check_alternative-alternative_fits-requires : goal.check_alternative-alternative_fits-requires
-check_alternative-alternative_fits-requires t c = record { one = (c.loop-alternative.alternative-index, c.loop-alternative-test.true, c.alternative-item.is); limits = c.requires.limits; defaults = c.requires.defaults }
 
 pub check_later-later_fits-requires : goal.check_later-later_fits-requires
 check_later-later_fits-requires t c = record { one = (c.loop-alternative.alternative-index, c.loop-alternative-test.true, c.alternative-item.is); limits = c.requires.limits; defaults = c.requires.defaults }

@@ -1,4 +1,4 @@
-use Rattle.std.proofs.Common.{map, length, ◌-◌, ◌+◌, Ok, Err, arith, refl, rules, sym, ap, add-one}
+use Rattle.std.proofs.Common.{◌∙◌, Option, Some, Vec, Global, map, length, ◌-◌, ◌+◌, Ok, Err, arith, refl, rules, sym, ap, add-one}
 use Rattle.std.proofs.lemmas.Grind.{common_steps}
 use Rattle.oer_units.specs.Reading.{open_type}
 use Rattle.oer_units.proofs.ReadExits.{at_exit}
@@ -10,7 +10,9 @@ use Rattle.oer_types.specs.ShapeView.{additions_of, fields_of, later_of, type_of
 use Rattle.oer_types.specs.ValueView.{places_of, unknown_of, value_of}
 use Rattle.oer_types.proofs.Shapes.{type_of-Choice, type_of-Ia5, type_of-Numeric, type_of-Printable, type_of-Sequence, type_of-Visible}
 use Rattle.oer_types.proofs.Values.{value_of-List, value_of-Seq}
-use Rattle.oer_writer.proofs.Sizes.{additions_fall, later_fall}
+use Rattle.oer_writer.proofs.Sizes.{additions_fall, fields_fall, later_fall}
+use Rattle.oer_types.specs.declared.shape.Addition.{Addition}
+use Rattle.oer_types.specs.declared.shape.Shape.{Sequence}
 use Rattle.oer_decoder.specs.MarksView.{bits_in}
 use Rattle.oer_decoder.specs.Starts.{added_of, start_of}
 use Rattle.oer_decoder.proofs.Extensions.{extensible_stop, extensible_then, extension_known, extension_none, extension_stop, extension_then, rest_then}
@@ -297,53 +299,78 @@ read_shape-returns-in-Printable-clause-reads g t c = rw (c.in-Printable.is, type
 
 -- ---- a sequence with an extension marker
 
-pub read_shape-read_rest-requires : goal.read_shape-read_rest-requires
-read_shape-read_rest-requires g t c κs within =
+pub read_shape-read_extensible-requires : goal.read_shape-read_extensible-requires
+read_shape-read_extensible-requires g t c κs within =
     let s = c.in-Sequence in
-    let smaller = additions_fall c.args.shape.now s.root s.additions c.in-Some.additions _ s.is c.in-Some.is refl in
-    (rw c.deref-in-Some-2.ensures.value (omega (arith, smaller, c.decreases)), within)
+    let d = c.decreases in
+    (omega arith, (within, (s.root, c.in-Some.additions, s.is ∙ ap (λ (m : Option (Vec Addition Global)). Sequence s.root m) c.in-Some.is, c.deref-in-Some.ensures.value, c.deref-in-Some-2.ensures.value)))
 
-pub read_shape-returns-in_err-start-in-Some-clause-reads : goal.read_shape-returns-in_err-start-in-Some-clause-reads
-read_shape-returns-in_err-start-in-Some-clause-reads g t c =
-    rw (at_exit c.from_residual.result c.in_err-start-in-Some.field-0.0 c.from_residual.ensures.1, c.in-Sequence.is, c.in-Some.is, type_of-Sequence)
-    (extensible_stop (fields_of c.in-Sequence.root.items) (additions_of c.in-Some.additions.items) _ _ _ (rw c.deref-in-Some.ensures.value at c.in_err-start-in-Some.ensures))
+pub read_extensible-read_root-requires : goal.read_extensible-read_root-requires
+read_extensible-read_root-requires g t c κs within =
+    let h = c.requires.is in
+    let smaller = fields_fall c.args.shape.now h.0 (Some h.1) _ h.2 refl in
+    (rw h.3 (omega (arith, smaller, c.decreases)), within)
 
-pub read_shape-returns-in_ok-start-in-Some-clause-reads : goal.read_shape-returns-in_ok-start-in-Some-clause-reads
-read_shape-returns-in_ok-start-in-Some-clause-reads g t c =
-    rw (c.in-Sequence.is, c.in-Some.is, type_of-Sequence)
-    (extensible_then (fields_of c.in-Sequence.root.items) (additions_of c.in-Some.additions.items) _ _ _ (start_of c.in_ok-start-in-Some.start) _ (rw c.deref-in-Some.ensures.value at c.in_ok-start-in-Some.ensures) (rw c.deref-in-Some-2.ensures.value at c.read_rest.ensures))
+pub read_extensible-read_rest-requires : goal.read_extensible-read_rest-requires
+read_extensible-read_rest-requires g t c κs within =
+    let h = c.requires.is in
+    let smaller = additions_fall c.args.shape.now h.0 (Some h.1) h.1 _ h.2 refl refl in
+    (rw h.4 (omega (arith, smaller, c.decreases)), within)
+
+pub read_extensible-returns-in_err-start : goal.read_extensible-returns-in_err-start
+read_extensible-returns-in_err-start g t c =
+    let h = c.requires.is in
+    rw (at_exit c.from_residual.result c.in_err-start.field-0.0 c.from_residual.ensures.1, h.2, type_of-Sequence)
+    (extensible_stop (fields_of h.0.items) (additions_of h.1.items) _ _ _ (rw h.3 at c.in_err-start.ensures))
+
+pub read_extensible-returns : goal.read_extensible-returns
+read_extensible-returns g t c =
+    let h = c.requires.is in
+    rw (h.2, type_of-Sequence)
+    (extensible_then (fields_of h.0.items) (additions_of h.1.items) _ _ _ (start_of c.in_ok-start.start) _ (rw h.3 at c.in_ok-start.ensures) (rw h.4 at c.read_rest.ensures))
 
 -- ---- a choice
 
-pub read_shape-read_later_alternative-requires : goal.read_shape-read_later_alternative-requires
-read_shape-read_later_alternative-requires g t c κs within =
+pub read_shape-read_choice-requires : goal.read_shape-read_choice-requires
+read_shape-read_choice-requires g t c κs within =
     let s = c.in-Choice in
-    let smaller = later_fall c.args.shape.now s.root s.additions c.in-Some-additions.additions _ s.is c.in-Some-additions.is refl in
-    (rw c.deref-in-Some-additions.ensures.value (omega (arith, smaller, c.decreases)), within)
+    let d = c.decreases in
+    (omega arith, (within, (s.root, s.is, c.deref-in-Choice.ensures.value)))
 
-pub read_shape-returns-in_err-tag-in-Choice-clause-reads : goal.read_shape-returns-in_err-tag-in-Choice-clause-reads
-read_shape-returns-in_err-tag-in-Choice-clause-reads g t c =
-    rw (at_exit c.from_residual-in_err-tag-in-Choice.result c.in_err-tag-in-Choice.field-0.0 c.from_residual-in_err-tag-in-Choice.ensures.1, c.in-Choice.is, type_of-Choice, choice_with-is)
-    (choice_stop (has_marker c.in-Choice.additions) c.in-Choice.root.items (later_of (more_of c.in-Choice.additions)) _ _ _ c.in_err-tag-in-Choice.ensures.reads)
+pub read_choice-read_later_alternative-requires : goal.read_choice-read_later_alternative-requires
+read_choice-read_later_alternative-requires g t c κs within =
+    let h = c.requires.is in
+    let smaller = later_fall c.args.shape.now h.0 c.args.additions.now c.in-Some-additions.additions _ h.1 c.in-Some-additions.is refl in
+    (rw c.deref.ensures.value (omega (arith, smaller, c.decreases)), within)
 
-pub read_shape-returns-in_err-found-in-Choice-clause-reads : goal.read_shape-returns-in_err-found-in-Choice-clause-reads
-read_shape-returns-in_err-found-in-Choice-clause-reads g t c =
-    rw (at_exit c.from_residual-in_err-found-in-Choice.result c.in_err-found-in-Choice.field-0.0 c.from_residual-in_err-found-in-Choice.ensures.1, c.in-Choice.is, type_of-Choice, choice_with-is)
-    (choice_refused (has_marker c.in-Choice.additions) c.in-Choice.root.items (later_of (more_of c.in-Choice.additions)) _ _ _ c.in_ok-tag-in-Choice.tag _ c.in_ok-tag-in-Choice.ensures.reads (rw c.deref-in-Choice.ensures.value at c.in_err-found-in-Choice.ensures))
+pub read_choice-returns-in_err-tag : goal.read_choice-returns-in_err-tag
+read_choice-returns-in_err-tag g t c =
+    let h = c.requires.is in
+    rw (at_exit c.from_residual.result c.in_err-tag.field-0.0 c.from_residual.ensures.1, h.1, type_of-Choice, choice_with-is)
+    (choice_stop (has_marker c.args.additions.now) h.0.items (later_of (more_of c.args.additions.now)) _ _ _ c.in_err-tag.ensures.reads)
 
-pub read_shape-returns-in-Some-found-clause-reads : goal.read_shape-returns-in-Some-found-clause-reads
-read_shape-returns-in-Some-found-clause-reads g t c =
-    rw (c.in-Choice.is, type_of-Choice, choice_with-is)
-    (choice_found (has_marker c.in-Choice.additions) c.in-Choice.root.items (later_of (more_of c.in-Choice.additions)) _ _ _ c.in_ok-tag-in-Choice.tag (value_of c.in-Some-found.value) c.in_ok-tag-in-Choice.ensures.reads (rw (c.deref-in-Choice.ensures.value, c.in-Some-found.is) at c.in_ok-found-in-Choice.ensures))
+pub read_choice-returns-in_err-found : goal.read_choice-returns-in_err-found
+read_choice-returns-in_err-found g t c =
+    let h = c.requires.is in
+    rw (at_exit c.from_residual-in_err-found.result c.in_err-found.field-0.0 c.from_residual-in_err-found.ensures.1, h.1, type_of-Choice, choice_with-is)
+    (choice_refused (has_marker c.args.additions.now) h.0.items (later_of (more_of c.args.additions.now)) _ _ _ c.in_ok-tag.tag _ c.in_ok-tag.ensures.reads (rw h.2 at c.in_err-found.ensures))
 
-pub read_shape-returns-in-Some-additions-clause-reads : goal.read_shape-returns-in-Some-additions-clause-reads
-read_shape-returns-in-Some-additions-clause-reads g t c =
-    rw (c.in-Choice.is, c.in-Some-additions.is, type_of-Choice)
-    (choice_later c.in-Choice.root.items c.in-Some-additions.additions.items _ _ _ _ c.in_ok-tag-in-Choice.tag _ c.in_ok-tag-in-Choice.ensures.reads
-    (rw (c.deref-in-Choice.ensures.value, c.in-None-found.is) at c.in_ok-found-in-Choice.ensures) (rw c.deref-in-Some-additions.ensures.value at c.read_later_alternative.ensures))
+pub read_choice-returns-in-Some : goal.read_choice-returns-in-Some
+read_choice-returns-in-Some g t c =
+    let h = c.requires.is in
+    rw (h.1, type_of-Choice, choice_with-is)
+    (choice_found (has_marker c.args.additions.now) h.0.items (later_of (more_of c.args.additions.now)) _ _ _ c.in_ok-tag.tag (value_of c.in-Some.value) c.in_ok-tag.ensures.reads (rw (h.2, c.in-Some.is) at c.in_ok-found.ensures))
 
-pub read_shape-returns-in-None-additions-clause-reads : goal.read_shape-returns-in-None-additions-clause-reads
-read_shape-returns-in-None-additions-clause-reads g t c =
-    rw (c.in-Choice.is, c.in-None-additions.is, type_of-Choice)
-    (choice_none c.in-Choice.root.items _ _ _ c.in_ok-tag-in-Choice.tag _ c.in_ok-tag-in-Choice.ensures.reads
-    (rw (c.deref-in-Choice.ensures.value, c.in-None-found.is) at c.in_ok-found-in-Choice.ensures) c.fault.ensures.why c.fault.ensures.taken)
+pub read_choice-returns-in-Some-additions : goal.read_choice-returns-in-Some-additions
+read_choice-returns-in-Some-additions g t c =
+    let h = c.requires.is in
+    rw (h.1, c.in-Some-additions.is, type_of-Choice)
+    (choice_later h.0.items c.in-Some-additions.additions.items _ _ _ _ c.in_ok-tag.tag _ c.in_ok-tag.ensures.reads
+    (rw (h.2, c.in-None.is) at c.in_ok-found.ensures) (rw c.deref.ensures.value at c.read_later_alternative.ensures))
+
+pub read_choice-returns-in-None-additions : goal.read_choice-returns-in-None-additions
+read_choice-returns-in-None-additions g t c =
+    let h = c.requires.is in
+    rw (h.1, c.in-None-additions.is, type_of-Choice)
+    (choice_none h.0.items _ _ _ c.in_ok-tag.tag _ c.in_ok-tag.ensures.reads
+    (rw (h.2, c.in-None.is) at c.in_ok-found.ensures) c.fault.ensures.why c.fault.ensures.taken)

@@ -1,6 +1,6 @@
 use Rattle.std.proofs.Common.{arith}
 use Rattle.std.proofs.lemmas.Grind.{common_steps}
-use Rattle.oer_types.proofs.Shapes.{type_of-Sequence, type_of-Choice, shapes}
+use Rattle.oer_types.proofs.Shapes.{shapes}
 use Rattle.oer_types.proofs.copy.+copy.Goals as goal
 
 -- the tactic that proves each, so that no other is tried before it

@@ -1,6 +1,7 @@
 use Rattle.std.proofs.Common.{arith, rules}
 use Rattle.std.proofs.lemmas.Grind.{common_steps}
 use Rattle.oer_types.proofs.Shapes.{type_of-Choice, shapes}
+use Rattle.oer_types.proofs.Leaves.{some_node}
 use Rattle.oer_types.proofs.Alternatives.{choice_leaves, root_leaves, root_parts}
 use Rattle.oer_types.specs.declared.shape.Shape.{the_lemmas}
 use Rattle.oer_types.proofs.counting.+counting.Goals as goal
@@ -51,7 +52,7 @@ pub fields_left-returns : goal.fields_left-returns
 fields_left-returns t c = grind (arith, common_steps)
 
 pub parts_left-returns-then-left-eq0 : goal.parts_left-returns-then-left-eq0
-parts_left-returns-then-left-eq0 t c = grind (arith, shapes)
+parts_left-returns-then-left-eq0 t c = grind (arith, shapes, some_node)
 
 pub parts_left-returns-in_default-fields_left : goal.parts_left-returns-in_default-fields_left
 parts_left-returns-in_default-fields_left t c = grind (arith, shapes)

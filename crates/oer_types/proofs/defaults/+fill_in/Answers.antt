@@ -5,7 +5,7 @@ use Rattle.oer_types.specs.Filling.{filled}
 use Rattle.oer_types.specs.ShapeView.{choice_with, seen_field, seen_addition, type_of}
 use Rattle.oer_types.proofs.Shapes.{type_of-SequenceOf, type_of-Choice}
 use Rattle.oer_types.proofs.Values.{value_of-List, value_of-Chosen}
-use Rattle.oer_types.proofs.FillSteps.{field_step, addition_step, fields_done, additions_done, mapped_values, levels}
+use Rattle.oer_types.proofs.FillSteps.{field_step, addition_step, fields_done, additions_done, mapped_values}
 use Rattle.oer_types.proofs.Lookups.{filled_found, filled_nowhere, found_falls}
 use Rattle.oer_types.specs.ValueView.{value_of}
 use Rattle.oer_types.proofs.defaults.+fill_in.Goals as goal

@@ -1,7 +1,6 @@
 use Rattle.std.proofs.Common.{◌≡◌, drop, map, take}
-use Rattle.oer_types.specs.AsnType.{no_alternatives}
-use Rattle.oer_types.specs.Filling.{filled, filled_additions, filled_alternative, filled_fields}
-use Rattle.oer_types.specs.ShapeView.{additions_of, fields_of, root_of, type_of}
+use Rattle.oer_types.specs.Filling.{filled, filled_additions, filled_fields}
+use Rattle.oer_types.specs.ShapeView.{additions_of, fields_of, type_of}
 use Rattle.oer_types.specs.ValueView.{attached, places_of, value_of}
 use Rattle.oer_types.proofs.defaults.+fill_in.Given as goal
 

@@ -1,6 +1,7 @@
 use Rattle.std.proofs.Common.{arith, rules}
 use Rattle.std.proofs.lemmas.Grind.{common_steps}
 use Rattle.oer_types.proofs.Shapes.{type_of-Choice, shapes}
+use Rattle.oer_types.proofs.Leaves.{some_depth}
 use Rattle.oer_types.proofs.Alternatives.{choice_depth, root_within}
 use Rattle.oer_types.specs.declared.shape.Shape.{the_lemmas}
 use Rattle.oer_types.proofs.depth.+depth.Goals as goal
@@ -17,7 +18,7 @@ is_within_depth-returns-in-Some-additions t c =
 
 -- the tactic that proves each, so that no other is tried before it
 pub are_additions_within-returns-then-levels-eq0 : goal.are_additions_within-returns-then-levels-eq0
-are_additions_within-returns-then-levels-eq0 t c = grind (arith, common_steps)
+are_additions_within-returns-then-levels-eq0 t c = grind (arith, common_steps, some_depth)
 
 pub are_additions_within-loop-addition-preserved : goal.are_additions_within-loop-addition-preserved
 are_additions_within-loop-addition-preserved t c = grind (arith, common_steps)
@@ -26,7 +27,7 @@ pub are_additions_within-returns : goal.are_additions_within-returns
 are_additions_within-returns t c = grind (arith, common_steps)
 
 pub are_alternatives_within-returns-then-levels-eq0 : goal.are_alternatives_within-returns-then-levels-eq0
-are_alternatives_within-returns-then-levels-eq0 t c = grind (arith, common_steps)
+are_alternatives_within-returns-then-levels-eq0 t c = grind (arith, common_steps, some_depth)
 
 pub are_alternatives_within-loop-alt-preserved : goal.are_alternatives_within-loop-alt-preserved
 are_alternatives_within-loop-alt-preserved t c = grind (arith, common_steps)
@@ -35,7 +36,7 @@ pub are_alternatives_within-returns : goal.are_alternatives_within-returns
 are_alternatives_within-returns t c = grind (arith, common_steps)
 
 pub are_fields_within-returns-then-levels-eq0 : goal.are_fields_within-returns-then-levels-eq0
-are_fields_within-returns-then-levels-eq0 t c = grind (arith, common_steps)
+are_fields_within-returns-then-levels-eq0 t c = grind (arith, common_steps, some_depth)
 
 pub are_fields_within-loop-field-preserved : goal.are_fields_within-loop-field-preserved
 are_fields_within-loop-field-preserved t c = grind (arith, common_steps)
@@ -56,7 +57,7 @@ pub is_within_depth-returns-then-levels-gt1 : goal.is_within_depth-returns-then-
 is_within_depth-returns-then-levels-gt1 t c = grind (arith, shapes)
 
 pub is_within_depth-returns-else-levels-gt1 : goal.is_within_depth-returns-else-levels-gt1
-is_within_depth-returns-else-levels-gt1 t c = grind (arith, shapes)
+is_within_depth-returns-else-levels-gt1 t c = grind (arith, shapes, some_depth)
 
 pub is_within_depth-returns-in-None-additions : goal.is_within_depth-returns-in-None-additions
 is_within_depth-returns-in-None-additions t c = grind (arith, shapes)

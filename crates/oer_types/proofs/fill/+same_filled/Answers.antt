@@ -1,4 +1,4 @@
-use Rattle.std.proofs.Common.{suc, map, drop, get_or, drop-cons, sym, arith}
+use Rattle.std.proofs.Common.{suc, map, drop, get_or, drop-cons, arith}
 use Rattle.std.proofs.lemmas.Grind.{common_steps}
 use Rattle.std.proofs.lemmas.List.{drop_all}
 use Rattle.oer_types.proofs.Shapes.{type_of-Sequence, type_of-SequenceOf, type_of-Choice}

@@ -1,8 +1,7 @@
 use Rattle.std.proofs.Common.{◌≡◌, ◌↔◌, drop}
-use Rattle.oer_types.specs.AsnType.{no_alternatives}
-use Rattle.oer_types.specs.Filling.{filled, filled_fields, filled_additions, filled_alternative, map_values}
-use Rattle.oer_types.specs.ShapeView.{type_of, fields_of, additions_of, root_of}
-use Rattle.oer_types.specs.ValueView.{value_of, values_of, places_of}
+use Rattle.oer_types.specs.Filling.{filled, filled_fields, filled_additions, map_values}
+use Rattle.oer_types.specs.ShapeView.{type_of, fields_of, additions_of}
+use Rattle.oer_types.specs.ValueView.{values_of, places_of}
 use Rattle.oer_types.proofs.fill.+same_filled.Given as goal
 
 -- whether what is left is the same after filling, says whether all is

@@ -1,8 +1,7 @@
 use Rattle.std.proofs.Common.{◌≡◌, drop}
-use Rattle.oer_types.specs.AsnType.{no_alternatives}
-use Rattle.oer_types.specs.FitTest.{is_fit, fields_fit, additions_fit, all_fit, alternative_fits}
-use Rattle.oer_types.specs.ShapeView.{type_of, fields_of, additions_of, root_of}
-use Rattle.oer_types.specs.ValueView.{value_of, values_of, places_of}
+use Rattle.oer_types.specs.FitTest.{is_fit, fields_fit, additions_fit, all_fit}
+use Rattle.oer_types.specs.ShapeView.{type_of, fields_of, additions_of}
+use Rattle.oer_types.specs.ValueView.{values_of, places_of}
 use Rattle.oer_types.proofs.fit.+fits.Given as goal
 
 -- whether what is left fits, says whether all does

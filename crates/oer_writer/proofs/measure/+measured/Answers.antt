@@ -66,7 +66,7 @@ measured_root-returns-in_err-done t c =
     let ps = places_of c.args.places.now in
     let p = padded (first_bits c.args.extended ++ field_bits fs ps) in
     let len = length-append p (field_octets fs ps) in
-    measured_none c.from_residual.result _ _ _ c.from_residual.ensures (none_is c.ok.result _ p c.in_err-done.was (nowhere c.put_preamble.result c.ok.result _ p None c.ok.ensures.value c.put_preamble.ensures)) (omega (arith, len))
+    measured_none c.from_residual.result _ _ _ c.from_residual.ensures (none_is c.measured_preamble.result _ p c.in_err-done.was c.measured_preamble.ensures) (omega (arith, len))
 
 pub measured_root-returns : goal.measured_root-returns
 measured_root-returns t c =
@@ -74,7 +74,7 @@ measured_root-returns t c =
     let ps = places_of c.args.places.now in
     let p = padded (first_bits c.args.extended ++ field_bits fs ps) in
     let len = length-append p (field_octets fs ps) in
-    let n = some_is c.ok.result _ _ p c.in_ok-done.was (nowhere c.put_preamble.result c.ok.result _ p None c.ok.ensures.value c.put_preamble.ensures) in
+    let n = some_is c.measured_preamble.result _ _ p c.in_ok-done.was c.measured_preamble.ensures in
     measured_last c.measured_fields.result _ _ (field_octets fs ps) _ (omega (arith, len, n)) c.measured_fields.ensures
 
 pub measured_extension-returns-in_err-done : goal.measured_extension-returns-in_err-done

@@ -24,8 +24,8 @@ use Rattle.std.proofs.alloc.Calls.{handle_tells}
 use Rattle.std.specs.contracts.alloc.Global as heap
 use Rattle.std.proofs.alloc.Global.TheLaws as heap_laws
 use Rattle.std.specs.contracts.impls.GlobalAllocator.TheImpl.{ghosts}
-use Rattle.oer_notation.specs.contracts.types.Types as known
-use Rattle.oer_notation.specs.declared.types.Types.{Types}
+use Rattle.oer_c.specs.contracts.shared.Shared as known
+use Rattle.oer_c.specs.declared.shared.Shared.{Shared}
 use Rattle.std.proofs.raw_atomic.Walks.{proved_at, leaves}
 use Rattle.oer_c.specs.Held.{flag, holds}
 use Rattle.oer_c.proofs.Flags.{one_held}
@@ -43,9 +43,9 @@ into_raw_box_spec 𝓤 𝓛 𝓜 𝓡 wired =
     proved_at 𝓛 f.ended hs c 𝓜 𝓡 (Goes-dropped 𝓛 0 (plain (λ _. held.the_row)) f.ended.kept.0 (λ κs x w. refl), (Goes-dropped 𝓛 0 (plain (λ _. Z)) f.ended.kept.1.0 (λ κs x w. refl), tt)) f.Key.name code.function (code.unfolded 𝓤 𝓛.H 𝓜 𝓡 wired) (λ z are.
     let Post : Val → SProp 𝓤 = (walk_of 𝓛 f.ended hs c).post z in let Run : List Val → SProp 𝓤 = λ ws. WpFn 𝓤 𝓛.H 𝓣.C 𝓣.Λ code.function ws Post in
     let d = z.0.3.0 in let a = z.0.3.1.0 in let vs = z.0.4.0 in
-    qed 𝓛 ((raw (alive 𝓛 f.signature z.0.0 z.0.1) ⊛ ‵ (owns (types_at f.signature.params z.0.0) z.0.3 z.0.4)) ∷ raw (fact 𝓤 (flag d.types ≡ 0 → ⊥)) ∷ []) ∵ move ! (1 ∷ []) $ heard ! (flag d.types ≡ 0 → ⊥) (λ some. let is_one = one_held d.types some in let t = is_one.0 in let es = is_one.1 in split ! $ move ! (1 ∷ []) $ fsplit ! $
+    qed 𝓛 ((raw (alive 𝓛 f.signature z.0.0 z.0.1) ⊛ ‵ (owns (types_at f.signature.params z.0.0) z.0.3 z.0.4)) ∷ raw (fact 𝓤 (flag d.shared ≡ 0 → ⊥)) ∷ []) ∵ move ! (1 ∷ []) $ heard ! (flag d.shared ≡ 0 → ⊥) (λ some. let is_one = one_held d.shared some in let t = is_one.0 in let es = is_one.1 in split ! $ move ! (1 ∷ []) $ fsplit ! $
     fsplit ! $ fpick ! (λ vss. fsplit ! $ feq_l ! (λ ev. fsplit ! $ feq_l ! (λ ep. drop ! $
-    rewrite ! 0 (λ (x : Option Types). ‵ (holds d.at x)) es refl $
+    rewrite ! 0 (λ (x : Option Shared). ‵ (holds d.at x)) es refl $
     in_a_block ! d.at (λ p. box_owns (ghosts.dealloc_token a) R p t) (fst∗ 𝓤 (never 𝓤) (sem 𝓛 (ghosts.dealloc_token a (bare (lone R.mir)) null_ptr))) (λ b o e.
     move ! (1 ∷ []) $ fsplit ! $ handle_tells (al R Z L ghosts) ! a z.0.4.1.0 (λ h eh fits.
     let w : Val = vstruct (vcons (vptr b o) vnil) in let v : Val = both (vptr b o) h in
@@ -56,5 +56,5 @@ into_raw_box_spec 𝓤 𝓛 𝓜 𝓡 wired =
     sets ! (agg ! (and_then ! (get ! refl) (and_then ! (get ! refl) (no_more !)))) refl (raw_box_good R Z L ghosts b o h fits) $
     returns ! (look_at ! 0 refl) $ free_all ! refl $
     move ! (2 ∷ 0 ∷ []) $ raw_box_in R Z L ghosts ! b o h a t $
-    use0 𝓛 (raw (fact 𝓤 (d.types ≡ Some t))) (fact_i 𝓤 (d.types ≡ Some t) (emp 𝓤) es) $ nothing ! $ nothing ! $ fjoin ! $ nothing ! $ fjoin ! $ keep ! (4 ∷ 0 ∷ 2 ∷ 1 ∷ []) $
+    use0 𝓛 (raw (fact 𝓤 (d.shared ≡ Some t))) (fact_i 𝓤 (d.shared ≡ Some t) (emp 𝓤) es) $ nothing ! $ nothing ! $ fjoin ! $ nothing ! $ fjoin ! $ keep ! (4 ∷ 0 ∷ 2 ∷ 1 ∷ []) $
     by ! (leaves 𝓛 f.ended hs c z v (record { at = block_ptr b o; alloc = a; value = t }) _ (tt, (tt, tt)))))))))))

@@ -22,7 +22,7 @@ use Rattle.std.specs.Prelude.{Some}
 use Rattle.std.specs.contracts.alloc.Global as heap
 use Rattle.std.proofs.alloc.Global.TheLaws as heap_laws
 use Rattle.std.specs.contracts.impls.GlobalAllocator.TheImpl.{ghosts}
-use Rattle.oer_notation.specs.contracts.types.Types as known
+use Rattle.oer_c.specs.contracts.shared.Shared as known
 use Rattle.std.proofs.raw_atomic.Walks.{proved_at, leaves}
 use Rattle.oer_c.proofs.Values.{both, RawBox, raw_box_good, raw_box_out}
 use Rattle.oer_c.specs.contracts.held.Held as held
@@ -48,4 +48,4 @@ of_spec 𝓤 𝓛 𝓜 𝓡 wired =
     nothing ! $ feq_i ! (List Val) (vptr b o ∷ []) (vptr b o ∷ []) refl $ fjoin ! $ feq_i ! (List Val) (w ∷ []) (w ∷ []) refl $ fjoin ! $
     fpack ! (Valss (RawPtr ∷ [])) (within (shape held.the_type) (block_ptr b o, tt) (w ∷ [])) (vptr b o ∷ [], tt) $ fjoin ! $
     use0 𝓛 (raw (fact 𝓤 (Some d.value ≡ Some d.value))) (fact_i 𝓤 (Some d.value ≡ Some d.value) (emp 𝓤) refl) $ nothing ! $ nothing ! $ fjoin ! $ keep ! (5 ∷ 0 ∷ 2 ∷ 1 ∷ []) $
-    by ! (leaves 𝓛 f.ended hs c z w (record { at = block_ptr b o; types = Some d.value }) _ (tt, tt)))))
+    by ! (leaves 𝓛 f.ended hs c z w (record { at = block_ptr b o; shared = Some d.value }) _ (tt, tt)))))

@@ -1,0 +1,17 @@
+-- Which shapes have these parts.
+use Rattle.std.specs.Prelude.{◌≡◌, List, Option, Some, Vec}
+use Rattle.std.specs.declared.alloc.Global.{Global}
+use Rattle.oer_types.specs.declared.shape.Addition.{Addition}
+use Rattle.oer_types.specs.declared.shape.Alt.{Alt}
+use Rattle.oer_types.specs.declared.shape.Field.{Field}
+use Rattle.oer_types.specs.declared.shape.Shape.{Shape}
+use Rattle.oer_types.specs.declared.shape.Shape.TheVariants.{Choice, Sequence}
+
+-- a SEQUENCE with an extension marker, of these components and additions
+abbrev pub IsExtensible : Shape → List Field → List Addition → Type 0
+IsExtensible shape fs xs = (root : Vec Field Global) × (more : Vec Addition Global) × (shape ≡ Sequence root (Some more))
+    × (fs ≡ root.items) × (xs ≡ more.items)
+
+-- a CHOICE of these alternatives, and of those after its extension marker if it has one
+abbrev pub IsChoice : Shape → List Alt → Option (Vec Alt Global) → Type 0
+IsChoice shape xs more = (root : Vec Alt Global) × (shape ≡ Choice root more) × (xs ≡ root.items)

@@ -1,0 +1,118 @@
+-- How the program ends, from what its steps answer.
+use Rattle.std.proofs.Common.{◌≡◌, ◌≢◌, ◌∙◌, ℕ, ◌≤◌, List, [], ◌∷◌, ◌++◌, Bool, true, Option, Some, None, Ok, Err, String, Global, refl, sym, ap, subst, arith, string_bytes, ◌⊎◌, inl, inr, codes, append-nil}
+use Rattle.std.specs.Io.KnownBytes.{Keeps}
+use Rattle.clap.specs.Words.{HasKind, IsAmong, Kinds, Text, fault_of, kind_of, takes}
+use Rattle.clap.specs.declared.error.Error.{Error}
+use Rattle.clap.specs.declared.error.kind.ErrorKind.{ErrorKind}
+use Rattle.clap.specs.declared.error.kind.ErrorKind.TheVariants.{DisplayHelp, DisplayVersion, OutOfMemory}
+use Rattle.oer_options.specs.Words.{behind}
+use Rattle.oer_cmd.specs.Ending.{IsMachineLine, Streams}
+use Rattle.oer_cmd.specs.Expected.{Expected, Refusal, refusal, unknown, value}
+use Rattle.oer_cmd.specs.Faults.{Reports, error_line, status_of, text_of}
+use Rattle.oer_cmd.specs.declared.fault.Fault.{Fault}
+use Rattle.oer_cmd.specs.declared.fault.Fault.TheVariants.{Absent, Follows, Hex, Input, Json, Longer, Memory, NoName, NoSuchStep, NotJson, NoTypes, OneType, Output, Path, Read, «Type», Unnamed}
+use Rattle.oer_dump_cmd.specs.Ending.{Accepts, Answers, Breaks, Ends, IsNotTaken, Prints, Tells}
+use Rattle.oer_dump_cmd.specs.Showing.{AreOneFor, IsReasonLine, Shows, judged_as}
+use Rattle.oer_dump_cmd.specs.Words.{Asks, given, oer_dump, texts_asked, texts_given}
+use Rattle.oer_dump_cmd.specs.declared.options.Options.{Options}
+use Rattle.oer_dump_cmd.specs.declared.program.Page.{Page}
+
+by_status : (fault : Fault) → (status_of fault ≤ 2) ⊎ ((status_of fault ≡ 3) × IsMachineLine (error_line fault))
+by_status (Read e) = inl (omega arith)
+by_status (Follows n) = inl (omega arith)
+by_status (Longer n) = inl (omega arith)
+by_status NoSuchStep = inl (omega arith)
+by_status Absent = inl (omega arith)
+by_status OneType = inl (omega arith)
+by_status NoName = inl (omega arith)
+by_status NoTypes = inl (omega arith)
+by_status («Type» e) = inl (omega arith)
+by_status (Unnamed name) = inl (omega arith)
+by_status Hex = inl (omega arith)
+by_status Path = inl (omega arith)
+by_status NotJson = inl (omega arith)
+by_status (Json e) = inl (omega arith)
+by_status Input = inr (refl, inl refl)
+by_status Output = inr (refl, inr (inl refl))
+by_status Memory = inr (refl, inr (inr refl))
+
+moved : (line own : Text) → line ≡ own → IsMachineLine own → IsMachineLine line
+moved line own is h = subst IsMachineLine (sym is) h
+
+-- The line of a machine that fails is told.
+pub breaks : (fault : Fault) (status : ℕ) (s : Streams) → status ≡ 3 → IsMachineLine (error_line fault) → Reports fault status s.errors s.errors' → Breaks status s
+breaks fault status s three own (line, inl (same, is), front) = (three, (line, moved line (error_line fault) is own, front))
+breaks fault status s three own (line, inr (same, is), front) = (three, (line, inr (inr is), front))
+
+-- A line with the reason alone.
+alone : (reason line : Text) → line ≡ codes "oer: " ++ reason ++ 10 ∷ [] → IsReasonLine reason line
+alone reason line is = ([], is ∙ ap (λ (l : Text). l ++ 10 ∷ []) (sym (append-nil (codes "oer: " ++ reason))))
+
+-- The fault is told.
+pub refused_end : (expected : Expected Bool) (fault : Fault) (status : ℕ) (s : Streams) → Shows expected (Err fault) → Reports fault status s.errors s.errors' → Answers expected status s ⊎ Breaks status s
+refused_end expected fault status s shown (line, inr (three, is), front) = inr (three, (line, inr (inr is), front))
+refused_end expected fault status s shown (line, inl (same, is), front) = by expected shown (by_status fault) where
+  by : (expected : Expected Bool) → Shows expected (Err fault) → (status_of fault ≤ 2) ⊎ ((status_of fault ≡ 3) × IsMachineLine (error_line fault)) → Answers expected status s ⊎ Breaks status s
+  by expected shown (inr (three, own)) = inr (same ∙ three, (line, moved line (error_line fault) is own, front))
+  by unknown shown (inl small) = inl tt
+  by (value y) shown (inl small) = absurd (shown small)
+  by (refusal r) shown (inl small) = inl (same ∙ ap (λ (x : Refusal). x.status) (shown small), (line, subst (λ (x : Refusal). IsReasonLine x.text line) (shown small) (alone (text_of fault) line is), front))
+
+-- The page is printed.
+pub printed_end : (expected : Expected Bool) (page : Page) (status : ℕ) (s : Streams) → Shows expected (Ok page) → Prints page status s → Answers expected status s ⊎ Breaks status s
+printed_end expected page status s shown (inr broken) = inr broken
+printed_end unknown page status s shown (inl printed) = inl tt
+printed_end (value c) page status s shown (inl (appends, tells)) =
+    let told : Tells None status s.errors s.errors' = subst (λ r. Tells r status s.errors s.errors') shown tells in
+    inl (told.0, (string_bytes page.text, appends), told.1)
+printed_end (refusal r) page status s shown (inl (appends, tells)) = by page.rejection shown tells where
+  by : (o : Option (String Global)) → Rattle.oer_dump_cmd.specs.Showing.IsRejection r o → Tells o status s.errors s.errors' → Answers (refusal r) status s ⊎ Breaks status s
+  by None shown tells = absurd shown
+  by (Some line) shown tells = inl (tells.0 ∙ sym shown.0, (string_bytes line, shown.1, tells.1))
+
+-- On status 0 nothing is rejected.
+pub unrejected : (page : Page) (status : ℕ) (s : Streams) → Prints page status s → status ≡ 0 → page.rejection ≡ None
+unrejected page status s (inr broken) zero = absurd (omega (arith, zero, broken.0))
+unrejected page status s (inl (appends, tells)) zero = by page.rejection tells where
+  by : (o : Option (String Global)) → Tells o status s.errors s.errors' → o ≡ None
+  by None tells = refl
+  by (Some line) tells = absurd (omega (arith, zero, tells.0))
+
+pub accepts : (words : List Text) (told : Option (List ℕ)) (o : Options) → Asks words o → AreOneFor (texts_asked o) (behind o.hex) o.limit told → Accepts words told
+accepts words told o asks h =
+    let texts : texts_asked o ≡ texts_given words = rw (← asks.type_text, ← asks.types, ← asks.name) refl in
+    record {
+      limit = o.limit;
+      limit_text = asks.limit.0;
+      limit_is = asks.limit.1;
+      number = asks.limit.2;
+      octets = subst (λ t. AreOneFor t (given words (codes "hex")) o.limit told) texts (subst (λ x. AreOneFor (texts_asked o) x o.limit told) (sym asks.hex) h);
+    }
+
+among_help : (kinds : Kinds) (kind : ErrorKind) → IsAmong kind kinds → (kind ≡ DisplayHelp) ⊎ (kind ≡ DisplayVersion) → IsAmong DisplayHelp kinds ⊎ IsAmong DisplayVersion kinds
+among_help kinds kind among (inl is) = inl (subst (λ k. IsAmong k kinds) is among)
+among_help kinds kind among (inr is) = inr (subst (λ k. IsAmong k kinds) is among)
+
+helped : (kinds : Kinds) (e : Error) → HasKind kinds e → (kind_of e ≡ DisplayHelp) ⊎ (kind_of e ≡ DisplayVersion) → IsAmong DisplayHelp kinds ⊎ IsAmong DisplayVersion kinds
+helped kinds e (inl none) (inl is) = let no : OutOfMemory ≡ DisplayHelp = sym none ∙ is in cc
+helped kinds e (inl none) (inr is) = let no : OutOfMemory ≡ DisplayVersion = sym none ∙ is in cc
+helped kinds e (inr among) shows = among_help kinds (kind_of e) among shows
+
+-- Words that are not taken.
+pub not_taken : (words : List Text) (untouched : Type 0) (e : Error) (status : ℕ) (s : Streams) → HasKind (fault_of oer_dump words) e → (takes oer_dump words ≡ true → kind_of e ≡ OutOfMemory) → (kind_of e ≡ OutOfMemory → status ≡ 3)
+    → (status ≡ 0 → (kind_of e ≡ DisplayHelp) ⊎ (kind_of e ≡ DisplayVersion)) → (status ≡ 0 → Keeps s.errors s.errors') → (1 ≤ status → status ≤ 2 → status ≡ 2) → (1 ≤ status → status ≤ 2 → Keeps s.output s.output')
+    → (status ≡ 3 → Reports Memory 3 s.errors s.errors' ⊎ Reports Output 3 s.errors s.errors') → untouched → IsNotTaken words untouched status s
+not_taken words untouched e status s kind passes memory shows alone two quiet failed same = record {
+  refused = λ small taken. (let three = memory (passes taken) in omega (arith, small, three));
+  help = λ none. (helped (fault_of oer_dump words) e kind (shows none), alone none);
+  said = λ low high. (two low high, quiet low high);
+  machine = λ three. by three (failed three);
+  keeps = same;
+} where
+  by : status ≡ 3 → Reports Memory 3 s.errors s.errors' ⊎ Reports Output 3 s.errors s.errors' → Breaks status s
+  by three (inl h) = (three, (breaks Memory 3 s refl (inr (inr refl)) h).1)
+  by three (inr h) = (three, (breaks Output 3 s refl (inr (inl refl)) h).1)
+
+pub does : (words : List Text) (told : Option (List ℕ)) (untouched : Type 0) (status : ℕ) (s : Streams) (o : Options) → Asks words o
+    → Answers (judged_as o told) status s ⊎ Breaks status s → (behind o.hex ≢ None → untouched) → Ends words told untouched status s
+does words told untouched status s o asks answers keeps = inl (record { options = o; asks = asks; answers = answers; keeps = keeps })

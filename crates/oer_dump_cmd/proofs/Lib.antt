@@ -1,0 +1,4 @@
+pub mod Asked
+pub mod Spots
+pub mod Shown
+pub mod Ends

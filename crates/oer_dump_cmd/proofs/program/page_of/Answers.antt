@@ -1,0 +1,23 @@
+use Rattle.std.proofs.lemmas.Result.{err_from_is_err_and}
+use Rattle.oer_types.specs.Schema.{the_type}
+use Rattle.oer_options.specs.Words.{behind}
+use Rattle.oer_dump_cmd.proofs.Shown.{are_one, longer, looked_at, unspelt}
+use Rattle.oer_dump_cmd.proofs.program.page_of.Goals as goal
+
+pub returns-clause-shown : goal.returns-clause-shown
+returns-clause-shown g c =
+    looked_at (the_type c.args.schema.now) c.args.options.limit (behind c.args.options.hex) _ c.in_ok-spelt.spelt c.in_ok-octets.octets _ c.octets_page.result c.in_ok-spelt.ensures.exact c.in_ok-octets.ensures.exact c.as_slice.ensures.value c.octets_page.ensures.shown
+
+pub returns-in_err-spelt-clause-shown : goal.returns-in_err-spelt-clause-shown
+returns-in_err-spelt-clause-shown g c =
+    let p = err_from_is_err_and c.from_residual.result c.from_residual.ensures.1 in
+    rw (p.1, p.2) (unspelt (the_type c.args.schema.now) c.args.options.limit (behind c.args.options.hex) _ _ c.in_err-spelt.ensures.exact)
+
+pub returns-in_err-octets-clause-shown : goal.returns-in_err-octets-clause-shown
+returns-in_err-octets-clause-shown g c =
+    let p = err_from_is_err_and c.from_residual-in_err-octets.result c.from_residual-in_err-octets.ensures.1 in
+    rw (p.1, p.2) (longer (the_type c.args.schema.now) c.args.options.limit (behind c.args.options.hex) _ c.in_ok-spelt.spelt _ c.in_ok-spelt.ensures.exact c.in_err-octets.ensures.exact)
+
+pub returns-clause-accepted : goal.returns-clause-accepted
+returns-clause-accepted g c =
+    are_one (the_type c.args.schema.now) c.args.options.limit (behind c.args.options.hex) _ _ c.in_ok-octets.octets.items _ c.octets_page.result c.in_ok-spelt.ensures.octets c.in_ok-octets.ensures.all c.in_ok-octets.ensures.within c.as_slice.ensures.value c.octets_page.ensures.accepted

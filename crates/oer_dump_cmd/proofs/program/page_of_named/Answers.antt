@@ -1,0 +1,25 @@
+use Rattle.std.proofs.lemmas.Result.{err_from_is_err_and}
+use Rattle.oer_types.specs.Schema.{the_type}
+use Rattle.oer_notation.specs.Views.{knowns}
+use Rattle.oer_options.specs.Words.{behind}
+use Rattle.oer_cmd.specs.Types.{texts_at}
+use Rattle.oer_cmd.specs.declared.type_text.TypeText.TheVariants.{Named}
+use Rattle.oer_dump_cmd.proofs.Shown.{are_one_for, named_read, named_unknown, named_unread}
+use Rattle.oer_dump_cmd.proofs.program.page_of_named.Goals as goal
+
+pub returns-clause-shown : goal.returns-clause-shown
+returns-clause-shown g c = named_read c.args.types c.args.name (behind c.args.options.hex) c.args.options.limit _ c.in_ok-types.types c.in_ok-schema.schema c.page_of.result c.in_ok-types.ensures.exact c.in_ok-schema.ensures.exact c.page_of.ensures.shown
+
+pub returns-in_err-types-clause-shown : goal.returns-in_err-types-clause-shown
+returns-in_err-types-clause-shown g c =
+    let p = err_from_is_err_and c.from_residual.result c.from_residual.ensures.1 in
+    rw (p.1, p.2) (named_unread c.args.types c.args.name (behind c.args.options.hex) c.args.options.limit _ _ c.in_err-types.ensures.exact)
+
+pub returns-in_err-schema-clause-shown : goal.returns-in_err-schema-clause-shown
+returns-in_err-schema-clause-shown g c =
+    let p = err_from_is_err_and c.from_residual-in_err-schema.result c.from_residual-in_err-schema.ensures.1 in
+    rw (p.1, p.2) (named_unknown c.args.types c.args.name (behind c.args.options.hex) c.args.options.limit _ c.in_ok-types.types _ c.in_ok-types.ensures.exact c.in_err-schema.ensures.exact)
+
+pub returns-clause-accepted : goal.returns-clause-accepted
+returns-clause-accepted g c =
+    are_one_for (texts_at (Named c.args.types c.args.name)) (the_type c.in_ok-schema.schema.now) (behind c.args.options.hex) c.args.options.limit _ c.page_of.result (knowns c.in_ok-types.types, c.in_ok-types.ensures.spells.0, c.in_ok-schema.ensures.defined) c.page_of.ensures.accepted

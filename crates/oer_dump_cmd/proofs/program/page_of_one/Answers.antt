@@ -1,0 +1,18 @@
+use Rattle.std.proofs.lemmas.Result.{err_from_is_err_and}
+use Rattle.oer_types.specs.Schema.{the_type}
+use Rattle.oer_options.specs.Words.{behind}
+use Rattle.oer_cmd.specs.Types.{texts_at}
+use Rattle.oer_cmd.specs.declared.type_text.TypeText.TheVariants.{One}
+use Rattle.oer_dump_cmd.proofs.Shown.{are_one_for, one_read, one_unread}
+use Rattle.oer_dump_cmd.proofs.program.page_of_one.Goals as goal
+
+pub returns-clause-shown : goal.returns-clause-shown
+returns-clause-shown g c = one_read c.args.text (behind c.args.options.hex) c.args.options.limit _ c.in_ok-schema.schema c.page_of.result c.in_ok-schema.ensures.exact c.page_of.ensures.shown
+
+pub returns-in_err-schema-clause-shown : goal.returns-in_err-schema-clause-shown
+returns-in_err-schema-clause-shown g c =
+    let p = err_from_is_err_and c.from_residual.result c.from_residual.ensures.1 in
+    rw (p.1, p.2) (one_unread c.args.text (behind c.args.options.hex) c.args.options.limit _ _ c.in_err-schema.ensures.exact)
+
+pub returns-clause-accepted : goal.returns-clause-accepted
+returns-clause-accepted g c = are_one_for (texts_at (One c.args.text)) (the_type c.in_ok-schema.schema) (behind c.args.options.hex) c.args.options.limit _ c.page_of.result c.in_ok-schema.ensures.spells.0 c.page_of.ensures.accepted

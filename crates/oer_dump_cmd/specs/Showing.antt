@@ -1,0 +1,53 @@
+-- What is shown of octets.
+use Rattle.std.specs.Prelude.{◌≡◌, ◌≤◌, ℕ, List, [], ◌∷◌, ◌++◌, length, Bool, Option, Some, None, Result, Ok, Err, String, codes, string_bytes, ⊤}
+use Rattle.std.specs.Global.{Global}
+use Rattle.clap.specs.Words.{Text}
+use Rattle.oer_types.specs.AsnType.{AsnType}
+use Rattle.oer_options.specs.Words.{Texts, behind}
+use Rattle.oer_cmd.specs.Answer.{checked, expected_type, hex_octets, limited_octets}
+use Rattle.oer_cmd.specs.Expected.{Expected, Refusal, refusal, refusal_of, unknown, value, ◌>>=◌}
+use Rattle.oer_cmd.specs.Faults.{status_of}
+use Rattle.oer_cmd.specs.Run.{IsEncoding, OfOctets}
+use Rattle.oer_cmd.specs.Types.{SpelledBy}
+use Rattle.oer_cmd.specs.declared.fault.Fault.{Fault}
+use Rattle.oer_dump_cmd.specs.Words.{texts_asked}
+use Rattle.oer_dump_cmd.specs.declared.options.Options.{Options}
+use Rattle.oer_dump_cmd.specs.declared.program.Page.{Page}
+
+-- what `oer check` judges of the octets: whether they are canonical, or why they are rejected
+abbrev pub judged_octets : Option Text → ℕ → Option (List ℕ) → AsnType → Expected Bool
+judged_octets hex limit told T = hex_octets hex >>= λ spelt. limited_octets limit spelt told >>= checked T
+
+-- the same for the type that the texts name
+abbrev pub judged_for : Texts → Option Text → ℕ → Option (List ℕ) → Expected Bool
+judged_for texts hex limit told = expected_type texts >>= judged_octets hex limit told
+
+-- the same for what the options ask for
+abbrev pub judged_as : Options → Option (List ℕ) → Expected Bool
+judged_as o told = judged_for (texts_asked o) (behind o.hex) o.limit told
+
+-- a line with this reason, and behind it maybe the part that was being read
+abbrev pub IsReasonLine : Text → Text → Type 0
+IsReasonLine reason line = (part : Text) × (line ≡ codes "oer: " ++ reason ++ part ++ 10 ∷ [])
+
+-- the line of a refusal of the octets
+abbrev pub IsRejection : Refusal → Option (String Global) → Type 0
+IsRejection r None = ⊥
+IsRejection r (Some line) = (r.status ≡ 1) × IsReasonLine r.text (string_bytes line)
+
+-- What is printed has a rejection just where one is expected, and it is that one; or there is nothing to print, for the reason
+-- that is expected, or since memory ran out or a device failed.
+abbrev pub Shows : Expected Bool → Result Page Fault → Type 0
+Shows unknown result = ⊤
+Shows (value canonical) (Ok page) = page.rejection ≡ None
+Shows (value canonical) (Err fault) = status_of fault ≤ 2 → ⊥
+Shows (refusal r) (Ok page) = IsRejection r page.rejection
+Shows (refusal r) (Err fault) = status_of fault ≤ 2 → refusal_of fault ≡ r
+
+-- The octets of `--hex`, and without it all that the input had left, are one encoding of the type, within the limit.
+abbrev pub AreOne : AsnType → Option Text → ℕ → Option (List ℕ) → Type 0
+AreOne T hex limit told = OfOctets hex told (λ b. IsEncoding T b × (length b ≤ limit))
+
+-- the same for the type that the texts name
+abbrev pub AreOneFor : Texts → Option Text → ℕ → Option (List ℕ) → Type 0
+AreOneFor texts hex limit told = (T : AsnType) × SpelledBy texts T × AreOne T hex limit told

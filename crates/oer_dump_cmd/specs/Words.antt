@@ -1,0 +1,57 @@
+-- What the words of the command line ask for.
+use Rattle.std.specs.Prelude.{◌≡◌, ◌≢◌, List, Option, None, Some, true, codes}
+use Rattle.clap.specs.Words.{App, Rule, Text, first_of, matches_of, new_app, new_rule, one_of, with_rule}
+use Rattle.clap.specs.Simple.{on_top}
+use Rattle.clap.specs.declared.builder.action.ArgAction.TheVariants.{SetTrue}
+use Rattle.clap.specs.declared.builder.value_parser.ValueParser.TheVariants as vp
+use Rattle.oer_options.specs.Words.{NumberOf, Texts, behind, limit_rule, option_rule}
+use Rattle.oer_dump_cmd.specs.declared.options.Form.{Form}
+use Rattle.oer_dump_cmd.specs.declared.options.Form.TheVariants as form
+use Rattle.oer_dump_cmd.specs.declared.options.Options.{Options}
+
+abbrev pub width_rule : Rule
+width_rule = record (option_rule (codes "width")) { parser = Some (vp.Unsigned 0 18446744073709551615) }
+
+abbrev pub json_rule : Rule
+json_rule = record (new_rule (codes "json")) { long = Some (codes "json"); action = Some SetTrue }
+
+-- the command without options
+abbrev pub bare : App
+bare = on_top (λ s. record s { has_version = true }) (new_app (codes "oer-dump"))
+
+-- the whole command
+abbrev pub oer_dump : App
+oer_dump = with_rule (with_rule (with_rule (with_rule (with_rule (with_rule (with_rule bare
+    (option_rule (codes "type"))) (option_rule (codes "types"))) (option_rule (codes "name"))) limit_rule)
+    (option_rule (codes "hex"))) width_rule) json_rule
+
+-- the value of an option, as it was written, or its default
+abbrev pub given : List Text → Text → Option Text
+given words id = first_of id (matches_of oer_dump words)
+
+-- the same as a number is read from it
+abbrev pub given_number : List Text → Text → Option Text
+given_number words id = one_of id (matches_of oer_dump words)
+
+-- the array where the value of `--json` is true, and lines where it is false
+abbrev pub IsForm : Option Text → Form → Type 0
+IsForm value form.Json = (value ≢ None) × (value ≢ Some (codes "false"))
+IsForm value (form.Text width) = value ≢ Some (codes "true")
+
+-- the options are those of the words
+pub record Asks (words : List Text) (o : Options) : Type 0 where
+  pub type_text : given words (codes "type") ≡ behind o.type_text
+  pub types : given words (codes "types") ≡ behind o.types
+  pub name : given words (codes "name") ≡ behind o.name
+  pub hex : given words (codes "hex") ≡ behind o.hex
+  -- the number that the value of `--limit` writes
+  pub limit : (text : Text) × (given_number words (codes "limit") ≡ Some text) × NumberOf text o.limit
+  pub form : IsForm (given_number words (codes "json")) o.form
+
+-- the texts of `--type`, `--types` and `--name` among the options
+abbrev pub texts_asked : Options → Texts
+texts_asked o = record { one = behind o.type_text; types = behind o.types; name = behind o.name }
+
+-- those that the words give
+abbrev pub texts_given : List Text → Texts
+texts_given words = record { one = given words (codes "type"); types = given words (codes "types"); name = given words (codes "name") }

@@ -1,5 +1,0 @@
-use Rattle.oer_lexer.proofs.LexComplete.{falls_lexed}
-use Rattle.oer_lexer.proofs.laws.lex_complete.Goals as goal
-
-pub returns : goal.returns
-returns c = λ bs ts h. falls_lexed bs ts h

@@ -1,5 +1,0 @@
-use Rattle.oer_lexer.proofs.LexSound.{lexed_falls}
-use Rattle.oer_lexer.proofs.laws.lex_sound.Goals as goal
-
-pub returns : goal.returns
-returns c = λ bs h. lexed_falls bs h

@@ -1,9 +1,0 @@
-use Rattle.oer_notation.proofs.Sound.{parse_sound}
-use Rattle.oer_notation.proofs.SoundAll.{parse_all_sound}
-use Rattle.oer_notation.proofs.laws.sound.Goals as goal
-
-pub returns-clause-one : goal.returns-clause-one
-returns-clause-one c = λ bs T h. parse_sound c.lex_sound.ensures c.first_fault.ensures.none c.first_fault.ensures.well_formed bs T h
-
-pub returns-clause-all : goal.returns-clause-all
-returns-clause-all c = λ bs ks h. parse_all_sound c.lex_sound.ensures c.first_fault.ensures.none c.first_fault.ensures.well_formed bs ks h

@@ -1,0 +1,294 @@
+-- At most how many octets values have, by any type.
+use Rattle.std.proofs.Common.{inl, inr, ◌≡◌, ⊎_elim, ℕ, suc, ◌+◌, ◌-◌, ◌*◌, ◌/◌, ◌^◌, ◌<◌, ◌≤◌, List, [], ◌∷◌, ◌++◌, length, drop, get_or, map, Bool, true, false, ◌||◌, cond, nat_lt, if◌then◌else◌, ℤ, pos, negsuc, FitsSigned, Option, Some, None, IfSome, option_map, arith, refl, sym, ap, ◌∙◌, append-nil, length-append}
+use Rattle.std.proofs.lemmas.Bool.{cases_lt}
+use Rattle.std.proofs.lemmas.List.{drop_more, drop_all, length-map}
+use Rattle.std.specs.Int.{w128}
+use Rattle.oer_units.specs.Least.{counted, enumerated_octets, length_octets, signed_octets, tag_octets, unsigned_octets}
+use Rattle.oer_units.specs.declared.tagging.Tag.{Tag}
+use Rattle.oer_units.proofs.Needed.{needed_sixteen}
+use Rattle.oer_units.proofs.Numbers.{length-big_endian, length-signed_octets, length-unsigned_octets, length_octets_above, length_octets_below, needed_least}
+use Rattle.oer_types.specs.LeafType as kind
+use Rattle.oer_types.specs.LeafType.{LeafType}
+use Rattle.oer_types.specs.LeafValue as leaf_kind
+use Rattle.oer_types.specs.LeafValue.{LeafValue}
+use Rattle.oer_types.specs.AsnType.{Alternatives, AsnType, Fields, Need, alternative, choice, default, extensible_sequence, field, later, leaf, may, must, no_alternatives, no_fields, sequence, sequence_of}
+use Rattle.oer_types.specs.AsnValue.{AsnValue, Places, Unknown, Values, bool, chosen, enum, int, items, leaf_value, no_places, nothing, octets, seq, text}
+use Rattle.oer_types.specs.Bits.{octets_for, padded}
+use Rattle.oer_types.specs.Canonical.{any_present, any_unknown, canonical_octets, integer_octets, leaf_octets, string_octets}
+use Rattle.oer_types.specs.Constraints.{Form, fixed, form_of, high_to, low_from, same_tag, signed_counted, signed_fixed, signed_form, signed_within, unsigned_counted, unsigned_fixed, unsigned_form}
+use Rattle.oer_types.specs.ValueView.{places_from, places_of, value_of, values_of}
+use Rattle.oer_types.specs.declared.value.Value.{Value}
+use Rattle.oer_types.proofs.LeastBits.{length-padded}
+use Rattle.oer_writer.specs.Bounds.{Bounds, BoundsPlaces, BoundsValues}
+use Rattle.oer_writer.specs.Parts.{chosen_octets, field_bits, field_octets, first_bits, is_kept, kept_place, place_bit, place_octets_of, root_octets, values_octets}
+use Rattle.oer_writer.proofs.Components.{count_of, extended_is, field_first, values_len}
+use Rattle.oer_writer.proofs.Places.{field_bits_first}
+
+nil : (n : ℕ) → 0 ≤ n
+nil n = omega arith
+
+-- ---- numbers and strings
+
+short_length : (n : ℕ) → n < 2 ^ 64 → length (length_octets n) ≤ 9
+short_length n h = ⊎_elim
+    (λ l. omega (arith, ap length (length_octets_below n l)))
+    (λ l. omega (arith, ap length (length_octets_above n l), length-unsigned_octets n, needed_least 8 n (omega arith) (omega arith)))
+    (cases_lt n 128)
+
+counted_few : (w : List ℕ) → length w < 2 ^ 64 → length (counted w) ≤ 9 + length w
+counted_few w h = omega (arith, short_length (length w) h, length-append (length_octets (length w)) w)
+
+counted_small : (w : List ℕ) → length w ≤ 16 → length (counted w) ≤ 17
+counted_small w h = omega (arith, h, ap length (length_octets_below (length w) (omega arith)), length-append (length_octets (length w)) w)
+
+signed_few : (z : ℤ) → FitsSigned w128 z → length (signed_octets z) ≤ 16
+signed_few (pos n) h = let few : n < 2 ^ 127 = h.sfits in omega (arith, length-signed_octets (pos n) n (inl refl), needed_sixteen (2 * n) (omega (arith, few)))
+signed_few (negsuc n) h = let few : n < 2 ^ 127 = h.sfits in omega (arith, length-signed_octets (negsuc n) n (inr refl), needed_sixteen (2 * n) (omega (arith, few)))
+
+unsigned_few : (n : ℕ) → n < 2 ^ 128 → length (unsigned_octets n) ≤ 16
+unsigned_few n h = omega (arith, length-unsigned_octets n, needed_sixteen n h)
+
+-- a fixed form has few octets
+abbrev IsSmall : Form → Type 0
+IsSmall (unsigned_fixed k) = k ≤ 8
+IsSmall (signed_fixed k) = k ≤ 8
+IsSmall unsigned_counted = Unit {0}
+IsSmall signed_counted = Unit {0}
+
+either : (b : Bool) (f g : Form) → IsSmall f → IsSmall g → IsSmall (if b then f else g)
+either true f g p q = p
+either false f g p q = q
+
+form_small : (low high : Option ℤ) → IsSmall (form_of low high)
+unfolding form_of
+form_small low high = either (low_from (pos 0) low) (unsigned_form high) (signed_form low high)
+    (either (high_to (pos 255) high) _ _ (omega arith) (either (high_to (pos 65535) high) _ _ (omega arith) (either (high_to (pos 4294967295) high) _ _ (omega arith) (either (high_to (pos 18446744073709551615) high) _ _ (omega arith) tt))))
+    (either (signed_within low high 7) _ _ (omega arith) (either (signed_within low high 15) _ _ (omega arith) (either (signed_within low high 31) _ _ (omega arith) (either (signed_within low high 63) _ _ (omega arith) tt))))
+
+int_few : (f : Form) (z : ℤ) → IsSmall f → FitsSigned w128 z → length (integer_octets f z) ≤ 17
+int_few (unsigned_fixed k) (pos n) s h = let e : length (integer_octets (unsigned_fixed k) (pos n)) ≡ k = length-big_endian k n in omega (arith, e, s)
+int_few (unsigned_fixed k) (negsuc n) s h = nil 17
+int_few (signed_fixed k) (pos n) s h = let e : length (integer_octets (signed_fixed k) (pos n)) ≡ k = length-big_endian k n in omega (arith, e, s)
+int_few (signed_fixed k) (negsuc n) s h = let e : length (integer_octets (signed_fixed k) (negsuc n)) ≡ k = length-big_endian k (256 ^ k - suc n) in omega (arith, e, s)
+int_few unsigned_counted (pos n) s h = let few : n < 2 ^ 127 = h.sfits in counted_small (unsigned_octets n) (unsigned_few n (omega (arith, few)))
+int_few unsigned_counted (negsuc n) s h = nil 17
+int_few signed_counted z s h = counted_small (signed_octets z) (signed_few z h)
+
+either_few : (b : Bool) (n y : ℕ) (s : List ℕ) → length s ≤ 16 → length (cond b (n ∷ []) (y ∷ s)) ≤ 17
+either_few true n y s h = omega arith
+either_few false n y s h = omega (arith, h)
+
+item_few : (z : ℤ) → FitsSigned w128 z → length (enumerated_octets z) ≤ 17
+unfolding enumerated_octets
+item_few (pos n) h = either_few (nat_lt n 128) n (128 + length (signed_octets (pos n))) (signed_octets (pos n)) (signed_few (pos n) h)
+item_few (negsuc n) h = omega (arith, signed_few (negsuc n) h)
+
+string_few : (o : Option ℕ) (w : List ℕ) → length w < 2 ^ 64 → length (string_octets o w) ≤ 9 + length w
+string_few (Some n) w h = omega arith
+string_few None w h = counted_few w h
+
+-- a value that holds no other has no octets by a type that holds others
+leaf_bound : (n : ℕ) (v : LeafValue) → ((kind : LeafType) → length (leaf_octets kind (leaf_value v)) ≤ n) → (T : AsnType) → length (canonical_octets T (leaf_value v)) ≤ n
+leaf_bound n v h (leaf kind) = h kind
+leaf_bound n v h (sequence fs) = nil n
+leaf_bound n v h (extensible_sequence fs more) = nil n
+leaf_bound n v h (sequence_of size U) = nil n
+leaf_bound n v h (choice extensible more) = nil n
+
+bool_leaf : (kind : LeafType) (x : Bool) → length (leaf_octets kind (bool x)) ≤ 1
+bool_leaf kind.boolean x = omega arith
+bool_leaf _ x = nil 1
+
+pub bool_bound : (T : AsnType) (x : Bool) → length (canonical_octets T (bool x)) ≤ 1
+bool_bound T x = leaf_bound 1 (leaf_kind.bool x) (λ kind. bool_leaf kind x) T
+
+null_leaf : (kind : LeafType) → length (leaf_octets kind nothing) ≤ 0
+null_leaf kind.null = nil 0
+null_leaf _ = nil 0
+
+pub null_bound : (T : AsnType) → length (canonical_octets T nothing) ≤ 0
+null_bound T = leaf_bound 0 leaf_kind.nothing null_leaf T
+
+int_leaf : (kind : LeafType) (z : ℤ) → FitsSigned w128 z → length (leaf_octets kind (int z)) ≤ 17
+int_leaf (kind.integer low high) z h = int_few (form_of low high) z (form_small low high) h
+int_leaf _ z h = nil 17
+
+pub int_bound : (T : AsnType) (z : ℤ) → FitsSigned w128 z → length (canonical_octets T (int z)) ≤ 17
+int_bound T z h = leaf_bound 17 (leaf_kind.int z) (λ kind. int_leaf kind z h) T
+
+item_leaf : (kind : LeafType) (z : ℤ) → FitsSigned w128 z → length (leaf_octets kind (enum z)) ≤ 17
+item_leaf (kind.enumerated numbers extensible) z h = item_few z h
+item_leaf _ z h = nil 17
+
+pub item_bound : (T : AsnType) (z : ℤ) → FitsSigned w128 z → length (canonical_octets T (enum z)) ≤ 17
+item_bound T z h = leaf_bound 17 (leaf_kind.enum z) (λ kind. item_leaf kind z h) T
+
+octets_leaf : (kind : LeafType) (w : List ℕ) → length w < 2 ^ 64 → length (leaf_octets kind (octets w)) ≤ 9 + length w
+octets_leaf (kind.octet_string size) w h = string_few (fixed size) w h
+octets_leaf _ w h = nil (9 + length w)
+
+pub octets_bound : (T : AsnType) (w : List ℕ) → length w < 2 ^ 64 → length (canonical_octets T (octets w)) ≤ 9 + length w
+octets_bound T w h = leaf_bound (9 + length w) (leaf_kind.octets w) (λ kind. octets_leaf kind w h) T
+
+text_leaf : (kind : LeafType) (w : List ℕ) → length w < 2 ^ 64 → length (leaf_octets kind (text w)) ≤ 9 + length w
+text_leaf (kind.restricted_string letters size) w h = string_few (fixed size) w h
+text_leaf (kind.utf8_string size) w h = counted_few w h
+text_leaf _ w h = nil (9 + length w)
+
+pub text_bound : (T : AsnType) (w : List ℕ) → length w < 2 ^ 64 → length (canonical_octets T (text w)) ≤ 9 + length w
+text_bound T w h = leaf_bound (9 + length w) (leaf_kind.text w) (λ kind. text_leaf kind w h) T
+
+-- nor has a value that holds others, by a type that holds none
+seq_none : (kind : LeafType) (ps qs : Places) (us : List Unknown) → leaf_octets kind (seq ps qs us) ≡ []
+seq_none kind.null ps qs us = refl
+seq_none _ ps qs us = refl
+
+items_none : (kind : LeafType) (vs : Values) → leaf_octets kind (items vs) ≡ []
+items_none kind.null vs = refl
+items_none _ vs = refl
+
+chosen_none : (kind : LeafType) (t : Tag) (v : AsnValue) → leaf_octets kind (chosen t v) ≡ []
+chosen_none kind.null t v = refl
+chosen_none _ t v = refl
+
+pub null_most : (done : ℕ) → Bounds done nothing (Some done)
+null_most done = λ T. omega (arith, null_bound T)
+
+-- by so many octets
+pub most : (o : Option ℕ) (done k : ℕ) (v : AsnValue) → IfSome o (λ n. n ≡ done + k) → ((T : AsnType) → length (canonical_octets T v) ≤ k) → Bounds done v o
+most None done k v is h = is
+most (Some n) done k v is h = λ T. omega (arith, is, h T)
+
+pub more_most : (o : Option ℕ) (done mid j k : ℕ) (v : AsnValue) → mid ≡ done + j → IfSome o (λ n. n ≡ mid + k) → ((T : AsnType) → length (canonical_octets T v) ≤ j + k) → Bounds done v o
+more_most None done mid j k v e is h = is
+more_most (Some n) done mid j k v e is h = λ T. omega (arith, e, is, h T)
+
+-- ---- components
+
+kept_few : (need : Need) (T : AsnType) (p : Option AsnValue) → length (place_octets_of T (kept_place need T p)) ≤ length (place_octets_of T p)
+kept_few need T None = nil 0
+kept_few need T (Some v) = by (is_kept need T v)
+  where
+    by : (b : Bool) → length (place_octets_of T (if b then Some v else None)) ≤ length (place_octets_of T (Some v))
+    by true = omega arith
+    by false = nil (length (place_octets_of T (Some v)))
+
+bit_few : (need : Need) (p : Option AsnValue) → length (place_bit need p) ≤ 1
+bit_few must p = nil 1
+bit_few may p = omega arith
+bit_few (default d) p = omega arith
+
+bits_few : (fs : Fields) (ps : List (Option AsnValue)) → length (field_bits fs (places_from ps)) ≤ length ps
+bits_few no_fields ps = nil (length ps)
+bits_few (field n need T fs) [] = nil 0
+bits_few (field n need T fs) (p ∷ ps) = omega (arith, ap length (field_bits_first n need T fs p ps), length-append (place_bit need (kept_place need T p)) (field_bits fs (places_from ps)), bit_few need (kept_place need T p), bits_few fs ps)
+
+first_few : (first : Option Bool) → length (first_bits first) ≤ 1
+first_few None = nil 1
+first_few (Some x) = omega arith
+
+root_few : (first : Option Bool) (fs : Fields) (xs : List (Option Value)) → length (root_octets first fs (places_of xs)) ≤ length xs / 8 + 1 + length (field_octets fs (places_of xs))
+unfolding octets_for
+root_few first fs xs =
+    let a = first_bits first in
+    let b = field_bits fs (places_of xs) in
+    omega (arith, length-append (padded (a ++ b)) (field_octets fs (places_of xs)), length-padded (a ++ b), length-append a b, first_few first, bits_few fs (map (option_map value_of) xs), length-map xs (option_map value_of))
+
+-- through a loop: by some of the components are those that are left
+abbrev pub LeftPlaces : ℕ → Places → ℕ → Places → Type 0
+LeftPlaces start whole done rest = (fs : Fields) → (gs : Fields) × (start + length (field_octets fs whole) ≤ done + length (field_octets gs rest))
+
+pub places_start : (start : ℕ) (whole : Places) → LeftPlaces start whole start whole
+places_start start whole = λ fs. (fs, omega arith)
+
+pub places_more : (start done n : ℕ) (whole : Places) (xs : List (Option Value)) (i : ℕ) (p : Option Value) → i < length xs → p ≡ get_or xs i p → LeftPlaces start whole done (places_of (drop i xs)) → ((T : AsnType) → done + length (place_octets_of T (option_map value_of p)) ≤ n) → LeftPlaces start whole n (places_of (drop (i + 1) xs))
+places_more start done n whole xs i p h is left more = λ fs. go fs (left fs).0 (left fs).1
+  where
+    rest : List (Option Value)
+    rest = drop (i + 1) xs
+
+    go : (fs gs : Fields) → start + length (field_octets fs whole) ≤ done + length (field_octets gs (places_of (drop i xs))) → (hs : Fields) × (start + length (field_octets fs whole) ≤ n + length (field_octets hs (places_of rest)))
+    go fs no_fields k = let none : length (field_octets no_fields (places_of (drop i xs))) ≡ 0 = refl in (no_fields, omega (arith, k, none, more (leaf kind.null)))
+    go fs (field name need T gs) k =
+        let q = option_map value_of p in
+        let is_first = ap (λ l. field_octets (field name need T gs) (places_of l)) (drop_more xs i p h ∙ ap (λ y. y ∷ rest) (sym is)) ∙ field_first name need T gs q (map (option_map value_of) rest) in
+        (gs, omega (arith, k, ap length is_first, length-append (place_octets_of T (kept_place need T q)) (field_octets gs (places_of rest)), kept_few need T q, more T))
+
+none_left : (gs : Fields) → field_octets gs no_places ≡ []
+none_left no_fields = refl
+none_left (field name need T gs) = refl
+
+pub places_end : (start done : ℕ) (whole : Places) (xs : List (Option Value)) (i : ℕ) → length xs ≤ i → LeftPlaces start whole done (places_of (drop i xs)) → (fs : Fields) → start + length (field_octets fs whole) ≤ done
+places_end start done whole xs i h left fs =
+    let gs = (left fs).0 in
+    let none : field_octets gs (places_of (drop i xs)) ≡ [] = ap (λ l. field_octets gs (places_of l)) (drop_all i xs h) ∙ none_left gs in
+    omega (arith, (left fs).1, ap length none)
+
+pub seq_bounds : (o : Option ℕ) (done mid : ℕ) (xs : List (Option Value)) (qs : Places) (us : List Unknown) → (any_present qs || any_unknown us) ≡ false → mid ≡ done + (length xs / 8 + 1) → BoundsPlaces mid (places_of xs) o → Bounds done (seq (places_of xs) qs us) o
+seq_bounds None done mid xs qs us off m h = h
+seq_bounds (Some n) done mid xs qs us off m h = go
+  where
+    less : done + 0 ≤ n
+    less = omega (arith, m, h no_fields)
+
+    go : (T : AsnType) → done + length (canonical_octets T (seq (places_of xs) qs us)) ≤ n
+    go (leaf kind) = omega (arith, less, ap length (seq_none kind (places_of xs) qs us))
+    go (sequence fs) = let e : length (canonical_octets (sequence fs) (seq (places_of xs) qs us)) ≡ length (root_octets None fs (places_of xs)) = refl in omega (arith, e, m, root_few None fs xs, h fs)
+    go (extensible_sequence fs more) = let e = ap length (extended_is fs more (places_of xs) qs us false (sym off) ∙ append-nil (root_octets (Some false) fs (places_of xs))) in omega (arith, e, m, root_few (Some false) fs xs, h fs)
+    go (sequence_of size U) = less
+    go (choice extensible more) = less
+
+-- ---- elements
+
+-- through a loop
+abbrev pub LeftValues : ℕ → Values → ℕ → Values → Type 0
+LeftValues start whole done rest = (T : AsnType) → start + length (values_octets T whole) ≤ done + length (values_octets T rest)
+
+pub values_more : (start done n : ℕ) (whole : Values) (vs : List Value) (i : ℕ) (v : Value) → i < length vs → v ≡ get_or vs i v → LeftValues start whole done (values_of (drop i vs)) → ((T : AsnType) → done + length (canonical_octets T (value_of v)) ≤ n) → LeftValues start whole n (values_of (drop (i + 1) vs))
+values_more start done n whole vs i v h is left more = λ T. omega (arith, left T, more T, values_len T vs i v h is)
+
+pub values_end : (start done : ℕ) (whole : Values) (vs : List Value) (i : ℕ) → length vs ≤ i → LeftValues start whole done (values_of (drop i vs)) → (T : AsnType) → start + length (values_octets T whole) ≤ done
+values_end start done whole vs i h left T = omega (arith, left T, ap length (ap (λ l. values_octets T (values_of l)) (drop_all i vs h)))
+
+pub list_bounds : (o : Option ℕ) (done mid : ℕ) (vs : List Value) → mid ≡ done + length (counted (unsigned_octets (length vs))) → BoundsValues mid (values_of vs) o → Bounds done (items (values_of vs)) o
+list_bounds None done mid vs m h = h
+list_bounds (Some n) done mid vs m h = go
+  where
+    less : done + 0 ≤ n
+    less = omega (arith, m, h (leaf kind.null))
+
+    go : (T : AsnType) → done + length (canonical_octets T (items (values_of vs))) ≤ n
+    go (leaf kind) = omega (arith, less, ap length (items_none kind (values_of vs)))
+    go (sequence fs) = less
+    go (extensible_sequence fs more) = less
+    go (sequence_of size U) = let e = ap (λ k. length (counted (unsigned_octets k) ++ values_octets U (values_of vs))) (count_of U vs) in omega (arith, e, m, length-append (counted (unsigned_octets (length vs))) (values_octets U (values_of vs)), h U)
+    go (choice extensible more) = less
+
+-- ---- alternatives
+
+alternative_few : (more : Alternatives) (t : Tag) (v : AsnValue) (m : ℕ) → ((T : AsnType) → length (canonical_octets T v) ≤ m) → m < 2 ^ 64 → length (chosen_octets more t v) ≤ 9 + m
+alternative_few no_alternatives t v m h few = nil (9 + m)
+alternative_few (alternative name u T more) t v m h few = by (same_tag u t) refl (alternative_few more t v m h few)
+  where
+    by : (b : Bool) → same_tag u t ≡ b → length (chosen_octets more t v) ≤ 9 + m → length (chosen_octets (alternative name u T more) t v) ≤ 9 + m
+    by true e k = rw (e) (omega (arith, h T))
+    by false e k = rw (e) k
+alternative_few (later name u T more) t v m h few = by (same_tag u t) refl (alternative_few more t v m h few)
+  where
+    by : (b : Bool) → same_tag u t ≡ b → length (chosen_octets more t v) ≤ 9 + m → length (chosen_octets (later name u T more) t v) ≤ 9 + m
+    by true e k = rw (e) (omega (arith, h T, counted_few (canonical_octets T v) (omega (arith, h T, few))))
+    by false e k = rw (e) k
+
+pub chosen_bounds : (o : Option ℕ) (done mid : ℕ) (t : Tag) (v : AsnValue) → IfSome o (λ n. n < 2 ^ 64) → mid ≡ done + length (tag_octets t) + 9 → Bounds mid v o → Bounds done (chosen t v) o
+chosen_bounds None done mid t v few m h = h
+chosen_bounds (Some n) done mid t v few m h = go
+  where
+    less : done + 0 ≤ n
+    less = omega (arith, m, h (leaf kind.null))
+
+    go : (T : AsnType) → done + length (canonical_octets T (chosen t v)) ≤ n
+    go (leaf kind) = omega (arith, less, ap length (chosen_none kind t v))
+    go (sequence fs) = less
+    go (extensible_sequence fs more) = less
+    go (sequence_of size U) = less
+    go (choice extensible more) = let e : length (canonical_octets (choice extensible more) (chosen t v)) ≡ length (tag_octets t ++ chosen_octets more t v) = refl in omega (arith, e, m, length-append (tag_octets t) (chosen_octets more t v), alternative_few more t v (n - mid) (λ T. omega (arith, h T)) (omega (arith, few)), h (leaf kind.null))
