@@ -772,18 +772,22 @@ fn save(folder: &str, name: &str, shape: &Shape, value: &Value) {
     std::fs::write(format!("{folder}/{name}"), octets).unwrap();
 }
 
-fn files(folder: &str) {
-    let mut seed = 12345u64;
-    let mut random = || { seed ^= seed << 13; seed ^= seed >> 7; seed ^= seed << 17; seed };
+/// A value of `Sequences`, with so many small SEQUENCEs.
+fn some_sequences(count: usize, random: &mut impl FnMut() -> u64) -> Value {
     let of = |places: Vec<Option<Value>>| Value::Seq { root: places, added: vec![], unknown: vec![] };
     let c = (0..40).map(|_| random() as u8).collect();
-    let e = (0..1000).map(|i| {
+    let e = (0..count).map(|i| {
         let w = if i % 2 == 0 { Some(Value::Int((random() >> (random() % 60)) as i128)) } else { None };
         let z = (random() as u32).to_be_bytes().to_vec();
         of(vec![Some(Value::Int(random() as u8 as i128)), Some(Value::Int(random() as i32 as i128)), Some(Value::Octets(z)), w])
     }).collect();
-    let whole = of(vec![Some(Value::Int(4711)), Some(Value::Int(-123456789012345)), Some(Value::Octets(c)), Some(Value::Int(1 << 40)), Some(Value::List(e))]);
-    save(folder, "sequences.oer", &sequences(), &whole);
+    of(vec![Some(Value::Int(4711)), Some(Value::Int(-123456789012345)), Some(Value::Octets(c)), Some(Value::Int(1 << 40)), Some(Value::List(e))])
+}
+
+fn files(folder: &str) {
+    let mut seed = 12345u64;
+    let mut random = || { seed ^= seed << 13; seed ^= seed >> 7; seed ^= seed << 17; seed };
+    save(folder, "sequences.oer", &sequences(), &some_sequences(1000, &mut random));
     for power in 16..=22 {
         let octets = (0..1usize << power).map(|_| random() as u8).collect();
         save(folder, &format!("octets-{}.oer", 1 << power), &any_octets(), &Value::Octets(octets));
@@ -795,6 +799,9 @@ fn files(folder: &str) {
             value = Value::Seq { root: vec![], added: vec![Some(value)], unknown: vec![] };
             save(folder, &format!("nested{depth}-{}.oer", 1 << power), &nested(depth), &value);
         }
+    }
+    for count in [250, 500, 1000, 2000, 4000, 8000] {
+        save(folder, &format!("sequences-{count}.oer"), &sequences(), &some_sequences(count, &mut random));
     }
 }
 

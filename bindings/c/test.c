@@ -1,8 +1,9 @@
-/* Tests of the library from C: test FOLDER STRINGS
+/* Tests of the library from C: test FOLDER STRINGS [SIZES]
  *
- * FOLDER is examples/ieee1609dot2, and STRINGS is how many random strings of octets are tried. With
- * FAIL_MEMORY defined, and linked with --wrap for malloc, realloc and free, allocations fail
- * in turn, and blocks that are left are found. It says what differs, and then its status is 1. */
+ * FOLDER is examples/ieee1609dot2, and STRINGS is how many random strings of octets are tried. SIZES is how
+ * many sizes of a buffer that is too small are tried for one answer, about; where it is left out, every one.
+ * With FAIL_MEMORY defined, and linked with --wrap for malloc, realloc and free, allocations fail in turn, and
+ * blocks that are left are found. It says what differs, and then its status is 1. */
 #include "vectors.h"
 
 #include <stdio.h>
@@ -10,6 +11,9 @@
 #include <string.h>
 
 static int differs;
+
+/* SIZES, or more than any answer has. */
+static size_t sizes = (size_t)-1;
 
 #define EXPECT(condition, what)                                                            \
     do {                                                                                   \
@@ -106,29 +110,39 @@ static oer_types types_of(const char *type) {
     return types;
 }
 
-/* What the call of the vector answers; the answer of a check has its `canonical` in `written`. */
-static oer_written call(oer_types *types, const char *name, const struct vector *vector, uint8_t *out, size_t room) {
-    struct octets given = vector->task == FROM_JSON ? from_text(vector->given) : from_hex(vector->given);
+static struct octets given_of(const struct vector *vector) {
+    return vector->task == FROM_JSON ? from_text(vector->given) : from_hex(vector->given);
+}
+
+/* What the call of the vector answers, with the octets or the text that it is given; the answer of a check
+ * has its `canonical` in `written`. */
+static oer_written call_with(oer_types *types, const char *name, const struct vector *vector,
+                             const struct octets *given, uint8_t *out, size_t room) {
     size_t length = strlen(name);
     oer_written written;
     oer_checked checked;
     switch (vector->task) {
     case CANON:
-        return oer_canon(types, name, length, given.at, given.length, vector->limit, out, room);
+        return oer_canon(types, name, length, given->at, given->length, vector->limit, out, room);
     case PART:
-        return oer_part(types, name, length, given.at, given.length, vector->path, strlen(vector->path), out, room);
+        return oer_part(types, name, length, given->at, given->length, vector->path, strlen(vector->path), out, room);
     case TO_JSON:
-        return oer_to_json(types, name, length, given.at, given.length, vector->limit, (char *)out, room);
+        return oer_to_json(types, name, length, given->at, given->length, vector->limit, (char *)out, room);
     case FROM_JSON:
-        return oer_from_json(types, name, length, (const char *)given.at, given.length, out, room);
+        return oer_from_json(types, name, length, (const char *)given->at, given->length, out, room);
     default:
-        checked = oer_check(types, name, length, given.at, given.length);
+        checked = oer_check(types, name, length, given->at, given->length);
         written.status = checked.status;
         written.why = checked.why;
         written.octets = checked.octets;
         written.written = checked.canonical;
         return written;
     }
+}
+
+static oer_written call(oer_types *types, const char *name, const struct vector *vector, uint8_t *out, size_t room) {
+    struct octets given = given_of(vector);
+    return call_with(types, name, vector, &given, out, room);
 }
 
 static int is_only(oer_written answer, uint32_t status) {
@@ -149,11 +163,24 @@ static struct octets wanted(const struct vector *vector) {
 
 /* ---- the table */
 
+/* Each size below what is needed is too small, and leaves the buffer as it was. */
+static void test_room(oer_types *types, const struct vector *vector, size_t needed) {
+    struct octets given = given_of(vector);
+    uint8_t out[LONGEST];
+    size_t room;
+    memset(out, 0xbb, sizeof out);
+    for (room = 0; room < needed; room += 1 + needed / sizes) {
+        oer_written answer = call_with(types, "A", vector, &given, out, room);
+        EXPECT(answer.status == OER_ROOM && answer.why == 0, vector->given);
+        EXPECT(answer.octets == vector->octets && answer.written == vector->written, vector->given);
+    }
+    EXPECT(are_all(out, 0, sizeof out, 0xbb), vector->given);
+}
+
 static void test_vector(const struct vector *vector) {
     oer_types types = types_of(vector->type);
     struct octets want = wanted(vector);
     uint8_t out[LONGEST];
-    size_t room;
     oer_written answer;
     memset(out, 0xaa, sizeof out);
     answer = call(&types, "A", vector, out, sizeof out);
@@ -161,15 +188,7 @@ static void test_vector(const struct vector *vector) {
     EXPECT(answer.octets == vector->octets && answer.written == vector->written, vector->given);
     EXPECT(memcmp(out, want.at, want.length) == 0, vector->given);
     EXPECT(are_all(out, want.length, sizeof out, 0xaa), vector->given);
-    /* Each size below what is needed is too small, and leaves the buffer as it was; of long answers
-     * some sizes are tried. */
-    for (room = 0; room < want.length; room += 1 + room / 64) {
-        memset(out, 0xbb, sizeof out);
-        answer = call(&types, "A", vector, out, room);
-        EXPECT(answer.status == OER_ROOM && answer.why == 0, vector->given);
-        EXPECT(answer.octets == vector->octets && answer.written == vector->written, vector->given);
-        EXPECT(are_all(out, 0, sizeof out, 0xbb), vector->given);
-    }
+    test_room(&types, vector, want.length);
     memset(out, 0xcc, sizeof out);
     EXPECT(is_only(call(&types, "B", vector, out, sizeof out), OER_UNNAMED), vector->given);
     EXPECT(is_only(call(&types, "", vector, out, sizeof out), OER_UNNAMED), vector->given);
@@ -540,10 +559,11 @@ static void test_layout(void) {
 
 int main(int count, char **words) {
     size_t i;
-    if (count != 3) {
-        puts("usage: test FOLDER STRINGS");
+    if (count != 3 && count != 4) {
+        puts("usage: test FOLDER STRINGS [SIZES]");
         return 2;
     }
+    if (count == 4) sizes = (size_t)atol(words[3]);
     test_layout();
     for (i = 0; i < COUNT(vectors); i++) {
         test_vector(&vectors[i]);

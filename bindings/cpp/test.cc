@@ -226,13 +226,12 @@ static bytes wanted(const vector &row) {
     return row.task == TO_JSON ? from_text(row.answer) : from_hex(row.answer);
 }
 
-// Each size below what is needed is too small, and leaves the buffer as it was; of long answers some
-// sizes are tried.
+// Each size below what is needed is too small, and leaves the buffer as it was.
 static void test_rooms(oer::types &types, const vector &row) {
     static const guarded memory;
     bytes want = wanted(row);
     std::size_t room;
-    for (room = 0; room < want.size(); room += 1 + room / 64) {
+    for (room = 0; room < want.size(); room++) {
         std::uint8_t *out = memory.end_with(room);
         std::fill(out, out + room, static_cast<std::uint8_t>(0xbb));
         oer::result<oer::written> small = call_into(types, row, oer::octets_out(room ? out : nullptr, room));

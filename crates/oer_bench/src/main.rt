@@ -3,9 +3,13 @@
 //! - `oer_bench TASK TURNS`: units;
 //! - `oer_bench TASK TURNS TYPES`: the text of a file;
 //! - `oer_bench TASK TURNS TYPES NAME OCTETS`: the octets of a file, under a type of the text.
+//!
+//! What a turn is given alternates between two copies, since a call whose arguments stay the same could be
+//! made once for all turns.
 #![tactic(auto)]
 
 mod pieces;
+mod twice;
 mod units;
 mod values;
 
@@ -13,22 +17,25 @@ use oer_text::parse_types;
 use std::alloc::Global;
 use std::fs;
 use std::process::ExitCode;
+use twice::{Twice, of_turn};
 
 /// The turns of a task on units.
 fn on_units(alloc: Global, task: &str, turns: u32) -> Option<u64> {
-    let list = units::list_of(alloc, task)?;
+    let one = units::list_of(alloc, task)?;
+    let other = units::list_of(alloc, task)?;
     let mut sum = 0u64;
-    for _ in 0..turns {
-        sum = sum.wrapping_add(units::turn(alloc, task, list.as_slice()));
+    for turn in 0..turns {
+        let list = of_turn(turn, one.as_slice(), other.as_slice());
+        sum = sum.wrapping_add(units::turn(alloc, task, list));
     }
     Some(sum)
 }
 
-/// The turns of a task on a text.
-fn on_text(alloc: Global, task: &str, text: &str, turns: u32) -> Option<u64> {
+/// The turns of a task on a text, of which there are two copies.
+fn on_text(alloc: Global, task: &str, one: &str, other: &str, turns: u32) -> Option<u64> {
     match task {
-        "new" => values::turns_new(alloc, text, turns),
-        _ => Some(values::turns_parse(alloc, text, turns)),
+        "new" => values::turns_new(alloc, one, turns),
+        _ => Some(values::turns_parse(alloc, one, other, turns)),
     }
 }
 
@@ -38,7 +45,7 @@ fn on_octets(
     task: &str,
     text: &str,
     name: &str,
-    octets: &[u8],
+    octets: &Twice,
     turns: u32,
 ) -> Option<u64> {
     let types = parse_types(alloc, text).ok()?;
@@ -55,12 +62,16 @@ fn asked(rt: &HostRuntime, words: &[String]) -> Option<u64> {
     match files {
         [] => on_units(alloc, task.as_str(), turns),
         [text] => {
-            let text = fs::read_to_string(rt, text.as_str()).ok()?;
-            on_text(alloc, task.as_str(), text.as_str(), turns)
+            let one = fs::read_to_string(rt, text.as_str()).ok()?;
+            let other = fs::read_to_string(rt, text.as_str()).ok()?;
+            on_text(alloc, task.as_str(), one.as_str(), other.as_str(), turns)
         }
         [text, name, octets] => {
             let text = fs::read_to_string(rt, text.as_str()).ok()?;
-            let octets = fs::read(rt, octets.as_str()).ok()?;
+            let octets = Twice {
+                one: fs::read(rt, octets.as_str()).ok()?,
+                other: fs::read(rt, octets.as_str()).ok()?,
+            };
             on_octets(
                 alloc,
                 task.as_str(),

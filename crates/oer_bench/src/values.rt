@@ -5,6 +5,7 @@ ghost use Rattle.oer_types.specs.Schema.{the_type};
 ghost use Rattle.oer_types.specs.ValueView.{value_of};
 
 use crate::pieces::Pieces;
+use crate::twice::{Twice, of_turn};
 use oer_reader::{check, read, rewrite};
 use oer_text::{parse_type, parse_types};
 use oer_types::{Schema, Value, fits};
@@ -38,11 +39,13 @@ fn rewrites(alloc: Global, schema: &Schema, octets: &[u8]) -> u64 {
     }
 }
 
-/// How many octets the encoding at the front has, which is checked without making its value; 0 where
-/// there is none.
+/// What is found of the encoding at the front, which is checked without making its value: twice the number
+/// of its octets, and 1 more where it is canonical; 0 where there is none.
 fn checks(schema: &Schema, octets: &[u8]) -> u64 {
     match check(schema, octets) {
-        Ok(verdict) => verdict.octets as u64,
+        Ok(verdict) => (verdict.octets as u64)
+            .wrapping_mul(2)
+            .wrapping_add(u64::from(verdict.canonical)),
         Err(_) => 0,
     }
 }
@@ -66,50 +69,61 @@ fn turns_read(
     alloc: Global,
     task: &str,
     schema: &Schema,
-    octets: &[u8],
+    octets: &Twice,
     turns: u32,
 ) -> Option<u64> {
     let mut sum = 0u64;
-    for _ in 0..turns {
-        sum = sum.wrapping_add(turn_read(alloc, task, schema, octets)?);
+    for turn in 0..turns {
+        sum = sum.wrapping_add(turn_read(alloc, task, schema, octets.of_turn(turn))?);
     }
     Some(sum)
 }
 
-/// How many octets the value of this turn has, of two that alternate; 0 where it is too long.
-fn length_of(schema: &Schema, one: &Value, other: &Value, turn: u32) -> u64
-    requires one { Fits (the_type schema.now) (value_of one.now) }
-    requires other { Fits (the_type schema.now) (value_of other.now) }
+/// How many octets the value has; 0 where it is too long.
+fn length_of(schema: &Schema, value: &Value) -> u64
+    requires { Fits (the_type schema.now) (value_of value.now) }
 {
-    if turn.is_multiple_of(2) {
-        return length(schema, one).unwrap_or(0);
-    }
-    length(schema, other).unwrap_or(0)
+    length(schema, value).unwrap_or(0)
 }
 
-/// The lengths of all turns. Two values alternate, since a call whose arguments stay the same would be
-/// made only once.
+/// The lengths of all turns.
 fn turns_length(schema: &Schema, one: &Value, other: &Value, turns: u32) -> u64
     requires one { Fits (the_type schema.now) (value_of one.now) }
     requires other { Fits (the_type schema.now) (value_of other.now) }
 {
     let mut sum = 0u64;
     for turn in 0..turns {
-        sum = sum.wrapping_add(length_of(schema, one, other, turn));
+        let count = if turn.is_multiple_of(2) {
+            length_of(schema, one)
+        } else {
+            length_of(schema, other)
+        };
+        sum = sum.wrapping_add(count);
     }
     sum
 }
 
-/// How many octets all turns write, each into an empty vector.
-fn turns_write(alloc: Global, schema: &Schema, value: &Value, turns: u32) -> u64
+/// How many octets are written of the value, into an empty vector; 0 where it is not.
+fn writes(alloc: Global, schema: &Schema, value: &Value) -> u64
     requires { Fits (the_type schema.now) (value_of value.now) }
 {
+    let mut sink = Metered::new(Vec::new(alloc));
+    write(schema, value, &mut sink).unwrap_or(0)
+}
+
+/// How many octets all turns write.
+fn turns_write(alloc: Global, schema: &Schema, one: &Value, other: &Value, turns: u32) -> u64
+    requires one { Fits (the_type schema.now) (value_of one.now) }
+    requires other { Fits (the_type schema.now) (value_of other.now) }
+{
     let mut sum = 0u64;
-    for _ in 0..turns {
-        let mut sink = Metered::new(Vec::new(alloc));
-        if let Ok(count) = write(schema, value, &mut sink) {
-            sum = sum.wrapping_add(count);
-        }
+    for turn in 0..turns {
+        let count = if turn.is_multiple_of(2) {
+            writes(alloc, schema, one)
+        } else {
+            writes(alloc, schema, other)
+        };
+        sum = sum.wrapping_add(count);
     }
     sum
 }
@@ -131,15 +145,15 @@ fn turns_on_value(
     alloc: Global,
     task: &str,
     schema: &Schema,
-    octets: &[u8],
+    octets: &Twice,
     turns: u32,
 ) -> Option<u64> {
-    let value = fitting(alloc, schema, octets)?;
+    let one = fitting(alloc, schema, octets.one.as_slice())?;
+    let other = fitting(alloc, schema, octets.other.as_slice())?;
     if task == "measure" {
-        let other = fitting(alloc, schema, octets)?;
-        return Some(turns_length(schema, &value, &other, turns));
+        return Some(turns_length(schema, &one, &other, turns));
     }
-    Some(turns_write(alloc, schema, &value, turns))
+    Some(turns_write(alloc, schema, &one, &other, turns))
 }
 
 /// The turns of a task on the type and the octets.
@@ -147,7 +161,7 @@ pub(crate) fn turns_on(
     alloc: Global,
     task: &str,
     schema: &Schema,
-    octets: &[u8],
+    octets: &Twice,
     turns: u32,
 ) -> Option<u64> {
     match task {
@@ -156,11 +170,11 @@ pub(crate) fn turns_on(
     }
 }
 
-/// How many turns parse the definitions of the text.
-pub(crate) fn turns_parse(alloc: Global, text: &str, turns: u32) -> u64 {
+/// How many turns parse the definitions of the text, of which there are two copies.
+pub(crate) fn turns_parse(alloc: Global, one: &str, other: &str, turns: u32) -> u64 {
     let mut sum = 0u64;
-    for _ in 0..turns {
-        if parse_types(alloc, text).is_ok() {
+    for turn in 0..turns {
+        if parse_types(alloc, of_turn(turn, one, other)).is_ok() {
             sum = sum.wrapping_add(1);
         }
     }

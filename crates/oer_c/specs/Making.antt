@@ -6,7 +6,7 @@ use Rattle.serde_json.specs.Read.{read}
 use Rattle.oer_types.specs.AsnType.{AsnType}
 use Rattle.oer_types.specs.AsnValue.{AsnValue}
 use Rattle.oer_types.specs.Strict.{IsCanonical}
-use Rattle.oer_json.specs.Denotes.{Takes}
+use Rattle.oer_json.specs.Denotes.{IsJsonOf}
 use Rattle.oer_json.specs.Take.{taken}
 use Rattle.oer_json.specs.declared.fault.JsonFault.{JsonFault}
 use Rattle.oer_c.specs.Buffers.{IsPut, only_written}
@@ -15,7 +15,7 @@ use Rattle.oer_c.specs.declared.buffer.Written.{Written}
 
 -- these are the canonical octets of a value for which the text stands
 abbrev pub IsOctetsOf : AsnType → List ℕ → List ℕ → Type 0
-IsOctetsOf T text c = (j : Data) × (v : AsnValue) × (read text ≡ Some j) × Takes T v j × IsCanonical T v c
+IsOctetsOf T text c = (j : Data) × (v : AsnValue) × (read text ≡ Some j) × IsJsonOf T v j × IsCanonical T v c
 
 -- the JSON is rejected
 abbrev pub json_rejection : JsonFault → Written
@@ -28,7 +28,7 @@ IsUnread text a = (a ≡ only_written 4) ⊎ ((a ≡ only_written 9) × (IsUtf8 
 -- The JSON stands for no value, and this is its first fault; or an allocation failed.
 abbrev pub IsUntaken : AsnType → Data → Written → Type 0
 IsUntaken T j a = (a ≡ only_written 4)
-    ⊎ ((fault : JsonFault) × (a ≡ json_rejection fault) × (taken T j ≡ Err fault) × ((v : AsnValue) → Takes T v j → ⊥))
+    ⊎ ((fault : JsonFault) × (a ≡ json_rejection fault) × (taken T j ≡ Err fault) × ((v : AsnValue) → IsJsonOf T v j → ⊥))
 
 -- The text is not JSON, or its JSON stands for no value, or an allocation failed.
 abbrev pub IsUnmade : AsnType → List ℕ → Written → Type 0

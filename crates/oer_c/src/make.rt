@@ -6,7 +6,7 @@ ghost use Rattle.oer_types.specs.Fits.{Fits};
 ghost use Rattle.oer_types.specs.Schema.{the_type};
 ghost use Rattle.oer_types.specs.Strict.{IsCanonical};
 ghost use Rattle.oer_types.specs.ValueView.{value_of};
-ghost use Rattle.oer_json.specs.Denotes.{Takes};
+ghost use Rattle.oer_json.specs.Denotes.{IsJsonOf};
 ghost use Rattle.oer_c.specs.Buffers.{IsUndone, only_written};
 ghost use Rattle.oer_c.specs.Making.{IsOctetsOf, IsUnmade, IsUnread, IsUntaken, Makes, json_rejection};
 ghost use Rattle.oer_c.specs.Naming.{ByName};
@@ -38,7 +38,7 @@ fn reject(fault: JsonFault) -> Written
 
 // The value of the type for which the JSON stands.
 fn value_in(alloc: Global, schema: &Schema, json: &Json) -> Result<Value, Written>
-    ensures takes { IfOk result (λ value. Takes (the_type schema.now) (value_of value) (view json.now)) }
+    ensures takes { IfOk result (λ value. IsJsonOf (the_type schema.now) (value_of value) (view json.now)) }
     ensures fits { IfOk result (λ value. Fits (the_type schema.now) (value_of value)) }
     ensures rejected { IfErr result (IsUntaken (the_type schema.now) (view json.now)) }
 {

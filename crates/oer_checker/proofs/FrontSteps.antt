@@ -40,8 +40,8 @@ module _ (T : AsnType) (wf : KeepsLimits T) (d : DefaultsFit T) (input : List �
   judged : (o : Outcome AsnValue) → read_value T (at input most) ≡ o → Judges T input o (check_value T (at input most))
   judged o e = subst (λ (r : Outcome AsnValue). Judges T input r (check_value T (at input most))) e (check_tells T wf d input most octs few)
 
-  told : (o : Outcome AsnValue) → read_value T (at input most) ≡ o → law.Tells (λ why t rest. Means why T most t rest) T input most o
-  told o e = subst (λ (r : Outcome AsnValue). law.Tells (λ why t rest. Means why T most t rest) T input most r) e (reads_encodings T wf input most octs)
+  told : (o : Outcome AsnValue) → read_value T (at input most) ≡ o → law.IsRightAnswer (λ why t rest. Means why T most t rest) T input most o
+  told o e = subst (λ (r : Outcome AsnValue). law.IsRightAnswer (λ why t rest. Means why T most t rest) T input most r) e (reads_encodings T wf input most octs)
 
   found : (verdict : Verdict) (f : Bool) (q : Place) → verdict.octets ≡ length input - length q.input → verdict.canonical ≡ f → got f q ≡ check_value T (at input most) → Tells T input (Ok verdict) × Answers T input (Ok verdict)
   found verdict f q many flag e = cases (read_value T (at input most)) refl where

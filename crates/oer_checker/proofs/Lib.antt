@@ -1,39 +1,30 @@
-mod Joins
+pub mod Joins
 mod UnitSteps
 mod ShortUnits
-mod LengthSteps
+pub mod LengthSteps
 mod NumberSteps
-mod Exits
+pub mod Exits
 mod StringSteps
-mod BitLists
+pub mod BitLists
 mod LowBits
 mod BitSteps
-mod TagSteps
-mod FieldSteps
+pub mod TagSteps
+pub mod FieldSteps
 pub mod Shapes
-mod Sizes
+pub mod Sizes
 mod FrontSteps
-mod TypeSteps
+pub mod TypeSteps
 mod Entries
 mod Pairs
 mod Walks
 mod Finds
 mod PartSteps
-mod ShapeCases
+pub mod ShapeCases
 mod Inside
 mod TagParts
 mod Leading
 mod Digits
 mod Paths
-mod LineSteps
-mod LineUnits
-mod LineLaws
-mod LineForms
-mod ListingSteps
-mod LinePaths
-mod LineParts
-mod LineSplits
-mod Distinct
-mod LineNames
+pub mod UnitFronts
 mod Standing
 mod Ranging

@@ -23,7 +23,7 @@ use Rattle.oer_types.specs.SharedSteps.{number_in}
 use Rattle.oer_types.proofs.NumberSteps.{integer_is, naturals_is, tested, wide}
 use Rattle.oer_types.specs.declared.size.Size.{Size}
 use Rattle.std.specs.Prelude.{Result, Ok, Err, IfOk}
-use Rattle.oer_checker.specs.declared.place.Place as rust_place
+use Rattle.oer_checker.specs.declared.cursor.Cursor.{Cursor}
 use Rattle.oer_checker.specs.declared.stop.Stop.{Stop}
 use Rattle.oer_checker.specs.Places.{outcome, place_of, same}
 use Rattle.oer_checker.specs.Numbers.{least_in}
@@ -162,7 +162,7 @@ from_zero n = int_le-true (pos 0) (pos n) (le-leb 0 n (omega arith))
 pub natural_from : (p q : Place) (z : ℤ) → got z q ≡ counted_number natural is_int128 p → pos 0 ≤ℤ z
 natural_from p q z e = subst (λ (y : ℤ). pos 0 ≤ℤ y) (sym (quantity_got p q z e).is) (from_zero (unsigned_abs z))
 
-pub natural_result : (r : Result (ℤ × rust_place.Place) Stop) (p : Place) → outcome same r ≡ counted_number natural is_int128 p → IfOk r (λ y. pos 0 ≤ℤ y.0)
+pub natural_result : (r : Result (ℤ × Cursor) Stop) (p : Place) → outcome same r ≡ counted_number natural is_int128 p → IfOk r (λ y. pos 0 ≤ℤ y.0)
 natural_result (Ok y) p e = natural_from p (place_of y.1) y.0 e
 natural_result (Err s) p e = tt
 

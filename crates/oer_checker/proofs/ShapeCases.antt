@@ -1,5 +1,5 @@
--- Steps that a shape doesn't have.
-use Rattle.std.proofs.Common.{◌≡◌, ◌⊎◌, inl, inr, ⊎_elim, ℕ, suc, ltb, length, List, [], ◌∷◌, false, Option, Some, None, Vec, Box, Global, refl, ap, sym, ◌∙◌}
+-- What a shape can be, and steps that it doesn't have.
+use Rattle.std.proofs.Common.{◌≡◌, ◌⊎◌, inl, inr, ⊎_elim, ℕ, suc, ltb, length, List, [], ◌∷◌, false, Option, Some, None, Vec, Box, Global, refl, ap, sym, subst, ◌∙◌}
 use Rattle.oer_types.specs.AsnType.{AsnType, choice, extensible_sequence, leaf, sequence, sequence_of}
 use Rattle.oer_types.specs.Parts.{Step, field_count, knows, to_addition, to_chosen, to_component, to_item}
 use Rattle.oer_types.specs.ShapeView.{SeenField, SeenAddition, SeenAlternative, addition_step, alt_step, choice_with, field_step, fields_of, sequence_with, shape_step, type_of}
@@ -11,14 +11,12 @@ use Rattle.oer_types.specs.declared.shape.Shape.{Shape, Sequence, SequenceOf, Ch
 use Rattle.oer_types.specs.declared.shape.Shape.TheOpen.{Shape-F}
 use Rattle.oer_types.specs.declared.shape.Shape.TheVariants.{rolls-Sequence, rolls-SequenceOf, rolls-Choice}
 use Rattle.oer_types.proofs.Shapes.{type_of-Choice, type_of-Sequence, type_of-SequenceOf}
+use Rattle.oer_checker.specs.Facts.{IsLeaf}
 use Rattle.oer_checker.proofs.FieldSteps.{count_is}
 use Rattle.oer_checker.proofs.PartSteps.{has_step}
 
 abbrev Layer : Type 0
 Layer = Shape-F Shape Addition Alt Field
-
-IsPlain : Shape → Type 0
-IsPlain shape = (st : Step) → has_step (type_of shape) st ≡ false
 
 IsSequence : Shape → Type 0
 IsSequence shape = (root : Vec Field Global) × (more : Option (Vec Addition Global)) × (shape ≡ Sequence root more)
@@ -29,26 +27,22 @@ IsList shape = (size : Size) × (item : Box Shape Global) × (shape ≡ Sequence
 IsChoice : Shape → Type 0
 IsChoice shape = (root : Vec Alt Global) × (more : Option (Vec Alt Global)) × (shape ≡ Choice root more)
 
-kinds : (o : Layer) (shape : Shape) → roll-Shape o ≡ shape → IsPlain shape ⊎ (IsSequence shape ⊎ (IsList shape ⊎ IsChoice shape))
-unfolding IsPlain IsSequence IsList IsChoice
-kinds Shape-F.Boolean shape e = inl (λ st. ap (λ (x : Shape). has_step (type_of x) st) (sym e) ∙ ap (λ T. has_step T st) (fold-roll-Shape AsnType SeenAddition SeenAlternative SeenField shape_step addition_step alt_step field_step Shape-F.Boolean))
-kinds Shape-F.Null shape e = inl (λ st. ap (λ (x : Shape). has_step (type_of x) st) (sym e) ∙ ap (λ T. has_step T st) (fold-roll-Shape AsnType SeenAddition SeenAlternative SeenField shape_step addition_step alt_step field_step Shape-F.Null))
-kinds (Shape-F.Integer low high) shape e = inl (λ st. ap (λ (x : Shape). has_step (type_of x) st) (sym e) ∙ ap (λ T. has_step T st) (fold-roll-Shape AsnType SeenAddition SeenAlternative SeenField shape_step addition_step alt_step field_step (Shape-F.Integer low high)))
-kinds (Shape-F.Enumerated xs more) shape e = inl (λ st. ap (λ (x : Shape). has_step (type_of x) st) (sym e) ∙ ap (λ T. has_step T st) (fold-roll-Shape AsnType SeenAddition SeenAlternative SeenField shape_step addition_step alt_step field_step (Shape-F.Enumerated xs more)))
-kinds (Shape-F.BitString s) shape e = inl (λ st. ap (λ (x : Shape). has_step (type_of x) st) (sym e) ∙ ap (λ T. has_step T st) (fold-roll-Shape AsnType SeenAddition SeenAlternative SeenField shape_step addition_step alt_step field_step (Shape-F.BitString s)))
-kinds (Shape-F.OctetString s) shape e = inl (λ st. ap (λ (x : Shape). has_step (type_of x) st) (sym e) ∙ ap (λ T. has_step T st) (fold-roll-Shape AsnType SeenAddition SeenAlternative SeenField shape_step addition_step alt_step field_step (Shape-F.OctetString s)))
-kinds Shape-F.ObjectId shape e = inl (λ st. ap (λ (x : Shape). has_step (type_of x) st) (sym e) ∙ ap (λ T. has_step T st) (fold-roll-Shape AsnType SeenAddition SeenAlternative SeenField shape_step addition_step alt_step field_step Shape-F.ObjectId))
-kinds (Shape-F.Ia5 s) shape e = inl (λ st. ap (λ (x : Shape). has_step (type_of x) st) (sym e) ∙ ap (λ T. has_step T st) (fold-roll-Shape AsnType SeenAddition SeenAlternative SeenField shape_step addition_step alt_step field_step (Shape-F.Ia5 s)))
-kinds (Shape-F.Visible s) shape e = inl (λ st. ap (λ (x : Shape). has_step (type_of x) st) (sym e) ∙ ap (λ T. has_step T st) (fold-roll-Shape AsnType SeenAddition SeenAlternative SeenField shape_step addition_step alt_step field_step (Shape-F.Visible s)))
-kinds (Shape-F.Numeric s) shape e = inl (λ st. ap (λ (x : Shape). has_step (type_of x) st) (sym e) ∙ ap (λ T. has_step T st) (fold-roll-Shape AsnType SeenAddition SeenAlternative SeenField shape_step addition_step alt_step field_step (Shape-F.Numeric s)))
-kinds (Shape-F.Printable s) shape e = inl (λ st. ap (λ (x : Shape). has_step (type_of x) st) (sym e) ∙ ap (λ T. has_step T st) (fold-roll-Shape AsnType SeenAddition SeenAlternative SeenField shape_step addition_step alt_step field_step (Shape-F.Printable s)))
-kinds (Shape-F.Utf8 s) shape e = inl (λ st. ap (λ (x : Shape). has_step (type_of x) st) (sym e) ∙ ap (λ T. has_step T st) (fold-roll-Shape AsnType SeenAddition SeenAlternative SeenField shape_step addition_step alt_step field_step (Shape-F.Utf8 s)))
+kinds : (o : Layer) (shape : Shape) → roll-Shape o ≡ shape → IsLeaf (type_of shape) ⊎ (IsSequence shape ⊎ (IsList shape ⊎ IsChoice shape))
+unfolding IsSequence IsList IsChoice
 kinds (Shape-F.Sequence root more) shape e = inr (inl (root, more, sym e ∙ rolls-Sequence root more))
 kinds (Shape-F.SequenceOf size item) shape e = inr (inr (inl (size, item, sym e ∙ rolls-SequenceOf size item)))
 kinds (Shape-F.Choice root more) shape e = inr (inr (inr (root, more, sym e ∙ rolls-Choice root more)))
+kinds o shape e = inl (subst (λ (x : Shape). IsLeaf (type_of x)) e (subst IsLeaf (sym (fold-roll-Shape AsnType SeenAddition SeenAlternative SeenField shape_step addition_step alt_step field_step o)) tt))
 
-known : (shape : Shape) → IsPlain shape ⊎ (IsSequence shape ⊎ (IsList shape ⊎ IsChoice shape))
+known : (shape : Shape) → IsLeaf (type_of shape) ⊎ (IsSequence shape ⊎ (IsList shape ⊎ IsChoice shape))
 known shape = kinds (out-Shape shape) shape (roll-out-Shape shape)
+
+leaf_has : (T : AsnType) (st : Step) → IsLeaf T → has_step T st ≡ false
+leaf_has (leaf kind) st h = refl
+leaf_has (sequence fs) st h = absurd h
+leaf_has (extensible_sequence fs more) st h = absurd h
+leaf_has (sequence_of s T) st h = absurd h
+leaf_has (choice x more) st h = absurd h
 
 list_has : (shape : Shape) → IsList shape → (st : Step) → ((i : ℕ) → st ≡ to_item i → ⊥) → has_step (type_of shape) st ≡ false
 unfolding IsList
@@ -86,16 +80,21 @@ sequence_has shape (root, more, e) st one two = ap (λ (x : Shape). has_step (ty
   by (Some m) to_chosen one two = refl
 
 pub not_sequence : (shape : Shape) → ((root : Vec Field Global) (more : Option (Vec Addition Global)) → shape ≡ Sequence root more → ⊥) → (st : Step) → ((i : ℕ) → st ≡ to_item i → ⊥) → (st ≡ to_chosen → ⊥) → has_step (type_of shape) st ≡ false
-unfolding IsPlain IsSequence
-not_sequence shape none st one two = ⊎_elim (λ k. k st) (⊎_elim (λ (root, more, e). absurd (none root more e)) (⊎_elim (λ k. list_has shape k st one) (λ k. choice_has shape k st two))) (known shape)
+unfolding IsSequence
+not_sequence shape none st one two = ⊎_elim (leaf_has (type_of shape) st) (⊎_elim (λ (root, more, e). absurd (none root more e)) (⊎_elim (λ k. list_has shape k st one) (λ k. choice_has shape k st two))) (known shape)
 
 pub not_list : (shape : Shape) → ((size : Size) (item : Box Shape Global) → shape ≡ SequenceOf size item → ⊥) → (i : ℕ) → has_step (type_of shape) (to_item i) ≡ false
-unfolding IsPlain IsList
-not_list shape none i = ⊎_elim (λ k. k (to_item i)) (⊎_elim (λ k. sequence_has shape k (to_item i) (λ j e. absurd (cc)) (λ j e. absurd (cc))) (⊎_elim (λ (size, item, e). absurd (none size item e)) (λ k. choice_has shape k (to_item i) (λ e. absurd (cc))))) (known shape)
+unfolding IsList
+not_list shape none i = ⊎_elim (leaf_has (type_of shape) (to_item i)) (⊎_elim (λ k. sequence_has shape k (to_item i) (λ j e. absurd (cc)) (λ j e. absurd (cc))) (⊎_elim (λ (size, item, e). absurd (none size item e)) (λ k. choice_has shape k (to_item i) (λ e. absurd (cc))))) (known shape)
 
 pub not_choice : (shape : Shape) → ((root : Vec Alt Global) (more : Option (Vec Alt Global)) → shape ≡ Choice root more → ⊥) → has_step (type_of shape) to_chosen ≡ false
-unfolding IsPlain IsChoice
-not_choice shape none = ⊎_elim (λ k. k to_chosen) (⊎_elim (λ k. sequence_has shape k to_chosen (λ j e. absurd (cc)) (λ j e. absurd (cc))) (⊎_elim (λ k. list_has shape k to_chosen (λ j e. absurd (cc))) (λ (root, more, e). absurd (none root more e)))) (known shape)
+unfolding IsChoice
+not_choice shape none = ⊎_elim (leaf_has (type_of shape) to_chosen) (⊎_elim (λ k. sequence_has shape k to_chosen (λ j e. absurd (cc)) (λ j e. absurd (cc))) (⊎_elim (λ k. list_has shape k to_chosen (λ j e. absurd (cc))) (λ (root, more, e). absurd (none root more e)))) (known shape)
+
+-- what has no parts is a leaf
+pub is_leaf : (shape : Shape) → ((root : Vec Field Global) (more : Option (Vec Addition Global)) → shape ≡ Sequence root more → ⊥) → ((size : Size) (item : Box Shape Global) → shape ≡ SequenceOf size item → ⊥) → ((root : Vec Alt Global) (more : Option (Vec Alt Global)) → shape ≡ Choice root more → ⊥) → IsLeaf (type_of shape)
+unfolding IsSequence IsList IsChoice
+is_leaf shape no_sequence no_list no_choice = ⊎_elim (λ k. k) (⊎_elim (λ (root, more, e). absurd (no_sequence root more e)) (⊎_elim (λ (size, item, e). absurd (no_list size item e)) (λ (root, more, e). absurd (no_choice root more e)))) (known shape)
 
 -- ---- which steps name a component of the root or a known addition
 

@@ -37,7 +37,7 @@ use Rattle.oer_checker.proofs.BitLists.{drop_none}
 use Rattle.oer_checker.proofs.Entries.{Entry, Passes, Passes_by}
 use Rattle.oer_checker.proofs.FieldSteps.{count_is}
 use Rattle.oer_checker.proofs.Finds.{addition_defaults_front, additions_front, field_defaults_front, fields_front}
-use Rattle.oer_checker.proofs.LineUnits.{length_sound, map_sound, quantity_sound, value_sound}
+use Rattle.oer_checker.proofs.UnitFronts.{length_sound, map_sound, quantity_sound, value_sound}
 use Rattle.oer_checker.proofs.Walks.{addition_entries, addition_entry, additions_pass, field_entries, field_entry, fields_pass, item_entries, items_pass, unknown_entries, unknown_pass}
 
 -- ---- what was read

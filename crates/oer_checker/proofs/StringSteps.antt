@@ -1,22 +1,22 @@
--- Strings and object identifiers.
-use Rattle.std.proofs.Common.{◌≡◌, ◌≢◌, ℕ, suc, ◌-◌, ◌≤◌, Bool, true, false, ◌&&◌, leb, eqb, List, length, take, drop, Option, Some, None, refl, sym, ap, ap₂, ◌∙◌, arith, length-drop, length-take, subst}
-use Rattle.std.proofs.lemmas.Bool.{eqb-true, eq-eqb, le-leb, leb-true}
+-- Strings, and the subidentifiers of object identifiers.
+use Rattle.std.proofs.Common.{◌≡◌, ◌≢◌, ℕ, suc, ◌-◌, ◌≤◌, Bool, true, false, leb, eqb, List, length, take, drop, Option, Some, None, refl, sym, ap, ap₂, ◌∙◌, arith, length-drop, length-take, subst}
+use Rattle.std.proofs.lemmas.Bool.{eqb-true, eq-eqb, leb-true}
 use Rattle.std.specs.Str.{chars, is_utf8}
 use Rattle.oer_units.specs.declared.fault.Why.{Why}
-use Rattle.oer_units.specs.declared.fault.Why.TheVariants.{Character, ObjectId}
+use Rattle.oer_units.specs.declared.fault.Why.TheVariants.{Character}
 use Rattle.oer_units.specs.declared.fault.Why.TheVariants as reason
 use Rattle.oer_units.specs.Least.{counted}
 use Rattle.oer_units.specs.Reader.{Outcome, Place, Reader, at, bind, bounded, choose, give, got, group, group_by, guard, refuse, refused, then_read, within}
 use Rattle.oer_units.specs.Reading.{counted_length, counted_octets, determinant, subidentifier, with_length}
 use Rattle.oer_units.proofs.Closure.{got_place, got_value}
 use Rattle.oer_types.specs.Canonical.{string_octets}
-use Rattle.oer_types.specs.Checking.{check_object_id, check_octet_string, check_subidentifiers, check_text, check_utf8, is_least, judged}
+use Rattle.oer_types.specs.Checking.{check_octet_string, check_subidentifiers, check_text, check_utf8, is_least, judged}
 use Rattle.oer_types.specs.Constraints.{size_fits}
 use Rattle.oer_types.specs.Reading.{read_octets}
 use Rattle.oer_types.specs.declared.size.Size.{Size}
-use Rattle.oer_checker.specs.Steps.{got_both, and_after, between, sized_length, subidentifier_size}
+use Rattle.oer_checker.specs.Steps.{got_both, between, sized_length, subidentifier_size}
 use Rattle.oer_checker.proofs.Joins.{bind_got, bind_stop, give_got, judged_got, judged_stop}
-use Rattle.oer_checker.proofs.LengthSteps.{length_stop, length_then, sized_room}
+use Rattle.oer_checker.proofs.LengthSteps.{sized_room}
 
 -- ---- groups
 
@@ -192,33 +192,7 @@ pub utf8_stop : (s : Size) (p : Place) (why : Why) (rest : List ℕ) → refused
 unfolding check_utf8
 utf8_stop s p why rest e = bind_stop (judged (is_least counted) counted_octets) (in_utf8 s) p why rest e
 
--- ---- object identifiers
-
-abbrev contents : ℕ → Reader Bool
-contents n = guard (leb 1 n) ObjectId (check_subidentifiers n n)
-
-no_contents : (n : ℕ) (f : Bool) (q : Place) → n ≡ 0 → refused ObjectId q.input ≡ and_after f (contents n q)
-unfolding refuse
-no_contents n f q is = rw is refl
-
-pub oid_none : (p q : Place) (n : ℕ) (f : Bool) → got_both n f q ≡ sized_length p → n ≡ 0 → refused ObjectId q.input ≡ check_object_id p
-unfolding check_object_id
-oid_none p q n f e is = no_contents n f q is ∙ length_then contents p q n f e
-
-some_contents : (n : ℕ) (q : Place) (o : Outcome Bool) → n ≢ 0 → o ≡ check_subidentifiers n n q → o ≡ contents n q
-some_contents n q o some e = e ∙ ap (λ (b : Bool). guard b ObjectId (check_subidentifiers n n) q) (sym (le-leb 1 n (omega arith)))
-
-pub oid_got : (p q end : Place) (n : ℕ) (f g : Bool) → got_both n f q ≡ sized_length p → n ≢ 0 → got g end ≡ check_subidentifiers n n q → got (f && g) end ≡ check_object_id p
-unfolding check_object_id
-oid_got p q end n f g e some h = ap (and_after f) (some_contents n q (got g end) some h) ∙ length_then contents p q n f e
-
-pub oid_cut : (p q : Place) (n : ℕ) (f : Bool) (why : Why) (rest : List ℕ) → got_both n f q ≡ sized_length p → n ≢ 0 → refused why rest ≡ check_subidentifiers n n q → refused why rest ≡ check_object_id p
-unfolding check_object_id
-oid_cut p q n f why rest e some h = ap (and_after f) (some_contents n q (refused why rest) some h) ∙ length_then contents p q n f e
-
-pub oid_stop : (p : Place) (why : Why) (rest : List ℕ) → refused why rest ≡ sized_length p → refused why rest ≡ check_object_id p
-unfolding check_object_id
-oid_stop p why rest e = length_stop contents p why rest e
+-- ---- subidentifiers
 
 abbrev next_subs : ℕ → ℕ → ℕ × ℕ → Reader Bool
 next_subs k left x = check_subidentifiers k (left - x.1)

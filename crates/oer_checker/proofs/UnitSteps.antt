@@ -9,7 +9,7 @@ use Rattle.oer_units.specs.Reader.{Outcome, Place, Reader, at, got, refused}
 use Rattle.oer_units.specs.Reads.{Exactly, Gives, Reads, Span, State, TakesNoMemory, Took, count_after, counted, renamed, start}
 use Rattle.std.specs.Prelude.{IfOk, ℤ}
 use Rattle.oer_units.proofs.Closure.{got_value}
-use Rattle.oer_checker.specs.declared.place.Place as rust_place
+use Rattle.oer_checker.specs.declared.cursor.Cursor.{Cursor}
 use Rattle.oer_checker.specs.declared.stop.Stop.{Stop}
 use Rattle.oer_checker.specs.Places.{ended, outcome, place_of, same}
 use Rattle.oer_units.specs.Reader.{give, group}
@@ -110,7 +110,7 @@ sub_err k name xs n s s' e m is none memory h =
 
 -- ---- what was read is in its range
 
-pub range_ok : (P : ℤ → Type 0) (z : ℤ) (r : Result (ℤ × rust_place.Place) Stop) (p : Place) (taken : ℕ) → outcome same r ≡ ended p (Ok z) taken → P z → IfOk r (λ y. P y.0)
+pub range_ok : (P : ℤ → Type 0) (z : ℤ) (r : Result (ℤ × Cursor) Stop) (p : Place) (taken : ℕ) → outcome same r ≡ ended p (Ok z) taken → P z → IfOk r (λ y. P y.0)
 range_ok P z (Ok y) p taken e fits = subst P (sym (got_value y.0 z (place_of y.1) (at (drop taken p.input) (p.left - taken)) e)) fits
 range_ok P z (Err s) p taken e fits = tt
 

@@ -1,6 +1,7 @@
--- Parts of shapes.
+-- Shapes and their parts.
 use Rattle.std.specs.Prelude.{◌≡◌, ◌<◌, ℕ, List, Option, Some, Vec, get_or, length}
 use Rattle.std.specs.declared.alloc.Global.{Global}
+use Rattle.oer_types.specs.AsnType.{AsnType, leaf}
 use Rattle.oer_types.specs.declared.shape.Addition.{Addition}
 use Rattle.oer_types.specs.declared.shape.Alt.{Alt}
 use Rattle.oer_types.specs.declared.shape.Field.{Field}
@@ -19,3 +20,8 @@ IsExtensible shape fs xs = (root : Vec Field Global) × (more : Vec Addition Glo
 -- a CHOICE of these alternatives, and of those after its extension marker if it has one
 abbrev pub IsChoice : Shape → List Alt → Option (Vec Alt Global) → Type 0
 IsChoice shape xs more = (root : Vec Alt Global) × (shape ≡ Choice root more) × (xs ≡ root.items)
+
+-- a type without parts
+abbrev pub IsLeaf : AsnType → Type 0
+IsLeaf (leaf kind) = Unit {0}
+IsLeaf T = ⊥

@@ -10,9 +10,5 @@ pub mod Handing
 pub mod Path
 pub mod Encoding
 pub mod AtMostOne
-pub mod Rows
-pub mod Lines
-pub mod Listing
-pub mod Naming
 pub mod Offsets
 pub mod Ranges

@@ -14,8 +14,8 @@ ghost use Rattle.oer_types.specs.SharedSteps.{unused_fits};
 ghost use Rattle.oer_checker.specs.Steps.{addition_map as addition_map_read, last_are_zero};
 
 use crate::bits::Bits;
+use crate::cursor::{Cursor, both};
 use crate::lengths::{counted_len, octets_between};
-use crate::place::{Place, both};
 use crate::stop::Stop;
 use crate::units::{group_at, length_at, octet_at};
 use oer_types::Size;
@@ -24,7 +24,7 @@ use oer_units::Why;
 impl<'a> Bits<'a> {
     /// The bit with this number, which is false past the octets.
     #[tactic(auto, using(crate::proofs::BitLists::bit_at, crate::proofs::BitLists::bit_past))]
-    pub(crate) fn bit(self, index: u64) -> bool
+    pub fn bit(self, index: u64) -> bool
         ensures { result ≡ first_bit (drop index (the_bits self.entry.octets.now)) }
     {
         let at = (index / 8) as usize;
@@ -32,14 +32,14 @@ impl<'a> Bits<'a> {
     }
 
     /// The first bit, false where there is none.
-    pub(crate) fn first(self) -> bool
+    pub fn first(self) -> bool
         ensures { result ≡ first_bit (bits_in self.entry) }
     {
         self.from < self.to && self.bit(self.from)
     }
 
     /// The bits after the first.
-    pub(crate) fn later(self) -> Bits<'a>
+    pub fn later(self) -> Bits<'a>
         ensures { bits_in result ≡ later_bits (bits_in self.entry) }
     {
         if self.from >= self.to {
@@ -156,24 +156,24 @@ fn are_least_bits(count: u64, octets: &[u8]) -> bool
 /// A BIT STRING (X.696, 13). Bits past the last one may have any values; canonically they are 0.
 pub(crate) fn check_bit_string<'a>(
     size: Size,
-    place: Place<'a>,
-) -> Result<(bool, Place<'a>), Stop<'a>>
-    ensures { outcome same result ≡ check_value (bit_string size) (place_of place.entry) }
+    cursor: Cursor<'a>,
+) -> Result<(bool, Cursor<'a>), Stop<'a>>
+    ensures { outcome same result ≡ check_value (bit_string size) (place_of cursor.entry) }
 {
     if let Some(count) = size.fixed() {
-        let (octets, end) = group_at(place, octets_needed(count))?;
+        let (octets, end) = group_at(cursor, octets_needed(count))?;
         return Ok((ends_in_zeros(octets, spare(count)), end));
     }
-    let (bits, end) = counted_bits(size, place)?;
-    Ok((are_least_bits(bits.to, octets_between(place, end)), end))
+    let (bits, end) = counted_bits(size, cursor)?;
+    Ok((are_least_bits(bits.to, octets_between(cursor, end)), end))
 }
 
 // A length, the initial octet, and the bits.
-fn counted_bits<'a>(size: Size, place: Place<'a>) -> Result<(Bits<'a>, Place<'a>), Stop<'a>>
+fn counted_bits<'a>(size: Size, cursor: Cursor<'a>) -> Result<(Bits<'a>, Cursor<'a>), Stop<'a>>
     ensures whole { IfOk result (λ y. IsWhole y.0) }
-    ensures bits { outcome bits_in result ≡ read_bits None size (place_of place.entry) }
+    ensures bits { outcome bits_in result ≡ read_bits None size (place_of cursor.entry) }
 {
-    let (length, next) = length_at(place)?;
+    let (length, next) = length_at(cursor)?;
     if length == 0 {
         return Err(Stop {
             why: Why::BitUnused,
@@ -195,21 +195,21 @@ fn sized_bits<'a>(
     size: Size,
     count: u64,
     unused: u8,
-    place: Place<'a>,
-) -> Result<(Bits<'a>, Place<'a>), Stop<'a>>
+    cursor: Cursor<'a>,
+) -> Result<(Bits<'a>, Cursor<'a>), Stop<'a>>
     requires { unused ≤ 8 * count }
     ensures whole { IfOk result (λ y. IsWhole y.0) }
     ensures bits { outcome bits_in result ≡ guard (size_fits size (8 * count - unused)) reason.Size
-        (bind (group count) (λ d. give (take (length (the_bits d) - unused) (the_bits d)))) (place_of place.entry) }
+        (bind (group count) (λ d. give (take (length (the_bits d) - unused) (the_bits d)))) (place_of cursor.entry) }
 {
     let bits = 8 * u128::from(count) - u128::from(unused);
     if !size.allows(bits) {
         return Err(Stop {
             why: Why::Size,
-            rest: place.rest,
+            rest: cursor.rest,
         });
     }
-    let (octets, end) = group_at(place, count)?;
+    let (octets, end) = group_at(cursor, count)?;
     let bits = Bits {
         octets,
         from: 0,
@@ -226,10 +226,10 @@ fn may_be_unused(unused: u8, length: u64) -> bool
 }
 
 /// The preamble of a SEQUENCE (X.696, 16.2): so many bits, and zeros to the octet's end.
-pub(crate) fn preamble<'a>(count: u64, place: Place<'a>) -> Result<(Bits<'a>, Place<'a>), Stop<'a>>
-    ensures { outcome bits_in result ≡ preamble_read count (place_of place.entry) }
+pub fn preamble<'a>(count: u64, cursor: Cursor<'a>) -> Result<(Bits<'a>, Cursor<'a>), Stop<'a>>
+    ensures { outcome bits_in result ≡ preamble_read count (place_of cursor.entry) }
 {
-    let (octets, end) = group_at(place, octets_needed(count))?;
+    let (octets, end) = group_at(cursor, octets_needed(count))?;
     if !ends_in_zeros(octets, spare(count)) {
         return Err(Stop {
             why: Why::PreamblePadding,
@@ -256,21 +256,21 @@ fn marks_all(bits: Bits, known: u64) -> bool
 
 /// The presence bitmap of additions (X.696, 16.4), of which `known` are known, and whether it is
 /// canonical. A set bit past place 65,535 is rejected with `UnknownAddition`.
-pub(crate) fn addition_map<'a>(
+pub fn addition_map<'a>(
     known: usize,
-    place: Place<'a>,
-) -> Result<((Bits<'a>, bool), Place<'a>), Stop<'a>>
+    cursor: Cursor<'a>,
+) -> Result<((Bits<'a>, bool), Cursor<'a>), Stop<'a>>
     ensures whole { IfOk result (λ y. IsWhole y.0.0) }
-    ensures bits { outcome (λ y. (bits_in y.0, y.1)) result ≡ addition_map_read known (place_of place.entry) }
+    ensures bits { outcome (λ y. (bits_in y.0, y.1)) result ≡ addition_map_read known (place_of cursor.entry) }
 {
-    let (bits, end) = counted_bits(Size::any(), place)?;
+    let (bits, end) = counted_bits(Size::any(), cursor)?;
     if !bits.are_clear_from(65536) {
         return Err(Stop {
             why: Why::UnknownAddition,
             rest: end.rest,
         });
     }
-    let is_shortest = are_least_bits(bits.to, octets_between(place, end));
+    let is_shortest = are_least_bits(bits.to, octets_between(cursor, end));
     let is_canonical = both(is_shortest, marks_all(bits, known as u64));
     Ok(((bits, is_canonical), end))
 }

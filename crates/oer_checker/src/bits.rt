@@ -2,7 +2,7 @@
 
 /// The bits of some octets, from one to another, the most significant of an octet first.
 #[derive(Clone, Copy)]
-pub(crate) struct Bits<'a> {
+pub struct Bits<'a> {
     pub octets: &'a [u8],
     pub from: u64,
     pub to: u64,

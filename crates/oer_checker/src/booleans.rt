@@ -4,19 +4,19 @@ ghost use Rattle.oer_types.specs.AsnType.{boolean};
 ghost use Rattle.oer_types.specs.Checking.{check_times, check_value};
 ghost use Rattle.oer_checker.specs.Places.{outcome, place_of, same};
 
+use crate::cursor::{Cursor, both};
 use crate::numbers::check_boolean;
-use crate::place::{Place, both};
 use crate::stop::Stop;
 
 /// So many BOOLEANs.
 pub(crate) fn check_booleans<'a>(
     count: u64,
-    place: Place<'a>,
-) -> Result<(bool, Place<'a>), Stop<'a>>
-    ensures { outcome same result ≡ check_times count (check_value boolean) (place_of place.entry) }
+    cursor: Cursor<'a>,
+) -> Result<(bool, Cursor<'a>), Stop<'a>>
+    ensures { outcome same result ≡ check_times count (check_value boolean) (place_of cursor.entry) }
 {
     let mut is_canonical = true;
-    let mut at = place;
+    let mut at = cursor;
     for turn in 0..count {
         let (is_element, next) = check_boolean(at)?;
         is_canonical = both(is_canonical, is_element);

@@ -2,7 +2,7 @@
 ghost use Rattle.oer_types.specs.Schema.{the_type};
 ghost use Rattle.oer_checker.specs.Check.{Answers, Finds, IsOfOctets, Tells};
 
-use crate::place::Place;
+use crate::cursor::Cursor;
 use crate::value::check_shape;
 use crate::verdict::Verdict;
 use oer_types::Schema;
@@ -26,11 +26,11 @@ pub fn check(schema: &Schema, octets: &[u8]) -> Result<Verdict, ReadFault>
     ensures exact { Answers (the_type schema.now) octets.now result }
     ensures plain { IsOfOctets result }
 {
-    let place = Place {
+    let cursor = Cursor {
         rest: octets,
         left: u64::MAX,
     };
-    match check_shape(schema.shape(), place) {
+    match check_shape(schema.shape(), cursor) {
         Ok((canonical, end)) => Ok(Verdict {
             octets: octets.len().saturating_sub(end.rest.len()),
             canonical,

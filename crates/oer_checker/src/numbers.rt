@@ -9,8 +9,8 @@ ghost use Rattle.oer_types.specs.ShapeView.{named_number};
 ghost use Rattle.oer_checker.specs.Places.{outcome, place_of, same};
 ghost use Rattle.oer_checker.specs.Steps.{sized_quantity};
 
+use crate::cursor::Cursor;
 use crate::lengths::is_of_length;
-use crate::place::Place;
 use crate::stop::Stop;
 use crate::units::{
     enumerated_at, octet_at, signed_counted_at, signed_fixed_at, unsigned_counted_at,
@@ -20,10 +20,10 @@ use oer_types::{Form, Item, Size, contains_number, is_in_range};
 use oer_units::{Why, enumerated_len, signed_counted_len, unsigned_counted_len};
 
 /// A BOOLEAN (X.696, 9): `00`, or canonically `ff`.
-pub(crate) fn check_boolean<'a>(place: Place<'a>) -> Result<(bool, Place<'a>), Stop<'a>>
-    ensures { outcome same result ≡ check_value boolean (place_of place.entry) }
+pub(crate) fn check_boolean<'a>(cursor: Cursor<'a>) -> Result<(bool, Cursor<'a>), Stop<'a>>
+    ensures { outcome same result ≡ check_value boolean (place_of cursor.entry) }
 {
-    let (octet, next) = octet_at(place)?;
+    let (octet, next) = octet_at(cursor)?;
     Ok((is_least_boolean(octet), next))
 }
 
@@ -38,27 +38,27 @@ fn is_least_boolean(octet: u8) -> bool
 pub(crate) fn check_integer<'a>(
     low: Option<i128>,
     high: Option<i128>,
-    place: Place<'a>,
-) -> Result<(bool, Place<'a>), Stop<'a>>
-    ensures { outcome same result ≡ check_value (integer_type low high) (place_of place.entry) }
+    cursor: Cursor<'a>,
+) -> Result<(bool, Cursor<'a>), Stop<'a>>
+    ensures { outcome same result ≡ check_value (integer_type low high) (place_of cursor.entry) }
 {
     match Form::of_bounds(low, high) {
         Form::UnsignedFixed(width) => {
-            let (number, next) = unsigned_fixed_at(place, width)?;
+            let (number, next) = unsigned_fixed_at(cursor, width)?;
             in_bounds(low, high, i128::from(number), true, next)
         }
         Form::SignedFixed(width) => {
-            let (number, next) = signed_fixed_at(place, width)?;
+            let (number, next) = signed_fixed_at(cursor, width)?;
             in_bounds(low, high, i128::from(number), true, next)
         }
         Form::UnsignedCounted => {
-            let (number, next) = unsigned_counted_at(place)?;
-            let is_least = is_of_length(place, next, unsigned_counted_len(number));
+            let (number, next) = unsigned_counted_at(cursor)?;
+            let is_least = is_of_length(cursor, next, unsigned_counted_len(number));
             in_bounds(low, high, number, is_least, next)
         }
         Form::SignedCounted => {
-            let (number, next) = signed_counted_at(place)?;
-            let is_least = is_of_length(place, next, signed_counted_len(number));
+            let (number, next) = signed_counted_at(cursor)?;
+            let is_least = is_of_length(cursor, next, signed_counted_len(number));
             in_bounds(low, high, number, is_least, next)
         }
     }
@@ -70,8 +70,8 @@ fn in_bounds<'a>(
     high: Option<i128>,
     number: i128,
     is_least: bool,
-    next: Place<'a>,
-) -> Result<(bool, Place<'a>), Stop<'a>>
+    next: Cursor<'a>,
+) -> Result<(bool, Cursor<'a>), Stop<'a>>
     ensures { outcome same result ≡ guard (in_range low high number) IntegerRange (give is_least) (place_of next.entry) }
 {
     if !is_in_range(low, high, number) {
@@ -87,18 +87,18 @@ fn in_bounds<'a>(
 pub(crate) fn check_enumerated<'a>(
     items: &[Item],
     extensible: bool,
-    place: Place<'a>,
-) -> Result<(bool, Place<'a>), Stop<'a>>
-    ensures { outcome same result ≡ check_value (enumerated_type (map named_number items.now) extensible) (place_of place.entry) }
+    cursor: Cursor<'a>,
+) -> Result<(bool, Cursor<'a>), Stop<'a>>
+    ensures { outcome same result ≡ check_value (enumerated_type (map named_number items.now) extensible) (place_of cursor.entry) }
 {
-    let (number, next) = enumerated_at(place)?;
+    let (number, next) = enumerated_at(cursor)?;
     if !is_known(items, extensible, number) {
         return Err(Stop {
             why: Why::UnknownEnum,
             rest: next.rest,
         });
     }
-    Ok((is_of_length(place, next, enumerated_len(number)), next))
+    Ok((is_of_length(cursor, next, enumerated_len(number)), next))
 }
 
 fn is_known(items: &[Item], extensible: bool, number: i64) -> bool
@@ -109,14 +109,14 @@ fn is_known(items: &[Item], extensible: bool, number: i64) -> bool
 
 /// How many elements follow (X.696, 17): a quantity that is not above what is left, and that the
 /// size allows; and whether it is in its least form.
-pub(crate) fn sized_quantity_at<'a>(
+pub fn sized_quantity_at<'a>(
     size: Size,
-    place: Place<'a>,
-) -> Result<((u64, bool), Place<'a>), Stop<'a>>
-    ensures { outcome same result ≡ sized_quantity size (place_of place.entry) }
+    cursor: Cursor<'a>,
+) -> Result<((u64, bool), Cursor<'a>), Stop<'a>>
+    ensures { outcome same result ≡ sized_quantity size (place_of cursor.entry) }
 {
-    let (quantity, next) = unsigned_counted_at(place)?;
-    let is_least = is_of_length(place, next, unsigned_counted_len(quantity));
+    let (quantity, next) = unsigned_counted_at(cursor)?;
+    let is_least = is_of_length(cursor, next, unsigned_counted_len(quantity));
     let count = quantity.unsigned_abs();
     if count > u128::from(next.left) {
         return Err(Stop {

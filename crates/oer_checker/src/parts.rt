@@ -12,15 +12,15 @@ ghost use Rattle.oer_checker.specs.Steps.{is_default as is_default_in};
 ghost use Rattle.oer_checker.specs.Walk.{IsFirst};
 
 use crate::bits::Bits;
+use crate::cursor::{Cursor, both};
 use crate::lengths::check_octets;
-use crate::place::{Place, both};
 use crate::stop::Stop;
 use oer_types::{Alt, Field, Need, is_same_tag, laws};
 use oer_units::Tag;
 use oer_writer::parts::equals;
 
 /// Whether a component is there, and the bits of those after it.
-pub(crate) fn presence<'a>(need: &Need, bits: Bits<'a>) -> (bool, Bits<'a>)
+pub fn presence<'a>(need: &Need, bits: Bits<'a>) -> (bool, Bits<'a>)
     ensures there { result.0 ≡ is_there (need_of need.now) (bits_in bits.entry) }
     ensures left { bits_in result.1 ≡ bits_left (need_of need.now) (bits_in bits.entry) }
 {
@@ -61,13 +61,13 @@ pub(crate) fn with_tag<'s>(alternatives: &'s [Alt], tag: Tag) -> Option<&'s Alt>
 pub(crate) fn check_unknown<'a>(
     bits: Bits<'a>,
     known: usize,
-    place: Place<'a>,
-) -> Result<(bool, Place<'a>), Stop<'a>>
+    cursor: Cursor<'a>,
+) -> Result<(bool, Cursor<'a>), Stop<'a>>
     requires { IsWhole bits }
-    ensures { outcome same result ≡ unknown_checked (drop known (bits_in bits.entry)) (place_of place.entry) }
+    ensures { outcome same result ≡ unknown_checked (drop known (bits_in bits.entry)) (place_of cursor.entry) }
 {
     let mut is_canonical = true;
-    let mut at = place;
+    let mut at = cursor;
     for index in known as u64..bits.to {
         if !bits.bit(index) {
             continue;

@@ -6,7 +6,7 @@ use oer_units::Why;
 
 /// Why octets are rejected, and those that were not taken.
 #[derive(Clone, Copy)]
-pub(crate) struct Stop<'a> {
+pub struct Stop<'a> {
     pub why: Why,
     pub rest: &'a [u8],
     ghost plain: { is_plain why ≡ true },

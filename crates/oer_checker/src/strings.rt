@@ -12,40 +12,43 @@ ghost use Rattle.oer_types.specs.AlphabetView.{alphabet_of};
 ghost use Rattle.oer_checker.specs.Places.{outcome, place_of, same};
 ghost use Rattle.oer_checker.specs.Steps.{between};
 
+use crate::cursor::{Cursor, both};
 use crate::lengths::{counted_len, octets_between, sized_length_at};
-use crate::place::{Place, both};
 use crate::stop::Stop;
 use crate::units::{group_at, length_at, subidentifier_at};
 use oer_types::{Alphabet, Size, are_characters};
 use oer_units::Why;
 
-// Whether what stands from one place to another is as long as so many octets after their length in
+// Whether what stands from one cursor to another is as long as so many octets after their length in
 // its least form.
-fn is_counted<'a>(from: Place<'a>, to: Place<'a>, octets: &[u8]) -> bool
+fn is_counted<'a>(from: Cursor<'a>, to: Cursor<'a>, octets: &[u8]) -> bool
     ensures { result ≡ is_least counted octets.now (between (place_of from.entry) (place_of to.entry)) }
 {
     octets_between(from, to).len() as u128 == counted_len(octets.len() as u64)
 }
 
 // A length, and so many octets; whether the length is in its least form.
-fn counted_at<'a>(place: Place<'a>) -> Result<((&'a [u8], bool), Place<'a>), Stop<'a>>
-    ensures { outcome (λ y. (y.0.now, y.1)) result ≡ judged (is_least counted) counted_octets (place_of place.entry) }
+fn counted_at<'a>(cursor: Cursor<'a>) -> Result<((&'a [u8], bool), Cursor<'a>), Stop<'a>>
+    ensures { outcome (λ y. (y.0.now, y.1)) result ≡ judged (is_least counted) counted_octets (place_of cursor.entry) }
 {
-    let (count, next) = length_at(place)?;
+    let (count, next) = length_at(cursor)?;
     let (octets, end) = group_at(next, count)?;
-    Ok(((octets, is_counted(place, end, octets)), end))
+    Ok(((octets, is_counted(cursor, end, octets)), end))
 }
 
 // As many octets as the one size says, or else as a length says that the size allows; whether the
 // length is in its least form.
-fn sized_octets<'a>(size: Size, place: Place<'a>) -> Result<((&'a [u8], bool), Place<'a>), Stop<'a>>
-    ensures { outcome (λ y. (y.0.now, y.1)) result ≡ judged (is_least (string_octets (fixed_size size))) (read_octets (fixed_size size) size) (place_of place.entry) }
+fn sized_octets<'a>(
+    size: Size,
+    cursor: Cursor<'a>,
+) -> Result<((&'a [u8], bool), Cursor<'a>), Stop<'a>>
+    ensures { outcome (λ y. (y.0.now, y.1)) result ≡ judged (is_least (string_octets (fixed_size size))) (read_octets (fixed_size size) size) (place_of cursor.entry) }
 {
     if let Some(count) = size.fixed() {
-        let (octets, end) = group_at(place, count)?;
+        let (octets, end) = group_at(cursor, count)?;
         return Ok(((octets, true), end));
     }
-    let (count, next) = length_at(place)?;
+    let (count, next) = length_at(cursor)?;
     if !size.allows(u128::from(count)) {
         return Err(Stop {
             why: Why::Size,
@@ -53,17 +56,17 @@ fn sized_octets<'a>(size: Size, place: Place<'a>) -> Result<((&'a [u8], bool), P
         });
     }
     let (octets, end) = group_at(next, count)?;
-    Ok(((octets, is_counted(place, end, octets)), end))
+    Ok(((octets, is_counted(cursor, end, octets)), end))
 }
 
 /// An OCTET STRING (X.696, 14).
 pub(crate) fn check_octet_string<'a>(
     size: Size,
-    place: Place<'a>,
-) -> Result<(bool, Place<'a>), Stop<'a>>
-    ensures { outcome same result ≡ check_value (octet_string size) (place_of place.entry) }
+    cursor: Cursor<'a>,
+) -> Result<(bool, Cursor<'a>), Stop<'a>>
+    ensures { outcome same result ≡ check_value (octet_string size) (place_of cursor.entry) }
 {
-    let ((_, is_canonical), end) = sized_octets(size, place)?;
+    let ((_, is_canonical), end) = sized_octets(size, cursor)?;
     Ok((is_canonical, end))
 }
 
@@ -71,11 +74,11 @@ pub(crate) fn check_octet_string<'a>(
 pub(crate) fn check_text<'a>(
     kind: Alphabet,
     size: Size,
-    place: Place<'a>,
-) -> Result<(bool, Place<'a>), Stop<'a>>
-    ensures { outcome same result ≡ check_value (restricted_string (alphabet_of kind) size) (place_of place.entry) }
+    cursor: Cursor<'a>,
+) -> Result<(bool, Cursor<'a>), Stop<'a>>
+    ensures { outcome same result ≡ check_value (restricted_string (alphabet_of kind) size) (place_of cursor.entry) }
 {
-    let ((octets, is_canonical), end) = sized_octets(size, place)?;
+    let ((octets, is_canonical), end) = sized_octets(size, cursor)?;
     if !are_characters(kind, octets) {
         return Err(Stop {
             why: Why::Character,
@@ -86,10 +89,10 @@ pub(crate) fn check_text<'a>(
 }
 
 /// A UTF8String (X.696, 27). Its size counts characters.
-pub(crate) fn check_utf8<'a>(size: Size, place: Place<'a>) -> Result<(bool, Place<'a>), Stop<'a>>
-    ensures { outcome same result ≡ check_value (utf8_string size) (place_of place.entry) }
+pub(crate) fn check_utf8<'a>(size: Size, cursor: Cursor<'a>) -> Result<(bool, Cursor<'a>), Stop<'a>>
+    ensures { outcome same result ≡ check_value (utf8_string size) (place_of cursor.entry) }
 {
-    let ((octets, is_canonical), end) = counted_at(place)?;
+    let ((octets, is_canonical), end) = counted_at(cursor)?;
     let Some(count) = characters_in(octets) else {
         return Err(Stop {
             why: Why::Character,
@@ -124,10 +127,10 @@ fn characters_of(text: &str) -> u64
 }
 
 /// An OBJECT IDENTIFIER (X.696, 21; X.690, 8.19).
-pub(crate) fn check_object_id<'a>(place: Place<'a>) -> Result<(bool, Place<'a>), Stop<'a>>
-    ensures { outcome same result ≡ check_value object_id (place_of place.entry) }
+pub(crate) fn check_object_id<'a>(cursor: Cursor<'a>) -> Result<(bool, Cursor<'a>), Stop<'a>>
+    ensures { outcome same result ≡ check_value object_id (place_of cursor.entry) }
 {
-    let ((content, is_least), next) = sized_length_at(place)?;
+    let ((content, is_least), next) = sized_length_at(cursor)?;
     if content == 0 {
         return Err(Stop {
             why: Why::ObjectId,
@@ -139,12 +142,15 @@ pub(crate) fn check_object_id<'a>(place: Place<'a>) -> Result<(bool, Place<'a>),
 }
 
 // The subidentifiers in so many octets.
-fn check_subidentifiers<'a>(content: u64, place: Place<'a>) -> Result<(bool, Place<'a>), Stop<'a>>
-    requires { content ≤ place.left }
-    ensures { outcome same result ≡ subidentifiers_checked content content (place_of place.entry) }
+fn check_subidentifiers<'a>(
+    content: u64,
+    cursor: Cursor<'a>,
+) -> Result<(bool, Cursor<'a>), Stop<'a>>
+    requires { content ≤ cursor.left }
+    ensures { outcome same result ≡ subidentifiers_checked content content (place_of cursor.entry) }
 {
     let mut left = content;
-    let mut at = place;
+    let mut at = cursor;
     for turn in 0..content {
         if left == 0 {
             return Ok((true, at));

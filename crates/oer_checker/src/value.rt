@@ -10,18 +10,18 @@ ghost use Rattle.oer_checker.specs.Facts.{IsChoice, IsExtensible};
 ghost use Rattle.oer_checker.specs.Places.{outcome, place_of, same};
 ghost use Rattle.oer_checker.specs.Steps.{check_if, check_later as later_checked, check_there};
 
-use crate::bit_strings::{addition_map, check_bit_string, preamble};
+use crate::bit_strings::{addition_map, preamble};
 use crate::bits::Bits;
 use crate::booleans::check_booleans;
+use crate::cursor::{Cursor, both};
 use crate::facts::{addition_fits, field_fits, later_fits};
+use crate::leaf::check_leaf;
 use crate::lengths::{check_octets, leave, octets_between, sized_length_at};
-use crate::numbers::{check_boolean, check_enumerated, check_integer, sized_quantity_at};
+use crate::numbers::sized_quantity_at;
 use crate::parts::{check_unknown, is_default, presence, with_tag};
-use crate::place::{Place, both};
 use crate::stop::Stop;
-use crate::strings::{check_object_id, check_octet_string, check_text, check_utf8};
 use crate::units::tag_at;
-use oer_types::{Addition, Alphabet, Alt, Field, Shape, Size, is_same_tag, optional};
+use oer_types::{Addition, Alt, Field, Shape, Size, is_same_tag, optional};
 use oer_units::{Tag, Why};
 
 /// The encoding of a value of the type, and whether it is canonical.
@@ -29,31 +29,20 @@ use oer_units::{Tag, Why};
 #[tactic(auto, using(crate::proofs::Shapes::shapes))]
 pub(crate) fn check_shape<'a>(
     shape: &Shape,
-    place: Place<'a>,
-) -> Result<(bool, Place<'a>), Stop<'a>>
+    cursor: Cursor<'a>,
+) -> Result<(bool, Cursor<'a>), Stop<'a>>
     requires limits { KeepsLimits (type_of shape.now) }
     requires defaults { DefaultsFit (type_of shape.now) }
-    ensures { outcome same result ≡ check_value (type_of shape.now) (place_of place.entry) }
+    ensures { outcome same result ≡ check_value (type_of shape.now) (place_of cursor.entry) }
 {
     match shape {
-        Shape::Boolean => check_boolean(place),
-        Shape::Null => Ok((true, place)),
-        Shape::Integer { low, high } => check_integer(*low, *high, place),
-        Shape::Enumerated { items, extensible } => check_enumerated(items, *extensible, place),
-        Shape::BitString(size) => check_bit_string(*size, place),
-        Shape::OctetString(size) => check_octet_string(*size, place),
-        Shape::ObjectId => check_object_id(place),
-        Shape::Ia5(size) => check_text(Alphabet::Ia5, *size, place),
-        Shape::Visible(size) => check_text(Alphabet::Visible, *size, place),
-        Shape::Numeric(size) => check_text(Alphabet::Numeric, *size, place),
-        Shape::Printable(size) => check_text(Alphabet::Printable, *size, place),
-        Shape::Utf8(size) => check_utf8(*size, place),
-        Shape::SequenceOf { size, item } => check_items(*size, item, place),
+        Shape::SequenceOf { size, item } => check_items(*size, item, cursor),
         Shape::Sequence { root, additions } => match additions {
-            None => check_sequence(root, place),
-            Some(additions) => check_extensible(shape, root, additions, place),
+            None => check_sequence(root, cursor),
+            Some(additions) => check_extensible(shape, root, additions, cursor),
         },
-        Shape::Choice { root, additions } => check_choice(shape, root, additions, place),
+        Shape::Choice { root, additions } => check_choice(shape, root, additions, cursor),
+        _ => check_leaf(shape, cursor),
     }
 }
 
@@ -62,25 +51,25 @@ pub(crate) fn check_shape<'a>(
 fn check_items<'a>(
     size: Size,
     item: &Shape,
-    place: Place<'a>,
-) -> Result<(bool, Place<'a>), Stop<'a>>
+    cursor: Cursor<'a>,
+) -> Result<(bool, Cursor<'a>), Stop<'a>>
     requires limits { KeepsLimits (type_of item.now) }
     requires defaults { DefaultsFit (type_of item.now) }
-    ensures { outcome same result ≡ check_value (sequence_of size (type_of item.now)) (place_of place.entry) }
+    ensures { outcome same result ≡ check_value (sequence_of size (type_of item.now)) (place_of cursor.entry) }
 {
-    let ((count, is_least), next) = sized_quantity_at(size, place)?;
+    let ((count, is_least), next) = sized_quantity_at(size, cursor)?;
     let (is_canonical, end) = check_elements(item, count, next)?;
     Ok((both(is_least, is_canonical), end))
 }
 
 /// A SEQUENCE without an extension marker.
 #[cycle(check)]
-fn check_sequence<'a>(fields: &[Field], place: Place<'a>) -> Result<(bool, Place<'a>), Stop<'a>>
+fn check_sequence<'a>(fields: &[Field], cursor: Cursor<'a>) -> Result<(bool, Cursor<'a>), Stop<'a>>
     requires limits { FieldsKeepLimits (fields_of fields.now) }
     requires defaults { FieldDefaultsFit (fields_of fields.now) }
-    ensures { outcome same result ≡ check_value (sequence (fields_of fields.now)) (place_of place.entry) }
+    ensures { outcome same result ≡ check_value (sequence (fields_of fields.now)) (place_of cursor.entry) }
 {
-    let (bits, next) = preamble(optional(fields) as u64, place)?;
+    let (bits, next) = preamble(optional(fields) as u64, cursor)?;
     check_fields(fields, bits, next)
 }
 
@@ -90,14 +79,14 @@ fn check_extensible<'a>(
     shape: &Shape,
     fields: &[Field],
     additions: &[Addition],
-    place: Place<'a>,
-) -> Result<(bool, Place<'a>), Stop<'a>>
+    cursor: Cursor<'a>,
+) -> Result<(bool, Cursor<'a>), Stop<'a>>
     requires is { IsExtensible shape.now fields.now additions.now }
     requires limits { KeepsLimits (type_of shape.now) }
     requires defaults { DefaultsFit (type_of shape.now) }
-    ensures { outcome same result ≡ check_value (type_of shape.now) (place_of place.entry) }
+    ensures { outcome same result ≡ check_value (type_of shape.now) (place_of cursor.entry) }
 {
-    let (bits, next) = preamble(optional(fields) as u64 + 1, place)?;
+    let (bits, next) = preamble(optional(fields) as u64 + 1, cursor)?;
     let (is_canonical, next) = check_fields(fields, bits.later(), next)?;
     let (is_extension, end) = check_extension(additions, bits.first(), next)?;
     Ok((both(is_canonical, is_extension), end))
@@ -109,14 +98,14 @@ fn check_choice<'a>(
     shape: &Shape,
     alternatives: &[Alt],
     additions: &Option<Vec<Alt>>,
-    place: Place<'a>,
-) -> Result<(bool, Place<'a>), Stop<'a>>
+    cursor: Cursor<'a>,
+) -> Result<(bool, Cursor<'a>), Stop<'a>>
     requires is { IsChoice shape.now alternatives.now additions.now }
     requires limits { KeepsLimits (type_of shape.now) }
     requires defaults { DefaultsFit (type_of shape.now) }
-    ensures { outcome same result ≡ check_value (type_of shape.now) (place_of place.entry) }
+    ensures { outcome same result ≡ check_value (type_of shape.now) (place_of cursor.entry) }
 {
-    let (tag, next) = tag_at(place)?;
+    let (tag, next) = tag_at(cursor)?;
     if let Some(alternative) = with_tag(alternatives, tag) {
         return check_shape(&alternative.shape, next);
     }
@@ -134,17 +123,17 @@ fn check_choice<'a>(
 pub(crate) fn check_elements<'a>(
     item: &Shape,
     count: u64,
-    place: Place<'a>,
-) -> Result<(bool, Place<'a>), Stop<'a>>
+    cursor: Cursor<'a>,
+) -> Result<(bool, Cursor<'a>), Stop<'a>>
     requires limits { KeepsLimits (type_of item.now) }
     requires defaults { DefaultsFit (type_of item.now) }
-    ensures { outcome same result ≡ check_times count (check_value (type_of item.now)) (place_of place.entry) }
+    ensures { outcome same result ≡ check_times count (check_value (type_of item.now)) (place_of cursor.entry) }
 {
     if let Shape::Boolean = item {
-        return check_booleans(count, place);
+        return check_booleans(count, cursor);
     }
     let mut is_canonical = true;
-    let mut at = place;
+    let mut at = cursor;
     for turn in 0..count {
         let (is_element, next) = check_shape(item, at)?;
         is_canonical = both(is_canonical, is_element);
@@ -155,13 +144,13 @@ pub(crate) fn check_elements<'a>(
 
 /// An open type (X.696, 30) that holds a value of the type.
 #[cycle(check)]
-fn check_open<'a>(shape: &Shape, place: Place<'a>) -> Result<(bool, Place<'a>), Stop<'a>>
+fn check_open<'a>(shape: &Shape, cursor: Cursor<'a>) -> Result<(bool, Cursor<'a>), Stop<'a>>
     requires limits { KeepsLimits (type_of shape.now) }
     requires defaults { DefaultsFit (type_of shape.now) }
-    ensures { outcome same result ≡ open_checked (check_value (type_of shape.now)) (place_of place.entry) }
+    ensures { outcome same result ≡ open_checked (check_value (type_of shape.now)) (place_of cursor.entry) }
 {
-    let ((count, is_least), next) = sized_length_at(place)?;
-    let content = Place {
+    let ((count, is_least), next) = sized_length_at(cursor)?;
+    let content = Cursor {
         rest: next.rest,
         left: count,
     };
@@ -171,14 +160,14 @@ fn check_open<'a>(shape: &Shape, place: Place<'a>) -> Result<(bool, Place<'a>), 
 
 /// A component that is there: canonical octets are not those of its default.
 #[cycle(check)]
-fn check_field<'a>(field: &Field, place: Place<'a>) -> Result<(bool, Place<'a>), Stop<'a>>
+fn check_field<'a>(field: &Field, cursor: Cursor<'a>) -> Result<(bool, Cursor<'a>), Stop<'a>>
     requires limits { KeepsLimits (type_of field.now.shape) }
     requires defaults { DefaultsFit (type_of field.now.shape) }
     requires fits { DefaultFits (need_of field.now.need) (Fits (type_of field.now.shape)) }
-    ensures { outcome same result ≡ check_there (need_of field.now.need) (type_of field.now.shape) (place_of place.entry) }
+    ensures { outcome same result ≡ check_there (need_of field.now.need) (type_of field.now.shape) (place_of cursor.entry) }
 {
-    let (is_canonical, end) = check_shape(&field.shape, place)?;
-    let is_its_default = is_default(field, octets_between(place, end));
+    let (is_canonical, end) = check_shape(&field.shape, cursor)?;
+    let is_its_default = is_default(field, octets_between(cursor, end));
     Ok((both(is_canonical, !is_its_default), end))
 }
 
@@ -187,17 +176,17 @@ fn check_field<'a>(field: &Field, place: Place<'a>) -> Result<(bool, Place<'a>),
 fn check_place<'a>(
     field: &Field,
     is_present: bool,
-    place: Place<'a>,
-) -> Result<(bool, Place<'a>), Stop<'a>>
+    cursor: Cursor<'a>,
+) -> Result<(bool, Cursor<'a>), Stop<'a>>
     requires limits { KeepsLimits (type_of field.now.shape) }
     requires defaults { DefaultsFit (type_of field.now.shape) }
     requires fits { DefaultFits (need_of field.now.need) (Fits (type_of field.now.shape)) }
-    ensures { outcome same result ≡ check_if is_present (check_there (need_of field.now.need) (type_of field.now.shape)) (place_of place.entry) }
+    ensures { outcome same result ≡ check_if is_present (check_there (need_of field.now.need) (type_of field.now.shape)) (place_of cursor.entry) }
 {
     if is_present {
-        check_field(field, place)
+        check_field(field, cursor)
     } else {
-        Ok((true, place))
+        Ok((true, cursor))
     }
 }
 
@@ -206,15 +195,15 @@ fn check_place<'a>(
 pub(crate) fn check_fields<'a>(
     fields: &[Field],
     bits: Bits<'a>,
-    place: Place<'a>,
-) -> Result<(bool, Place<'a>), Stop<'a>>
+    cursor: Cursor<'a>,
+) -> Result<(bool, Cursor<'a>), Stop<'a>>
     requires limits { FieldsKeepLimits (fields_of fields.now) }
     requires defaults { FieldDefaultsFit (fields_of fields.now) }
-    ensures { outcome same result ≡ fields_checked (fields_of fields.now) (bits_in bits.entry) (place_of place.entry) }
+    ensures { outcome same result ≡ fields_checked (fields_of fields.now) (bits_in bits.entry) (place_of cursor.entry) }
 {
     let mut is_canonical = true;
     let mut left = bits;
-    let mut at = place;
+    let mut at = cursor;
     for field in fields {
         field_fits(fields, field);
         let (is_present, rest) = presence(&field.need, left);
@@ -231,16 +220,16 @@ pub(crate) fn check_fields<'a>(
 fn check_extension<'a>(
     additions: &[Addition],
     is_extended: bool,
-    place: Place<'a>,
-) -> Result<(bool, Place<'a>), Stop<'a>>
+    cursor: Cursor<'a>,
+) -> Result<(bool, Cursor<'a>), Stop<'a>>
     requires limits { AdditionsKeepLimits (additions_of additions.now) }
     requires defaults { AdditionDefaultsFit (additions_of additions.now) }
-    ensures { outcome same result ≡ extension_checked is_extended (additions_of additions.now) (additions_checked (additions_of additions.now)) (place_of place.entry) }
+    ensures { outcome same result ≡ extension_checked is_extended (additions_of additions.now) (additions_checked (additions_of additions.now)) (place_of cursor.entry) }
 {
     if !is_extended {
-        return Ok((true, place));
+        return Ok((true, cursor));
     }
-    let ((bits, is_least), next) = addition_map(additions.len(), place)?;
+    let ((bits, is_least), next) = addition_map(additions.len(), cursor)?;
     let (is_known, next) = check_additions(additions, bits, next)?;
     let (is_unknown, end) = check_unknown(bits, additions.len(), next)?;
     Ok((both(is_least, both(is_known, is_unknown)), end))
@@ -251,16 +240,16 @@ fn check_extension<'a>(
 fn check_addition<'a>(
     addition: &Addition,
     is_present: bool,
-    place: Place<'a>,
-) -> Result<(bool, Place<'a>), Stop<'a>>
+    cursor: Cursor<'a>,
+) -> Result<(bool, Cursor<'a>), Stop<'a>>
     requires limits { KeepsLimits (type_of addition.now.shape) }
     requires defaults { DefaultsFit (type_of addition.now.shape) }
-    ensures { outcome same result ≡ check_if is_present (open_checked (check_value (type_of addition.now.shape))) (place_of place.entry) }
+    ensures { outcome same result ≡ check_if is_present (open_checked (check_value (type_of addition.now.shape))) (place_of cursor.entry) }
 {
     if is_present {
-        check_open(&addition.shape, place)
+        check_open(&addition.shape, cursor)
     } else {
-        Ok((true, place))
+        Ok((true, cursor))
     }
 }
 
@@ -269,15 +258,15 @@ fn check_addition<'a>(
 pub(crate) fn check_additions<'a>(
     additions: &[Addition],
     bits: Bits<'a>,
-    place: Place<'a>,
-) -> Result<(bool, Place<'a>), Stop<'a>>
+    cursor: Cursor<'a>,
+) -> Result<(bool, Cursor<'a>), Stop<'a>>
     requires limits { AdditionsKeepLimits (additions_of additions.now) }
     requires defaults { AdditionDefaultsFit (additions_of additions.now) }
-    ensures { outcome same result ≡ additions_checked (additions_of additions.now) (bits_in bits.entry) (place_of place.entry) }
+    ensures { outcome same result ≡ additions_checked (additions_of additions.now) (bits_in bits.entry) (place_of cursor.entry) }
 {
     let mut is_canonical = true;
     let mut left = bits;
-    let mut at = place;
+    let mut at = cursor;
     for addition in additions {
         addition_fits(additions, addition);
         let is_present = left.first();
@@ -294,17 +283,17 @@ pub(crate) fn check_additions<'a>(
 fn check_later<'a>(
     alternatives: &[Alt],
     tag: Tag,
-    place: Place<'a>,
-) -> Result<(bool, Place<'a>), Stop<'a>>
+    cursor: Cursor<'a>,
+) -> Result<(bool, Cursor<'a>), Stop<'a>>
     requires limits { AlternativesKeepLimits (later_of alternatives.now) }
     requires defaults { AlternativeDefaultsFit (later_of alternatives.now) }
-    ensures { outcome same result ≡ later_checked (later_of alternatives.now) tag (place_of place.entry) }
+    ensures { outcome same result ≡ later_checked (later_of alternatives.now) tag (place_of cursor.entry) }
 {
     for alternative in alternatives {
         if is_same_tag(alternative.tag, tag) {
             later_fits(alternatives, alternative);
-            return check_open(&alternative.shape, place);
+            return check_open(&alternative.shape, cursor);
         }
     }
-    check_octets(place)
+    check_octets(cursor)
 }

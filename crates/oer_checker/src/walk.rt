@@ -17,11 +17,11 @@ ghost use Rattle.oer_checker.specs.Walk.{CanSplit, Enters, IsAfter, IsGot, Looks
 
 use crate::bit_strings::{addition_map, preamble};
 use crate::bits::Bits;
+use crate::cursor::Cursor;
 use crate::fault::PartFault;
 use crate::lengths::{octets_between, sized_length_at};
 use crate::numbers::sized_quantity_at;
 use crate::parts::{check_unknown, presence, with_tag};
-use crate::place::Place;
 use crate::step::Step;
 use crate::units::{group_at, tag_at};
 use crate::value::{check_additions, check_elements, check_fields, check_shape};
@@ -45,28 +45,28 @@ struct Content<'a> {
 }
 
 /// The octets that are an encoding of a value of the type.
-fn encoding_at<'a>(shape: &Shape, place: Place<'a>) -> Option<&'a [u8]>
+fn encoding_at<'a>(shape: &Shape, cursor: Cursor<'a>) -> Option<&'a [u8]>
     requires limits { KeepsLimits (type_of shape.now) }
     requires defaults { DefaultsFit (type_of shape.now) }
-    ensures { option_map (λ s. s.now) result ≡ read_in (octets_of (check_value (type_of shape.now)) (place_of place.entry)) }
+    ensures { option_map (λ s. s.now) result ≡ read_in (octets_of (check_value (type_of shape.now)) (place_of cursor.entry)) }
 {
-    let Ok((_, end)) = check_shape(shape, place) else {
+    let Ok((_, end)) = check_shape(shape, cursor) else {
         return None;
     };
-    Some(octets_between(place, end))
+    Some(octets_between(cursor, end))
 }
 
 /// The content of an open type (X.696, 30) that holds a value of the type.
-fn content_at<'a>(shape: &Shape, place: Place<'a>) -> Option<Content<'a>>
+fn content_at<'a>(shape: &Shape, cursor: Cursor<'a>) -> Option<Content<'a>>
     requires limits { KeepsLimits (type_of shape.now) }
     requires defaults { DefaultsFit (type_of shape.now) }
-    ensures read { option_map (λ s. s.octets.now) result ≡ read_in (open_type (octets_of (check_value (type_of shape.now))) (place_of place.entry)) }
-    ensures stands { IfSome result (λ s. IsAfter (λ n l. IsLength n l) (place_of place.entry) s.octets.now s.rest) }
+    ensures read { option_map (λ s. s.octets.now) result ≡ read_in (open_type (octets_of (check_value (type_of shape.now))) (place_of cursor.entry)) }
+    ensures stands { IfSome result (λ s. IsAfter (λ n l. IsLength n l) (place_of cursor.entry) s.octets.now s.rest) }
 {
-    let Ok(((count, _), next)) = sized_length_at(place) else {
+    let Ok(((count, _), next)) = sized_length_at(cursor) else {
         return None;
     };
-    let content = Place {
+    let content = Cursor {
         rest: next.rest,
         left: count,
     };
@@ -83,11 +83,11 @@ fn content_at<'a>(shape: &Shape, place: Place<'a>) -> Option<Content<'a>>
 }
 
 /// The octets that a length counts.
-fn counted_at<'a>(place: Place<'a>) -> Option<Content<'a>>
-    ensures read { option_map (λ s. s.octets.now) result ≡ read_in (counted_octets (place_of place.entry)) }
-    ensures stands { IfSome result (λ s. IsAfter (λ n l. IsLength n l) (place_of place.entry) s.octets.now s.rest) }
+fn counted_at<'a>(cursor: Cursor<'a>) -> Option<Content<'a>>
+    ensures read { option_map (λ s. s.octets.now) result ≡ read_in (counted_octets (place_of cursor.entry)) }
+    ensures stands { IfSome result (λ s. IsAfter (λ n l. IsLength n l) (place_of cursor.entry) s.octets.now s.rest) }
 {
-    let Ok(((count, _), next)) = sized_length_at(place) else {
+    let Ok(((count, _), next)) = sized_length_at(cursor) else {
         return None;
     };
     let Ok((octets, _)) = group_at(next, count) else {
@@ -104,13 +104,13 @@ fn field_in<'s, 'a>(
     fields: &'s [Field],
     index: usize,
     bits: Bits<'a>,
-    place: Place<'a>,
+    cursor: Cursor<'a>,
 ) -> Option<Piece<'s, 'a>>
     requires limits { FieldsKeepLimits (fields_of fields.now) }
     requires defaults { FieldDefaultsFit (fields_of fields.now) }
-    requires checked { IsGot (fields_checked (fields_of fields.now) (bits_in bits) (place_of place)) }
-    ensures found { LooksUp (parts_in (field_parts (fields_of fields.now) 0 (bits_in bits.entry) (place_of place.entry))) (to_component index) result }
-    ensures stands { Stands (λ n a. AreFields (fields_of fields.now) index (bits_in bits.entry) a) (place_of place.entry) result }
+    requires checked { IsGot (fields_checked (fields_of fields.now) (bits_in bits) (place_of cursor)) }
+    ensures found { LooksUp (parts_in (field_parts (fields_of fields.now) 0 (bits_in bits.entry) (place_of cursor.entry))) (to_component index) result }
+    ensures stands { Stands (λ n a. AreFields (fields_of fields.now) index (bits_in bits.entry) a) (place_of cursor.entry) result }
 {
     if index >= fields.len() {
         return None;
@@ -121,7 +121,7 @@ fn field_in<'s, 'a>(
     if !is_present {
         return None;
     }
-    let Ok((_, start)) = check_fields(before, bits, place) else {
+    let Ok((_, start)) = check_fields(before, bits, cursor) else {
         return None;
     };
     let Some(octets) = encoding_at(&field.shape, start) else {
@@ -135,12 +135,12 @@ fn field_in<'s, 'a>(
 }
 
 /// The component of a SEQUENCE's root with this number, if it is there.
-fn component_of<'s, 'a>(shape: &'s Shape, index: usize, place: Place<'a>) -> Option<Piece<'s, 'a>>
+fn component_of<'s, 'a>(shape: &'s Shape, index: usize, cursor: Cursor<'a>) -> Option<Piece<'s, 'a>>
     requires limits { KeepsLimits (type_of shape.now) }
     requires defaults { DefaultsFit (type_of shape.now) }
-    requires checked { IsGot (check_value (type_of shape.now) (place_of place)) }
-    ensures found { LooksUp (parts_in (read_parts (type_of shape.now) (place_of place.entry))) (to_component index) result }
-    ensures stands { Stands (IsBefore (type_of shape.now) (to_component index)) (place_of place.entry) result }
+    requires checked { IsGot (check_value (type_of shape.now) (place_of cursor)) }
+    ensures found { LooksUp (parts_in (read_parts (type_of shape.now) (place_of cursor.entry))) (to_component index) result }
+    ensures stands { Stands (IsBefore (type_of shape.now) (to_component index)) (place_of cursor.entry) result }
 {
     let Shape::Sequence { root, additions } = shape else {
         return None;
@@ -148,13 +148,13 @@ fn component_of<'s, 'a>(shape: &'s Shape, index: usize, place: Place<'a>) -> Opt
     let fields: &[Field] = root;
     match additions {
         None => {
-            let Ok((bits, next)) = preamble(optional(fields) as u64, place) else {
+            let Ok((bits, next)) = preamble(optional(fields) as u64, cursor) else {
                 return None;
             };
             field_in(fields, index, bits, next)
         }
         Some(_) => {
-            let Ok((bits, next)) = preamble(optional(fields) as u64 + 1, place) else {
+            let Ok((bits, next)) = preamble(optional(fields) as u64 + 1, cursor) else {
                 return None;
             };
             field_in(fields, index, bits.later(), next)
@@ -167,25 +167,25 @@ fn addition_in<'s, 'a>(
     additions: &'s [Addition],
     index: usize,
     bits: Bits<'a>,
-    place: Place<'a>,
+    cursor: Cursor<'a>,
 ) -> Option<Piece<'s, 'a>>
     requires limits { AdditionsKeepLimits (additions_of additions.now) }
     requires defaults { AdditionDefaultsFit (additions_of additions.now) }
     requires whole { IsWhole bits }
-    requires checked { IsGot (both (additions_checked (additions_of additions.now) (bits_in bits)) (unknown_checked (drop (length additions.now) (bits_in bits))) (place_of place)) }
-    ensures found { LooksUp (parts_in (join_parts (addition_parts (additions_of additions.now) 0 (bits_in bits.entry)) (unknown_parts (length additions.now) (drop (length additions.now) (bits_in bits.entry))) (place_of place.entry))) (to_addition index) result }
-    ensures stands { Stands (AreAdditions (additions_of additions.now) index (bits_in bits.entry)) (place_of place.entry) result }
+    requires checked { IsGot (both (additions_checked (additions_of additions.now) (bits_in bits)) (unknown_checked (drop (length additions.now) (bits_in bits))) (place_of cursor)) }
+    ensures found { LooksUp (parts_in (join_parts (addition_parts (additions_of additions.now) 0 (bits_in bits.entry)) (unknown_parts (length additions.now) (drop (length additions.now) (bits_in bits.entry))) (place_of cursor.entry))) (to_addition index) result }
+    ensures stands { Stands (AreAdditions (additions_of additions.now) index (bits_in bits.entry)) (place_of cursor.entry) result }
 {
     if !bits.skip(index as u64).first() {
         return None;
     }
     if index >= additions.len() {
-        let Ok((_, next)) = check_additions(additions, bits, place) else {
+        let Ok((_, next)) = check_additions(additions, bits, cursor) else {
             return None;
         };
         return unknown_in(bits, additions.len(), index, next);
     }
-    let Ok((_, start)) = check_additions(&additions[..index], bits, place) else {
+    let Ok((_, start)) = check_additions(&additions[..index], bits, cursor) else {
         return None;
     };
     let addition = &additions[index];
@@ -204,16 +204,16 @@ fn unknown_in<'s, 'a>(
     bits: Bits<'a>,
     known: usize,
     index: usize,
-    place: Place<'a>,
+    cursor: Cursor<'a>,
 ) -> Option<Piece<'s, 'a>>
     requires whole { IsWhole bits }
-    requires checked { IsGot (unknown_checked (drop known (bits_in bits)) (place_of place)) }
+    requires checked { IsGot (unknown_checked (drop known (bits_in bits)) (place_of cursor)) }
     requires later { known ≤ index }
     requires there { first_bit (drop index (bits_in bits)) ≡ true }
-    ensures found { LooksUp (parts_in (unknown_parts known (drop known (bits_in bits.entry)) (place_of place.entry))) (to_addition index) result }
-    ensures stands { Stands (AreUnknown known index (bits_in bits.entry)) (place_of place.entry) result }
+    ensures found { LooksUp (parts_in (unknown_parts known (drop known (bits_in bits.entry)) (place_of cursor.entry))) (to_addition index) result }
+    ensures stands { Stands (AreUnknown known index (bits_in bits.entry)) (place_of cursor.entry) result }
 {
-    let Ok((_, start)) = check_unknown(bits.until(index as u64), known, place) else {
+    let Ok((_, start)) = check_unknown(bits.until(index as u64), known, cursor) else {
         return None;
     };
     let Some(content) = counted_at(start) else {
@@ -227,12 +227,12 @@ fn unknown_in<'s, 'a>(
 }
 
 /// The addition of a SEQUENCE with this number, known or not, if it is there.
-fn addition_of<'s, 'a>(shape: &'s Shape, index: usize, place: Place<'a>) -> Option<Piece<'s, 'a>>
+fn addition_of<'s, 'a>(shape: &'s Shape, index: usize, cursor: Cursor<'a>) -> Option<Piece<'s, 'a>>
     requires limits { KeepsLimits (type_of shape.now) }
     requires defaults { DefaultsFit (type_of shape.now) }
-    requires checked { IsGot (check_value (type_of shape.now) (place_of place)) }
-    ensures found { LooksUp (parts_in (read_parts (type_of shape.now) (place_of place.entry))) (to_addition index) result }
-    ensures stands { Stands (IsBefore (type_of shape.now) (to_addition index)) (place_of place.entry) result }
+    requires checked { IsGot (check_value (type_of shape.now) (place_of cursor)) }
+    ensures found { LooksUp (parts_in (read_parts (type_of shape.now) (place_of cursor.entry))) (to_addition index) result }
+    ensures stands { Stands (IsBefore (type_of shape.now) (to_addition index)) (place_of cursor.entry) result }
 {
     let Shape::Sequence { root, additions } = shape else {
         return None;
@@ -242,7 +242,7 @@ fn addition_of<'s, 'a>(shape: &'s Shape, index: usize, place: Place<'a>) -> Opti
     };
     let fields: &[Field] = root;
     let additions: &[Addition] = additions;
-    let Ok((bits, next)) = preamble(optional(fields) as u64 + 1, place) else {
+    let Ok((bits, next)) = preamble(optional(fields) as u64 + 1, cursor) else {
         return None;
     };
     if !bits.first() {
@@ -258,18 +258,18 @@ fn addition_of<'s, 'a>(shape: &'s Shape, index: usize, place: Place<'a>) -> Opti
 }
 
 /// The element of a SEQUENCE OF with this number, if there are as many.
-fn element_of<'s, 'a>(shape: &'s Shape, index: usize, place: Place<'a>) -> Option<Piece<'s, 'a>>
+fn element_of<'s, 'a>(shape: &'s Shape, index: usize, cursor: Cursor<'a>) -> Option<Piece<'s, 'a>>
     requires limits { KeepsLimits (type_of shape.now) }
     requires defaults { DefaultsFit (type_of shape.now) }
-    requires checked { IsGot (check_value (type_of shape.now) (place_of place)) }
-    ensures found { LooksUp (parts_in (read_parts (type_of shape.now) (place_of place.entry))) (to_item index) result }
-    ensures stands { Stands (IsBefore (type_of shape.now) (to_item index)) (place_of place.entry) result }
+    requires checked { IsGot (check_value (type_of shape.now) (place_of cursor)) }
+    ensures found { LooksUp (parts_in (read_parts (type_of shape.now) (place_of cursor.entry))) (to_item index) result }
+    ensures stands { Stands (IsBefore (type_of shape.now) (to_item index)) (place_of cursor.entry) result }
 {
     let Shape::SequenceOf { size, item } = shape else {
         return None;
     };
     let item: &Shape = item;
-    let Ok(((count, _), next)) = sized_quantity_at(*size, place) else {
+    let Ok(((count, _), next)) = sized_quantity_at(*size, cursor) else {
         return None;
     };
     if index as u64 >= count {
@@ -289,23 +289,21 @@ fn element_of<'s, 'a>(shape: &'s Shape, index: usize, place: Place<'a>) -> Optio
 }
 
 /// The alternative of a CHOICE.
-fn alternative_of<'s, 'a>(shape: &'s Shape, place: Place<'a>) -> Option<Piece<'s, 'a>>
+fn alternative_of<'s, 'a>(shape: &'s Shape, cursor: Cursor<'a>) -> Option<Piece<'s, 'a>>
     requires limits { KeepsLimits (type_of shape.now) }
     requires defaults { DefaultsFit (type_of shape.now) }
-    requires checked { IsGot (check_value (type_of shape.now) (place_of place)) }
-    ensures found { LooksUp (parts_in (read_parts (type_of shape.now) (place_of place.entry))) to_chosen result }
-    ensures stands { Stands (IsBefore (type_of shape.now) to_chosen) (place_of place.entry) result }
+    requires checked { IsGot (check_value (type_of shape.now) (place_of cursor)) }
+    ensures found { LooksUp (parts_in (read_parts (type_of shape.now) (place_of cursor.entry))) to_chosen result }
+    ensures stands { Stands (IsBefore (type_of shape.now) to_chosen) (place_of cursor.entry) result }
 {
     let Shape::Choice { root, additions } = shape else {
         return None;
     };
-    let Ok((tag, next)) = tag_at(place) else {
+    let Ok((tag, next)) = tag_at(cursor) else {
         return None;
     };
     if let Some(alternative) = with_tag(root, tag) {
-        let Some(octets) = encoding_at(&alternative.shape, next) else {
-            return None;
-        };
+        let octets = encoding_at(&alternative.shape, next)?;
         return Some(Piece {
             shape: Some(&alternative.shape),
             octets,
@@ -317,9 +315,7 @@ fn alternative_of<'s, 'a>(shape: &'s Shape, place: Place<'a>) -> Option<Piece<'s
     };
     match with_tag(additions, tag) {
         Some(alternative) => {
-            let Some(content) = content_at(&alternative.shape, next) else {
-                return None;
-            };
+            let content = content_at(&alternative.shape, next)?;
             Some(Piece {
                 shape: Some(&alternative.shape),
                 octets: content.octets,
@@ -327,9 +323,7 @@ fn alternative_of<'s, 'a>(shape: &'s Shape, place: Place<'a>) -> Option<Piece<'s
             })
         }
         None => {
-            let Some(content) = counted_at(next) else {
-                return None;
-            };
+            let content = counted_at(next)?;
             Some(Piece {
                 shape: None,
                 octets: content.octets,
@@ -347,15 +341,15 @@ fn step_into<'s, 'a>(shape: &'s Shape, octets: &'a [u8], step: Step) -> Option<P
     ensures found { LooksUp (parts_in (read_parts (type_of shape.now) (at octets.now (length octets.now)))) (step_of step) result }
     ensures stands { Stands (IsBefore (type_of shape.now) (step_of step)) (at octets.now (length octets.now)) result }
 {
-    let place = Place {
+    let cursor = Cursor {
         rest: octets,
         left: octets.len() as u64,
     };
     match step {
-        Step::Component(index) => component_of(shape, index, place),
-        Step::Addition(index) => addition_of(shape, index, place),
-        Step::Item(index) => element_of(shape, index, place),
-        Step::Chosen => alternative_of(shape, place),
+        Step::Component(index) => component_of(shape, index, cursor),
+        Step::Addition(index) => addition_of(shape, index, cursor),
+        Step::Item(index) => element_of(shape, index, cursor),
+        Step::Chosen => alternative_of(shape, cursor),
     }
 }
 

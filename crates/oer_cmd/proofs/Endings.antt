@@ -19,7 +19,7 @@ use Rattle.oer_options.specs.Words.{Asks, Texts, behind, oer, path_text, source_
 use Rattle.oer_options.specs.declared.options.Options.{Options}
 use Rattle.oer_options.specs.declared.options.Task.{Task}
 use Rattle.oer_cmd.specs.Answer.{IsPathOf, answer_of, expected_answer, expected_type, named_as, parsed, task_answer, type_among}
-use Rattle.oer_cmd.specs.Ending.{Answers, Breaks, Does, HoldsFront, IsMachineLine, IsNotTaken, IsUnstarted, MayPrint, Streams, refusal_line}
+use Rattle.oer_cmd.specs.Ending.{Delivers, Breaks, Does, HoldsFront, IsMachineLine, IsNotTaken, IsUnstarted, MayPrint, Streams, refusal_line}
 use Rattle.oer_cmd.specs.Expected.{Expected, Meets, refusal, stop, unknown, value, ◌>>=◌}
 use Rattle.oer_cmd.specs.Faults.{AppendsFront, Printed, Reports, error_line, status_of}
 use Rattle.oer_cmd.specs.declared.fault.Fault.{Fault}
@@ -94,7 +94,8 @@ lacking o path told fault is = subst (λ (t : Expected AsnType). Meets {X = Stri
 
 -- ---- the end
 
-by_status : (fault : Fault) → (status_of fault ≤ 2) ⊎ ((status_of fault ≡ 3) × IsMachineLine (error_line fault))
+-- the status is 2 at most, or the machine failed and the line says so
+pub by_status : (fault : Fault) → (status_of fault ≤ 2) ⊎ ((status_of fault ≡ 3) × IsMachineLine (error_line fault))
 by_status (Read e) = inl (omega arith)
 by_status (Follows n) = inl (omega arith)
 by_status (Longer n) = inl (omega arith)
@@ -113,21 +114,21 @@ by_status Input = inr (refl, inl refl)
 by_status Output = inr (refl, inr (inl refl))
 by_status Memory = inr (refl, inr (inr refl))
 
-moved : (line own : Text) → line ≡ own → IsMachineLine own → IsMachineLine line
+pub moved : (line own : Text) → line ≡ own → IsMachineLine own → IsMachineLine line
 moved line own is h = subst IsMachineLine (sym is) h
 
 -- The fault is told, and the output is as it was.
-pub refused_end : (expected : Expected Text) (fault : Fault) (status : ℕ) (s : Streams) → Meets {X = String Global} bytes expected (Err fault) → Reports fault status s.errors s.errors' → Keeps s.output s.output' → Answers expected status s ⊎ Breaks expected status s
+pub refused_end : (expected : Expected Text) (fault : Fault) (status : ℕ) (s : Streams) → Meets {X = String Global} bytes expected (Err fault) → Reports fault status s.errors s.errors' → Keeps s.output s.output' → Delivers expected status s ⊎ Breaks expected status s
 refused_end expected fault status s meets (line, inr (three, is), front) kept = inr (three, inl kept, (line, inr (inr is), front))
 refused_end expected fault status s meets (line, inl (same, is), front) kept = by expected meets (by_status fault) where
-  by : (expected : Expected Text) → Meets {X = String Global} bytes expected (Err fault) → (status_of fault ≤ 2) ⊎ ((status_of fault ≡ 3) × IsMachineLine (error_line fault)) → Answers expected status s ⊎ Breaks expected status s
+  by : (expected : Expected Text) → Meets {X = String Global} bytes expected (Err fault) → (status_of fault ≤ 2) ⊎ ((status_of fault ≡ 3) × IsMachineLine (error_line fault)) → Delivers expected status s ⊎ Breaks expected status s
   by expected meets (inr (three, own)) = inr (same ∙ three, inl kept, (line, moved line (error_line fault) is own, front))
   by unknown meets (inl small) = inl tt
   by (value y) meets (inl small) = absurd (meets small)
   by (refusal r) meets (inl small) = inl (same ∙ ap (λ x. x.status) (meets small), kept, subst (λ l. AppendsFront s.errors s.errors' l) (is ∙ ap (λ x. refusal_line x.text) (meets small)) front)
 
 -- The line is printed.
-pub printed_end : (expected : Expected Text) (line : String Global) (s : Streams) → Meets bytes expected (Ok line) → Appends s.output s.output' (string_bytes line ++ 10 ∷ []) → Keeps s.errors s.errors' → Answers expected 0 s ⊎ Breaks expected 0 s
+pub printed_end : (expected : Expected Text) (line : String Global) (s : Streams) → Meets bytes expected (Ok line) → Appends s.output s.output' (string_bytes line ++ 10 ∷ []) → Keeps s.errors s.errors' → Delivers expected 0 s ⊎ Breaks expected 0 s
 printed_end unknown line s meets appends kept = inl tt
 printed_end (value y) line s meets appends kept = inl (refl, subst (λ (l : List ℕ). Appends s.output s.output' (l ++ 10 ∷ [])) meets appends, kept)
 printed_end (refusal r) line s meets appends kept = absurd meets
@@ -144,7 +145,7 @@ fronts expected line fault s meets printed = absurd printed
 
 -- The output failed, or memory ran out before it.
 pub broken_end : (expected : Expected Text) (line : String Global) (fault : Fault) (status : ℕ) (s : Streams) → Meets bytes expected (Ok line) → Printed (string_bytes line) s.output s.output' (Err fault) → Reports fault status s.errors s.errors'
-    → Answers expected status s ⊎ Breaks expected status s
+    → Delivers expected status s ⊎ Breaks expected status s
 broken_end expected line fault status s meets printed (told, inl (same, is), front) = let f = fronts expected line fault s meets printed in inr (same ∙ f.1, f.0, (told, moved told (error_line fault) is f.2, front))
 broken_end expected line fault status s meets printed (told, inr (three, is), front) = let f = fronts expected line fault s meets printed in inr (three, f.0, (told, inr (inr is), front))
 
@@ -179,7 +180,7 @@ not_taken words untouched e status s among passes memory kept shows alone two qu
   by (inr h) = told_machine Output s.errors s.errors' (inr (inl refl)) h
 
 pub does : (words : List Text) (told : Option (List ℕ)) (untouched : Type 0) (status : ℕ) (s : Streams) (o : Options) → Asks words o
-    → ((path : Expected (List Step)) → IsPathOf (path_text o.task) path → Answers (expected_answer o path told) status s ⊎ Breaks (expected_answer o path told) status s)
+    → ((path : Expected (List Step)) → IsPathOf (path_text o.task) path → Delivers (expected_answer o path told) status s ⊎ Breaks (expected_answer o path told) status s)
     → (source_text o.task ≢ None → untouched) → Does words told untouched status s
 does words told untouched status s o asks answers keeps = record { options = o; asks = asks; answers = answers; keeps = keeps }
 

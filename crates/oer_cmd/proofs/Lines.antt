@@ -11,7 +11,7 @@ use Rattle.oer_options.specs.Words.{Asks, IsTask, Kind, asked, canon, check, giv
 use Rattle.oer_options.specs.declared.options.Options.{Options}
 use Rattle.oer_options.specs.declared.options.Task.{Task}
 use Rattle.oer_cmd.specs.Octets.{AreAll, AreSpelt}
-use Rattle.oer_cmd.specs.Run.{Answers, AnswersWords, IsEncoding, IsLine, IsLineBy, IsLineOf, IsNoFront, IsPart, MayBe, NoLine, NoneAnswers, OfOctets, OfText}
+use Rattle.oer_cmd.specs.Run.{IsLineFor, IsLineAsked, IsEncoding, IsLine, IsLineBy, IsLineOf, IsNoFront, IsPart, MayBe, NoLine, NoLineAsked, OfOctets, OfText}
 use Rattle.oer_cmd.specs.Types.{SpelledBy}
 
 line_of_words : (words : List Text) (task : Task) (told : Option (List ℕ)) (T : AsnType) (limit : ℕ) (line : Text) → IsTask (asked words) (given words) task → IsLineOf task told T limit line → IsLine words told T limit line
@@ -51,7 +51,7 @@ task_line words task told T limit line is h =
 texts_are : (words : List Text) (o : Options) → Asks words o → texts_of o ≡ texts_in words
 texts_are words o asks = rw (← asks.type_text, ← asks.types, ← asks.name) refl
 
-pub answers_words : (words : List Text) (o : Options) (told : Option (List ℕ)) (line : Text) → Asks words o → Answers (texts_of o) o.task o.limit told line → AnswersWords words told line
+pub answers_words : (words : List Text) (o : Options) (told : Option (List ℕ)) (line : Text) → Asks words o → IsLineFor (texts_of o) o.task o.limit told line → IsLineAsked words told line
 answers_words words o told line asks h = record {
   limit = o.limit;
   limit_text = asks.limit.0;
@@ -62,12 +62,12 @@ answers_words words o told line asks h = record {
   line_is = line_of_words words o.task told h.type o.limit line asks.task h.line_is;
 }
 
-same_limit : (words : List Text) (o : Options) (told : Option (List ℕ)) (line : Text) → Asks words o → (h : AnswersWords words told line) → h.limit ≡ o.limit
+same_limit : (words : List Text) (o : Options) (told : Option (List ℕ)) (line : Text) → Asks words o → (h : IsLineAsked words told line) → h.limit ≡ o.limit
 same_limit words o told line asks h =
     let texts : h.limit_text ≡ asks.limit.0 = (let both = sym h.limit_is ∙ asks.limit.1 in cc) in
     h.number.value ∙ ap (λ t. digits_value 10 (without_leading_plus t)) texts ∙ sym asks.limit.2.value
 
-answers_options : (words : List Text) (o : Options) (told : Option (List ℕ)) (line : Text) → Asks words o → AnswersWords words told line → Answers (texts_of o) o.task o.limit told line
+answers_options : (words : List Text) (o : Options) (told : Option (List ℕ)) (line : Text) → Asks words o → IsLineAsked words told line → IsLineFor (texts_of o) o.task o.limit told line
 answers_options words o told line asks h = record {
   type = h.type;
   spelled = subst (λ t. SpelledBy t h.type) (sym (texts_are words o asks)) h.spelled;
@@ -75,7 +75,7 @@ answers_options words o told line asks h = record {
 }
 
 -- Where the options have no line, the words have none.
-pub none_answers : (words : List Text) (o : Options) (known told : Option (List ℕ)) → Asks words o → NoLine known (Answers (texts_of o) o.task o.limit) → known ≡ told → NoneAnswers words told
+pub none_answers : (words : List Text) (o : Options) (known told : Option (List ℕ)) → Asks words o → NoLine known (IsLineFor (texts_of o) o.task o.limit) → known ≡ told → NoLineAsked words told
 none_answers words o known told asks none same = λ line h. none line (λ b may. answers_options words o (Some b) line asks (h b (subst (λ k. MayBe k b) same may)))
 
 -- what holds of all the octets holds of those that the words give

@@ -18,7 +18,7 @@ use Rattle.oer_types.specs.AsnType.{AsnType}
 use Rattle.oer_types.specs.AsnValue.{AsnValue}
 use Rattle.oer_types.specs.Parts.{Step}
 use Rattle.oer_checker.specs.Path.{OnePath}
-use Rattle.oer_json.specs.Denotes.{Takes}
+use Rattle.oer_json.specs.Denotes.{IsJsonOf}
 use Rattle.oer_checker.specs.Handing.{Follows}
 use Rattle.oer_checker.specs.declared.fault.PartFault.{PartFault}
 use Rattle.oer_decoder.specs.Front.{ReadsWhatComes}
@@ -193,10 +193,10 @@ by_reader r digits b known P h spells is = IfErr-weaker r _ _ (λ fault none sma
 pub no_json : (T : AsnType) (text : Text) → read text ≡ None → NoneFor (Makes T) text
 no_json T text e = λ line h. let both = sym e ∙ h.1.1 in cc
 
-pub no_value : (T : AsnType) (text : Text) (j : Data) → read text ≡ Some j → ((v : AsnValue) → Takes T v j → ⊥) → NoneFor (Makes T) text
+pub no_value : (T : AsnType) (text : Text) (j : Data) → read text ≡ Some j → ((v : AsnValue) → IsJsonOf T v j → ⊥) → NoneFor (Makes T) text
 no_value T text j e none = λ line h.
     let same : h.1.0 ≡ j = (let both = sym h.1.1 ∙ e in cc) in
-    none h.1.2.0 (subst (λ (d : Data). Takes T h.1.2.0 d) same h.1.2.1)
+    none h.1.2.0 (subst (λ (d : Data). IsJsonOf T h.1.2.0 d) same h.1.2.1)
 
 -- what has no line for the text that the input had left has none
 pub of_text_there : (T : AsnType) (limit : ℕ) (told : Option (List ℕ)) (b : List ℕ) → AreAll None told b → NoneFor (Makes T) b → NoLine told (λ known line. OfText None known (IsMakeLine T limit line))

@@ -24,10 +24,10 @@ refusal_line text = codes "oer: " ++ text ++ 10 ∷ []
 
 -- The answer that is expected is given: a line on the output and nothing on the errors; or nothing on the output, and on the errors the
 -- line of the refusal, or a front of it, where they fail.
-abbrev pub Answers : Expected Text → ℕ → Streams → Type 0
-Answers unknown status s = ⊤
-Answers (value line) status s = (status ≡ 0) × Appends s.output s.output' (line ++ 10 ∷ []) × Keeps s.errors s.errors'
-Answers (refusal r) status s = (status ≡ r.status) × Keeps s.output s.output' × AppendsFront s.errors s.errors' (refusal_line r.text)
+abbrev pub Delivers : Expected Text → ℕ → Streams → Type 0
+Delivers unknown status s = ⊤
+Delivers (value line) status s = (status ≡ 0) × Appends s.output s.output' (line ++ 10 ∷ []) × Keeps s.errors s.errors'
+Delivers (refusal r) status s = (status ≡ r.status) × Keeps s.output s.output' × AppendsFront s.errors s.errors' (refusal_line r.text)
 
 -- the line that is expected, if it is known
 abbrev pub MayPrint : Expected Text → Text → Type 0
@@ -60,7 +60,7 @@ pub record Does (words : List Text) (told : Option (List ℕ)) (untouched : Type
   pub options : Options
   pub asks : Asks words options
   pub answers : (path : Expected (List Step)) → IsPathOf (path_text options.task) path
-      → Answers (expected_answer options path told) status s ⊎ Breaks (expected_answer options path told) status s
+      → Delivers (expected_answer options path told) status s ⊎ Breaks (expected_answer options path told) status s
   pub keeps : source_text options.task ≢ None → untouched
 
 -- The words ask for help, or for the version.

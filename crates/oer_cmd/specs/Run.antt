@@ -14,7 +14,7 @@ use Rattle.oer_types.specs.Encoding.{Encodes}
 use Rattle.oer_types.specs.Parts.{Step, Within}
 use Rattle.oer_types.specs.Strict.{IsCanonical}
 use Rattle.oer_checker.specs.Path.{SpellsPath}
-use Rattle.oer_json.specs.Denotes.{Takes}
+use Rattle.oer_json.specs.Denotes.{IsJsonOf}
 use Rattle.oer_json.specs.Made.{made}
 use Rattle.oer_options.specs.Words.{Kind, NumberOf, Texts, asked, canon, check, given, given_number, kind, make, name_of, part, path_among, path_text, show, source_option, source_text, texts_in}
 use Rattle.oer_options.specs.declared.options.Task.{Task}
@@ -69,7 +69,7 @@ IsCheckLine T limit line b = IsEncoding T b × (length b ≤ limit)
 -- the canonical octets, in lower hexadecimal digits, of a value that fits, for which the text of JSON stands, in UTF-8
 abbrev pub Makes : AsnType → Text → List ℕ → Type 0
 Makes T line text = IsUtf8 text
-    × ((j : Data) × (read text ≡ Some j) × ((v : AsnValue) × Takes T v j × ((c : List ℕ) × IsCanonical T v c × (line ≡ encode_lower c))))
+    × ((j : Data) × (read text ≡ Some j) × ((v : AsnValue) × IsJsonOf T v j × ((c : List ℕ) × IsCanonical T v c × (line ≡ encode_lower c))))
 
 -- the line of `make` for a text of JSON, of no more octets than the limit
 abbrev pub IsMakeLine : AsnType → ℕ → Text → List ℕ → Type 0
@@ -126,7 +126,7 @@ abbrev pub NoLineOf : Task → Option (List ℕ) → AsnType → ℕ → Type 0
 NoLineOf task told T limit = NoLine told (λ known. IsLineOf task known T limit)
 
 -- the line is that of the task for the type that the texts name
-pub record Answers (texts : Texts) (task : Task) (limit : ℕ) (told : Option (List ℕ)) (line : Text) : Type 0 where
+pub record IsLineFor (texts : Texts) (task : Task) (limit : ℕ) (told : Option (List ℕ)) (line : Text) : Type 0 where
   pub type : AsnType
   pub spelled : SpelledBy texts type
   pub line_is : IsLineOf task told type limit line
@@ -137,7 +137,7 @@ IsLine words told T limit line = (k : Kind) × (asked words ≡ Some (name_of k)
     × IsLineBy k (given words (source_option k)) (path_among k (given words)) told T limit line
 
 -- the line that the words ask for, where the input had these octets left
-pub record AnswersWords (words : List Text) (told : Option (List ℕ)) (line : Text) : Type 0 where
+pub record IsLineAsked (words : List Text) (told : Option (List ℕ)) (line : Text) : Type 0 where
   pub limit : ℕ
   pub limit_text : Text
   pub limit_is : given_number words (codes "limit") ≡ Some limit_text
@@ -147,10 +147,10 @@ pub record AnswersWords (words : List Text) (told : Option (List ℕ)) (line : T
   pub line_is : IsLine words told type limit line
 
 -- no line is what the words ask for, whatever the input had left
-abbrev pub NoneAnswers : List Text → Option (List ℕ) → Type 0
-NoneAnswers words told = NoLine told (AnswersWords words)
+abbrev pub NoLineAsked : List Text → Option (List ℕ) → Type 0
+NoLineAsked words told = NoLine told (IsLineAsked words)
 
 -- the output grew by that line alone, and nothing is on the errors
 abbrev pub Prints : List Text → Option (List ℕ) → Option (List ℕ) → Option (List ℕ) → Option (List ℕ) → Option (List ℕ) → Type 0
 Prints words told output output' errors errors' =
-    (line : Text) × AnswersWords words told line × Appends output output' (line ++ 10 ∷ []) × Keeps errors errors'
+    (line : Text) × IsLineAsked words told line × Appends output output' (line ++ 10 ∷ []) × Keeps errors errors'

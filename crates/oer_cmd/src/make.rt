@@ -8,7 +8,7 @@ ghost use Rattle.oer_types.specs.Fits.{Fits};
 ghost use Rattle.oer_types.specs.Schema.{the_type};
 ghost use Rattle.oer_types.specs.Strict.{IsCanonical};
 ghost use Rattle.oer_types.specs.ValueView.{value_of};
-ghost use Rattle.oer_json.specs.Denotes.{Takes};
+ghost use Rattle.oer_json.specs.Denotes.{IsJsonOf};
 ghost use Rattle.oer_json.specs.Take.{taken};
 ghost use Rattle.oer_options.specs.Words.{behind};
 ghost use Rattle.oer_cmd.specs.Answer.{json_read, json_taken, make_answer, make_text};
@@ -47,10 +47,10 @@ fn json_of<'a>(alloc: Global, text: &str) -> Result<Json, Fault<'a>>
 
 // The value that the JSON stands for; fails with `Json`, or with `Memory`.
 fn value_in<'a>(alloc: Global, schema: &Schema, json: &Json) -> Result<Value, Fault<'a>>
-    ensures takes { IfOk result (λ value. Takes (the_type schema.now) (value_of value) (view json.now)) }
+    ensures takes { IfOk result (λ value. IsJsonOf (the_type schema.now) (value_of value) (view json.now)) }
     ensures fits { IfOk result (λ value. Fits (the_type schema.now) (value_of value)) }
     ensures exact { Meets value_of (json_taken (taken (the_type schema.now) (view json.now))) result }
-    ensures none { IfErr result (λ fault. fault ≢ Fault.Memory → (v : AsnValue) → Takes (the_type schema.now) v (view json.now) → ⊥) }
+    ensures none { IfErr result (λ fault. fault ≢ Fault.Memory → (v : AsnValue) → IsJsonOf (the_type schema.now) v (view json.now) → ⊥) }
 {
     match from_json(alloc, schema, json) {
         Ok(value) => Ok(value),

@@ -10,7 +10,7 @@ ghost use Rattle.oer_cmd.specs.Answer.{IsPathOf, answer_of, expected_answer, tas
 ghost use Rattle.oer_cmd.specs.Ending.{Ends};
 ghost use Rattle.oer_cmd.specs.Expected.{Expected, Meets};
 ghost use Rattle.oer_cmd.specs.Faults.{AppendsFront, Printed, Refuses, Reports, status_of};
-ghost use Rattle.oer_cmd.specs.Run.{Answers, IsLineOf, NoLine, NoLineOf, NoneAnswers, Prints};
+ghost use Rattle.oer_cmd.specs.Run.{IsLineFor, IsLineOf, NoLine, NoLineOf, NoLineAsked, Prints};
 ghost use Rattle.oer_cmd.specs.Types.{texts_at};
 ghost use Rattle.oer_cmd.specs.declared.type_text.TypeText.TheVariants.{Named, One};
 
@@ -59,10 +59,10 @@ fn line_of_one<'a, R: Read>(
     options: Options<'a>,
     input: &mut R,
 ) -> Result<String, Fault<'a>>
-    ensures line { IfOk result (λ line. Answers (texts_at (One text.entry)) options.entry.task
+    ensures line { IfOk result (λ line. IsLineFor (texts_at (One text.entry)) options.entry.task
         options.entry.limit (R.remaining input.old) (string_bytes line)) }
     ensures refused { IfErr result (λ fault. Refuses fault (NoLine (R.remaining input.old)
-        (Answers (texts_at (One text.entry)) options.entry.task options.entry.limit))) }
+        (IsLineFor (texts_at (One text.entry)) options.entry.task options.entry.limit))) }
     ensures exact { (path : Expected (List Step)) → IsPathOf (path_text options.entry.task) path
         → Meets string_bytes (answer_of (texts_at (One text.entry)) options.entry.task options.entry.limit path (R.remaining input.old)) result }
     ensures untouched { source_text options.entry.task ≢ None → input.new ≡ input.old }
@@ -79,10 +79,10 @@ fn line_of_named<'a, R: Read>(
     options: Options<'a>,
     input: &mut R,
 ) -> Result<String, Fault<'a>>
-    ensures line { IfOk result (λ line. Answers (texts_at (Named types.entry name.entry)) options.entry.task
+    ensures line { IfOk result (λ line. IsLineFor (texts_at (Named types.entry name.entry)) options.entry.task
         options.entry.limit (R.remaining input.old) (string_bytes line)) }
     ensures refused { IfErr result (λ fault. Refuses fault (NoLine (R.remaining input.old)
-        (Answers (texts_at (Named types.entry name.entry)) options.entry.task options.entry.limit))) }
+        (IsLineFor (texts_at (Named types.entry name.entry)) options.entry.task options.entry.limit))) }
     ensures exact { (path : Expected (List Step)) → IsPathOf (path_text options.entry.task) path
         → Meets string_bytes (answer_of (texts_at (Named types.entry name.entry)) options.entry.task options.entry.limit path (R.remaining input.old)) result }
     ensures untouched { source_text options.entry.task ≢ None → input.new ≡ input.old }
@@ -98,10 +98,10 @@ fn answer<'a, R: Read>(
     options: Options<'a>,
     input: &mut R,
 ) -> Result<String, Fault<'a>>
-    ensures line { IfOk result (λ line. Answers (texts_of options.entry) options.entry.task
+    ensures line { IfOk result (λ line. IsLineFor (texts_of options.entry) options.entry.task
         options.entry.limit (R.remaining input.old) (string_bytes line)) }
     ensures refused { IfErr result (λ fault. Refuses fault (NoLine (R.remaining input.old)
-        (Answers (texts_of options.entry) options.entry.task options.entry.limit))) }
+        (IsLineFor (texts_of options.entry) options.entry.task options.entry.limit))) }
     ensures exact { (path : Expected (List Step)) → IsPathOf (path_text options.entry.task) path
         → Meets string_bytes (expected_answer options.entry path (R.remaining input.old)) result }
     ensures untouched { source_text options.entry.task ≢ None → input.new ≡ input.old }
@@ -217,7 +217,7 @@ pub fn run<R: Read, W: Write, E: Write>(
         (E.contents errors.old) (E.contents errors.new) }
     // It refuses only where there is no answer.
     ensures refuses { takes oer (map string_bytes words.now) ≡ true → 1 ≤ result → result ≤ 2
-        → NoneAnswers (map string_bytes words.now) (R.remaining input.old) }
+        → NoLineAsked (map string_bytes words.now) (R.remaining input.old) }
     ensures statuses { result ≤ 3 }
     // The status, and what stands on the output and the errors, is what plain functions of the words and
     // the octets say, unless memory ran out or a device failed. Input that isn't needed is untouched.

@@ -1,7 +1,7 @@
 -- Steps that are refused by a test.
 use Rattle.std.proofs.Common.{◌≡◌, ◌≢◌, Bool, true, false, Result, Ok, Err, refl, sym, ◌∙◌, subst}
 use Rattle.oer_units.specs.declared.fault.Why.{Why}
-use Rattle.oer_units.specs.declared.fault.Why.TheVariants.{BitUnused, Character, Device, IntegerRange, ObjectId, PreamblePadding, Size, UnknownAddition, UnknownAlternative, UnknownEnum}
+use Rattle.oer_units.specs.declared.fault.Why.TheVariants.{BitUnused, Character, Device, IntegerRange, PreamblePadding, Size, UnknownAddition, UnknownAlternative, UnknownEnum}
 use Rattle.oer_units.specs.declared.fault.ReadFault.{ReadFault}
 use Rattle.oer_units.specs.Reader.{Reader, guard}
 use Rattle.oer_units.specs.Reads.{named, Reads, seen, State}
@@ -33,12 +33,6 @@ character_plain = record { name = name; other = λ d. cc } where
 pub range_plain : IsPlain IntegerRange
 range_plain = record { name = name; other = λ d. cc } where
   name : (i : Bool) → named i IntegerRange ≡ IntegerRange
-  name true = refl
-  name false = refl
-
-pub object_plain : IsPlain ObjectId
-object_plain = record { name = name; other = λ d. cc } where
-  name : (i : Bool) → named i ObjectId ≡ ObjectId
   name true = refl
   name false = refl
 

@@ -1,14 +1,11 @@
 -- A `Shape` without parts, beside what it stands for.
 use Rattle.std.proofs.Common.{◌≡◌, rules}
-use Rattle.oer_types.specs.AsnType.{boolean, null, object_id}
+use Rattle.oer_types.specs.AsnType.{boolean, null}
 use Rattle.oer_types.specs.ShapeView.{type_of}
-use Rattle.oer_types.specs.declared.shape.Shape.{Boolean, Null, ObjectId, the_lemmas}
+use Rattle.oer_types.specs.declared.shape.Shape.{Boolean, Null, the_lemmas}
 
 pub type_of-Boolean : type_of Boolean ≡ boolean
 type_of-Boolean = search (rules, the_lemmas)
 
 pub type_of-Null : type_of Null ≡ null
 type_of-Null = search (rules, the_lemmas)
-
-pub type_of-ObjectId : type_of ObjectId ≡ object_id
-type_of-ObjectId = search (rules, the_lemmas)

@@ -22,6 +22,11 @@ found_in no_alternatives t = give None
 found_in (alternative name u T more) t = pick (same_tag u t) (chosen_by t (read_value T)) (found_in more t)
 found_in (later name u T more) t = pick (same_tag u t) (chosen_by t (open_type (read_value T))) (found_in more t)
 
+-- the value, if it was found
+abbrev pub found_as : Bool → AsnValue → Option AsnValue
+found_as true v = Some v
+found_as false v = None
+
 -- what was found, or else what r reads
 abbrev pub or_else : Reader AsnValue → Option AsnValue → Reader AsnValue
 or_else r (Some v) = give v

@@ -1,6 +1,7 @@
 -- Which shapes have these parts.
-use Rattle.std.specs.Prelude.{◌≡◌, List, Option, Some, Vec}
+use Rattle.std.specs.Prelude.{◌≡◌, List, Option, Some, Vec, ⊤}
 use Rattle.std.specs.declared.alloc.Global.{Global}
+use Rattle.oer_types.specs.AsnType.{AsnType, leaf}
 use Rattle.oer_types.specs.declared.shape.Addition.{Addition}
 use Rattle.oer_types.specs.declared.shape.Alt.{Alt}
 use Rattle.oer_types.specs.declared.shape.Field.{Field}
@@ -15,3 +16,8 @@ IsExtensible shape fs xs = (root : Vec Field Global) × (more : Vec Addition Glo
 -- a CHOICE of these alternatives, and of those after its extension marker if it has one
 abbrev pub IsChoice : Shape → List Alt → Option (Vec Alt Global) → Type 0
 IsChoice shape xs more = (root : Vec Alt Global) × (shape ≡ Choice root more) × (xs ≡ root.items)
+
+-- a type that holds no other
+abbrev pub HasNoParts : AsnType → Type 0
+HasNoParts (leaf kind) = ⊤
+HasNoParts T = ⊥

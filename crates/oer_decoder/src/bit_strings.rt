@@ -4,6 +4,7 @@ ghost use Rattle.oer_units.specs.Reader.{group};
 ghost use Rattle.oer_units.specs.Reads.{Reads, bound_of, seen, state};
 ghost use Rattle.oer_types.specs.AsnType.{bit_string as bit_string_type};
 ghost use Rattle.oer_types.specs.Bits.{bit as the_bit, bits_of as the_bits, all_false, octets_for};
+ghost use Rattle.oer_types.specs.Constraints.{fixed as fixed_size};
 ghost use Rattle.oer_types.specs.Reading.{read_bits, read_value};
 ghost use Rattle.oer_types.specs.ValueView.{value_of};
 ghost use Rattle.oer_types.specs.SharedSteps.{unused_fits};
@@ -13,21 +14,30 @@ use oer_types::{Bits, Size, Value};
 use oer_units::{ReadFault, Source, Why, Window, length, octet, octets};
 use std::alloc::{AllocError, Global};
 
-/// A BIT STRING (X.696, 13). Bits past the last one may have any values.
+/// Reads a BIT STRING (X.696, 13) into `value`. Bits past the last one may have any values.
 pub(crate) fn read_bit_string<R: Source>(
     alloc: Global,
     size: Size,
+    value: &mut Value,
     w: &mut Window<R>,
-) -> Result<Value, ReadFault>
-    ensures { Reads (read_value (bit_string_type size)) (state R.remaining R.failed w.old) (seen value_of result)
+) -> Result<(), ReadFault>
+    ensures { Reads (read_value (bit_string_type size)) (state R.remaining R.failed w.old) (seen (λ _. value_of value.new) result)
         (state R.remaining R.failed w.new) }
 {
-    if let Some(count) = size.fixed() {
-        let bits = fixed_bits(alloc, count, w)?;
-        return Ok(Value::Bits(bits));
+    let bits = sized_bits(alloc, size, w)?;
+    *value = Value::Bits(bits);
+    Ok(())
+}
+
+// As many bits as the one size says, or else as a length says that the size allows.
+fn sized_bits<R: Source>(alloc: Global, size: Size, w: &mut Window<R>) -> Result<Bits, ReadFault>
+    ensures { Reads (read_bits (fixed_size size) size) (state R.remaining R.failed w.old) result
+        (state R.remaining R.failed w.new) }
+{
+    match size.fixed() {
+        Some(count) => fixed_bits(alloc, count, w),
+        None => counted_bits(alloc, size, w),
     }
-    let bits = counted_bits(alloc, size, w)?;
-    Ok(Value::Bits(bits))
 }
 
 // As many bits, and any bits to the octet's end.

@@ -6,7 +6,7 @@ ghost use Rattle.oer_types.specs.AsnType.{boolean};
 ghost use Rattle.oer_types.specs.Reading.{read_value};
 ghost use Rattle.oer_types.specs.ValueView.{value_of};
 
-use crate::numbers::read_boolean;
+use crate::numbers::truth;
 use oer_types::Value;
 use oer_units::{ReadFault, Source, Why, Window};
 use std::alloc::Global;
@@ -22,8 +22,8 @@ pub(crate) fn read_booleans<R: Source>(
 {
     let mut values = Vec::new(alloc);
     for i in 0..count {
-        let value = read_boolean(w)?;
-        if values.push(value).is_err() {
+        let is_true = truth(w)?;
+        if values.push(Value::Bool(is_true)).is_err() {
             return Err(w.fault(Why::Memory));
         }
     }

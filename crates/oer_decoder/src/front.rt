@@ -82,6 +82,7 @@ pub(crate) fn read_counted<R: Source>(
         (seen counted_of result) (R.remaining reader.new) (R.failed reader.new) }
 {
     let mut w = Window::new(reader, limit);
-    let value = read_shape(shape, alloc, &mut w)?;
+    let mut value = Value::Null;
+    read_shape(shape, alloc, &mut value, &mut w)?;
     Ok((value, w.taken()))
 }

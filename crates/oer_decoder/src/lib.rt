@@ -6,6 +6,7 @@ mod booleans;
 mod fault;
 mod front;
 pub mod laws;
+mod leaf;
 mod numbers;
 mod parts;
 mod preamble;

@@ -1,6 +1,7 @@
 //! BOOLEAN, INTEGER and ENUMERATED, which don't allocate.
 ghost use Rattle.std.specs.Prelude.{◌≡◌, ◌||◌, map};
 ghost use Rattle.oer_units.specs.Reads.{Reads, TakesNoMemory, seen, state};
+ghost use Rattle.oer_types.specs.AsnValue.{bool as truth_value};
 ghost use Rattle.oer_types.specs.AsnType.{boolean, enumerated as enumerated_type, integer as integer_type};
 ghost use Rattle.oer_types.specs.Constraints.{has_number};
 ghost use Rattle.oer_types.specs.Reading.{read_integer, read_value};
@@ -16,30 +17,43 @@ use oer_units::{
 };
 
 /// A BOOLEAN (X.696, 9): every octet but `00` is TRUE.
-pub(crate) fn read_boolean<R: Source>(w: &mut Window<R>) -> Result<Value, ReadFault>
+pub(crate) fn truth<R: Source>(w: &mut Window<R>) -> Result<bool, ReadFault>
     ensures memory { TakesNoMemory result }
-    ensures reads { Reads (read_value boolean) (state R.remaining R.failed w.old) (seen value_of result)
+    ensures reads { Reads (read_value boolean) (state R.remaining R.failed w.old) (seen truth_value result)
         (state R.remaining R.failed w.new) }
 {
     let octet = octet(w)?;
-    Ok(Value::Bool(octet != 0))
+    Ok(octet != 0)
 }
 
-/// An INTEGER within the bounds (X.696, 10), in the form that they choose.
+/// Reads a BOOLEAN into `value`.
+pub(crate) fn read_boolean<R: Source>(value: &mut Value, w: &mut Window<R>) -> Result<(), ReadFault>
+    ensures memory { TakesNoMemory result }
+    ensures reads { Reads (read_value boolean) (state R.remaining R.failed w.old) (seen (λ _. value_of value.new) result)
+        (state R.remaining R.failed w.new) }
+{
+    let is_true = truth(w)?;
+    *value = Value::Bool(is_true);
+    Ok(())
+}
+
+/// Reads an INTEGER within the bounds (X.696, 10) into `value`, in the form that they choose.
 pub(crate) fn read_integer<R: Source>(
     low: Option<i128>,
     high: Option<i128>,
+    value: &mut Value,
     w: &mut Window<R>,
-) -> Result<Value, ReadFault>
+) -> Result<(), ReadFault>
     ensures memory { TakesNoMemory result }
-    ensures reads { Reads (read_value (integer_type low high)) (state R.remaining R.failed w.old) (seen value_of result)
-        (state R.remaining R.failed w.new) }
+    ensures reads { Reads (read_value (integer_type low high)) (state R.remaining R.failed w.old)
+        (seen (λ _. value_of value.new) result) (state R.remaining R.failed w.new) }
 {
     let number = number(Form::of_bounds(low, high), w)?;
     if !is_in_range(low, high, number) {
         return Err(w.fault(Why::IntegerRange));
     }
-    Ok(Value::Int(number))
+    *value = Value::Int(number);
+    Ok(())
 }
 
 // A number of this form.
@@ -62,21 +76,24 @@ fn number<R: Source>(form: Form, w: &mut Window<R>) -> Result<i128, ReadFault>
     }
 }
 
-/// An ENUMERATED (X.696, 11): the number of an item, or any where the type is extensible.
+/// Reads an ENUMERATED (X.696, 11) into `value`: the number of an item, or any where the type is
+/// extensible.
 pub(crate) fn read_enumerated<R: Source>(
     items: &[Item],
     extensible: bool,
+    value: &mut Value,
     w: &mut Window<R>,
-) -> Result<Value, ReadFault>
+) -> Result<(), ReadFault>
     ensures memory { TakesNoMemory result }
     ensures reads { Reads (read_value (enumerated_type (map named_number items.now) extensible))
-        (state R.remaining R.failed w.old) (seen value_of result) (state R.remaining R.failed w.new) }
+        (state R.remaining R.failed w.old) (seen (λ _. value_of value.new) result) (state R.remaining R.failed w.new) }
 {
     let number = enumerated(w)?;
     if !is_known(items, extensible, number) {
         return Err(w.fault(Why::UnknownEnum));
     }
-    Ok(Value::Enum(number))
+    *value = Value::Enum(number);
+    Ok(())
 }
 
 fn is_known(items: &[Item], extensible: bool, number: i64) -> bool

@@ -1,6 +1,6 @@
 //! What surrounds the parts of a value: presence, tags, numbers of elements, and parts that the
 //! type doesn't know.
-ghost use Rattle.std.specs.Prelude.{◌≡◌, ◌≤◌, ◌+◌, Bool, IfOk, Some, drop, length, map, option_map};
+ghost use Rattle.std.specs.Prelude.{◌≡◌, ◌≤◌, ◌+◌, Bool, IfOk, Some, drop, length, map};
 ghost use Rattle.oer_units.specs.Reader.{give};
 ghost use Rattle.oer_units.specs.Reads.{Reads, seen, state};
 ghost use Rattle.oer_types.specs.AsnValue.{chosen as chosen_value};
@@ -9,7 +9,7 @@ ghost use Rattle.oer_types.specs.Fits.{all_absent};
 ghost use Rattle.oer_types.specs.Reading.{read_unknown as unknown_read};
 ghost use Rattle.oer_types.specs.ShapeView.{additions_of, need_of};
 ghost use Rattle.oer_types.specs.ValueView.{places_of, unknown_of, value_of};
-ghost use Rattle.oer_decoder.specs.Choices.{foreign_at};
+ghost use Rattle.oer_decoder.specs.Choices.{foreign_at, found_as};
 ghost use Rattle.oer_types.specs.SharedSteps.{bits_left, is_there};
 ghost use Rattle.oer_decoder.specs.Places.{count_at};
 
@@ -107,31 +107,36 @@ pub(crate) fn read_unknown<R: Source>(
     Ok(unknown)
 }
 
-/// The alternative with the tag, in memory of its own.
-pub(crate) fn chosen<R: Source>(
+/// Makes the alternative with the tag of its value, in memory of its own. It returns true.
+pub(crate) fn set_chosen<R: Source>(
     alloc: Global,
     tag: Tag,
-    value: Value,
+    inner: Value,
+    value: &mut Value,
     w: &Window<R>,
-) -> Result<Option<Value>, ReadFault>
-    ensures { Reads (give (Some (chosen_value tag (value_of value)))) (state R.remaining R.failed w.now)
-        (seen (option_map value_of) result) (state R.remaining R.failed w.now) }
+) -> Result<bool, ReadFault>
+    ensures { Reads (give (Some (chosen_value tag (value_of inner)))) (state R.remaining R.failed w.now)
+        (seen (λ found. found_as found (value_of value.new)) result) (state R.remaining R.failed w.now) }
 {
-    let Ok(value) = Box::new(alloc, value) else {
+    let Ok(inner) = Box::new(alloc, inner) else {
         return Err(w.fault(Why::Memory));
     };
-    Ok(Some(Value::Chosen { tag, value }))
+    *value = Value::Chosen { tag, value: inner };
+    Ok(true)
 }
 
-/// An alternative that the type doesn't know, as the octets of its open type (X.696, 20).
-pub(crate) fn foreign<R: Source>(
+/// Reads an alternative that the type doesn't know into `value`, as the octets of its open type (X.696,
+/// 20).
+pub(crate) fn set_foreign<R: Source>(
     alloc: Global,
     tag: Tag,
+    value: &mut Value,
     w: &mut Window<R>,
-) -> Result<Value, ReadFault>
-    ensures { Reads (foreign_at tag) (state R.remaining R.failed w.old) (seen value_of result)
+) -> Result<(), ReadFault>
+    ensures { Reads (foreign_at tag) (state R.remaining R.failed w.old) (seen (λ _. value_of value.new) result)
         (state R.remaining R.failed w.new) }
 {
     let octets = counted_octets(alloc, w)?;
-    Ok(Value::Foreign { tag, octets })
+    *value = Value::Foreign { tag, octets };
+    Ok(())
 }

@@ -44,28 +44,31 @@ fn sized_octets<R: Source>(
     octets(alloc, w, count)
 }
 
-/// An OCTET STRING (X.696, 14).
+/// Reads an OCTET STRING (X.696, 14) into `value`.
 pub(crate) fn read_octet_string<R: Source>(
     alloc: Global,
     size: Size,
+    value: &mut Value,
     w: &mut Window<R>,
-) -> Result<Value, ReadFault>
-    ensures { Reads (read_value (octet_string_type size)) (state R.remaining R.failed w.old) (seen value_of result)
+) -> Result<(), ReadFault>
+    ensures { Reads (read_value (octet_string_type size)) (state R.remaining R.failed w.old) (seen (λ _. value_of value.new) result)
         (state R.remaining R.failed w.new) }
 {
     let octets = sized_octets(alloc, size, w)?;
-    Ok(Value::Octets(octets))
+    *value = Value::Octets(octets);
+    Ok(())
 }
 
-/// A character string with one octet for each character (X.696, 27).
+/// Reads a character string with one octet for each character (X.696, 27) into `value`.
 pub(crate) fn read_text<R: Source>(
     alloc: Global,
     kind: Alphabet,
     size: Size,
+    value: &mut Value,
     w: &mut Window<R>,
-) -> Result<Value, ReadFault>
+) -> Result<(), ReadFault>
     ensures { Reads (read_value (restricted_string (alphabet_of kind) size)) (state R.remaining R.failed w.old)
-        (seen value_of result) (state R.remaining R.failed w.new) }
+        (seen (λ _. value_of value.new) result) (state R.remaining R.failed w.new) }
 {
     let octets = sized_octets(alloc, size, w)?;
     if !are_characters(kind, &octets) {
@@ -74,16 +77,18 @@ pub(crate) fn read_text<R: Source>(
     let Some(text) = decoded(octets) else {
         return Err(w.fault(Why::Character));
     };
-    Ok(Value::Text(text))
+    *value = Value::Text(text);
+    Ok(())
 }
 
-/// A UTF8String (X.696, 27). Its size counts characters.
+/// Reads a UTF8String (X.696, 27) into `value`. Its size counts characters.
 pub(crate) fn read_utf8<R: Source>(
     alloc: Global,
     size: Size,
+    value: &mut Value,
     w: &mut Window<R>,
-) -> Result<Value, ReadFault>
-    ensures { Reads (read_value (utf8_string size)) (state R.remaining R.failed w.old) (seen value_of result)
+) -> Result<(), ReadFault>
+    ensures { Reads (read_value (utf8_string size)) (state R.remaining R.failed w.old) (seen (λ _. value_of value.new) result)
         (state R.remaining R.failed w.new) }
 {
     let octets = counted_octets(alloc, w)?;
@@ -93,7 +98,8 @@ pub(crate) fn read_utf8<R: Source>(
     if !size.allows(u128::from(characters_in(text.as_str()))) {
         return Err(w.fault(Why::Size));
     }
-    Ok(Value::Text(text))
+    *value = Value::Text(text);
+    Ok(())
 }
 
 // The octets as text, where they are UTF-8.
@@ -113,12 +119,13 @@ fn characters_in(text: &str) -> u64
     text.chars().count() as u64
 }
 
-/// An OBJECT IDENTIFIER (X.696, 21; X.690, 8.19): its arcs.
+/// Reads an OBJECT IDENTIFIER (X.696, 21; X.690, 8.19) into `value`: its arcs.
 pub(crate) fn read_object_id<R: Source>(
     alloc: Global,
+    value: &mut Value,
     w: &mut Window<R>,
-) -> Result<Value, ReadFault>
-    ensures { Reads (read_value object_id_type) (state R.remaining R.failed w.old) (seen value_of result)
+) -> Result<(), ReadFault>
+    ensures { Reads (read_value object_id_type) (state R.remaining R.failed w.old) (seen (λ _. value_of value.new) result)
         (state R.remaining R.failed w.new) }
 {
     let content = length(w)?;
@@ -129,7 +136,8 @@ pub(crate) fn read_object_id<R: Source>(
     let Ok(arcs) = arcs_of(alloc, &numbers) else {
         return Err(w.fault(Why::Memory));
     };
-    Ok(Value::Oid(arcs))
+    *value = Value::Oid(arcs);
+    Ok(())
 }
 
 // The subidentifiers in so many octets.

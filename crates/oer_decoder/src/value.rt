@@ -7,21 +7,20 @@ ghost use Rattle.oer_types.specs.AsnType.{no_alternatives, sequence, sequence_of
 ghost use Rattle.oer_types.specs.Reading.{read_additions as additions_read, read_extension as extension_read, read_fields as fields_read, read_value};
 ghost use Rattle.oer_types.specs.ShapeView.{additions_of, fields_of, later_of, root_of, type_of};
 ghost use Rattle.oer_types.specs.ValueView.{places_of, value_of};
-ghost use Rattle.oer_decoder.specs.Choices.{found_in, later_at};
+ghost use Rattle.oer_decoder.specs.Choices.{found_as, found_in, later_at};
 ghost use Rattle.oer_decoder.specs.Memory.{NeedsNoMemory};
 ghost use Rattle.oer_decoder.specs.Parts.{IsChoice, IsExtensible};
 ghost use Rattle.oer_decoder.specs.Places.{place_by, rest_at, root_at};
 ghost use Rattle.oer_decoder.specs.Starts.{added_of, start_of};
 
-use crate::bit_strings::{addition_map, read_bit_string};
+use crate::bit_strings::addition_map;
 use crate::booleans::read_booleans;
-use crate::numbers::{read_boolean, read_enumerated, read_integer};
-use crate::parts::{absent_places, after, chosen, count, first, foreign, presence, read_unknown};
-use crate::preamble::preamble;
-use crate::strings::{read_object_id, read_octet_string, read_text, read_utf8};
-use oer_types::{
-    Addition, Alphabet, Alt, Field, Shape, Size, Unknown, Value, is_same_tag, optional,
+use crate::leaf::read_leaf;
+use crate::parts::{
+    absent_places, after, count, first, presence, read_unknown, set_chosen, set_foreign,
 };
+use crate::preamble::preamble;
+use oer_types::{Addition, Alt, Field, Shape, Size, Unknown, Value, is_same_tag, optional};
 use oer_units::{ReadFault, Source, Tag, Why, Window, length, tag};
 use std::alloc::Global;
 
@@ -39,36 +38,26 @@ pub(crate) struct Added {
     pub unknown: Vec<Unknown>,
 }
 
-/// A value of the type.
+/// Reads a value of the type into `value`.
 #[cycle(read)]
 pub(crate) fn read_shape<R: Source>(
     shape: &Shape,
     alloc: Global,
+    value: &mut Value,
     w: &mut Window<R>,
-) -> Result<Value, ReadFault>
+) -> Result<(), ReadFault>
     ensures memory { NeedsNoMemory (type_of shape.now) → TakesNoMemory result }
-    ensures reads { Reads (read_value (type_of shape.now)) (state R.remaining R.failed w.old) (seen value_of result)
+    ensures reads { Reads (read_value (type_of shape.now)) (state R.remaining R.failed w.old) (seen (λ _. value_of value.new) result)
         (state R.remaining R.failed w.new) }
 {
     match shape {
-        Shape::Boolean => read_boolean(w),
-        Shape::Null => Ok(Value::Null),
-        Shape::Integer { low, high } => read_integer(*low, *high, w),
-        Shape::Enumerated { items, extensible } => read_enumerated(items, *extensible, w),
-        Shape::BitString(size) => read_bit_string(alloc, *size, w),
-        Shape::OctetString(size) => read_octet_string(alloc, *size, w),
-        Shape::ObjectId => read_object_id(alloc, w),
-        Shape::Ia5(size) => read_text(alloc, Alphabet::Ia5, *size, w),
-        Shape::Visible(size) => read_text(alloc, Alphabet::Visible, *size, w),
-        Shape::Numeric(size) => read_text(alloc, Alphabet::Numeric, *size, w),
-        Shape::Printable(size) => read_text(alloc, Alphabet::Printable, *size, w),
-        Shape::Utf8(size) => read_utf8(alloc, *size, w),
-        Shape::SequenceOf { size, item } => read_items(item, alloc, *size, w),
+        Shape::SequenceOf { size, item } => read_items(item, alloc, *size, value, w),
         Shape::Sequence { root, additions } => match additions {
-            None => read_sequence(root, alloc, w),
-            Some(additions) => read_extensible(shape, root, additions, alloc, w),
+            None => read_sequence(root, alloc, value, w),
+            Some(additions) => read_extensible(shape, root, additions, alloc, value, w),
         },
-        Shape::Choice { root, additions } => read_choice(shape, root, additions, alloc, w),
+        Shape::Choice { root, additions } => read_choice(shape, root, additions, alloc, value, w),
+        _ => read_leaf(shape, alloc, value, w),
     }
 }
 
@@ -79,14 +68,15 @@ fn read_extensible<R: Source>(
     root: &[Field],
     additions: &[Addition],
     alloc: Global,
+    value: &mut Value,
     w: &mut Window<R>,
-) -> Result<Value, ReadFault>
+) -> Result<(), ReadFault>
     requires is { IsExtensible shape.now root.now additions.now }
-    ensures { Reads (read_value (type_of shape.now)) (state R.remaining R.failed w.old) (seen value_of result)
+    ensures { Reads (read_value (type_of shape.now)) (state R.remaining R.failed w.old) (seen (λ _. value_of value.new) result)
         (state R.remaining R.failed w.new) }
 {
     let start = read_root(root, alloc, w)?;
-    read_rest(additions, alloc, start, w)
+    read_rest(additions, alloc, start, value, w)
 }
 
 /// A CHOICE (X.696, 20).
@@ -96,20 +86,21 @@ fn read_choice<R: Source>(
     root: &[Alt],
     additions: &Option<Vec<Alt>>,
     alloc: Global,
+    value: &mut Value,
     w: &mut Window<R>,
-) -> Result<Value, ReadFault>
+) -> Result<(), ReadFault>
     requires is { IsChoice shape.now root.now additions.now }
-    ensures { Reads (read_value (type_of shape.now)) (state R.remaining R.failed w.old) (seen value_of result)
+    ensures { Reads (read_value (type_of shape.now)) (state R.remaining R.failed w.old) (seen (λ _. value_of value.new) result)
         (state R.remaining R.failed w.new) }
 {
     let tag = tag(w)?;
-    let found = read_alternative(root, alloc, tag, w)?;
-    match found {
-        Some(value) => Ok(value),
-        None => match additions {
-            Some(additions) => read_later_alternative(additions, alloc, tag, w),
-            None => Err(w.fault(Why::UnknownAlternative)),
-        },
+    let is_found = read_alternative(root, alloc, tag, value, w)?;
+    if is_found {
+        return Ok(());
+    }
+    match additions {
+        Some(additions) => read_later_alternative(additions, alloc, tag, value, w),
+        None => Err(w.fault(Why::UnknownAlternative)),
     }
 }
 
@@ -119,14 +110,16 @@ fn read_items<R: Source>(
     item: &Shape,
     alloc: Global,
     size: Size,
+    value: &mut Value,
     w: &mut Window<R>,
-) -> Result<Value, ReadFault>
-    ensures { Reads (read_value (sequence_of size (type_of item.now))) (state R.remaining R.failed w.old) (seen value_of result)
-        (state R.remaining R.failed w.new) }
+) -> Result<(), ReadFault>
+    ensures { Reads (read_value (sequence_of size (type_of item.now))) (state R.remaining R.failed w.old)
+        (seen (λ _. value_of value.new) result) (state R.remaining R.failed w.new) }
 {
     let count = count(size, w)?;
     let values = read_elements(item, alloc, count, w)?;
-    Ok(Value::List(values))
+    *value = Value::List(values);
+    Ok(())
 }
 
 /// So many elements. Memory grows with those that came.
@@ -145,7 +138,8 @@ fn read_elements<R: Source>(
     }
     let mut values = Vec::new(alloc);
     for i in 0..count {
-        let value = read_shape(item, alloc, w)?;
+        let mut value = Value::Null;
+        read_shape(item, alloc, &mut value, w)?;
         if values.push(value).is_err() {
             return Err(w.fault(Why::Memory));
         }
@@ -153,53 +147,22 @@ fn read_elements<R: Source>(
     Ok(values)
 }
 
-/// What an open type holds (X.696, 30), as a value of the type.
+/// Reads what an open type holds (X.696, 30), as a value of the type.
 #[cycle(read)]
-fn read_open<R: Source>(shape: &Shape, alloc: Global, w: &mut Window<R>) -> Result<Value, ReadFault>
-    ensures { Reads (open_type (read_value (type_of shape.now))) (state R.remaining R.failed w.old) (seen value_of result)
-        (state R.remaining R.failed w.new) }
+fn read_open<R: Source>(
+    shape: &Shape,
+    alloc: Global,
+    value: &mut Value,
+    w: &mut Window<R>,
+) -> Result<(), ReadFault>
+    ensures { Reads (open_type (read_value (type_of shape.now))) (state R.remaining R.failed w.old)
+        (seen (λ _. value_of value.new) result) (state R.remaining R.failed w.new) }
 {
     let size = length(w)?;
     let outer = w.enter(size);
-    let value = read_shape(shape, alloc, w)?;
+    read_shape(shape, alloc, value, w)?;
     w.leave(outer)?;
-    Ok(value)
-}
-
-/// A component of the root, if it is there.
-#[cycle(read)]
-fn read_place<R: Source>(
-    shape: &Shape,
-    alloc: Global,
-    is_present: bool,
-    w: &mut Window<R>,
-) -> Result<Option<Value>, ReadFault>
-    ensures { Reads (place_by is_present (read_value (type_of shape.now))) (state R.remaining R.failed w.old)
-        (seen (option_map value_of) result) (state R.remaining R.failed w.new) }
-{
-    if !is_present {
-        return Ok(None);
-    }
-    let value = read_shape(shape, alloc, w)?;
-    Ok(Some(value))
-}
-
-/// An addition, if it is there.
-#[cycle(read)]
-fn read_open_place<R: Source>(
-    shape: &Shape,
-    alloc: Global,
-    is_present: bool,
-    w: &mut Window<R>,
-) -> Result<Option<Value>, ReadFault>
-    ensures { Reads (place_by is_present (open_type (read_value (type_of shape.now)))) (state R.remaining R.failed w.old)
-        (seen (option_map value_of) result) (state R.remaining R.failed w.new) }
-{
-    if !is_present {
-        return Ok(None);
-    }
-    let value = read_open(shape, alloc, w)?;
-    Ok(Some(value))
+    Ok(())
 }
 
 /// The components of a root, by their presence bits.
@@ -213,15 +176,20 @@ fn read_fields<R: Source>(
     ensures { Reads (fields_read (fields_of fields.now) bits.now) (state R.remaining R.failed w.old)
         (seen (λ v. places_of v.items) result) (state R.remaining R.failed w.new) }
 {
-    let mut places = Vec::new(alloc);
+    let Ok(mut places) = Vec::with_capacity(alloc, fields.len()) else {
+        return Err(w.fault(Why::Memory));
+    };
     let mut left = bits;
     for field in fields {
         let (is_present, rest) = presence(&field.need, left);
         left = rest;
-        let place = read_place(&field.shape, alloc, is_present, w)?;
-        if places.push(place).is_err() {
-            return Err(w.fault(Why::Memory));
+        if !is_present {
+            places.push_reserved(None);
+            continue;
         }
+        let mut value = Value::Null;
+        read_shape(&field.shape, alloc, &mut value, w)?;
+        places.push_reserved(Some(value));
     }
     Ok(places)
 }
@@ -237,16 +205,21 @@ fn read_additions<R: Source>(
     ensures { Reads (additions_read (additions_of additions.now) bits.now) (state R.remaining R.failed w.old)
         (seen (λ v. places_of v.items) result) (state R.remaining R.failed w.new) }
 {
-    let mut places = Vec::new(alloc);
+    let Ok(mut places) = Vec::with_capacity(alloc, additions.len()) else {
+        return Err(w.fault(Why::Memory));
+    };
     let mut left = bits;
     for addition in additions {
         let is_present = first(left);
         let rest = after(left);
         left = rest;
-        let place = read_open_place(&addition.shape, alloc, is_present, w)?;
-        if places.push(place).is_err() {
-            return Err(w.fault(Why::Memory));
+        if !is_present {
+            places.push_reserved(None);
+            continue;
         }
+        let mut value = Value::Null;
+        read_open(&addition.shape, alloc, &mut value, w)?;
+        places.push_reserved(Some(value));
     }
     Ok(places)
 }
@@ -256,18 +229,20 @@ fn read_additions<R: Source>(
 fn read_sequence<R: Source>(
     root: &[Field],
     alloc: Global,
+    value: &mut Value,
     w: &mut Window<R>,
-) -> Result<Value, ReadFault>
-    ensures { Reads (read_value (sequence (fields_of root.now))) (state R.remaining R.failed w.old) (seen value_of result)
-        (state R.remaining R.failed w.new) }
+) -> Result<(), ReadFault>
+    ensures { Reads (read_value (sequence (fields_of root.now))) (state R.remaining R.failed w.old)
+        (seen (λ _. value_of value.new) result) (state R.remaining R.failed w.new) }
 {
     let bits = preamble(alloc, optional(root) as u64, w)?;
     let root = read_fields(root, alloc, bits.as_slice(), w)?;
-    Ok(Value::Seq {
+    *value = Value::Seq {
         root,
         added: Vec::new(alloc),
         unknown: Vec::new(alloc),
-    })
+    };
+    Ok(())
 }
 
 /// The root of a SEQUENCE with an extension marker, after its preamble.
@@ -296,17 +271,19 @@ fn read_rest<R: Source>(
     additions: &[Addition],
     alloc: Global,
     start: Start,
+    value: &mut Value,
     w: &mut Window<R>,
-) -> Result<Value, ReadFault>
-    ensures { Reads (rest_at (additions_of additions.now) (start_of start)) (state R.remaining R.failed w.old) (seen value_of result)
-        (state R.remaining R.failed w.new) }
+) -> Result<(), ReadFault>
+    ensures { Reads (rest_at (additions_of additions.now) (start_of start)) (state R.remaining R.failed w.old)
+        (seen (λ _. value_of value.new) result) (state R.remaining R.failed w.new) }
 {
     let added = read_extension(additions, alloc, start.is_extended, w)?;
-    Ok(Value::Seq {
+    *value = Value::Seq {
         root: start.places,
         added: added.known,
         unknown: added.unknown,
-    })
+    };
+    Ok(())
 }
 
 /// The additions, of which there are none where the extension bit isn't set.
@@ -335,60 +312,65 @@ fn read_extension<R: Source>(
     Ok(Added { known, unknown })
 }
 
-/// The value of the alternative of the root that has the tag, if one has it.
+/// Whether an alternative of the root has the tag; its value is then read into `value`.
 #[cycle(read)]
 fn read_alternative<R: Source>(
     alternatives: &[Alt],
     alloc: Global,
     tag: Tag,
+    value: &mut Value,
     w: &mut Window<R>,
-) -> Result<Option<Value>, ReadFault>
+) -> Result<bool, ReadFault>
     ensures { Reads (found_in (root_of alternatives.now no_alternatives) tag) (state R.remaining R.failed w.old)
-        (seen (option_map value_of) result) (state R.remaining R.failed w.new) }
+        (seen (λ found. found_as found (value_of value.new)) result) (state R.remaining R.failed w.new) }
 {
     for alternative in alternatives {
         if is_same_tag(alternative.tag, tag) {
-            let value = read_shape(&alternative.shape, alloc, w)?;
-            return chosen(alloc, tag, value, w);
+            let mut inner = Value::Null;
+            read_shape(&alternative.shape, alloc, &mut inner, w)?;
+            return set_chosen(alloc, tag, inner, value, w);
         }
     }
-    Ok(None)
+    Ok(false)
 }
 
-/// The value of the alternative after the extension marker that has the tag, if one has it.
+/// Whether an alternative after the extension marker has the tag; its value is then read into `value`.
 #[cycle(read)]
 fn read_open_alternative<R: Source>(
     alternatives: &[Alt],
     alloc: Global,
     tag: Tag,
+    value: &mut Value,
     w: &mut Window<R>,
-) -> Result<Option<Value>, ReadFault>
+) -> Result<bool, ReadFault>
     ensures { Reads (found_in (later_of alternatives.now) tag) (state R.remaining R.failed w.old)
-        (seen (option_map value_of) result) (state R.remaining R.failed w.new) }
+        (seen (λ found. found_as found (value_of value.new)) result) (state R.remaining R.failed w.new) }
 {
     for alternative in alternatives {
         if is_same_tag(alternative.tag, tag) {
-            let value = read_open(&alternative.shape, alloc, w)?;
-            return chosen(alloc, tag, value, w);
+            let mut inner = Value::Null;
+            read_open(&alternative.shape, alloc, &mut inner, w)?;
+            return set_chosen(alloc, tag, inner, value, w);
         }
     }
-    Ok(None)
+    Ok(false)
 }
 
-/// What follows a tag that no alternative of the root has, where there is an extension marker.
+/// Reads what follows a tag that no alternative of the root has, where there is an extension marker.
 #[cycle(read)]
 fn read_later_alternative<R: Source>(
     alternatives: &[Alt],
     alloc: Global,
     tag: Tag,
+    value: &mut Value,
     w: &mut Window<R>,
-) -> Result<Value, ReadFault>
-    ensures { Reads (later_at (later_of alternatives.now) tag) (state R.remaining R.failed w.old) (seen value_of result)
-        (state R.remaining R.failed w.new) }
+) -> Result<(), ReadFault>
+    ensures { Reads (later_at (later_of alternatives.now) tag) (state R.remaining R.failed w.old)
+        (seen (λ _. value_of value.new) result) (state R.remaining R.failed w.new) }
 {
-    let found = read_open_alternative(alternatives, alloc, tag, w)?;
-    match found {
-        Some(value) => Ok(value),
-        None => foreign(alloc, tag, w),
+    let is_found = read_open_alternative(alternatives, alloc, tag, value, w)?;
+    if is_found {
+        return Ok(());
     }
+    set_foreign(alloc, tag, value, w)
 }

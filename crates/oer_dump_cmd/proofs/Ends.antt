@@ -10,34 +10,13 @@ use Rattle.oer_cmd.specs.Ending.{IsMachineLine, Streams}
 use Rattle.oer_cmd.specs.Expected.{Expected, Refusal, refusal, unknown, value}
 use Rattle.oer_cmd.specs.Faults.{Reports, error_line, status_of, text_of}
 use Rattle.oer_cmd.specs.declared.fault.Fault.{Fault}
-use Rattle.oer_cmd.specs.declared.fault.Fault.TheVariants.{Absent, Follows, Hex, Input, Json, Longer, Memory, NoName, NoSuchStep, NotJson, NoTypes, OneType, Output, Path, Read, «Type», Unnamed}
+use Rattle.oer_cmd.specs.declared.fault.Fault.TheVariants.{Memory, Output}
+use Rattle.oer_cmd.proofs.Endings.{by_status, moved}
 use Rattle.oer_dump_cmd.specs.Ending.{Accepts, Answers, Breaks, Ends, IsNotTaken, Prints, Tells}
 use Rattle.oer_dump_cmd.specs.Showing.{AreOneFor, IsReasonLine, Shows, judged_as}
 use Rattle.oer_dump_cmd.specs.Words.{Asks, given, oer_dump, texts_asked, texts_given}
 use Rattle.oer_dump_cmd.specs.declared.options.Options.{Options}
 use Rattle.oer_dump_cmd.specs.declared.program.Page.{Page}
-
-by_status : (fault : Fault) → (status_of fault ≤ 2) ⊎ ((status_of fault ≡ 3) × IsMachineLine (error_line fault))
-by_status (Read e) = inl (omega arith)
-by_status (Follows n) = inl (omega arith)
-by_status (Longer n) = inl (omega arith)
-by_status NoSuchStep = inl (omega arith)
-by_status Absent = inl (omega arith)
-by_status OneType = inl (omega arith)
-by_status NoName = inl (omega arith)
-by_status NoTypes = inl (omega arith)
-by_status («Type» e) = inl (omega arith)
-by_status (Unnamed name) = inl (omega arith)
-by_status Hex = inl (omega arith)
-by_status Path = inl (omega arith)
-by_status NotJson = inl (omega arith)
-by_status (Json e) = inl (omega arith)
-by_status Input = inr (refl, inl refl)
-by_status Output = inr (refl, inr (inl refl))
-by_status Memory = inr (refl, inr (inr refl))
-
-moved : (line own : Text) → line ≡ own → IsMachineLine own → IsMachineLine line
-moved line own is h = subst IsMachineLine (sym is) h
 
 -- The line of a machine that fails is told.
 pub breaks : (fault : Fault) (status : ℕ) (s : Streams) → status ≡ 3 → IsMachineLine (error_line fault) → Reports fault status s.errors s.errors' → Breaks status s

@@ -1,4 +1,3 @@
 pub mod Asked
-pub mod Spots
 pub mod Shown
 pub mod Ends

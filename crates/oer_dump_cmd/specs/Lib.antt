@@ -1,4 +1,3 @@
 pub mod Words
-pub mod Entries
 pub mod Showing
 pub mod Ending

@@ -1,9 +1,7 @@
 //! Entries as JSON: an array of an object for each.
 
-use crate::bits::NamedBit;
-use crate::entry::{Entry, What};
-use crate::frame::Name;
-use crate::text::{name_text, tag_text};
+use crate::tag::tag_text;
+use oer_entries::{Entry, Name, NamedBit, What, name_text};
 use oer_units::Tag;
 use serde_json::{Map, Value as Json, put};
 use std::alloc::{AllocError, Global};

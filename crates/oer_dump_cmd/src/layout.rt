@@ -1,7 +1,7 @@
 //! Entries as text: a line for each, in columns.
 
-use crate::entry::Entry;
 use crate::line::{Line, line_of};
+use oer_entries::Entry;
 use std::alloc::{AllocError, Global};
 
 /// How many characters names and a value have at least, however narrow the line is.

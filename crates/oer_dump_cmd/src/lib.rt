@@ -1,20 +1,13 @@
-//! What each octet of an encoding is, at the command line: what the program `oer-dump` does with its
-//! arguments.
+//! What the program `oer-dump` does with its arguments: the entries of octets, laid out as lines or as
+//! JSON.
 #![tactic(auto)]
 
-mod bits;
-mod entries;
-mod entry;
-mod frame;
 mod help;
 mod json;
 mod layout;
-mod leaf;
 mod line;
 mod options;
 mod program;
-mod text;
-mod trail;
-mod units;
+mod tag;
 
 pub use program::run;

@@ -1,8 +1,7 @@
 //! The cells of an entry's line.
 
-use crate::bits::NamedBit;
-use crate::entry::{Entry, What};
-use crate::text::{name_text, tag_text};
+use crate::tag::tag_text;
+use oer_entries::{Entry, NamedBit, What, name_text};
 use std::alloc::{AllocError, Global};
 
 /// How many octets a note shows at most.

@@ -13,13 +13,12 @@ ghost use Rattle.oer_dump_cmd.specs.Ending.{Accepts, Ends, Prints, streams};
 ghost use Rattle.oer_dump_cmd.specs.Showing.{AreOne, AreOneFor, IsReasonLine, Shows, judged_as, judged_for, judged_octets};
 ghost use Rattle.oer_dump_cmd.specs.Words.{oer_dump, texts_asked};
 
-use crate::entries::{Entries, Place, entries_of};
-use crate::entry::Entry;
 use crate::json::json_of;
 use crate::layout::text_of;
 use crate::options::{Form, Options, parsed};
 use oer_cmd::type_text::{TypeText, definitions, named_type, one_type, type_text};
 use oer_cmd::{Fault, all_octets, judged, put_all, refused, report, spelt};
+use oer_entries::{Entries, Entry, Place, entries_of};
 use oer_types::Schema;
 use std::alloc::{AllocError, Global};
 use std::io::{Read, Write};

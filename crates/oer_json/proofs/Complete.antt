@@ -13,8 +13,8 @@ use Rattle.oer_types.specs.LeafType as kind
 use Rattle.oer_types.specs.LeafType.{LeafType}
 use Rattle.oer_types.specs.LeafValue.{LeafValue}
 use Rattle.oer_types.specs.LeafValue as leaf_kind
-use Rattle.oer_types.specs.AsnType.{Additions, Alternatives, AsnType, Fields, addition, alternative, bit_string, boolean, choice, enumerated, extensible_sequence, field, integer, later, leaf, no_additions, no_alternatives, no_fields, null, object_id, octet_string, restricted_string, sequence, sequence_of, utf8_string}
-use Rattle.oer_types.specs.AsnValue.{AsnValue, Places, Unknown, Values, absent, bit_list, bool, chosen, enum, foreign, int, items, leaf_value, no_places, no_values, nothing, octets, oid, present, seq, text, value}
+use Rattle.oer_types.specs.AsnType.{Additions, Alternatives, AsnType, Fields, addition, alternative, boolean, choice, extensible_sequence, field, later, leaf, no_additions, no_alternatives, no_fields, null, sequence, sequence_of}
+use Rattle.oer_types.specs.AsnValue.{AsnValue, Places, Unknown, Values, absent, bit_list, chosen, enum, foreign, int, items, leaf_value, no_places, no_values, octets, oid, present, seq, text, value}
 use Rattle.oer_types.specs.Constraints.{addition_count, has_number, has_tag, same_tag, size_fits}
 use Rattle.oer_types.specs.DefaultView.{place}
 use Rattle.oer_types.specs.FitTest.{additions_fit, all_below, all_fit, alternative_fits, fields_fit, is_fit, is_fit_leaf, is_without, may_be_absent, unknown_fit, values_length}
@@ -25,12 +25,13 @@ use Rattle.oer_json.specs.Answer.{◌>>=◌, some_or}
 use Rattle.oer_json.specs.Denotes.{DenoteAdditions, DenoteFields, DenoteItems, Denotes, DenotesAlternative, DenotesOctets, DenotesPlace, IsOneOf, LeafDenotes, only}
 use Rattle.oer_json.specs.Keys.{class_letter, is_among, tag_digits, tag_key}
 use Rattle.oer_json.specs.Laws.{OneTaken, TakenComplete}
-use Rattle.oer_json.specs.Take.{fitting, foreign_in, foreign_with, octets_in, one_member, sized, tag_of, take, take_additions, take_alternative, take_fields, take_foreign, take_items, take_leaf, take_place, take_unknown, taken}
+use Rattle.oer_json.specs.Made.{named_numbers}
+use Rattle.oer_json.specs.Take.{as_value, fitting, foreign_in, foreign_with, leaf_in, octets_in, one_member, sized, tag_of, take, take_additions, take_alternative, take_fields, take_foreign, take_items, take_place, take_unknown, taken}
 use Rattle.oer_literals.specs.Numbers.{tag_number_of}
 use Rattle.oer_json.specs.declared.fault.JsonFault.{JsonFault}
 use Rattle.oer_json.specs.declared.fault.JsonFault.TheVariants.{Misfit, Name, Range}
 use Rattle.oer_json.proofs.Answered.{ok_is}
-use Rattle.oer_json.proofs.CompleteLeaves.{arcs_taken, bits_taken, fitted_is, integer_taken, item_taken, octets_taken, text_taken}
+use Rattle.oer_json.proofs.CompleteLeaves.{arcs_taken, bits_taken, fitting_is, integer_taken, item_taken, octets_taken, text_taken}
 use Rattle.oer_json.proofs.KeysOf.{all_passed, each_by, is_among_them}
 use Rattle.oer_json.proofs.Named.{AreNamedAdditions, AreNamedAlternatives, AreNamedFields, IsNamed, choice_apart, choice_names, choice_tags, in_additions, in_choice, in_list, in_root, in_sequence, items_apart, stands_again, well_named}
 use Rattle.oer_json.proofs.PlaceKeys.{no_hash, tag_made, tag_number_made}
@@ -133,21 +134,22 @@ module _ (T : AsnType) (key : List ℕ) (d : Data) where
 
 -- ---- every type
 
-leaf_answered : (kind : LeafType) → IsNamed (leaf kind) → (j : Data) (v : LeafValue) → LeafDenotes kind v j → is_fit_leaf kind v ≡ true → take_leaf kind j ≡ Ok (leaf_value v)
-leaf_answered kind.boolean n j (leaf_kind.bool b) d h = ap (take boolean) d
-leaf_answered kind.null n j leaf_kind.nothing d h = ap (take null) d
-leaf_answered (kind.integer low high) n j (leaf_kind.int z) d h = fitted_is (integer low high) int _ z (integer_taken low high z j d h) h
-leaf_answered (kind.enumerated numbers e) n j (leaf_kind.enum z) d h = fitted_is (enumerated numbers e) enum _ z (item_taken numbers z j (items_apart numbers e n) d (both (is_int64 z) (e || has_number numbers z) h).0) h
-leaf_answered (kind.bit_string size) n j (leaf_kind.bit_list s) d h = fitted_is (bit_string size) bit_list _ s (bits_taken s j d) h
-leaf_answered (kind.octet_string size) n j (leaf_kind.octets w) d h = fitted_is (octet_string size) octets _ w (octets_taken w j d) h
-leaf_answered kind.object_id n j (leaf_kind.oid arcs) d h = fitted_is object_id oid _ arcs (arcs_taken arcs j d h) h
-leaf_answered (kind.restricted_string kind size) n j (leaf_kind.text w) d h = fitted_is (restricted_string kind size) text _ w (text_taken w j d) h
-leaf_answered (kind.utf8_string size) n j (leaf_kind.text w) d h = fitted_is (utf8_string size) text _ w (text_taken w j d) h
-leaf_answered _ n j v d h = absurd d
+leaf_answered : (kind : LeafType) → IsNamed (leaf kind) → (j : Data) (v : LeafValue) → LeafDenotes (named_numbers (leaf kind)) v j → is_fit_leaf kind v ≡ true → leaf_in (leaf kind) j ≡ Ok (leaf_value v)
+leaf_answered kind.boolean n j (leaf_kind.bool b) d h = ap (leaf_in boolean) d
+leaf_answered kind.null n j leaf_kind.nothing d h = ap (leaf_in null) d
+leaf_answered (kind.integer low high) n j (leaf_kind.int z) d h = ap (as_value int) (integer_taken low high z j d h)
+leaf_answered (kind.enumerated numbers e) n j (leaf_kind.enum z) d h =
+    ap (as_value enum) (item_taken numbers z j (items_apart numbers e n) d (both (is_int64 z) (e || has_number numbers z) h).0)
+leaf_answered (kind.bit_string size) n j (leaf_kind.bit_list s) d h = ap (as_value bit_list) (bits_taken s j d)
+leaf_answered (kind.octet_string size) n j (leaf_kind.octets w) d h = ap (as_value octets) (octets_taken w j d)
+leaf_answered kind.object_id n j (leaf_kind.oid arcs) d h = ap (as_value oid) (arcs_taken arcs j d h)
+leaf_answered (kind.restricted_string letters size) n j (leaf_kind.text w) d h = ap (as_value text) (text_taken w j d)
+leaf_answered (kind.utf8_string size) n j (leaf_kind.text w) d h = ap (as_value text) (text_taken w j d)
+leaf_answered _ n j v d h = absurd (cc)
 
 mutual
   pub answered : (T : AsnType) → IsNamed T → (j : Data) (v : AsnValue) → Denotes T v j → is_fit T v ≡ true → take T j ≡ Ok v
-  answered (leaf kind) n j (leaf_value v) d h = leaf_answered kind n j v d h
+  answered (leaf kind) n j (leaf_value v) d h = fitting_is (leaf kind) (leaf_in (leaf kind) j) (leaf_value v) (leaf_answered kind n j v d h) h
   answered (sequence fs) n j (seq root added us) (ms, e, keys, d) h =
       let p = both (is_without added us) (fields_fit fs root) h in
       let w = without added us p.0 in
@@ -213,7 +215,7 @@ mutual
 
 taken_is : (T : AsnType) (j : Data) (v : AsnValue) → take T j ≡ Ok v → is_fit T v ≡ true → taken T j ≡ Ok v
 unfolding taken
-taken_is T j v e h = ap (λ r. r >>= fitting T) e ∙ ap (λ b. cond b (Ok v) (Err Misfit)) h
+taken_is T j v e h = fitting_is T (take T j) v e h
 
 pub taken_complete : TakenComplete
 taken_complete T w j v (d, f) = let h = fit_complete T v f in taken_is T j v (answered T (well_named T w) j v d h) h

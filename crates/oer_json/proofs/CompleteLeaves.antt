@@ -18,7 +18,7 @@ use Rattle.oer_types.proofs.FitTests.{below_all, both}
 use Rattle.oer_json.specs.Answer.{◌>>=◌, some_or}
 use Rattle.oer_json.specs.Denotes.{DenotesInteger, DenotesItem, DenotesOctets, IsOneOf}
 use Rattle.oer_json.specs.Made.{has_64_bits}
-use Rattle.oer_json.specs.Take.{arcs_in, bits_in, bits_of_text, dotted_in, fitted, from_hex, held, held_small, in_64_bits, integer_in, item_in, octets_in, text_in}
+use Rattle.oer_json.specs.Take.{arcs_in, bits_in, bits_of_text, dotted_in, fitting, from_hex, held, held_small, in_64_bits, integer_in, item_in, octets_in, text_in}
 use Rattle.oer_literals.specs.Bits.{bit_digit, is_one}
 use Rattle.oer_literals.specs.Items.{number_named}
 use Rattle.oer_json.specs.Texts.{are_bits, dotted}
@@ -28,9 +28,9 @@ use Rattle.oer_json.proofs.Decimals.{text_read}
 use Rattle.oer_json.proofs.Dots.{dotted_complete}
 use Rattle.oer_json.proofs.Named.{stands_again}
 
--- what was read is the value, where it fits
-pub fitted_is : {A : Type 0} (T : AsnType) (make : A → AsnValue) (r : Result A JsonFault) (x : A) → r ≡ Ok x → is_fit T (make x) ≡ true → fitted T make r ≡ Ok (make x)
-fitted_is T make r x e h = ap (fitted T make) e ∙ ap (λ b. cond b (Ok (make x)) (Err Misfit)) h
+-- what was read is answered, where it fits
+pub fitting_is : (T : AsnType) (r : Result AsnValue JsonFault) (v : AsnValue) → r ≡ Ok v → is_fit T v ≡ true → (r >>= fitting T) ≡ Ok v
+fitting_is T r v e h = ap (λ r. r >>= fitting T) e ∙ ap (λ b. cond b (Ok v) (Err Misfit)) h
 
 held_is : (n : Num) (z : ℤ) → as_integer n ≡ Some z → held n ≡ Ok z
 held_is n z h = ap (some_or Kind) h

@@ -1,5 +1,5 @@
 -- The JSON of a value has no float.
-use Rattle.std.proofs.Common.{◌≡◌, ℕ, ℤ, pos, negsuc, List, [], ◌∷◌, Option, Some, None, Bool, true, false, refl, Ordering, true≢false}
+use Rattle.std.proofs.Common.{◌≡◌, ℕ, ℤ, pos, negsuc, List, [], ◌∷◌, Option, Some, None, Bool, true, false, refl, ap, ◌∙◌, Ordering, true≢false}
 use Rattle.std.specs.Prelude.{◌||◌, if◌then◌else◌}
 use Rattle.std.specs.Fmt.{signed_decimal}
 use Rattle.std.specs.declared.cmp.Ordering.TheVariants.{Less, Equal, Greater}
@@ -10,16 +10,14 @@ use Rattle.serde_json.specs.Data.{Data, Members, no_members, member, put}
 use Rattle.serde_json.specs.Find.{of_integer}
 use Rattle.serde_json.specs.Written.{has_float, items_have_float, members_have_float}
 use Rattle.oer_units.specs.declared.tagging.Tag.{Tag}
-use Rattle.oer_types.specs.LeafType.{LeafType}
-use Rattle.oer_types.specs.LeafType as kind
-use Rattle.oer_types.specs.LeafValue.{LeafValue}
-use Rattle.oer_types.specs.LeafValue as leaf_kind
-use Rattle.oer_types.specs.AsnType.{Additions, Alternatives, AsnType, Fields, addition, alternative, choice, extensible_sequence, field, later, leaf, no_additions, no_alternatives, no_fields, sequence, sequence_of}
-use Rattle.oer_types.specs.AsnValue.{AsnValue, Places, Unknown, Values, absent, chosen, foreign, items, leaf_value, no_places, no_values, present, seq, unknown, value}
+use Rattle.oer_types.specs.LeafValue.{LeafValue, enum, int}
+use Rattle.oer_types.specs.AsnType.{Additions, Alternatives, AsnType, Fields, NamedNumber, addition, alternative, choice, extensible_sequence, field, later, no_additions, no_alternatives, no_fields, sequence, sequence_of}
+use Rattle.oer_types.specs.AsnValue.{AsnValue, Places, Unknown, Values, absent, chosen, items, leaf_value, no_places, no_values, present, seq, unknown, value}
 use Rattle.oer_types.specs.Constraints.{same_tag}
 use Rattle.oer_json.specs.Keys.{place_key}
-use Rattle.oer_json.specs.Made.{has_64_bits, made, made_alternative, made_item, made_items, made_octets, one_member, put_additions, put_fields, put_unknown, made_leaf}
+use Rattle.oer_json.specs.Made.{has_64_bits, made, made_alternative, made_item, made_items, made_leaf, made_octets, named_numbers, one_member, put_additions, put_fields, put_unknown}
 use Rattle.oer_literals.specs.Items.{name_of}
+use Rattle.oer_json.proofs.Making.{made-leaf_value}
 
 or_none : (a b : Bool) → a ≡ false → b ≡ false → (a || b) ≡ false
 or_none a b e f = rw (e, f) refl
@@ -71,21 +69,14 @@ items_none : (f : AsnValue → Data) → ((v : AsnValue) → has_float (f v) ≡
 items_none f each no_values = refl
 items_none f each (value v vs) = or_none _ _ (each v) (items_none f each vs)
 
-leaf_none : (kind : LeafType) (v : LeafValue) → has_float (made_leaf kind v) ≡ false
-leaf_none kind.boolean (leaf_kind.bool b) = refl
-leaf_none kind.null leaf_kind.nothing = refl
-leaf_none (kind.integer low high) (leaf_kind.int z) = integer_none (has_64_bits z) z
-leaf_none (kind.enumerated numbers extensible) (leaf_kind.enum z) = item_none (name_of numbers z) z
-leaf_none (kind.bit_string size) (leaf_kind.bit_list s) = refl
-leaf_none (kind.octet_string size) (leaf_kind.octets w) = refl
-leaf_none kind.object_id (leaf_kind.oid arcs) = refl
-leaf_none (kind.restricted_string kind size) (leaf_kind.text w) = refl
-leaf_none (kind.utf8_string size) (leaf_kind.text w) = refl
-leaf_none _ _ = refl
+leaf_none : (numbers : List NamedNumber) (v : LeafValue) → has_float (made_leaf numbers v) ≡ false
+leaf_none numbers (int z) = integer_none (has_64_bits z) z
+leaf_none numbers (enum z) = item_none (name_of numbers z) z
+leaf_none numbers v = refl
 
 mutual
   pub made_none : (T : AsnType) (v : AsnValue) → has_float (made T v) ≡ false
-  made_none (leaf kind) (leaf_value v) = leaf_none kind v
+  made_none T (leaf_value v) = ap has_float (made-leaf_value T v) ∙ leaf_none (named_numbers T) v
   made_none (sequence fs) (seq root added us) = fields_none fs root no_members refl
   made_none (extensible_sequence fs more) (seq root added us) = unknown_none us _ (additions_none more added _ (fields_none fs root no_members refl))
   made_none (sequence_of size T) (items vs) = items_none (made T) (λ v. made_none T v) vs

@@ -6,12 +6,10 @@ use Rattle.serde_json.specs.Data.{Data, Items, Members}
 use Rattle.serde_json.specs.Find.{get_member}
 use Rattle.serde_json.proofs.Views.{get_member-put, get_member-put_other}
 use Rattle.oer_units.specs.declared.tagging.Tag.{Tag}
-use Rattle.oer_types.specs.LeafType as kind
-use Rattle.oer_types.specs.LeafType.{LeafType}
-use Rattle.oer_types.specs.LeafValue.{LeafValue}
-use Rattle.oer_types.specs.LeafValue as leaf_kind
-use Rattle.oer_types.specs.AsnType.{Additions, Alternatives, AsnType, Fields, addition, alternative, bit_string, boolean, choice, enumerated, extensible_sequence, field, integer, later, leaf, no_additions, no_alternatives, no_fields, null, object_id, octet_string, restricted_string, sequence, sequence_of, utf8_string}
-use Rattle.oer_types.specs.AsnValue.{AsnValue, Places, Unknown, Values, absent, bit_list, bool, chosen, enum, foreign, int, items, leaf_value, no_places, no_values, nothing, octets, oid, present, seq, text, unknown, value}
+use Rattle.oer_types.specs.LeafType.{LeafType, octet_string}
+use Rattle.oer_types.specs.LeafValue.{LeafValue, enum, int, octets}
+use Rattle.oer_types.specs.AsnType.{Additions, Alternatives, AsnType, Fields, addition, alternative, choice, extensible_sequence, field, later, leaf, no_additions, no_alternatives, no_fields, sequence, sequence_of}
+use Rattle.oer_types.specs.AsnValue.{AsnValue, Places, Unknown, Values, absent, chosen, foreign, items, leaf_value, no_places, no_values, present, seq, unknown, value}
 use Rattle.oer_types.specs.Constraints.{addition_count, has_tag, same_tag, size_fits}
 use Rattle.oer_types.specs.FitTest.{additions_fit, all_below, all_fit, alternative_fits, fields_fit, is_fit, is_fit_leaf, is_without, may_be_absent, unknown_fit, values_length}
 use Rattle.oer_types.specs.WellFormed.{Repeats, addition_names, field_names, is_identifier}
@@ -20,7 +18,7 @@ use Rattle.oer_types.proofs.Same.{same_tag-true}
 use Rattle.oer_json.specs.Denotes.{DenoteAdditions, DenoteFields, DenoteItems, DenoteUnknown, Denotes, DenotesAlternative, IsOneOf, IsPart, LeafDenotes, only, unknown_key}
 use Rattle.oer_json.specs.Keys.{EachKey, place_key}
 use Rattle.oer_json.specs.Laws.{MadeTaken}
-use Rattle.oer_json.specs.Made.{made, made_alternative, made_items, made_leaf, made_octets, one_member, put_additions, put_fields, put_unknown}
+use Rattle.oer_json.specs.Made.{made, made_alternative, made_items, made_leaf, made_octets, named_numbers, one_member, put_additions, put_fields, put_unknown}
 use Rattle.oer_json.proofs.MadeLeaves.{each_put, integer_made, item_made, octets_made}
 use Rattle.oer_json.proofs.Named.{AreNamedAdditions, AreNamedAlternatives, AreNamedFields, IsNamed, added_apart, added_names, both_apart, in_additions, in_choice, in_list, in_root, in_sequence, root_apart, root_names, sequence_apart, stands_again, well_named}
 use Rattle.oer_json.proofs.PlaceKeys.{no_hash, one_place}
@@ -109,17 +107,15 @@ alternative_step : (name : List ℕ) (u t : Tag) (T : AsnType) (v : AsnValue) (f
 alternative_step name u t T v fits more here there true e h = (name, made T v, refl, inl (refl, same_tag-true u t e, here h))
 alternative_step name u t T v fits more here there false e h = let p = there h in (p.0, p.1, p.2, inr p.3)
 
-leaf_denotes : (kind : LeafType) (v : LeafValue) → is_fit_leaf kind v ≡ true → LeafDenotes kind v (made_leaf kind v)
-leaf_denotes kind.boolean (leaf_kind.bool b) h = refl
-leaf_denotes kind.null leaf_kind.nothing h = refl
-leaf_denotes (kind.integer low high) (leaf_kind.int z) h = integer_made z
-leaf_denotes (kind.enumerated numbers e) (leaf_kind.enum z) h = item_made numbers z
-leaf_denotes (kind.bit_string size) (leaf_kind.bit_list s) h = refl
-leaf_denotes (kind.octet_string size) (leaf_kind.octets w) h = octets_made w (both (all_below 256 w) (size_fits size (length w)) h).0
-leaf_denotes kind.object_id (leaf_kind.oid arcs) h = refl
-leaf_denotes (kind.restricted_string kind size) (leaf_kind.text w) h = refl
-leaf_denotes (kind.utf8_string size) (leaf_kind.text w) h = refl
-leaf_denotes kind v h = absurd (cc)
+octets_below : (kind : LeafType) (w : List ℕ) → is_fit_leaf kind (octets w) ≡ true → all_below 256 w ≡ true
+octets_below (octet_string size) w h = (both (all_below 256 w) (size_fits size (length w)) h).0
+octets_below kind w h = absurd (cc)
+
+leaf_denotes : (kind : LeafType) (v : LeafValue) → is_fit_leaf kind v ≡ true → LeafDenotes (named_numbers (leaf kind)) v (made_leaf (named_numbers (leaf kind)) v)
+leaf_denotes kind (int z) h = integer_made z
+leaf_denotes kind (enum z) h = item_made (named_numbers (leaf kind)) z
+leaf_denotes kind (octets w) h = octets_made w (octets_below kind w h)
+leaf_denotes kind v h = refl
 
 mutual
   pub made_denotes : (T : AsnType) → IsNamed T → (v : AsnValue) → is_fit T v ≡ true → Denotes T v (made T v)

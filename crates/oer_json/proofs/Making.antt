@@ -1,16 +1,36 @@
 -- What is made, step by step.
-use Rattle.std.proofs.Common.{◌≡◌, List, [], ◌∷◌, ◌++◌, map, true, false, Option, Some, None, Vec, Global, refl, sym, ap, ◌∙◌}
+use Rattle.std.proofs.Common.{◌≡◌, ℕ, List, [], ◌∷◌, ◌++◌, map, true, false, Option, Some, None, Vec, Global, refl, sym, ap, ◌∙◌}
 use Rattle.serde_json.specs.Data.{Data, Items, no_items, item}
 use Rattle.serde_json.specs.View.{items_of, view}
 use Rattle.serde_json.specs.declared.value.Value as json
 use Rattle.std.proofs.lemmas.List.{map-append}
 use Rattle.oer_units.specs.declared.tagging.Tag.{Tag}
-use Rattle.oer_types.specs.AsnType.{Alternatives}
-use Rattle.oer_types.specs.AsnValue.{AsnValue, chosen}
+use Rattle.oer_types.specs.LeafValue.{LeafValue}
+use Rattle.oer_types.specs.AsnType.{Alternatives, AsnType, choice, extensible_sequence, leaf, sequence, sequence_of}
+use Rattle.oer_types.specs.AsnValue.{AsnValue, chosen, foreign, leaf_value}
 use Rattle.oer_types.specs.ShapeView.{choice_with, root_of, later_of, type_of, seen_alternative}
 use Rattle.oer_types.specs.Constraints.{same_tag}
 use Rattle.oer_types.specs.declared.shape.Alt.{Alt}
-use Rattle.oer_json.specs.Made.{made, made_alternative, one_member}
+use Rattle.oer_json.specs.Keys.{tag_key}
+use Rattle.oer_json.specs.Made.{made, made_alternative, made_leaf, made_octets, named_numbers, one_member}
+use Rattle.oer_json.proofs.Levels.{levels}
+
+-- whatever the type is
+pub made-leaf_value : (T : AsnType) (v : LeafValue) → made T (leaf_value v) ≡ made_leaf (named_numbers T) v
+made-leaf_value (leaf kind) v = refl
+made-leaf_value (sequence fs) v = refl
+made-leaf_value (extensible_sequence fs more) v = refl
+made-leaf_value (sequence_of size T) v = refl
+made-leaf_value (choice extensible more) v = refl
+
+pub made-foreign : (T : AsnType) (t : Tag) (w : List ℕ) → made T (foreign t w) ≡ one_member (tag_key t) (made_octets w)
+made-foreign (leaf kind) t w = refl
+made-foreign (sequence fs) t w = refl
+made-foreign (extensible_sequence fs more) t w = refl
+made-foreign (sequence_of size T) t w = refl
+made-foreign (choice extensible more) t w = refl
+
+pub ruleset made_kinds = (levels, made-leaf_value, made-foreign)
 
 -- these before the others
 abbrev pub before_items : List Data → Items → Items

@@ -6,8 +6,6 @@ use Rattle.serde_json.specs.Data as json
 use Rattle.serde_json.specs.Data.{Data, Items, Members}
 use Rattle.serde_json.specs.Find.{as_bool, as_null, get_member}
 use Rattle.oer_units.specs.declared.tagging.Tag.{Tag}
-use Rattle.oer_types.specs.LeafType as kind
-use Rattle.oer_types.specs.LeafType.{LeafType}
 use Rattle.oer_types.specs.AsnType.{Additions, Alternatives, AsnType, Fields, addition, alternative, bit_string, boolean, choice, enumerated, extensible_sequence, field, integer, later, leaf, no_additions, no_alternatives, no_fields, null, object_id, octet_string, restricted_string, sequence, sequence_of, utf8_string}
 use Rattle.oer_types.specs.AsnValue.{AsnValue, Places, Values, bit_list, bool, chosen, enum, foreign, int, items, no_places, no_values, nothing, octets, oid, seq, text, value}
 use Rattle.oer_types.specs.Constraints.{addition_count, size_fits}
@@ -16,17 +14,17 @@ use Rattle.oer_types.specs.FitTest.{is_fit, may_be_absent, values_length}
 use Rattle.oer_types.specs.WellFormed.{addition_names, field_names}
 use Rattle.oer_types.proofs.FitTests.{fit_sound}
 use Rattle.oer_json.specs.Answer.{◌>>=◌, some_or}
-use Rattle.oer_json.specs.Denotes.{DenoteAdditions, DenoteFields, DenoteItems, Denotes, DenotesAlternative, DenotesOctets, DenotesPlace, IsOneOf, Takes, only}
+use Rattle.oer_json.specs.Denotes.{DenoteAdditions, DenoteFields, DenoteItems, Denotes, DenotesAlternative, DenotesOctets, DenotesPlace, IsOneOf, only}
 use Rattle.oer_json.specs.Keys.{all_pass, class_letter, is_among, keys_of, tag_digits, tag_key}
 use Rattle.oer_json.specs.Laws.{TakenSound}
-use Rattle.oer_json.specs.Take.{arcs_in, bits_in, fitting, foreign_in, foreign_with, integer_in, is_key, item_in, items_in, members_in, octets_in, one_member, sized, tag_of, take, take_additions, take_alternative, take_fields, take_foreign, take_items, take_leaf, take_place, take_unknown, taken, text_in}
+use Rattle.oer_json.specs.Take.{arcs_in, bits_in, bool_in, foreign_in, foreign_with, integer_in, is_key, item_in, items_in, leaf_in, members_in, null_in, octets_in, one_member, sized, tag_of, take, take_additions, take_alternative, take_fields, take_foreign, take_items, take_place, take_unknown, taken, text_in}
 use Rattle.oer_literals.specs.Numbers.{tag_number_of}
 use Rattle.oer_json.specs.declared.fault.JsonFault.{JsonFault}
 use Rattle.oer_json.specs.declared.fault.JsonFault.TheVariants.{Kind, Misfit, Missing, Name, Range}
 use Rattle.oer_json.proofs.Answered.{bound_ok, given, if_ok, ok_is}
 use Rattle.oer_json.proofs.KeysOf.{among_is, each_by, each_passed}
 use Rattle.oer_json.proofs.PlaceKeys.{tag_number_read, tag_read}
-use Rattle.oer_json.proofs.SoundLeaves.{arcs_denoted, bits_denoted, bool_is, fitted_ok, integer_denoted, item_denoted, items_is, members_is, null_is, octets_denoted, one_is, text_is}
+use Rattle.oer_json.proofs.SoundLeaves.{arcs_denoted, bits_denoted, bool_is, fitting_ok, integer_denoted, item_denoted, items_is, members_is, null_is, octets_denoted, one_is, read_as, text_is}
 use Rattle.oer_json.proofs.UnknownSound.{keys_denoted, unknown_taken}
 
 items_denoted : (f : Data → Result AsnValue JsonFault) (P : AsnValue → Data → Type 0) → ((j : Data) (v : AsnValue) → f j ≡ Ok v → P v j) → (js : Items) (vs : Values) → take_items f js ≡ Ok vs → DenoteItems P vs js
@@ -72,20 +70,22 @@ either_more : (otherwise : Result AsnValue JsonFault) (more : Alternatives) (nam
 either_more otherwise more name key u T d v here there true e h = let p = bound_ok (take T d) _ v h in inl (u, p.0, ok_is (chosen u p.0) v p.2, inl ((bytes_eq-Decides name key).0 e, refl, here p.0 p.1))
 either_more otherwise more name key u T d v here there false e h = ⊎_elim (λ p. inl (p.0, p.1, p.2, inr p.3)) (λ o. inr o) (there h)
 
-leaf_denoted : (kind : LeafType) (j : Data) (v : AsnValue) → take_leaf kind j ≡ Ok v → Denotes (leaf kind) v j
-leaf_denoted kind.boolean j v h = let p = bound_ok (some_or Kind (as_bool j)) _ v h in subst (λ v. Denotes boolean v j) (ok_is (bool p.0) v p.2) (bool_is j p.0 (given Kind (as_bool j) p.0 p.1))
-leaf_denoted kind.null j v h = let p = bound_ok (some_or Kind (as_null j)) _ v h in subst (λ v. Denotes null v j) (ok_is nothing v p.2) (null_is j p.0 (given Kind (as_null j) p.0 p.1))
-leaf_denoted (kind.integer low high) j v h = let p = fitted_ok (integer low high) int (integer_in j) v h in subst (λ v. Denotes (integer low high) v j) p.2 (integer_denoted j p.0 p.1)
-leaf_denoted (kind.enumerated numbers e) j v h = let p = fitted_ok (enumerated numbers e) enum (item_in numbers j) v h in subst (λ v. Denotes (enumerated numbers e) v j) p.2 (item_denoted numbers j p.0 p.1)
-leaf_denoted (kind.bit_string size) j v h = let p = fitted_ok (bit_string size) bit_list (bits_in j) v h in subst (λ v. Denotes (bit_string size) v j) p.2 (bits_denoted j p.0 p.1)
-leaf_denoted (kind.octet_string size) j v h = let p = fitted_ok (octet_string size) octets (octets_in j) v h in subst (λ v. Denotes (octet_string size) v j) p.2 (octets_denoted j p.0 p.1)
-leaf_denoted kind.object_id j v h = let p = fitted_ok object_id oid (arcs_in j) v h in subst (λ v. Denotes object_id v j) p.2 (arcs_denoted j p.0 p.1)
-leaf_denoted (kind.restricted_string kind size) j v h = let p = fitted_ok (restricted_string kind size) text (text_in j) v h in subst (λ v. Denotes (restricted_string kind size) v j) p.2 (text_is j p.0 p.1)
-leaf_denoted (kind.utf8_string size) j v h = let p = fitted_ok (utf8_string size) text (text_in j) v h in subst (λ v. Denotes (utf8_string size) v j) p.2 (text_is j p.0 p.1)
+-- what is read of a type that holds no other
+leaf_denoted : (T : AsnType) (j : Data) (v : AsnValue) → leaf_in T j ≡ Ok v → Denotes T v j
+leaf_denoted boolean j v h = read_as (Denotes boolean) bool (bool_in j) j v h (λ x e. bool_is j x (given Kind (as_bool j) x e))
+leaf_denoted null j v h = read_as (Denotes null) (λ _. nothing) (null_in j) j v h (λ x e. null_is j x (given Kind (as_null j) x e))
+leaf_denoted (integer low high) j v h = read_as (Denotes (integer low high)) int (integer_in j) j v h (integer_denoted j)
+leaf_denoted (enumerated numbers e) j v h = read_as (Denotes (enumerated numbers e)) enum (item_in numbers j) j v h (item_denoted numbers j)
+leaf_denoted (bit_string size) j v h = read_as (Denotes (bit_string size)) bit_list (bits_in j) j v h (bits_denoted j)
+leaf_denoted (octet_string size) j v h = read_as (Denotes (octet_string size)) octets (octets_in j) j v h (octets_denoted j)
+leaf_denoted object_id j v h = read_as (Denotes object_id) oid (arcs_in j) j v h (arcs_denoted j)
+leaf_denoted (restricted_string letters size) j v h = read_as (Denotes (restricted_string letters size)) text (text_in j) j v h (text_is j)
+leaf_denoted (utf8_string size) j v h = read_as (Denotes (utf8_string size)) text (text_in j) j v h (text_is j)
+leaf_denoted T j v h = absurd (cc)
 
 mutual
   pub denoted : (T : AsnType) (j : Data) (v : AsnValue) → take T j ≡ Ok v → Denotes T v j
-  denoted (leaf kind) j v h = leaf_denoted kind j v h
+  denoted (leaf kind) j v h = let p = fitting_ok (leaf kind) (leaf_in (leaf kind) j) v h in leaf_denoted (leaf kind) j v p.0
   denoted (sequence fs) j v h =
       let p = bound_ok (members_in j) _ v h in
       let q = if_ok (all_pass (is_among (field_names fs)) (keys_of p.0)) (take_fields fs p.0 >>= λ root. Ok (seq root no_places [])) Name v p.2 in
@@ -139,6 +139,5 @@ mutual
 pub taken_sound : TakenSound
 unfolding taken
 taken_sound T j v h =
-    let p = bound_ok (take T j) (fitting T) v h in
-    let q = if_ok (is_fit T p.0) (Ok p.0) Misfit v p.2 in
-    subst (λ v. Takes T v j) (ok_is p.0 v q.1) (denoted T j p.0 p.1, fit_sound T p.0 q.0)
+    let p = fitting_ok T (take T j) v h in
+    (denoted T j v p.0, fit_sound T v p.1)

@@ -1,5 +1,5 @@
 -- What is taken of types without parts stands for the value.
-use Rattle.std.proofs.Common.{◌≡◌, ℕ, List, [], ◌∷◌, map, Bool, true, false, cond, ◌==◌, ◌||◌, ℤ, inl, inr, Some, Result, Ok, Err, refl, sym, ap, ap₂, ◌∙◌}
+use Rattle.std.proofs.Common.{◌≡◌, ℕ, List, [], ◌∷◌, map, Bool, true, false, cond, ◌==◌, ◌||◌, ℤ, inl, inr, Some, Result, Ok, Err, refl, sym, ap, ap₂, subst, ◌∙◌}
 use Rattle.std.specs.Prelude.{⊤}
 use Rattle.std.specs.Str.{bytes_eq}
 use Rattle.std.proofs.lemmas.Bool.{and_parts, eqb-true}
@@ -13,10 +13,10 @@ use Rattle.oer_types.specs.AsnType.{AsnType, NamedNumber}
 use Rattle.oer_types.specs.AsnValue.{AsnValue}
 use Rattle.oer_types.specs.FitTest.{is_fit}
 use Rattle.oer_types.specs.WellFormed.{AnyOf}
-use Rattle.oer_json.specs.Answer.{some_or}
+use Rattle.oer_json.specs.Answer.{◌>>=◌, some_or}
 use Rattle.oer_json.specs.Denotes.{DenotesInteger, DenotesItem, DenotesOctets, only}
 use Rattle.oer_json.specs.Made.{has_64_bits}
-use Rattle.oer_json.specs.Take.{arcs_in, bits_in, bits_of_text, dotted_in, fitted, from_hex, held_small, integer_in, item_in, items_in, members_in, octets_in, one_member, only_member, text_in}
+use Rattle.oer_json.specs.Take.{arcs_in, as_value, bits_in, bits_of_text, dotted_in, fitting, from_hex, held_small, integer_in, item_in, items_in, members_in, octets_in, one_member, only_member, text_in}
 use Rattle.oer_literals.specs.Bits.{bit_digit, is_one}
 use Rattle.oer_literals.specs.Items.{number_named}
 use Rattle.oer_json.specs.Texts.{are_bits, dotted}
@@ -26,10 +26,18 @@ use Rattle.oer_json.proofs.Answered.{bound_ok, given, if_ok, ok_is, some_is}
 use Rattle.oer_json.proofs.Decimals.{text_spelt}
 use Rattle.oer_json.proofs.Dots.{dotted_sound}
 
--- what is taken of a type without parts was made of what was read
-pub fitted_ok : {A : Type 0} (T : AsnType) (make : A → AsnValue) (r : Result A JsonFault) (v : AsnValue) → fitted T make r ≡ Ok v → (x : A) × (r ≡ Ok x) × (make x ≡ v)
-fitted_ok T make (Ok x) v h = let p = if_ok (is_fit T (make x)) (Ok (make x)) Misfit v h in (x, refl, ok_is (make x) v p.1)
-fitted_ok T make (Err e) v h = absurd (cc)
+-- what is answered was read, and fits
+pub fitting_ok : (T : AsnType) (r : Result AsnValue JsonFault) (v : AsnValue) → (r >>= fitting T) ≡ Ok v → (r ≡ Ok v) × (is_fit T v ≡ true)
+fitting_ok T (Ok x) v h =
+    let p = if_ok (is_fit T x) (Ok x) Misfit v h in
+    (p.1, subst (λ v. is_fit T v ≡ true) (ok_is x v p.1) p.0)
+fitting_ok T (Err e) v h = absurd (cc)
+
+-- P holds of what is read, since it holds of what it is made of
+pub read_as : {A : Type 0} (P : AsnValue → Data → Type 0) (make : A → AsnValue) (r : Result A JsonFault) (j : Data) (v : AsnValue) → as_value make r ≡ Ok v
+    → ((x : A) → r ≡ Ok x → P (make x) j) → P v j
+read_as P make (Ok x) j v h s = subst (λ v. P v j) (ok_is (make x) v h) (s x refl)
+read_as P make (Err e) j v h s = absurd (cc)
 
 -- ---- kinds of JSON
 

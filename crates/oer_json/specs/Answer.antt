@@ -13,10 +13,10 @@ abbrev pub some_or : {A : Type 0} → JsonFault → Option A → Result A JsonFa
 some_or e None = Err e
 some_or e (Some x) = Ok x
 
--- What a function returned, seen by view, is the answer, unless memory ran out.
-abbrev pub Gives : {X Y : Type 0} → (X → Y) → Result X JsonFault → Result Y JsonFault → Type 0
-Gives view (Ok x) answer = answer ≡ Ok (view x)
-Gives view (Err e) answer = (e ≡ Memory → ⊥) → answer ≡ Err e
+-- What a function returned, seen by view, is the same as the answer, or Memory.
+abbrev pub IsSameOrMemory : {X Y : Type 0} → (X → Y) → Result X JsonFault → Result Y JsonFault → Type 0
+IsSameOrMemory view (Ok x) answer = answer ≡ Ok (view x)
+IsSameOrMemory view (Err e) answer = (e ≡ Memory → ⊥) → answer ≡ Err e
 
 -- What a function returned that may find nothing: what is answered whatever else is, or nothing at all.
 abbrev pub Tries : {X Y : Type 0} → (X → Y) → Result (Option X) JsonFault → (Result Y JsonFault → Result Y JsonFault) → Type 0

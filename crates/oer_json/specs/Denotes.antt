@@ -6,15 +6,13 @@ use Rattle.serde_json.specs.Data as json
 use Rattle.serde_json.specs.Data.{Data, Items, Members, Num}
 use Rattle.serde_json.specs.Find.{as_integer, get_member}
 use Rattle.oer_units.specs.declared.tagging.Tag.{Tag}
-use Rattle.oer_types.specs.LeafType.{LeafType, bit_string, boolean, enumerated, integer, null, object_id, octet_string, restricted_string, utf8_string}
-use Rattle.oer_types.specs.LeafValue.{LeafValue, bit_list, bool, enum, int, nothing, octets, oid, text}
+use Rattle.oer_types.specs.LeafValue.{LeafValue, enum, int, octets}
 use Rattle.oer_types.specs.AsnType.{Additions, Alternatives, AsnType, Fields, NamedNumber, addition, alternative, choice, extensible_sequence, field, later, leaf, no_additions, no_alternatives, no_fields, sequence, sequence_of}
 use Rattle.oer_types.specs.AsnValue.{AsnValue, Places, Unknown, Values, absent, chosen, foreign, items, leaf_value, no_places, no_values, present, seq, unknown, value}
 use Rattle.oer_types.specs.Fits.{Fits}
 use Rattle.oer_types.specs.WellFormed.{AnyOf, field_names, addition_names}
 use Rattle.oer_json.specs.Keys.{EachKey, place_key, tag_key}
-use Rattle.oer_literals.specs.Bits.{bit_digit}
-use Rattle.oer_json.specs.Texts.{dotted}
+use Rattle.oer_json.specs.Made.{named_numbers, made_leaf}
 
 -- a whole number that JSON holds as such
 abbrev pub HoldsWhole : ℤ → Data → Type 0
@@ -65,24 +63,19 @@ IsPart fs more us key = IsOneOf (field_names fs) key ⊎ (IsOneOf (addition_name
 abbrev pub only : List ℕ → Data → Data
 only key j = json.object (json.member key j json.no_members)
 
--- the same of a value that holds no other
-abbrev pub LeafDenotes : LeafType → LeafValue → Data → Type 0
-LeafDenotes boolean (bool b) j = j ≡ json.boolean b
-LeafDenotes null nothing j = j ≡ json.null
-LeafDenotes (integer low high) (int z) j = DenotesInteger z j
-LeafDenotes (enumerated numbers extensible) (enum z) j = DenotesItem numbers z j
-LeafDenotes (bit_string size) (bit_list s) j = j ≡ json.string (map bit_digit s)
-LeafDenotes (octet_string size) (octets w) j = DenotesOctets w j
-LeafDenotes object_id (oid arcs) j = j ≡ json.string (dotted arcs)
-LeafDenotes (restricted_string kind size) (text w) j = j ≡ json.string w
-LeafDenotes (utf8_string size) (text w) j = j ≡ json.string w
-LeafDenotes kind v j = ⊥
+-- The JSON stands for a value that holds no other, of a type with these items. Numbers, items and octets have more spellings than
+-- the one that is made; another value has that one.
+abbrev pub LeafDenotes : List NamedNumber → LeafValue → Data → Type 0
+LeafDenotes numbers (int z) j = DenotesInteger z j
+LeafDenotes numbers (enum z) j = DenotesItem numbers z j
+LeafDenotes numbers (octets w) j = DenotesOctets w j
+LeafDenotes numbers v j = j ≡ made_leaf numbers v
 
--- The JSON is of the form that the type's values have, and stands for the value; whether this fits is said apart. An
--- object's keys come in any order, and it has none but those of parts that are there.
+-- The JSON stands for the value; whether this fits the type is said apart. An object's keys come in any order, and it has none but
+-- those of parts that are there.
 abbrev mutual
   pub Denotes : AsnType → AsnValue → Data → Type 0
-  Denotes (leaf kind) (leaf_value v) j = LeafDenotes kind v j
+  Denotes (leaf kind) (leaf_value v) j = LeafDenotes (named_numbers (leaf kind)) v j
   Denotes (sequence fs) (seq root added us) j = (ms : Members) × (j ≡ json.object ms) × EachKey (IsOneOf (field_names fs)) ms
       × DenoteFields fs root ms
   Denotes (extensible_sequence fs more) (seq root added us) j = (ms : Members) × (j ≡ json.object ms)
@@ -106,6 +99,6 @@ abbrev mutual
   DenotesAlternative (alternative name u T more) key t v j = ((name ≡ key) × (u ≡ t) × Denotes T v j) ⊎ DenotesAlternative more key t v j
   DenotesAlternative (later name u T more) key t v j = ((name ≡ key) × (u ≡ t) × Denotes T v j) ⊎ DenotesAlternative more key t v j
 
--- The JSON is taken as the value: it stands for it, and the value fits the type.
-abbrev pub Takes : AsnType → AsnValue → Data → Type 0
-Takes T v j = Denotes T v j × Fits T v
+-- JSON of a value of the type: it stands for the value, and this fits the type.
+abbrev pub IsJsonOf : AsnType → AsnValue → Data → Type 0
+IsJsonOf T v j = Denotes T v j × Fits T v

@@ -6,7 +6,7 @@ use Rattle.oer_types.specs.AsnType.{AsnType}
 use Rattle.oer_types.specs.AsnValue.{AsnValue}
 use Rattle.oer_types.specs.Fits.{AllBelow, Fits}
 use Rattle.oer_types.specs.WellFormed.{IsWellFormed}
-use Rattle.oer_json.specs.Denotes.{Takes}
+use Rattle.oer_json.specs.Denotes.{IsJsonOf}
 use Rattle.oer_json.specs.Made.{made}
 use Rattle.oer_json.specs.Take.{decimal_in, dotted_in, taken}
 use Rattle.oer_json.specs.Texts.{dotted}
@@ -30,16 +30,16 @@ ArcsRead = (x y : ℕ) (rest : List ℕ) → AllBelow (2 ^ 128) (x ∷ y ∷ res
 
 -- A value that is answered is one that the JSON stands for, and fits.
 abbrev pub TakenSound : Type 0
-TakenSound = (T : AsnType) (j : Data) (v : AsnValue) → taken T j ≡ Ok v → Takes T v j
+TakenSound = (T : AsnType) (j : Data) (v : AsnValue) → taken T j ≡ Ok v → IsJsonOf T v j
 
 -- A value that the JSON stands for, and that fits, is answered.
 abbrev pub TakenComplete : Type 0
-TakenComplete = (T : AsnType) → IsWellFormed T → (j : Data) (v : AsnValue) → Takes T v j → taken T j ≡ Ok v
+TakenComplete = (T : AsnType) → IsWellFormed T → (j : Data) (v : AsnValue) → IsJsonOf T v j → taken T j ≡ Ok v
 
 -- JSON stands for one value at most that fits.
 abbrev pub OneTaken : Type 0
-OneTaken = (T : AsnType) → IsWellFormed T → (j : Data) (v w : AsnValue) → Takes T v j → Takes T w j → v ≡ w
+OneTaken = (T : AsnType) → IsWellFormed T → (j : Data) (v w : AsnValue) → IsJsonOf T v j → IsJsonOf T w j → v ≡ w
 
 -- What is made of a value that fits stands for the value.
 abbrev pub MadeTaken : Type 0
-MadeTaken = (T : AsnType) → IsWellFormed T → (v : AsnValue) → Fits T v → Takes T v (made T v)
+MadeTaken = (T : AsnType) → IsWellFormed T → (v : AsnValue) → Fits T v → IsJsonOf T v (made T v)

@@ -6,9 +6,8 @@ use Rattle.serde_json.specs.Data as json
 use Rattle.serde_json.specs.Data.{Data, Items, Members}
 use Rattle.serde_json.specs.Find.{of_integer}
 use Rattle.oer_units.specs.declared.tagging.Tag.{Tag}
-use Rattle.oer_types.specs.LeafType.{LeafType, bit_string, boolean, enumerated, integer, null, object_id, octet_string, restricted_string, utf8_string}
 use Rattle.oer_types.specs.LeafValue.{LeafValue, bit_list, bool, enum, int, nothing, octets, oid, text}
-use Rattle.oer_types.specs.AsnType.{Additions, Alternatives, AsnType, Fields, addition, alternative, choice, extensible_sequence, field, later, leaf, no_additions, no_alternatives, no_fields, sequence, sequence_of}
+use Rattle.oer_types.specs.AsnType.{Additions, Alternatives, AsnType, Fields, NamedNumber, addition, alternative, choice, enumerated, extensible_sequence, field, later, no_additions, no_alternatives, no_fields, sequence, sequence_of}
 use Rattle.oer_types.specs.AsnValue.{AsnValue, Places, Unknown, Values, absent, chosen, foreign, items, leaf_value, no_places, no_values, present, seq, unknown, value}
 use Rattle.oer_types.specs.Constraints.{same_tag}
 use Rattle.oer_json.specs.Keys.{place_key, tag_key}
@@ -45,29 +44,32 @@ abbrev pub put_unknown : List Unknown → Members → Members
 put_unknown [] ms = ms
 put_unknown (unknown n w ∷ us) ms = put_unknown us (json.put (place_key n) (made_octets w) ms)
 
--- that of a value that holds no other
-abbrev pub made_leaf : LeafType → LeafValue → Data
-made_leaf boolean (bool b) = json.boolean b
-made_leaf null nothing = json.null
-made_leaf (integer low high) (int z) = made_integer z
-made_leaf (enumerated numbers extensible) (enum z) = made_item (name_of numbers z) z
-made_leaf (bit_string size) (bit_list s) = json.string (map bit_digit s)
-made_leaf (octet_string size) (octets w) = made_octets w
-made_leaf object_id (oid arcs) = json.string (dotted arcs)
-made_leaf (restricted_string kind size) (text w) = json.string w
-made_leaf (utf8_string size) (text w) = json.string w
-made_leaf kind v = json.null
+-- the items of an ENUMERATED; another type has none
+abbrev pub named_numbers : AsnType → List NamedNumber
+named_numbers (enumerated numbers extensible) = numbers
+named_numbers T = []
 
--- The JSON of a value that fits the type; null where it is of another kind.
+-- that of a value that holds no other. Of its type only the items matter.
+abbrev pub made_leaf : List NamedNumber → LeafValue → Data
+made_leaf numbers (bool b) = json.boolean b
+made_leaf numbers nothing = json.null
+made_leaf numbers (int z) = made_integer z
+made_leaf numbers (enum z) = made_item (name_of numbers z) z
+made_leaf numbers (bit_list s) = json.string (map bit_digit s)
+made_leaf numbers (octets w) = made_octets w
+made_leaf numbers (oid arcs) = json.string (dotted arcs)
+made_leaf numbers (text w) = json.string w
+
+-- The JSON of a value that fits the type. One that holds others and is of another kind has null.
 abbrev mutual
   pub made : AsnType → AsnValue → Data
-  made (leaf kind) (leaf_value v) = made_leaf kind v
+  made T (leaf_value v) = made_leaf (named_numbers T) v
   made (sequence fs) (seq root added us) = json.object (put_fields fs root json.no_members)
   made (extensible_sequence fs more) (seq root added us) =
       json.object (put_unknown us (put_additions more added (put_fields fs root json.no_members)))
   made (sequence_of size T) (items vs) = json.array (made_items (made T) vs)
   made (choice extensible more) (chosen t v) = made_alternative more t v
-  made (choice extensible more) (foreign t w) = one_member (tag_key t) (made_octets w)
+  made T (foreign t w) = one_member (tag_key t) (made_octets w)
   made T v = json.null
 
   -- a member for each component that is there

@@ -11,10 +11,6 @@ use Rattle.oer_types.specs.declared.shape.Shape.TheVariants.{Choice, Sequence}
 abbrev pub IsExtensible : Shape → Type 0
 IsExtensible shape = (root : Vec Field Global) × (more : Vec Addition Global) × (shape ≡ Sequence root (Some more))
 
--- a SEQUENCE
-abbrev pub IsSequence : Shape → Type 0
-IsSequence shape = (root : Vec Field Global) × (more : Option (Vec Addition Global)) × (shape ≡ Sequence root more)
-
 -- a CHOICE
 abbrev pub IsChoice : Shape → Type 0
 IsChoice shape = (root : Vec Alt Global) × (more : Option (Vec Alt Global)) × (shape ≡ Choice root more)

@@ -8,8 +8,6 @@ use Rattle.oer_units.specs.declared.tagging.Tag.{Tag}
 use Rattle.serde_json.specs.Data as json
 use Rattle.serde_json.specs.Data.{Data, Items, Members, Num}
 use Rattle.serde_json.specs.Find.{as_null, as_bool, as_str, as_array, as_object, as_integer, get_member}
-use Rattle.oer_types.specs.LeafType.{LeafType}
-use Rattle.oer_types.specs.LeafType as kind
 use Rattle.oer_types.specs.AsnType.{Additions, Alternatives, AsnType, Fields, NamedNumber, addition, alternative, bit_string, boolean, choice, enumerated, extensible_sequence, field, integer, later, leaf, no_additions, no_alternatives, no_fields, null, object_id, octet_string, restricted_string, sequence, sequence_of, utf8_string}
 use Rattle.oer_types.specs.AsnValue.{AsnValue, Places, Unknown, Values, bit_list, bool, chosen, enum, foreign, int, items, no_places, no_values, nothing, octets, oid, seq, text, unknown, value}
 use Rattle.oer_types.specs.Constraints.{addition_count, size_fits}
@@ -31,12 +29,13 @@ use Rattle.oer_json.specs.declared.fault.JsonFault.TheVariants.{Kind, Name, Miss
 abbrev pub fitting : AsnType → AsnValue → Result AsnValue JsonFault
 fitting T v = if is_fit T v then Ok v else Err Misfit
 
--- made into a value, if there is one, and if it fits
-abbrev pub fitted : {A : Type 0} → AsnType → (A → AsnValue) → Result A JsonFault → Result AsnValue JsonFault
-fitted T make (Ok x) = fitting T (make x)
-fitted T make (Err e) = Err e
-
 -- ---- types without parts
+
+abbrev pub bool_in : Data → Result Bool JsonFault
+bool_in j = some_or Kind (as_bool j)
+
+abbrev pub null_in : Data → Result ⊤ JsonFault
+null_in j = some_or Kind (as_null j)
 
 -- a number that JSON holds as a whole one
 abbrev pub held : Num → Result ℤ JsonFault
@@ -108,6 +107,28 @@ dotted_in s = if nat_lt 1 (length (parts [] s)) then several_in s else Err Kind
 
 unfoldable pub arcs_in : Data → Result (List ℕ) JsonFault
 arcs_in j = text_in j >>= dotted_in
+
+-- made into a value, if there is something
+abbrev pub as_value : {A : Type 0} → (A → AsnValue) → Result A JsonFault → Result AsnValue JsonFault
+as_value make (Ok x) = Ok (make x)
+as_value make (Err e) = Err e
+
+-- the value of a type that holds no other, whether it fits or not
+abbrev pub leaf_in : AsnType → Data → Result AsnValue JsonFault
+leaf_in boolean j = as_value bool (bool_in j)
+leaf_in null j = as_value (λ _. nothing) (null_in j)
+leaf_in (integer low high) j = as_value int (integer_in j)
+leaf_in (enumerated numbers extensible) j = as_value enum (item_in numbers j)
+leaf_in (bit_string size) j = as_value bit_list (bits_in j)
+leaf_in (octet_string size) j = as_value octets (octets_in j)
+leaf_in object_id j = as_value oid (arcs_in j)
+leaf_in (restricted_string letters size) j = as_value text (text_in j)
+leaf_in (utf8_string size) j = as_value text (text_in j)
+leaf_in T j = Err Kind
+
+-- the same, if it fits
+abbrev pub take_leaf : AsnType → Data → Result AsnValue JsonFault
+take_leaf T j = leaf_in T j >>= fitting T
 
 -- ---- parts
 
@@ -187,21 +208,9 @@ take_foreign T true key j = foreign_in T key j
 abbrev pub is_key : List (List ℕ) → List (List ℕ) → List ℕ → Bool
 is_key root added key = is_among root key || (is_among added key || is_some (place_digits key))
 
--- a value that holds no other
-abbrev pub take_leaf : LeafType → Data → Result AsnValue JsonFault
-take_leaf kind.boolean j = some_or Kind (as_bool j) >>= λ b. Ok (bool b)
-take_leaf kind.null j = some_or Kind (as_null j) >>= λ _. Ok nothing
-take_leaf (kind.integer low high) j = fitted (integer low high) int (integer_in j)
-take_leaf (kind.enumerated numbers extensible) j = fitted (enumerated numbers extensible) enum (item_in numbers j)
-take_leaf (kind.bit_string size) j = fitted (bit_string size) bit_list (bits_in j)
-take_leaf (kind.octet_string size) j = fitted (octet_string size) octets (octets_in j)
-take_leaf kind.object_id j = fitted object_id oid (arcs_in j)
-take_leaf (kind.restricted_string kind size) j = fitted (restricted_string kind size) text (text_in j)
-take_leaf (kind.utf8_string size) j = fitted (utf8_string size) text (text_in j)
-
 abbrev mutual
   pub take : AsnType → Data → Result AsnValue JsonFault
-  take (leaf kind) j = take_leaf kind j
+  take (leaf kind) j = take_leaf (leaf kind) j
   take (sequence fs) j = members_in j
       >>= λ ms. if all_pass (is_among (field_names fs)) (keys_of ms) then
       (take_fields fs ms >>= λ root. Ok (seq root no_places [])) else Err Name

@@ -1,6 +1,6 @@
 //! Numbers with points between them.
 ghost use Rattle.std.specs.Prelude.{◌≡◌, []};
-ghost use Rattle.oer_json.specs.Answer.{Gives};
+ghost use Rattle.oer_json.specs.Answer.{IsSameOrMemory};
 ghost use Rattle.oer_json.specs.Take.{dotted_in, number_in, numbers_in, several_in};
 ghost use Rattle.oer_json.specs.Texts.{all_natural, parts};
 
@@ -25,7 +25,7 @@ fn all_natural(text: &str) -> bool
 
 /// The numbers between the points.
 fn numbers_in(alloc: Global, text: &str) -> Result<Vec<u128>, JsonFault>
-    ensures { Gives (λ v. v.items) result (numbers_in (parts [] text.now)) }
+    ensures { IsSameOrMemory (λ v. v.items) result (numbers_in (parts [] text.now)) }
 {
     let mut numbers = Vec::new(alloc);
     let mut rest = text;
@@ -40,7 +40,7 @@ fn numbers_in(alloc: Global, text: &str) -> Result<Vec<u128>, JsonFault>
 }
 
 fn number_in(digits: &str) -> Result<u128, JsonFault>
-    ensures { Gives (λ n. n) result (number_in digits.now) }
+    ensures { IsSameOrMemory (λ n. n) result (number_in digits.now) }
 {
     match arc_of(digits) {
         Some(number) => Ok(number),
@@ -50,7 +50,7 @@ fn number_in(digits: &str) -> Result<u128, JsonFault>
 
 /// The numbers between the points, if all are numbers.
 fn several_in(alloc: Global, text: &str) -> Result<Vec<u128>, JsonFault>
-    ensures { Gives (λ v. v.items) result (several_in text.now) }
+    ensures { IsSameOrMemory (λ v. v.items) result (several_in text.now) }
 {
     if !all_natural(text) {
         return Err(JsonFault::Kind);
@@ -60,7 +60,7 @@ fn several_in(alloc: Global, text: &str) -> Result<Vec<u128>, JsonFault>
 
 /// Two numbers or more, with points between them.
 pub(crate) fn dotted_in(alloc: Global, text: &str) -> Result<Vec<u128>, JsonFault>
-    ensures { Gives (λ v. v.items) result (dotted_in text.now) }
+    ensures { IsSameOrMemory (λ v. v.items) result (dotted_in text.now) }
 {
     match text.split_once('.') {
         None => Err(JsonFault::Kind),

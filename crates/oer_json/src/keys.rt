@@ -1,21 +1,53 @@
 //! The keys of objects.
-ghost use Rattle.std.specs.Prelude.{◌≡◌, [], IfErr, None, Ok, is_some, option_map, string_bytes};
+ghost use Rattle.std.specs.Prelude.{◌≡◌, ◌<◌, [], IfErr, IfOk, None, Ok, is_some, option_map, string_bytes};
 ghost use Rattle.serde_json.specs.Find.{get_member};
 ghost use Rattle.serde_json.specs.View.{members_view, view};
 ghost use Rattle.oer_types.specs.ShapeView.{additions_of, fields_of};
 ghost use Rattle.oer_types.specs.WellFormed.{addition_names, field_names};
-ghost use Rattle.oer_json.specs.Answer.{Gives};
-ghost use Rattle.oer_json.specs.Keys.{all_pass, beyond_in, class_digits, if_natural, high_key, is_among, is_smaller, keys_of, low_place, place_digits, places_in, smaller, tag_digits};
+ghost use Rattle.oer_json.specs.Answer.{IsSameOrMemory};
+ghost use Rattle.oer_json.specs.Keys.{all_pass, beyond_in, class_digits, class_letter, if_natural, high_key, is_among, is_smaller, keys_of, low_place, place_digits, place_key, places_in, smaller, tag_digits, tag_key};
 ghost use Rattle.oer_json.specs.Take.{is_key};
 
 use crate::fault::JsonFault;
 use crate::texts::is_natural;
 use oer_literals::place_of;
 use oer_types::{Addition, Field};
-use oer_units::Class;
+use oer_units::{Class, Tag};
 use serde_json::{Map, Value as Json};
-use std::alloc::Global;
+use std::alloc::{AllocError, Global};
 use std::collections::BTreeSet;
+
+/// The key of an addition that the type doesn't know.
+pub fn place_key(alloc: Global, place: usize) -> Result<String, AllocError>
+    ensures { IfOk result (λ s. string_bytes s ≡ place_key place) }
+{
+    format!(in alloc; "#{place}")
+}
+
+fn class_letter(class: Class) -> char
+    ensures value { result ≡ class_letter class }
+    ensures small { result < 128 }
+{
+    match class {
+        Class::Universal => 'u',
+        Class::Application => 'a',
+        Class::Context => 'c',
+        Class::Private => 'p',
+    }
+}
+
+/// The key of an alternative that the type doesn't know.
+pub fn tag_key(alloc: Global, tag: Tag) -> Result<String, AllocError>
+    ensures { IfOk result (λ s. string_bytes s ≡ tag_key tag) }
+{
+    let number = tag.number;
+    let digits = format!(in alloc; "{number}")?;
+    let mut key = String::new(alloc);
+    key.push_str("#")?;
+    key.push(class_letter(tag.class))?;
+    key.push_str(digits.as_str())?;
+    Ok(key)
+}
 
 /// The value at the key.
 pub(crate) fn find<'j>(map: &'j Map<String, Json>, key: &str) -> Option<&'j Json>
@@ -166,7 +198,7 @@ fn high_key(key: &str) -> Option<&str>
 
 /// The places below 65,536 of the keys, in rising order.
 pub(crate) fn places_in(alloc: Global, map: &Map<String, Json>) -> Result<BTreeSet<u16>, JsonFault>
-    ensures { Gives (λ s. s.keys) result (Ok (places_in [] (keys_of (members_view map.now.entries)))) }
+    ensures { IsSameOrMemory (λ s. s.keys) result (Ok (places_in [] (keys_of (members_view map.now.entries)))) }
 {
     let mut places = BTreeSet::new(alloc);
     for key in map.keys() {

@@ -4,7 +4,6 @@ ghost use Rattle.std.specs.Fmt.{decimal};
 ghost use Rattle.serde_json.specs.Data.{string};
 ghost use Rattle.serde_json.specs.View.{view};
 ghost use Rattle.oer_types.specs.ShapeView.{named_number};
-ghost use Rattle.oer_json.specs.Keys.{class_letter, place_key, tag_key};
 ghost use Rattle.oer_json.specs.Made.{made_integer, made_item, made_octets};
 ghost use Rattle.oer_literals.specs.Bits.{bit_digit};
 ghost use Rattle.oer_literals.specs.Items.{name_of};
@@ -12,7 +11,6 @@ ghost use Rattle.oer_json.specs.Texts.{after_points, dotted};
 
 use oer_literals::{name_of, push_bits};
 use oer_types::{Bits, Item};
-use oer_units::{Class, Tag};
 use serde_json::Value as Json;
 use std::alloc::{AllocError, Global};
 
@@ -86,36 +84,4 @@ pub(crate) fn arcs_json(alloc: Global, arcs: &[u128]) -> Result<Json, AllocError
         push_after_points(alloc, &mut text, rest)?;
     }
     Ok(Json::from(text))
-}
-
-/// The key of an addition that the type doesn't know.
-pub(crate) fn place_text(alloc: Global, place: u16) -> Result<String, AllocError>
-    ensures { IfOk result (λ s. string_bytes s ≡ place_key place) }
-{
-    format!(in alloc; "#{place}")
-}
-
-fn class_letter(class: Class) -> char
-    ensures value { result ≡ class_letter class }
-    ensures small { result < 128 }
-{
-    match class {
-        Class::Universal => 'u',
-        Class::Application => 'a',
-        Class::Context => 'c',
-        Class::Private => 'p',
-    }
-}
-
-/// The key of an alternative that the type doesn't know.
-pub(crate) fn tag_text(alloc: Global, tag: Tag) -> Result<String, AllocError>
-    ensures { IfOk result (λ s. string_bytes s ≡ tag_key tag) }
-{
-    let number = tag.number;
-    let digits = format!(in alloc; "{number}")?;
-    let mut key = String::new(alloc);
-    key.push_str("#")?;
-    key.push(class_letter(tag.class))?;
-    key.push_str(digits.as_str())?;
-    Ok(key)
 }

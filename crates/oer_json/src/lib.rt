@@ -14,5 +14,6 @@ mod texts;
 mod unknown;
 
 pub use fault::JsonFault;
+pub use keys::{place_key, tag_key};
 pub use make::to_json;
 pub use take::from_json;

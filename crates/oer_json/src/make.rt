@@ -3,19 +3,17 @@ ghost use Rattle.std.specs.Prelude.{◌≡◌, IfOk, OnOk, map, option_map, unwr
 ghost use Rattle.serde_json.specs.Data.{array};
 ghost use Rattle.serde_json.specs.View.{members_view, view};
 ghost use Rattle.oer_types.specs.AsnType.{Alternatives};
-ghost use Rattle.oer_types.specs.AsnValue.{chosen, seq};
+ghost use Rattle.oer_types.specs.AsnValue.{chosen, items, seq};
 ghost use Rattle.oer_types.specs.Fits.{Fits};
 ghost use Rattle.oer_types.specs.Schema.{the_type};
-ghost use Rattle.oer_types.specs.ShapeView.{additions_of, fields_of, later_of, root_of, type_of};
+ghost use Rattle.oer_types.specs.ShapeView.{additions_of, fields_of, later_of, named_number, root_of, type_of};
 ghost use Rattle.oer_types.specs.ValueView.{places_of, unknown_of, value_of, values_of};
 ghost use Rattle.oer_json.specs.Keys.{tag_key};
-ghost use Rattle.oer_json.specs.Made.{made, made_alternative, made_items, made_octets, one_member, put_additions as with_additions, put_fields as with_fields, put_unknown as with_unknown, with_place};
-ghost use Rattle.oer_json.specs.Shapes.{IsChoice, IsSequence};
+ghost use Rattle.oer_json.specs.Made.{made, made_alternative, made_items, made_octets, named_numbers, one_member, put_additions as with_additions, put_fields as with_fields, put_unknown as with_unknown, with_place};
 
-use crate::leaf::{
-    arcs_json, bits_json, integer_json, item_json, octets_json, place_text, tag_text, text_json,
-};
-use oer_types::{Addition, Alt, Field, Schema, Shape, Unknown, Value, is_same_tag};
+use crate::keys::{place_key, tag_key};
+use crate::leaf::{arcs_json, bits_json, integer_json, item_json, octets_json, text_json};
+use oer_types::{Addition, Alt, Field, Item, Schema, Shape, Unknown, Value, is_same_tag};
 use oer_units::Tag;
 use serde_json::{Map, Value as Json};
 use std::alloc::{AllocError, Global};
@@ -28,46 +26,46 @@ pub fn to_json(alloc: Global, schema: &Schema, value: &Value) -> Result<Json, Al
     value_json(schema.shape(), alloc, value)
 }
 
-/// The JSON of a value; null where it is of another kind than the type.
+/// The JSON of a value; null where it holds others and is of another kind than the type.
 #[cycle(make)]
-#[tactic(auto, using(crate::proofs::Levels::levels))]
+#[tactic(auto, using(crate::proofs::Making::made_kinds))]
 fn value_json(shape: &Shape, alloc: Global, value: &Value) -> Result<Json, AllocError>
     ensures { IfOk result (λ j. view j ≡ made (type_of shape.now) (value_of value.now)) }
 {
-    match (shape, value) {
-        (Shape::Boolean, Value::Bool(truth)) => Ok(Json::Bool(*truth)),
-        (Shape::Null, Value::Null) => Ok(Json::Null),
-        (Shape::Integer { .. }, Value::Int(number)) => integer_json(alloc, *number),
-        (Shape::Enumerated { items, .. }, Value::Enum(number)) => item_json(alloc, items, *number),
-        (Shape::BitString(_), Value::Bits(bits)) => bits_json(alloc, bits),
-        (Shape::OctetString(_), Value::Octets(octets)) => octets_json(alloc, octets),
-        (Shape::ObjectId, Value::Oid(arcs)) => arcs_json(alloc, arcs),
-        (Shape::Ia5(_), Value::Text(text)) => text_json(alloc, text.as_str()),
-        (Shape::Visible(_), Value::Text(text)) => text_json(alloc, text.as_str()),
-        (Shape::Numeric(_), Value::Text(text)) => text_json(alloc, text.as_str()),
-        (Shape::Printable(_), Value::Text(text)) => text_json(alloc, text.as_str()),
-        (Shape::Utf8(_), Value::Text(text)) => text_json(alloc, text.as_str()),
-        (
-            Shape::Sequence { .. },
-            Value::Seq {
-                root,
-                added,
-                unknown,
-            },
-        ) => sequence_json(shape, alloc, root, added, unknown),
-        (Shape::SequenceOf { item, .. }, Value::List(values)) => items_json(item, alloc, values),
-        (Shape::Choice { .. }, Value::Chosen { tag, value }) => {
-            chosen_json(shape, alloc, *tag, value)
-        }
-        (Shape::Choice { .. }, Value::Foreign { tag, octets }) => {
-            foreign_json(alloc, *tag, octets)
-        }
-        _ => Ok(Json::Null),
+    match value {
+        Value::Bool(truth) => Ok(Json::Bool(*truth)),
+        Value::Null => Ok(Json::Null),
+        Value::Int(number) => integer_json(alloc, *number),
+        Value::Enum(number) => item_json(alloc, items_of(shape), *number),
+        Value::Bits(bits) => bits_json(alloc, bits),
+        Value::Octets(octets) => octets_json(alloc, octets),
+        Value::Text(text) => text_json(alloc, text.as_str()),
+        Value::Oid(arcs) => arcs_json(alloc, arcs),
+        Value::Seq {
+            root,
+            added,
+            unknown,
+        } => sequence_json(shape, alloc, root, added, unknown),
+        Value::List(values) => list_json(shape, alloc, values),
+        Value::Chosen { tag, value } => chosen_json(shape, alloc, *tag, value),
+        Value::Foreign { tag, octets } => foreign_json(alloc, *tag, octets),
+    }
+}
+
+/// The items of an ENUMERATED; another type has none.
+#[tactic(auto, using(crate::proofs::Levels::levels))]
+fn items_of(shape: &Shape) -> &[Item]
+    ensures { map named_number result.now ≡ named_numbers (type_of shape.now) }
+{
+    match shape {
+        Shape::Enumerated { items, .. } => items,
+        _ => &[],
     }
 }
 
 /// The object of a SEQUENCE.
 #[cycle(make)]
+#[tactic(auto, using(crate::proofs::Levels::levels))]
 fn sequence_json(
     shape: &Shape,
     alloc: Global,
@@ -75,15 +73,15 @@ fn sequence_json(
     added: &[Option<Value>],
     unknown: &[Unknown],
 ) -> Result<Json, AllocError>
-    requires { IsSequence shape.now }
-    ensures { IfOk result (λ j. view j ≡ made (type_of shape.now) (seq (places_of root.now) (places_of added.now) (map unknown_of unknown.now))) }
+    ensures { IfOk result (λ j. view j
+        ≡ made (type_of shape.now) (seq (places_of root.now) (places_of added.now) (map unknown_of unknown.now))) }
 {
     let Shape::Sequence {
         root: fields,
         additions,
     } = shape
     else {
-        unreachable!()
+        return Ok(Json::Null);
     };
     let mut members = Map::new(alloc);
     put_fields(fields, alloc, root, &mut members)?;
@@ -178,11 +176,23 @@ fn put_unknown(
         ≡ with_unknown (map unknown_of unknown.now) (members_view members.old.entries)) }
 {
     for one in unknown {
-        let key = place_text(alloc, one.place)?;
+        let key = place_key(alloc, one.place as usize)?;
         let json = octets_json(alloc, &one.octets)?;
         serde_json::put(members, alloc, key.as_str(), json)?;
     }
     Ok(())
+}
+
+/// The array of a SEQUENCE OF.
+#[cycle(make)]
+#[tactic(auto, using(crate::proofs::Levels::levels))]
+fn list_json(shape: &Shape, alloc: Global, values: &[Value]) -> Result<Json, AllocError>
+    ensures { IfOk result (λ j. view j ≡ made (type_of shape.now) (items (values_of values.now))) }
+{
+    let Shape::SequenceOf { item, .. } = shape else {
+        return Ok(Json::Null);
+    };
+    items_json(item, alloc, values)
 }
 
 /// An item for each value.
@@ -199,12 +209,12 @@ fn items_json(item: &Shape, alloc: Global, values: &[Value]) -> Result<Json, All
 
 /// The object of the alternative that has the tag; null where none has it.
 #[cycle(make)]
+#[tactic(auto, using(crate::proofs::Levels::levels))]
 fn chosen_json(shape: &Shape, alloc: Global, tag: Tag, value: &Value) -> Result<Json, AllocError>
-    requires { IsChoice shape.now }
     ensures { IfOk result (λ j. view j ≡ made (type_of shape.now) (chosen tag (value_of value.now))) }
 {
     let Shape::Choice { root, additions } = shape else {
-        unreachable!()
+        return Ok(Json::Null);
     };
     let found = alternative_json(root, alloc, tag, value)?;
     match found {
@@ -264,7 +274,7 @@ fn object_json(alloc: Global, name: &str, json: Json) -> Result<Json, AllocError
 fn foreign_json(alloc: Global, tag: Tag, octets: &[u8]) -> Result<Json, AllocError>
     ensures { IfOk result (λ j. view j ≡ one_member (tag_key tag) (made_octets octets.now)) }
 {
-    let key = tag_text(alloc, tag)?;
+    let key = tag_key(alloc, tag)?;
     let json = octets_json(alloc, octets)?;
     object_json(alloc, key.as_str(), json)
 }

@@ -4,7 +4,7 @@ ghost use Rattle.serde_json.specs.View.{items_view, members_view, view};
 ghost use Rattle.oer_types.specs.FitTest.{may_be_absent};
 ghost use Rattle.oer_types.specs.ShapeView.{need_of};
 ghost use Rattle.oer_types.specs.ValueView.{value_of, values_of};
-ghost use Rattle.oer_json.specs.Answer.{Gives};
+ghost use Rattle.oer_json.specs.Answer.{IsSameOrMemory};
 ghost use Rattle.oer_json.specs.Take.{items_in, members_in, one_member, sized};
 
 use crate::fault::JsonFault;
@@ -13,7 +13,7 @@ use serde_json::{Map, Value as Json};
 
 /// The members of an object.
 pub(crate) fn members_in(json: &Json) -> Result<&Map<String, Json>, JsonFault>
-    ensures { Gives (λ m. members_view m.now.entries) result (members_in (view json.now)) }
+    ensures { IsSameOrMemory (λ m. members_view m.now.entries) result (members_in (view json.now)) }
 {
     match json.as_object() {
         Some(members) => Ok(members),
@@ -23,7 +23,7 @@ pub(crate) fn members_in(json: &Json) -> Result<&Map<String, Json>, JsonFault>
 
 /// The items of an array.
 pub(crate) fn items_in(json: &Json) -> Result<&[Json], JsonFault>
-    ensures { Gives (λ v. items_view v.now) result (items_in (view json.now)) }
+    ensures { IsSameOrMemory (λ v. items_view v.now) result (items_in (view json.now)) }
 {
     match json.as_array() {
         Some(items) => Ok(items),
@@ -34,7 +34,7 @@ pub(crate) fn items_in(json: &Json) -> Result<&[Json], JsonFault>
 /// The one member of an object.
 #[tactic(auto, unfolding(crate::specs::Take::one_member))]
 pub(crate) fn one_member(json: &Json) -> Result<(&str, &Json), JsonFault>
-    ensures { Gives (λ p. (p.0.now, view p.1.now)) result (one_member (view json.now)) }
+    ensures { IsSameOrMemory (λ p. (p.0.now, view p.1.now)) result (one_member (view json.now)) }
 {
     let members = members_in(json)?;
     if members.len() != 1 {
@@ -48,7 +48,7 @@ pub(crate) fn one_member(json: &Json) -> Result<(&str, &Json), JsonFault>
 
 /// The values, if the size allows so many.
 pub(crate) fn sized(size: Size, values: Vec<Value>) -> Result<Value, JsonFault>
-    ensures { Gives value_of result (sized size (values_of values.items)) }
+    ensures { IsSameOrMemory value_of result (sized size (values_of values.items)) }
 {
     if !size.allows(values.len() as u128) {
         return Err(JsonFault::Misfit);

@@ -1,12 +1,10 @@
 //! Values without parts, from JSON.
-ghost use Rattle.std.specs.Prelude.{map};
+ghost use Rattle.std.specs.Prelude.{map, string_bytes};
 ghost use Rattle.serde_json.specs.View.{number_view, view};
-ghost use Rattle.oer_types.specs.AsnType.{boolean, null};
-ghost use Rattle.oer_types.specs.AsnValue.{bit_list, enum, int, octets, oid, text};
 ghost use Rattle.oer_types.specs.ShapeView.{named_number, type_of};
 ghost use Rattle.oer_types.specs.ValueView.{value_of};
-ghost use Rattle.oer_json.specs.Answer.{Gives};
-ghost use Rattle.oer_json.specs.Take.{arcs_in, bits_in, bits_of_text, decimal_in, dotted_in, fitted, fitting, held, held_small, in_64_bits, integer_in, item_in, item_named, octets_in, take, text_in};
+ghost use Rattle.oer_json.specs.Answer.{IsSameOrMemory};
+ghost use Rattle.oer_json.specs.Take.{arcs_in, bits_in, bits_of_text, bool_in, decimal_in, dotted_in, fitting, held, held_small, in_64_bits, integer_in, item_in, item_named, leaf_in, null_in, octets_in, take_leaf, text_in};
 
 use crate::dotted::dotted_in;
 use crate::fault::JsonFault;
@@ -19,7 +17,7 @@ use std::alloc::Global;
 
 /// The value, if it fits.
 pub(crate) fn fitting(shape: &Shape, value: Value) -> Result<Value, JsonFault>
-    ensures { Gives value_of result (fitting (type_of shape.now) (value_of value)) }
+    ensures { IsSameOrMemory value_of result (fitting (type_of shape.now) (value_of value)) }
 {
     if !fits_shape(shape, &value) {
         return Err(JsonFault::Misfit);
@@ -27,33 +25,29 @@ pub(crate) fn fitting(shape: &Shape, value: Value) -> Result<Value, JsonFault>
     Ok(value)
 }
 
-pub(crate) fn take_bool(json: &Json) -> Result<Value, JsonFault>
-    ensures { Gives value_of result (take boolean (view json.now)) }
+fn bool_in(json: &Json) -> Result<bool, JsonFault>
+    ensures { IsSameOrMemory (λ b. b) result (bool_in (view json.now)) }
 {
     match json.as_bool() {
-        Some(truth) => Ok(Value::Bool(truth)),
+        Some(truth) => Ok(truth),
         None => Err(JsonFault::Kind),
     }
 }
 
 #[tactic(auto, using(crate::proofs::Views::trees))]
-pub(crate) fn take_null(json: &Json) -> Result<Value, JsonFault>
-    ensures { Gives value_of result (take null (view json.now)) }
+fn null_in(json: &Json) -> Result<(), JsonFault>
+    ensures { IsSameOrMemory (λ u. u) result (null_in (view json.now)) }
 {
     match json {
-        Json::Null => Ok(Value::Null),
-        Json::Bool(_) => Err(JsonFault::Kind),
-        Json::Number(_) => Err(JsonFault::Kind),
-        Json::String(_) => Err(JsonFault::Kind),
-        Json::Array(_) => Err(JsonFault::Kind),
-        Json::Object(_) => Err(JsonFault::Kind),
+        Json::Null => Ok(()),
+        _ => Err(JsonFault::Kind),
     }
 }
 
 /// A number that JSON holds as a whole one.
 #[tactic(auto, using(crate::proofs::Numbers::held_signed, crate::proofs::Numbers::held_unsigned, crate::proofs::Numbers::not_held))]
 fn held(number: &Number) -> Result<i128, JsonFault>
-    ensures { Gives (λ z. z) result (held (number_view number.now)) }
+    ensures { IsSameOrMemory (λ z. z) result (held (number_view number.now)) }
 {
     if let Some(whole) = number.as_i64() {
         return Ok(i128::from(whole));
@@ -67,7 +61,7 @@ fn held(number: &Number) -> Result<i128, JsonFault>
 /// A whole number in decimal.
 #[tactic(auto, unfolding(crate::specs::Take::decimal_in))]
 fn decimal_in(text: &str) -> Result<i128, JsonFault>
-    ensures { Gives (λ z. z) result (decimal_in text.now) }
+    ensures { IsSameOrMemory (λ z. z) result (decimal_in text.now) }
 {
     if !is_whole(text.as_bytes()) {
         return Err(JsonFault::Kind);
@@ -80,7 +74,7 @@ fn decimal_in(text: &str) -> Result<i128, JsonFault>
 
 #[tactic(auto, using(crate::proofs::Views::trees))]
 fn integer_in(json: &Json) -> Result<i128, JsonFault>
-    ensures { Gives (λ z. z) result (integer_in (view json.now)) }
+    ensures { IsSameOrMemory (λ z. z) result (integer_in (view json.now)) }
 {
     match json {
         Json::Number(number) => held(number),
@@ -92,15 +86,8 @@ fn integer_in(json: &Json) -> Result<i128, JsonFault>
     }
 }
 
-pub(crate) fn take_integer(shape: &Shape, json: &Json) -> Result<Value, JsonFault>
-    ensures { Gives value_of result (fitted (type_of shape.now) int (integer_in (view json.now))) }
-{
-    let number = integer_in(json)?;
-    fitting(shape, Value::Int(number))
-}
-
 fn in_64_bits(number: i128) -> Result<i64, JsonFault>
-    ensures { Gives (λ z. z) result (in_64_bits number) }
+    ensures { IsSameOrMemory (λ z. z) result (in_64_bits number) }
 {
     match i64::try_from(number) {
         Ok(small) => Ok(small),
@@ -110,14 +97,14 @@ fn in_64_bits(number: i128) -> Result<i64, JsonFault>
 
 #[tactic(auto, unfolding(crate::specs::Take::held_small))]
 fn held_small(number: &Number) -> Result<i64, JsonFault>
-    ensures { Gives (λ z. z) result (held_small (number_view number.now)) }
+    ensures { IsSameOrMemory (λ z. z) result (held_small (number_view number.now)) }
 {
     let number = held(number)?;
     in_64_bits(number)
 }
 
 fn item_named(items: &[Item], name: &str) -> Result<i64, JsonFault>
-    ensures { Gives (λ z. z) result (item_named (map named_number items.now) name.now) }
+    ensures { IsSameOrMemory (λ z. z) result (item_named (map named_number items.now) name.now) }
 {
     match number_named(items, name) {
         Some(number) => Ok(number),
@@ -127,7 +114,7 @@ fn item_named(items: &[Item], name: &str) -> Result<i64, JsonFault>
 
 #[tactic(auto, using(crate::proofs::Views::trees))]
 fn item_in(items: &[Item], json: &Json) -> Result<i64, JsonFault>
-    ensures { Gives (λ z. z) result (item_in (map named_number items.now) (view json.now)) }
+    ensures { IsSameOrMemory (λ z. z) result (item_in (map named_number items.now) (view json.now)) }
 {
     match json {
         Json::Number(number) => held_small(number),
@@ -139,19 +126,8 @@ fn item_in(items: &[Item], json: &Json) -> Result<i64, JsonFault>
     }
 }
 
-pub(crate) fn take_enumerated(
-    shape: &Shape,
-    items: &[Item],
-    json: &Json,
-) -> Result<Value, JsonFault>
-    ensures { Gives value_of result (fitted (type_of shape.now) enum (item_in (map named_number items.now) (view json.now))) }
-{
-    let number = item_in(items, json)?;
-    fitting(shape, Value::Enum(number))
-}
-
 fn text_in(json: &Json) -> Result<&str, JsonFault>
-    ensures { Gives (λ s. s.now) result (text_in (view json.now)) }
+    ensures { IsSameOrMemory (λ s. s.now) result (text_in (view json.now)) }
 {
     match json.as_str() {
         Some(text) => Ok(text),
@@ -159,18 +135,18 @@ fn text_in(json: &Json) -> Result<&str, JsonFault>
     }
 }
 
-pub(crate) fn take_text(shape: &Shape, alloc: Global, json: &Json) -> Result<Value, JsonFault>
-    ensures { Gives value_of result (fitted (type_of shape.now) text (text_in (view json.now))) }
+fn string_in(alloc: Global, json: &Json) -> Result<String, JsonFault>
+    ensures { IsSameOrMemory (λ s. string_bytes s) result (text_in (view json.now)) }
 {
     let text = text_in(json)?;
     let text = String::from_str(alloc, text)?;
-    fitting(shape, Value::Text(text))
+    Ok(text)
 }
 
 /// Octets, two hexadecimal digits each.
 #[tactic(auto, unfolding(crate::specs::Take::octets_in))]
 pub(crate) fn octets_in(alloc: Global, json: &Json) -> Result<Vec<u8>, JsonFault>
-    ensures { Gives (λ v. v.items) result (octets_in (view json.now)) }
+    ensures { IsSameOrMemory (λ v. v.items) result (octets_in (view json.now)) }
 {
     let text = text_in(json)?;
     match hex::decode(alloc, text) {
@@ -182,16 +158,9 @@ pub(crate) fn octets_in(alloc: Global, json: &Json) -> Result<Vec<u8>, JsonFault
     }
 }
 
-pub(crate) fn take_octets(shape: &Shape, alloc: Global, json: &Json) -> Result<Value, JsonFault>
-    ensures { Gives value_of result (fitted (type_of shape.now) octets (octets_in (view json.now))) }
-{
-    let octets = octets_in(alloc, json)?;
-    fitting(shape, Value::Octets(octets))
-}
-
 /// The bits of digits 0 and 1.
 fn bits_of_text(alloc: Global, digits: &[u8]) -> Result<Bits, JsonFault>
-    ensures { Gives (λ b. b) result (bits_of_text digits.now) }
+    ensures { IsSameOrMemory (λ b. b) result (bits_of_text digits.now) }
 {
     if !are_bits(digits) {
         return Err(JsonFault::Kind);
@@ -202,30 +171,49 @@ fn bits_of_text(alloc: Global, digits: &[u8]) -> Result<Bits, JsonFault>
 
 #[tactic(auto, unfolding(crate::specs::Take::bits_in))]
 fn bits_in(alloc: Global, json: &Json) -> Result<Bits, JsonFault>
-    ensures { Gives (λ b. b) result (bits_in (view json.now)) }
+    ensures { IsSameOrMemory (λ b. b) result (bits_in (view json.now)) }
 {
     let text = text_in(json)?;
     bits_of_text(alloc, text.as_bytes())
 }
 
-pub(crate) fn take_bits(shape: &Shape, alloc: Global, json: &Json) -> Result<Value, JsonFault>
-    ensures { Gives value_of result (fitted (type_of shape.now) bit_list (bits_in (view json.now))) }
-{
-    let bits = bits_in(alloc, json)?;
-    fitting(shape, Value::Bits(bits))
-}
-
 #[tactic(auto, unfolding(crate::specs::Take::arcs_in))]
 fn arcs_in(alloc: Global, json: &Json) -> Result<Vec<u128>, JsonFault>
-    ensures { Gives (λ v. v.items) result (arcs_in (view json.now)) }
+    ensures { IsSameOrMemory (λ v. v.items) result (arcs_in (view json.now)) }
 {
     let text = text_in(json)?;
     dotted_in(alloc, text)
 }
 
-pub(crate) fn take_object_id(shape: &Shape, alloc: Global, json: &Json) -> Result<Value, JsonFault>
-    ensures { Gives value_of result (fitted (type_of shape.now) oid (arcs_in (view json.now))) }
+/// The value of a type that holds no other, whether it fits or not.
+#[tactic(auto, using(crate::proofs::Levels::levels))]
+fn leaf_in(shape: &Shape, alloc: Global, json: &Json) -> Result<Value, JsonFault>
+    ensures { IsSameOrMemory value_of result (leaf_in (type_of shape.now) (view json.now)) }
 {
-    let arcs = arcs_in(alloc, json)?;
-    fitting(shape, Value::Oid(arcs))
+    match shape {
+        Shape::Boolean => Ok(Value::Bool(bool_in(json)?)),
+        Shape::Null => {
+            null_in(json)?;
+            Ok(Value::Null)
+        }
+        Shape::Integer { .. } => Ok(Value::Int(integer_in(json)?)),
+        Shape::Enumerated { items, .. } => Ok(Value::Enum(item_in(items, json)?)),
+        Shape::BitString(_) => Ok(Value::Bits(bits_in(alloc, json)?)),
+        Shape::OctetString(_) => Ok(Value::Octets(octets_in(alloc, json)?)),
+        Shape::ObjectId => Ok(Value::Oid(arcs_in(alloc, json)?)),
+        Shape::Ia5(_)
+        | Shape::Visible(_)
+        | Shape::Numeric(_)
+        | Shape::Printable(_)
+        | Shape::Utf8(_) => Ok(Value::Text(string_in(alloc, json)?)),
+        _ => Err(JsonFault::Kind),
+    }
+}
+
+/// The value of a type that holds no other, if it fits.
+pub(crate) fn take_leaf(shape: &Shape, alloc: Global, json: &Json) -> Result<Value, JsonFault>
+    ensures { IsSameOrMemory value_of result (take_leaf (type_of shape.now) (view json.now)) }
+{
+    let value = leaf_in(shape, alloc, json)?;
+    fitting(shape, value)
 }

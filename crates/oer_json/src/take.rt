@@ -7,8 +7,8 @@ ghost use Rattle.oer_types.specs.Fits.{Fits};
 ghost use Rattle.oer_types.specs.Schema.{the_type};
 ghost use Rattle.oer_types.specs.ShapeView.{additions_of, fields_of, root_of, type_of};
 ghost use Rattle.oer_types.specs.ValueView.{places_of, value_of, values_of};
-ghost use Rattle.oer_json.specs.Answer.{Gives, Tries};
-ghost use Rattle.oer_json.specs.Denotes.{Takes};
+ghost use Rattle.oer_json.specs.Answer.{IsSameOrMemory, Tries};
+ghost use Rattle.oer_json.specs.Denotes.{IsJsonOf};
 ghost use Rattle.oer_json.specs.Made.{made};
 ghost use Rattle.oer_json.specs.Shapes.{IsChoice, IsExtensible};
 ghost use Rattle.oer_json.specs.Take.{take, taken, take_additions as additions_taken, take_alternative as alternative_taken, take_fields as fields_taken, take_items as items_taken, take_place as place_taken};
@@ -17,10 +17,7 @@ ghost use Rattle.oer_json.specs.declared.fault.JsonFault.TheVariants.{Memory};
 use crate::fault::JsonFault;
 use crate::keys::{are_fields, are_keys, find};
 use crate::parts::{items_in, may_be_absent, members_in, one_member, sized};
-use crate::scan::{
-    fitting, take_bits, take_bool, take_enumerated, take_integer, take_null, take_object_id,
-    take_octets, take_text,
-};
+use crate::scan::{fitting, take_leaf};
 use crate::unknown::{foreign_in, take_unknown};
 use oer_types::{Addition, Alt, Field, Schema, Shape, Size, Value};
 use serde_json::{Map, Value as Json};
@@ -30,11 +27,13 @@ use std::alloc::Global;
 /// A fault other than `Memory` comes only where the JSON stands for no value that fits. What
 /// `to_json` made of a value is taken as this value.
 pub fn from_json(alloc: Global, schema: &Schema, json: &Json) -> Result<Value, JsonFault>
-    ensures exact { Gives value_of result (taken (the_type schema.now) (view json.now)) }
+    ensures exact { IsSameOrMemory value_of result (taken (the_type schema.now) (view json.now)) }
     ensures fits { IfOk result (λ v. Fits (the_type schema.now) (value_of v)) }
-    ensures takes { IfOk result (λ v. Takes (the_type schema.now) (value_of v) (view json.now)) }
-    ensures refused { IfErr result (λ fault. (fault ≡ Memory → ⊥) → (v : AsnValue) → Takes (the_type schema.now) v (view json.now) → ⊥) }
-    ensures again { (v : AsnValue) → Fits (the_type schema.now) v → view json.now ≡ made (the_type schema.now) v → Gives value_of result (Ok v) }
+    ensures takes { IfOk result (λ v. IsJsonOf (the_type schema.now) (value_of v) (view json.now)) }
+    ensures refused { IfErr result (λ fault. (fault ≡ Memory → ⊥)
+        → (v : AsnValue) → IsJsonOf (the_type schema.now) v (view json.now) → ⊥) }
+    ensures again { (v : AsnValue) → Fits (the_type schema.now) v → view json.now ≡ made (the_type schema.now) v
+        → IsSameOrMemory value_of result (Ok v) }
 {
     take_fitting(schema.shape(), alloc, json)
 }
@@ -42,7 +41,7 @@ pub fn from_json(alloc: Global, schema: &Schema, json: &Json) -> Result<Value, J
 /// The value of a type, if it fits.
 #[tactic(auto, unfolding(crate::specs::Take::taken))]
 fn take_fitting(shape: &Shape, alloc: Global, json: &Json) -> Result<Value, JsonFault>
-    ensures { Gives value_of result (taken (type_of shape.now) (view json.now)) }
+    ensures { IsSameOrMemory value_of result (taken (type_of shape.now) (view json.now)) }
 {
     let value = take_value(shape, alloc, json)?;
     fitting(shape, value)
@@ -52,34 +51,23 @@ fn take_fitting(shape: &Shape, alloc: Global, json: &Json) -> Result<Value, Json
 #[cycle(take)]
 #[tactic(auto, using(crate::proofs::Levels::levels))]
 fn take_value(shape: &Shape, alloc: Global, json: &Json) -> Result<Value, JsonFault>
-    ensures { Gives value_of result (take (type_of shape.now) (view json.now)) }
+    ensures { IsSameOrMemory value_of result (take (type_of shape.now) (view json.now)) }
 {
     match shape {
-        Shape::Boolean => take_bool(json),
-        Shape::Null => take_null(json),
-        Shape::Integer { .. } => take_integer(shape, json),
-        Shape::Enumerated { items, .. } => take_enumerated(shape, items, json),
-        Shape::BitString(_) => take_bits(shape, alloc, json),
-        Shape::OctetString(_) => take_octets(shape, alloc, json),
-        Shape::ObjectId => take_object_id(shape, alloc, json),
-        Shape::Ia5(_) => take_text(shape, alloc, json),
-        Shape::Visible(_) => take_text(shape, alloc, json),
-        Shape::Numeric(_) => take_text(shape, alloc, json),
-        Shape::Printable(_) => take_text(shape, alloc, json),
-        Shape::Utf8(_) => take_text(shape, alloc, json),
         Shape::Sequence { root, additions } => match additions {
             None => take_sequence(root, alloc, json),
             Some(_) => take_extensible(shape, alloc, json),
         },
         Shape::SequenceOf { size, item } => take_list(item, alloc, *size, json),
         Shape::Choice { .. } => take_choice(shape, alloc, json),
+        _ => take_leaf(shape, alloc, json),
     }
 }
 
 /// A SEQUENCE without an extension marker.
 #[cycle(take)]
 fn take_sequence(root: &[Field], alloc: Global, json: &Json) -> Result<Value, JsonFault>
-    ensures { Gives value_of result (take (sequence (fields_of root.now)) (view json.now)) }
+    ensures { IsSameOrMemory value_of result (take (sequence (fields_of root.now)) (view json.now)) }
 {
     let members = members_in(json)?;
     if !are_fields(members, root) {
@@ -97,7 +85,7 @@ fn take_sequence(root: &[Field], alloc: Global, json: &Json) -> Result<Value, Js
 #[cycle(take)]
 fn take_extensible(shape: &Shape, alloc: Global, json: &Json) -> Result<Value, JsonFault>
     requires { IsExtensible shape.now }
-    ensures { Gives value_of result (take (type_of shape.now) (view json.now)) }
+    ensures { IsSameOrMemory value_of result (take (type_of shape.now) (view json.now)) }
 {
     let Shape::Sequence { root, additions } = shape else {
         unreachable!()
@@ -126,7 +114,8 @@ fn take_fields(
     alloc: Global,
     members: &Map<String, Json>,
 ) -> Result<Vec<Option<Value>>, JsonFault>
-    ensures { Gives (λ v. places_of v.items) result (fields_taken (fields_of fields.now) (members_view members.now.entries)) }
+    ensures { IsSameOrMemory (λ v. places_of v.items) result
+        (fields_taken (fields_of fields.now) (members_view members.now.entries)) }
 {
     let mut places = Vec::new(alloc);
     for field in fields {
@@ -144,7 +133,8 @@ fn take_additions(
     alloc: Global,
     members: &Map<String, Json>,
 ) -> Result<Vec<Option<Value>>, JsonFault>
-    ensures { Gives (λ v. places_of v.items) result (additions_taken (additions_of additions.now) (members_view members.now.entries)) }
+    ensures { IsSameOrMemory (λ v. places_of v.items) result
+        (additions_taken (additions_of additions.now) (members_view members.now.entries)) }
 {
     let mut places = Vec::new(alloc);
     for addition in additions {
@@ -163,7 +153,7 @@ fn take_place(
     is_optional: bool,
     json: Option<&Json>,
 ) -> Result<Option<Value>, JsonFault>
-    ensures { Gives (option_map value_of) result
+    ensures { IsSameOrMemory (option_map value_of) result
         (place_taken is_optional (take (type_of shape.now)) (option_map (λ j. view j.now) json.entry)) }
 {
     match json {
@@ -184,7 +174,7 @@ fn take_place(
 /// A SEQUENCE OF.
 #[cycle(take)]
 fn take_list(item: &Shape, alloc: Global, size: Size, json: &Json) -> Result<Value, JsonFault>
-    ensures { Gives value_of result (take (sequence_of size (type_of item.now)) (view json.now)) }
+    ensures { IsSameOrMemory value_of result (take (sequence_of size (type_of item.now)) (view json.now)) }
 {
     let items = items_in(json)?;
     let values = take_items(item, alloc, items)?;
@@ -194,7 +184,8 @@ fn take_list(item: &Shape, alloc: Global, size: Size, json: &Json) -> Result<Val
 /// A value for each item.
 #[cycle(take)]
 fn take_items(item: &Shape, alloc: Global, items: &[Json]) -> Result<Vec<Value>, JsonFault>
-    ensures { Gives (λ v. values_of v.items) result (items_taken (take (type_of item.now)) (items_view items.now)) }
+    ensures { IsSameOrMemory (λ v. values_of v.items) result
+        (items_taken (take (type_of item.now)) (items_view items.now)) }
 {
     let mut values = Vec::new(alloc);
     for json in items {
@@ -208,7 +199,7 @@ fn take_items(item: &Shape, alloc: Global, items: &[Json]) -> Result<Vec<Value>,
 #[cycle(take)]
 fn take_choice(shape: &Shape, alloc: Global, json: &Json) -> Result<Value, JsonFault>
     requires { IsChoice shape.now }
-    ensures { Gives value_of result (take (type_of shape.now) (view json.now)) }
+    ensures { IsSameOrMemory value_of result (take (type_of shape.now) (view json.now)) }
 {
     let Shape::Choice { root, additions } = shape else {
         unreachable!()

@@ -3,12 +3,11 @@ ghost use Rattle.std.specs.Prelude.{◌≡◌, map, option_map};
 ghost use Rattle.serde_json.specs.View.{members_view, view};
 ghost use Rattle.oer_types.specs.ShapeView.{type_of};
 ghost use Rattle.oer_types.specs.ValueView.{unknown_of, value_of};
-ghost use Rattle.oer_json.specs.Answer.{Gives};
+ghost use Rattle.oer_json.specs.Answer.{IsSameOrMemory};
 ghost use Rattle.oer_json.specs.Take.{beyond_at, foreign_in, foreign_with, take_unknown, octets_at, unknown_at, unknown_from};
 
 use crate::fault::JsonFault;
-use crate::keys::{beyond_in, find, places_in, tag_digits};
-use crate::leaf::place_text;
+use crate::keys::{beyond_in, find, place_key, places_in, tag_digits};
 use crate::scan::{fitting, octets_in};
 use oer_literals::tag_number_of;
 use oer_types::{Shape, Unknown, Value};
@@ -19,7 +18,7 @@ use std::collections::BTreeSet;
 
 /// The octets at a key.
 fn octets_at(alloc: Global, json: Option<&Json>) -> Result<Vec<u8>, JsonFault>
-    ensures { Gives (λ v. v.items) result (octets_at (option_map (λ j. view j.now) json.entry)) }
+    ensures { IsSameOrMemory (λ v. v.items) result (octets_at (option_map (λ j. view j.now) json.entry)) }
 {
     match json {
         Some(json) => octets_in(alloc, json),
@@ -35,7 +34,7 @@ fn unknown_at(
     place: u16,
     json: Option<&Json>,
 ) -> Result<Unknown, JsonFault>
-    ensures { Gives unknown_of result (unknown_at known place (option_map (λ j. view j.now) json.entry)) }
+    ensures { IsSameOrMemory unknown_of result (unknown_at known place (option_map (λ j. view j.now) json.entry)) }
 {
     let octets = octets_at(alloc, json)?;
     if (place as usize) < known {
@@ -51,11 +50,12 @@ fn unknown_from(
     places: &BTreeSet<u16>,
     members: &Map<String, Json>,
 ) -> Result<Vec<Unknown>, JsonFault>
-    ensures { Gives (λ v. map unknown_of v.items) result (unknown_from known places.now.keys (members_view members.now.entries)) }
+    ensures { IsSameOrMemory (λ v. map unknown_of v.items) result
+        (unknown_from known places.now.keys (members_view members.now.entries)) }
 {
     let mut unknown = Vec::new(alloc);
     for place in places {
-        let key = place_text(alloc, *place)?;
+        let key = place_key(alloc, *place as usize)?;
         let one = unknown_at(alloc, known, *place, find(members, key.as_str()))?;
         unknown.push(one)?;
     }
@@ -64,7 +64,7 @@ fn unknown_from(
 
 /// The fault at a place from 65,536 on.
 fn beyond_at(alloc: Global, json: Option<&Json>) -> Result<(), JsonFault>
-    ensures { Gives (λ u. u) result (beyond_at (option_map (λ j. view j.now) json.entry)) }
+    ensures { IsSameOrMemory (λ u. u) result (beyond_at (option_map (λ j. view j.now) json.entry)) }
 {
     let octets = octets_at(alloc, json)?;
     drop(octets);
@@ -78,7 +78,8 @@ pub(crate) fn take_unknown(
     known: usize,
     members: &Map<String, Json>,
 ) -> Result<Vec<Unknown>, JsonFault>
-    ensures { Gives (λ v. map unknown_of v.items) result (take_unknown known (members_view members.now.entries)) }
+    ensures { IsSameOrMemory (λ v. map unknown_of v.items) result
+        (take_unknown known (members_view members.now.entries)) }
 {
     let places = places_in(alloc, members)?;
     let unknown = unknown_from(alloc, known, &places, members)?;
@@ -97,7 +98,7 @@ fn foreign_with(
     digits: &str,
     json: &Json,
 ) -> Result<Value, JsonFault>
-    ensures { Gives value_of result (foreign_with (type_of shape.now) (class, digits.now) (view json.now)) }
+    ensures { IsSameOrMemory value_of result (foreign_with (type_of shape.now) (class, digits.now) (view json.now)) }
 {
     let octets = octets_in(alloc, json)?;
     let Some(number) = tag_number_of(digits) else {
@@ -115,7 +116,7 @@ pub(crate) fn foreign_in(
     key: &str,
     json: &Json,
 ) -> Result<Value, JsonFault>
-    ensures { Gives value_of result (foreign_in (type_of shape.now) key.now (view json.now)) }
+    ensures { IsSameOrMemory value_of result (foreign_in (type_of shape.now) key.now (view json.now)) }
 {
     match tag_digits(key) {
         Some((class, digits)) => foreign_with(shape, alloc, class, digits, json),

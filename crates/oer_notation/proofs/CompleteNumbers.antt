@@ -10,7 +10,7 @@ use Rattle.oer_types.specs.declared.size.Size.{Size}
 use Rattle.oer_notation.specs.Grammar.{IsInteger, an_integer, IsNatural, a_natural, IsBound, no_bound, a_bound, AreBounds, no_bounds, one_number, range, IsSizeEnd, no_end, an_end, IsSize, one_size, sizes, IsBracketedSize, any_size, bracketed, IsListSize, in_brackets, bare}
 use Rattle.oer_literals.specs.Numbers.{integer_within, natural_below, integer_of, item_number_of, size_of, tag_number_of, arc_of}
 use Rattle.oer_literals.proofs.Numerals.{IsRange, range_128, range_64, numeral_true}
-use Rattle.oer_notation.specs.Numbers.{number_at, end_at, high_at, bounds_at, size_high_at, size_at, bracketed_size_at, list_size_at, string_size_at}
+use Rattle.oer_notation.specs.Numbers.{number_at, end_at, high_at, bounds_at, size_high_at, size_at, bracketed_size_at, list_size_at}
 use Rattle.oer_notation.specs.State.{State, first, bump, is_sign, at_sign, skip_sign, skip_word, number_text_at}
 use Rattle.oer_notation.proofs.Comes.{Comes, done, front, sole, split}
 
@@ -150,7 +150,3 @@ list_size_given (bare {size = z} {ts} d) s t c e =
     let p = size_first d in
     let f : first s ≡ Some (word (codes "SIZE")) = (front (subst (Comes s t 0) p.1 c)).0 in
     rw f (size_given d s t c)
-
-pub string_size_given : {z : Size} {ts : List Token} → IsBracketedSize z ts → (s t : State) → Comes s t 0 (word (codes "STRING") ∷ ts) → at_sign OpenParenthesis t ≡ false → string_size_at s ≡ Ok (z, t)
-unfolding string_size_at skip_word
-string_size_given d s t c clear = let a = front c in rw a.0 (bracketed_given d (bump s) t a.1 clear)

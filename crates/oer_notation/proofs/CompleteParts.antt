@@ -1,28 +1,33 @@
 -- Types that are spelt are read.
-use Rattle.std.proofs.Common.{◌≡◌, ℕ, ℤ, zero, suc, ◌+◌, ◌≤◌, List, [], ◌∷◌, ◌++◌, length, Bool, true, false, inl, inr, Option, Some, None, Ok, refl, sym, ap, ap₂, subst, ◌∙◌, append_assoc, append-nil, arith}
+use Rattle.std.proofs.Common.{◌≡◌, ℕ, zero, suc, ◌+◌, ◌≤◌, List, [], ◌∷◌, ◌++◌, length, Bool, true, false, inl, inr, Option, Some, None, Ok, refl, sym, ap, ap₂, subst, ◌∙◌, append_assoc, append-nil, arith}
 use Rattle.std.specs.Prelude.{codes}
+use Rattle.std.proofs.lemmas.Slice.Eq.{bytes_eq-Decides}
+use Rattle.oer_lexer.specs.LeafWords.{behind_second, words_of}
+use Rattle.oer_lexer.specs.declared.leaf.LeafWord.{LeafWord}
 use Rattle.oer_lexer.specs.Token.{Token, word, sign}
 use Rattle.oer_lexer.specs.declared.token.Sign.TheVariants.{OpenBrace, CloseBrace, OpenParenthesis, OpenBracket, Comma, Ellipsis}
 use Rattle.oer_units.specs.declared.tagging.Tag.{Tag}
-use Rattle.oer_types.specs.AsnType.{Need, NamedNumber, ia5, visible, numeric, printable, Alphabet, AsnType, boolean, null, integer, enumerated, bit_string, octet_string, object_id, restricted_string, utf8_string, sequence, extensible_sequence, sequence_of, choice, Fields, no_fields, field, Additions, no_additions, addition, Alternatives, no_alternatives, alternative, later}
-use Rattle.oer_types.specs.Nodes.{type_nodes, fields_nodes, additions_nodes, alternatives_nodes}
+use Rattle.oer_types.specs.AsnType.{Need, AsnType, leaf, sequence, extensible_sequence, sequence_of, choice, Fields, no_fields, field, Additions, no_additions, addition, Alternatives, no_alternatives, alternative, later}
+use Rattle.oer_types.specs.Nodes.{leaf_nodes, type_nodes, fields_nodes, additions_nodes, alternatives_nodes}
+use Rattle.oer_types.specs.LeafType.{LeafType}
 use Rattle.oer_types.specs.ShapeView.{SeenField, SeenAddition, SeenAlternative, fields_from, additions_from, later_from, root_from}
 use Rattle.oer_types.specs.WellFormed.{depth, fields_depth, additions_depth, alternatives_depth, Somewhere, InFields, InAdditions, InAlternatives, HasMisfit, AnyMisfit}
 use Rattle.oer_types.specs.declared.size.Size.{Size}
-use Rattle.oer_notation.specs.Grammar.{IsId, IsName, IsListSize, in_brackets, bare, one_size, sizes, any_size, bracketed, own_tag, tag_by_place, IsNeed, needed, optional, with_default, MayBeOptional, plain_addition, optional_addition, IsType, boolean_type, null_type, object_id_type, named_type, integer_type, enumerated_type, octet_string_type, bit_string_type, restricted_string_type, utf8_string_type, empty_sequence_type, sequence_type, extensible_sequence_type, sequence_of_type, choice_type, AreComponents, no_components as none_there, component, components_marker, AreAdditions, none_added, added as an_addition, AreAlternatives, none_left, an_alternative, alternatives_marker, AreLater, none_later, a_later, string_word}
-use Rattle.oer_notation.specs.Numbers.{bounds_at, bracketed_size_at, string_size_at, list_size_at}
-use Rattle.oer_notation.specs.Reading.{Known, find, most, past_marker, go_on, items_at, tagged_at, simple_type, Components, Choices, choice_of_choices, sequence_of_components, no_components, past_optional, field_at, addition_at, alternative_at, component_at, components_more, alternatives_more, body_at, structure_at, list_at, sequence_at, choice_at, word_type, with_parts, named_at, type_by, entered, type_at}
+use Rattle.oer_notation.specs.Grammar.{IsId, IsName, IsListSize, in_brackets, bare, one_size, sizes, any_size, bracketed, own_tag, tag_by_place, IsNeed, needed, optional, with_default, MayBeOptional, plain_addition, optional_addition, IsLeaf, bounds_behind, items_behind, nothing_behind, size_behind, IsType, leaf_type, named_type, empty_sequence_type, sequence_type, extensible_sequence_type, sequence_of_type, choice_type, AreComponents, no_components as none_there, component, components_marker, AreAdditions, none_added, added as an_addition, AreAlternatives, none_left, an_alternative, alternatives_marker, AreLater, none_later, a_later}
+use Rattle.oer_notation.specs.Leaves.{LeafForm, bounded, leaf_form, listed, plain, sized}
+use Rattle.oer_notation.specs.Numbers.{list_size_at}
+use Rattle.oer_notation.specs.Reading.{Known, find, most, past_marker, go_on, tagged_at, leaf_at, leaf_type_at, skip_second, Components, Choices, choice_of_choices, sequence_of_components, no_components, past_optional, field_at, addition_at, alternative_at, component_at, components_more, alternatives_more, body_at, structure_at, list_at, sequence_at, choice_at, word_type, with_parts, named_at, type_by, entered, type_at}
 use Rattle.oer_notation.specs.State.{State, Read, first, bump, is_sign, at_sign, skip_sign, skip_word, part_at, full}
 use Rattle.oer_notation.specs.Values.{need_at}
 use Rattle.oer_notation.specs.declared.word.TypeWord.{TypeWord}
 use Rattle.oer_notation.specs.declared.word.TypeWord.TheVariants as tw
 use Rattle.oer_notation.proofs.Comes.{Comes, done, front, sole, split, recount, less, counted, part_given, bound, id_given, same_state, same_left, Follows, Commas, follows, before, before_comes}
 use Rattle.oer_notation.proofs.CompleteItems.{pass_end, pass_comma, pass_dots, go_end, go_more, items_at_given, tagged_given, optional_given}
-use Rattle.oer_notation.proofs.CompleteNumbers.{bounds_given, bracketed_given, string_size_given, list_size_given}
+use Rattle.oer_notation.proofs.CompleteNumbers.{bounds_given, bracketed_given, list_size_given}
 use Rattle.oer_notation.proofs.CompleteValues.{no_sign, need_given}
-use Rattle.oer_types.proofs.Leaves.{some_depth}
+use Rattle.oer_types.proofs.Leaves.{some_depth, some_node}
 use Rattle.oer_notation.proofs.Definitions.{named_taken}
-use Rattle.oer_types.proofs.Leaves.{some_node}
+use Rattle.oer_notation.proofs.LeafFacts.{HasNodes, form_nodes}
 use Rattle.oer_notation.proofs.NamesGiven.{find_given, start_name, start_word_of}
 use Rattle.oer_notation.proofs.WordTable.{word_of}
 
@@ -106,12 +111,6 @@ optional_clear : {ts : List Token} → MayBeOptional ts → (s t : State) → Co
 optional_clear plain_addition s t c f = ap (at_sign OpenParenthesis) (done c) ∙ no_sign OpenParenthesis t refl refl f
 optional_clear optional_addition s t c f = ap (is_sign OpenParenthesis) (front c).0
 
-abbrev word_for : Alphabet → TypeWord
-word_for ia5 = tw.Ia5
-word_for visible = tw.Visible
-word_for numeric = tw.Numeric
-word_for printable = tw.Printable
-
 -- ---- single parts, where their types are read
 
 module _ (type : State → Read AsnType) where
@@ -180,44 +179,10 @@ module _ (type : State → Read AsnType) where
 
   -- ---- behind the word with which a type begins
 
-  boolean_at : (s : State) → word_type type tw.Boolean s ≡ Ok (boolean, s)
-  unfolding word_type simple_type
-  boolean_at s = refl
-
-  null_at : (s : State) → word_type type tw.Null s ≡ Ok (null, s)
-  unfolding word_type simple_type
-  null_at s = refl
-
-  object_at : (s t : State) → first s ≡ Some (word (codes "IDENTIFIER")) → bump s ≡ t → word_type type tw.Object s ≡ Ok (object_id, t)
-  unfolding word_type simple_type skip_word
-  object_at s t e m = rw e (ap (λ t. Ok (object_id, t)) m)
-
-  integer_at : (b : Option ℤ × Option ℤ) (s t : State) → bounds_at s ≡ Ok (b, t) → word_type type tw.Integer s ≡ Ok (integer b.0 b.1, t)
-  unfolding word_type simple_type
-  integer_at b s t e = rw e refl
-
-  enumerated_at : (i : List NamedNumber × Bool) (s t : State) → items_at s ≡ Ok (i, t) → word_type type tw.Enumerated s ≡ Ok (enumerated i.0 i.1, t)
-  unfolding word_type simple_type
-  enumerated_at i s t e = rw e refl
-
-  octet_at : (z : Size) (s t : State) → string_size_at s ≡ Ok (z, t) → word_type type tw.Octet s ≡ Ok (octet_string z, t)
-  unfolding word_type simple_type
-  octet_at z s t e = rw e refl
-
-  bit_at : (z : Size) (s t : State) → string_size_at s ≡ Ok (z, t) → word_type type tw.Bit s ≡ Ok (bit_string z, t)
-  unfolding word_type simple_type
-  bit_at z s t e = rw e refl
-
-  utf8_at : (z : Size) (s t : State) → bracketed_size_at s ≡ Ok (z, t) → word_type type tw.Utf8 s ≡ Ok (utf8_string z, t)
-  unfolding word_type simple_type
-  utf8_at z s t e = rw e refl
-
-  restricted_at : (letters : Alphabet) (z : Size) (s t : State) → bracketed_size_at s ≡ Ok (z, t) → word_type type (word_for letters) s ≡ Ok (restricted_string letters z, t)
-  unfolding word_type simple_type
-  restricted_at ia5 z s t e = rw e refl
-  restricted_at visible z s t e = rw e refl
-  restricted_at numeric z s t e = rw e refl
-  restricted_at printable z s t e = rw e refl
+  leaf_at_word : (k : LeafWord) (L : LeafType) (s u t : State) → skip_second (words_of k).1 s ≡ Ok (tt, u) → leaf_at (leaf_form k) u ≡ Ok (leaf L, t)
+      → word_type type (tw.Leaf k) s ≡ Ok (leaf L, t)
+  unfolding word_type leaf_type_at
+  leaf_at_word k L s u t e h = bound (skip_second (words_of k).1 s) (λ r. leaf_at (leaf_form k) r.1) (tt, u) e ∙ h
 
   sequence_at_word : (s : State) → word_type type tw.Sequence s ≡ sequence_at type s
   unfolding word_type
@@ -233,11 +198,34 @@ module _ (type : State → Read AsnType) where
 behind : {s t : State} {n : ℕ} {k : Token} {ts : List Token} → Comes s t (suc n) (k ∷ ts) → Comes (bump (less s)) t n ts
 behind c = (front (counted c)).1
 
-word_for_letters : (letters : Alphabet) → string_word letters ≡ word_of (word_for letters)
-word_for_letters ia5 = refl
-word_for_letters visible = refl
-word_for_letters numeric = refl
-word_for_letters printable = refl
+-- the second word, if there is one, and what stands behind it
+second_given : {m : ℕ} {ts : List Token} (o : Option (List ℕ)) (s t : State) → Comes s t m (behind_second o ts) → (u : State) × (skip_second o s ≡ Ok (tt, u)) × Comes u t m ts
+unfolding skip_word
+second_given None s t c = (s, refl, c)
+second_given (Some w) s t c = let f = front c in (bump s, rw (f.0, (bytes_eq-Decides w w).1 refl) refl, f.1)
+
+-- the parts behind the words
+nodes_behind : (n : LeafForm) → HasNodes n → {L : LeafType} {ts : List Token} → IsLeaf n L ts → (m : ℕ) × (leaf_nodes L ≡ suc m)
+nodes_behind (plain L) nodes nothing_behind = (0, nodes tt)
+nodes_behind (bounded make) nodes (bounds_behind {low} {high} d) = (0, nodes low high)
+nodes_behind (listed make) nodes (items_behind {marker = marker} {items = is} d) = (length is, nodes is marker)
+nodes_behind (sized make) nodes (size_behind {size} d) = (0, nodes size)
+
+leaf_given : (n : LeafForm) → HasNodes n → {L : LeafType} {ts : List Token} → IsLeaf n L ts → (m : ℕ) → leaf_nodes L ≡ suc m → m ≤ 65535 → (s t : State) → Comes s t m ts
+    → at_sign OpenParenthesis t ≡ false → leaf_at n s ≡ Ok (leaf L, t)
+unfolding leaf_at
+leaf_given (plain L) nodes nothing_behind m e few s t c clear =
+    let n = nodes tt in
+    ap (λ t. Ok (leaf L, t)) (done (recount (omega arith) c))
+leaf_given (bounded make) nodes (bounds_behind {low} {high} d) m e few s t c clear =
+    let n = nodes low high in
+    rw (bounds_given d s t (recount (omega arith) c) clear) refl
+leaf_given (listed make) nodes (items_behind {marker = marker} {items = is} d) m e few s t c clear =
+    let n = nodes is marker in
+    rw (items_at_given d (omega arith) s t (recount (omega arith) c)) refl
+leaf_given (sized make) nodes (size_behind {size} d) m e few s t c clear =
+    let n = nodes size in
+    rw (bracketed_given d s t (recount (omega arith) c) clear) refl
 
 size_clear : {z : Size} {ts : List Token} → IsListSize z ts → (s t : State) → Comes s t 0 ts → first t ≡ Some (word (codes "OF")) → at_sign OpenBrace s ≡ false
 size_clear (in_brackets any_size) s t c e = ap (at_sign OpenBrace) (done c) ∙ ap (is_sign OpenBrace) e
@@ -260,16 +248,8 @@ module _ (known : List Known) where
       ap (λ b. type_by known (entered known (word_type (type_at known l))) (suc l) b s) (start_name n s a.0) ∙ ap (λ o. named_at (suc l) o s) f ∙ named_taken (suc l) T s t.parts deep (omega arith) ∙ ap (λ t. Ok (T, t)) left
 
   type_first : {T : AsnType} {ts : List Token} → IsType known T ts → (w : List ℕ) × (us : List Token) × (ts ≡ word w ∷ us)
-  type_first boolean_type = (_, _, refl)
-  type_first null_type = (_, _, refl)
-  type_first object_id_type = (_, _, refl)
+  type_first (leaf_type k d) = (_, _, refl)
   type_first (named_type n d) = (_, _, refl)
-  type_first (integer_type d) = (_, _, refl)
-  type_first (enumerated_type d) = (_, _, refl)
-  type_first (octet_string_type d) = (_, _, refl)
-  type_first (bit_string_type d) = (_, _, refl)
-  type_first (restricted_string_type d) = (_, _, refl)
-  type_first (utf8_string_type d) = (_, _, refl)
   type_first empty_sequence_type = (_, _, refl)
   type_first (sequence_type d) = (_, _, refl)
   type_first (extensible_sequence_type d) = (_, _, refl)
@@ -338,23 +318,14 @@ module _ (known : List Known) where
     pub type_given : {T : AsnType} {ts : List Token} → IsType known T ts → (levels : ℕ) → depth T ≤ levels → type_nodes T ≤ 65535 → (Somewhere HasMisfit T → ⊥) → (s t : State) → Comes s t (type_nodes T) ts → at_sign OpenParenthesis t ≡ false
         → type_at known levels s ≡ Ok (T, t)
     type_given {T} d zero deep few fit s t c clear = absurd (omega (arith, some_depth T))
-    type_given boolean_type (suc l) deep few fit s t c clear = let b = behind {n = 0} c in word_step tw.Boolean l 0 s t [] boolean c (boolean_at (type_at known l) (bump (less s)) ∙ ap (λ t. Ok (boolean, t)) (done b))
-    type_given null_type (suc l) deep few fit s t c clear = let b = behind {n = 0} c in word_step tw.Null l 0 s t [] null c (null_at (type_at known l) (bump (less s)) ∙ ap (λ t. Ok (null, t)) (done b))
-    type_given object_id_type (suc l) deep few fit s t c clear = let b = sole (behind {n = 0} c) in word_step tw.Object l 0 s t _ object_id c (object_at (type_at known l) (bump (less s)) t b.0 b.1)
+    type_given (leaf_type k {L} {ts} d) (suc l) deep few fit s t c clear =
+        let nodes = form_nodes k in
+        let m = nodes_behind (leaf_form k) nodes d in
+        let counted_so = recount m.1 c in
+        let b = second_given (words_of k).1 (bump (less s)) t (behind counted_so) in
+        word_step (tw.Leaf k) l m.0 s t _ (leaf L) counted_so
+        (leaf_at_word (type_at known l) k L (bump (less s)) b.0 t b.1 (leaf_given (leaf_form k) nodes d m.0 m.1 (omega (arith, m.1)) b.0 t b.2 clear))
     type_given (named_type {w} {T} n d) (suc l) deep few fit s t c clear = named_step l w T s t n (find_given d) deep c
-    type_given (integer_type {low} {high} d) (suc l) deep few fit s t c clear =
-        word_step tw.Integer l 0 s t _ (integer low high) c (integer_at (type_at known l) (low, high) (bump (less s)) t (bounds_given d (bump (less s)) t (behind {n = 0} c) clear))
-    type_given (enumerated_type {marker = marker} {items = items} d) (suc l) deep few fit s t c clear =
-        word_step tw.Enumerated l (length items) s t _ (enumerated items marker) c (enumerated_at (type_at known l) (items, marker) (bump (less s)) t (items_at_given d (omega arith) (bump (less s)) t (behind c)))
-    type_given (octet_string_type {size} d) (suc l) deep few fit s t c clear =
-        word_step tw.Octet l 0 s t _ (octet_string size) c (octet_at (type_at known l) size (bump (less s)) t (string_size_given d (bump (less s)) t (behind {n = 0} c) clear))
-    type_given (bit_string_type {size} d) (suc l) deep few fit s t c clear =
-        word_step tw.Bit l 0 s t _ (bit_string size) c (bit_at (type_at known l) size (bump (less s)) t (string_size_given d (bump (less s)) t (behind {n = 0} c) clear))
-    type_given (restricted_string_type {letters} {size} {ts} d) (suc l) deep few fit s t c clear =
-        let d_comes : Comes s t 1 (word (word_of (word_for letters)) ∷ ts) = subst (λ w. Comes s t 1 (word w ∷ ts)) (word_for_letters letters) c in
-        word_step (word_for letters) l 0 s t ts (restricted_string letters size) d_comes (restricted_at (type_at known l) letters size (bump (less s)) t (bracketed_given d (bump (less s)) t (behind {n = 0} c) clear))
-    type_given (utf8_string_type {size} d) (suc l) deep few fit s t c clear =
-        word_step tw.Utf8 l 0 s t _ (utf8_string size) c (utf8_at (type_at known l) size (bump (less s)) t (bracketed_given d (bump (less s)) t (behind {n = 0} c) clear))
     type_given empty_sequence_type (suc l) deep few fit s t c clear =
         let a = front (behind {n = 0} c) in
         let e = sole a.1 in

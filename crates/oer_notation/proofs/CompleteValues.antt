@@ -1,23 +1,22 @@
 -- Values after DEFAULT, items and tags that are spelt are read.
-use Rattle.std.proofs.Common.{◌≡◌, ℕ, zero, suc, ◌≤◌, ◌<◌, ℤ, List, [], ◌∷◌, ◌++◌, length, map, Bool, true, false, inl, inr, Some, Ok, refl, ap, subst, ◌∙◌, append_assoc, append-nil, arith, lt-ltb, length-append}
+use Rattle.std.proofs.Common.{◌≡◌, ℕ, zero, suc, ◌≤◌, ◌<◌, ℤ, List, [], ◌∷◌, ◌++◌, length, map, Bool, true, false, inl, inr, Some, Ok, refl, ap, ◌∙◌, append_assoc, append-nil, arith, lt-ltb, length-append}
 use Rattle.std.specs.Prelude.{codes}
 use Rattle.std.specs.Str.{bytes_eq}
 use Rattle.std.proofs.lemmas.Slice.Eq.{bytes_eq-Decides}
-use Rattle.oer_lexer.specs.Token.{Token, word, sign, Spot, tokens}
+use Rattle.oer_lexer.specs.Token.{Token, sign, Spot, tokens}
 use Rattle.oer_lexer.specs.declared.token.Sign.{Sign}
 use Rattle.oer_lexer.specs.declared.token.Sign.TheVariants.{CloseBrace, Comma}
-use Rattle.oer_types.specs.AsnType.{Need, may, default, NamedNumber, AsnType, integer, enumerated}
+use Rattle.oer_types.specs.AsnType.{Need, may, default, NamedNumber, AsnType}
 use Rattle.oer_types.specs.AsnValue.{AsnValue, bool, nothing, int, enum, bit_list, octets, text as string, oid}
 use Rattle.oer_types.specs.WellFormed.{IsMisfit}
 use Rattle.oer_literals.specs.Bits.{is_one}
 use Rattle.oer_literals.specs.Numbers.{integer_of, arc_of}
 use Rattle.oer_literals.specs.Items.{number_named}
 use Rattle.oer_notation.specs.Grammar.{IsId, an_id, IsItemNamed, this_item, later_item, between_quotes, text_of, AreArcs, no_arcs, an_arc, IsValue, true_value, false_value, null_value, number_value as a_number_value, item_value, octets_value, digit_bits_value, bits_value as a_bits_value, text_value, utf8_value, arcs_value, IsNeed, needed, optional, with_default}
-use Rattle.oer_notation.specs.Numbers.{number_at}
 use Rattle.oer_notation.specs.State.{State, first, bump, is_sign, is_word, at_sign, at_word, same_sign, skip_sign}
-use Rattle.oer_notation.specs.Values.{arcs_more, arcs_at, word_value, number_value, digits_value, sign_value, value_by, value_at, need_at}
+use Rattle.oer_notation.specs.Values.{arcs_more, arcs_at, truth_at, null_at, integer_at, oid_at, value_at, need_at}
 use Rattle.oer_notation.specs.Words.{is_id}
-use Rattle.oer_notation.proofs.Comes.{Comes, done, front, sole, split, bound, Follows}
+use Rattle.oer_notation.proofs.Comes.{Comes, done, front, sole, split, Follows}
 use Rattle.oer_notation.proofs.CompleteNumbers.{bound_reads, arc_reads, number_given}
 use Rattle.oer_notation.proofs.Digits.{text_in_is}
 use Rattle.oer_notation.proofs.DigitsGiven.{octets_in_given, digit_bits_given}
@@ -39,29 +38,12 @@ not_word w v h = by_test (bytes_eq w v) refl
     by_test true e = absurd (h ((bytes_eq-Decides w v).0 e))
     by_test false e = refl
 
-no_true : IsId (codes "TRUE") → ⊥
-no_true (an_id h) = absurd (cc)
-
-no_false : IsId (codes "FALSE") → ⊥
-no_false (an_id h) = absurd (cc)
-
-no_null : IsId (codes "NULL") → ⊥
-no_null (an_id h) = absurd (cc)
-
 id_test : {w : List ℕ} → IsId w → is_id w ≡ true
 id_test (an_id h) = h
 
 named_given : {w : List ℕ} {z : ℤ} {is : List NamedNumber} → IsItemNamed w z is → number_named is w ≡ Some z
 named_given {w} (this_item {i} {is} e) = rw ((bytes_eq-Decides i.name w).1 e) refl
 named_given {w} (later_item {z} {i} {is} n d) = rw (not_word i.name w n) (named_given d)
-
-id_value : (T : AsnType) (w : List ℕ) (s : State) → IsId w → (z : ℤ) (items : List NamedNumber) (marker : Bool) → T ≡ enumerated items marker → number_named items w ≡ Some z → word_value T w s ≡ Ok (enum z, bump s)
-unfolding word_value
-id_value T w s i z items marker t e =
-    let a = not_word w (codes "TRUE") (λ e. no_true (subst IsId e i)) in
-    let b = not_word w (codes "FALSE") (λ e. no_false (subst IsId e i)) in
-    let c = not_word w (codes "NULL") (λ e. no_null (subst IsId e i)) in
-    rw (t, a, b, c, id_test i, e) refl
 
 -- ---- arcs
 
@@ -103,22 +85,16 @@ brace_value {a} {b} {arcs} {ts} d s t c =
 
 -- ---- values
 
-at_first : (T : AsnType) (s : State) (k : Token) (v : AsnValue) (t : State) → first s ≡ Some k → value_by T (Some k) s ≡ Ok (v, bump s) → bump s ≡ t → value_at T s ≡ Ok (v, t)
-unfolding value_at
-at_first T s k v t e h m = ap (λ o. value_by T o s) e ∙ h ∙ ap (λ t. Ok (v, t)) m
-
 pub value_given : {T : AsnType} {v : AsnValue} {ts : List Token} → IsValue T v ts → (IsMisfit T (default v) → ⊥) → (s t : State) → Comes s t 0 ts → value_at T s ≡ Ok (v, t)
-unfolding value_at word_value number_value digits_value sign_value
+unfolding value_at truth_at null_at integer_at oid_at
 value_given true_value fits s t c = let e = sole c in rw e.0 (ap (λ t. Ok (bool true, t)) e.1)
 value_given false_value fits s t c = let e = sole c in rw e.0 (ap (λ t. Ok (bool false, t)) e.1)
 value_given null_value fits s t c = let e = sole c in rw e.0 (ap (λ t. Ok (nothing, t)) e.1)
 value_given (a_number_value {low} {high} {z} {t = k} d) fits s t c =
     let e = sole c in
     let r = bound_reads d in
-    ap (λ o. value_by (integer low high) o s) (e.0 ∙ ap Some r.1) ∙ bound (number_at integer_of s) (λ n. Ok (int n.0, n.1)) (z, bump s) (number_given integer_of z k s r e.0) ∙ ap (λ t. Ok (int z, t)) e.1
-value_given (item_value {items} {marker} {w} {z} i d) fits s t c =
-    let e = sole c in
-    at_first (enumerated items marker) s (word w) (enum z) t e.0 (id_value (enumerated items marker) w s i z items marker refl (named_given d)) e.1
+    rw (number_given integer_of z k s r e.0, e.0 ∙ ap Some r.1) (ap (λ t. Ok (int z, t)) e.1)
+value_given (item_value {items} {marker} {w} {z} i d) fits s t c = let e = sole c in rw (e.0, id_test i, named_given d) (ap (λ t. Ok (enum z, t)) e.1)
 value_given (octets_value {size} {w} {xs} d) fits s t c = let e = sole c in rw (e.0, octets_in_given d) (ap (λ t. Ok (octets xs, t)) e.1)
 value_given (digit_bits_value {size} {w} {s = x} d) fits s t c = let e = sole c in rw (e.0, digit_bits_given size (between_quotes w) x d fits) (ap (λ t. Ok (bit_list x, t)) e.1)
 value_given (a_bits_value {size} {w}) fits s t c = let e = sole c in rw e.0 (ap (λ t. Ok (bit_list (map is_one (between_quotes w)), t)) e.1)

@@ -9,7 +9,7 @@ use Rattle.hex.specs.declared.error.FromHexError.{FromHexError}
 use Rattle.oer_types.specs.Bits.{bit, bits_of, octets_for}
 use Rattle.oer_notation.specs.Grammar.{AreOctets, no_octets, an_octet, AreBits, no_bits, four_bits, unquoted, text_of}
 use Rattle.oer_notation.specs.Values.{ok_part, octets_in, bits_from, paired, digit_bits, text_step, text_after, text_in}
-use Rattle.oer_notation.specs.declared.value.TextPlace.TheVariants as place
+use Rattle.oer_notation.specs.declared.value.Quoting.TheVariants as quoting
 use Rattle.oer_notation.proofs.Took.{chosen}
 use Rattle.oer_notation.proofs.SoundNumbers.{some_if}
 
@@ -111,15 +111,15 @@ digit_bits_sound w s h =
 
 -- ---- texts
 
-step_quote : (b : Bool) (c : ℕ) (out : List ℕ) → c == 34 ≡ b → text_step (place.Plain, out) c ≡ cond b (place.Quoted, out) (place.Plain, out ++ encode_utf8 c)
-step_quote b c out e = ap (λ b. cond b (place.Quoted, out) (place.Plain, out ++ encode_utf8 c)) e
+step_quote : (b : Bool) (c : ℕ) (out : List ℕ) → c == 34 ≡ b → text_step (quoting.Plain, out) c ≡ cond b (quoting.Quoted, out) (quoting.Plain, out ++ encode_utf8 c)
+step_quote b c out e = ap (λ b. cond b (quoting.Quoted, out) (quoting.Plain, out ++ encode_utf8 c)) e
 
-last_quote : (b : Bool) (c : ℕ) (out : List ℕ) → c == 34 ≡ b → (text_after (place.Plain, out) (c ∷ [])).1 ≡ out ++ encode_utf8_all (unquoted (c ∷ []))
+last_quote : (b : Bool) (c : ℕ) (out : List ℕ) → c == 34 ≡ b → (text_after (quoting.Plain, out) (c ∷ [])).1 ≡ out ++ encode_utf8_all (unquoted (c ∷ []))
 last_quote true c out e = rw e (sym (append-nil out))
 last_quote false c out e = rw e (ap (λ x. out ++ x) (sym (append-nil (encode_utf8 c))))
 
-by_quote : (b : Bool) (c d : ℕ) (cs out : List ℕ) → c == 34 ≡ b → (text_after (place.Plain, out ++ encode_utf8 d) cs).1 ≡ (out ++ encode_utf8 d) ++ encode_utf8_all (unquoted cs)
-    → (text_after (place.Plain, out ++ encode_utf8 c) (d ∷ cs)).1 ≡ (out ++ encode_utf8 c) ++ encode_utf8_all (unquoted (d ∷ cs)) → (text_after (place.Plain, out) (c ∷ d ∷ cs)).1 ≡ out ++ encode_utf8_all (unquoted (c ∷ d ∷ cs))
+by_quote : (b : Bool) (c d : ℕ) (cs out : List ℕ) → c == 34 ≡ b → (text_after (quoting.Plain, out ++ encode_utf8 d) cs).1 ≡ (out ++ encode_utf8 d) ++ encode_utf8_all (unquoted cs)
+    → (text_after (quoting.Plain, out ++ encode_utf8 c) (d ∷ cs)).1 ≡ (out ++ encode_utf8 c) ++ encode_utf8_all (unquoted (d ∷ cs)) → (text_after (quoting.Plain, out) (c ∷ d ∷ cs)).1 ≡ out ++ encode_utf8_all (unquoted (c ∷ d ∷ cs))
 by_quote true c d cs out e h k =
     ap (λ p. (text_after p (d ∷ cs)).1) (step_quote true c out e) ∙ h ∙ append_assoc out (encode_utf8 d) (encode_utf8_all (unquoted cs))
     ∙ ap (λ b. out ++ encode_utf8_all (cond b (d ∷ unquoted cs) (c ∷ unquoted (d ∷ cs)))) (sym e)
@@ -127,12 +127,12 @@ by_quote false c d cs out e h k =
     ap (λ p. (text_after p (d ∷ cs)).1) (step_quote false c out e) ∙ k ∙ append_assoc out (encode_utf8 c) (encode_utf8_all (unquoted (d ∷ cs)))
     ∙ ap (λ b. out ++ encode_utf8_all (cond b (d ∷ unquoted cs) (c ∷ unquoted (d ∷ cs)))) (sym e)
 
-plain_after : (cs out : List ℕ) → (text_after (place.Plain, out) cs).1 ≡ out ++ encode_utf8_all (unquoted cs)
+plain_after : (cs out : List ℕ) → (text_after (quoting.Plain, out) cs).1 ≡ out ++ encode_utf8_all (unquoted cs)
 plain_after [] out = sym (append-nil out)
 plain_after (c ∷ []) out = last_quote (c == 34) c out refl
 plain_after (c ∷ d ∷ cs) out = by_quote (c == 34) c d cs out refl (plain_after cs (out ++ encode_utf8 d)) (plain_after (d ∷ cs) (out ++ encode_utf8 c))
 
-from_first : (cs : List ℕ) → (text_after (place.First, []) cs).1 ≡ encode_utf8_all (unquoted (drop 1 cs))
+from_first : (cs : List ℕ) → (text_after (quoting.First, []) cs).1 ≡ encode_utf8_all (unquoted (drop 1 cs))
 from_first [] = refl
 from_first (c ∷ cs) = plain_after cs []
 

@@ -9,6 +9,7 @@ pub mod Definitions
 pub mod Digits
 pub mod DigitsGiven
 pub mod Finding
+pub mod LeafFacts
 pub mod Loops
 pub mod NamesGiven
 pub mod SpeltWidths

@@ -15,7 +15,7 @@ use Rattle.oer_notation.specs.State.{State, Read, first, bump, at_sign}
 use Rattle.oer_notation.specs.Values.{ok_part, octets_in, is_number, arcs_more, text_step, text_after}
 use Rattle.oer_notation.specs.Reading.{Known, NamedItems, Components, with_marker, Choices, with_alternative, with_choice_marker, past_marker, item_at, items_more, component_at, components_more, alternative_at, alternatives_more}
 use Rattle.oer_notation.specs.declared.fault.TextFault.{TextFault}
-use Rattle.oer_notation.specs.declared.value.TextPlace.{TextPlace}
+use Rattle.oer_notation.specs.declared.value.Quoting.{Quoting}
 
 pub items_err : (numbered : Bool) (n place : ℕ) (found : NamedItems) (s : State) (e : TextFault) → 0 < n → item_at numbered place s ≡ Err e → items_more numbered n place found s ≡ Err e
 unfolding items_more
@@ -142,7 +142,7 @@ entries_over (suc n) known s h = absurd (omega arith)
 
 -- ---- characters of a text
 
-pub text_push : (p : TextPlace × List ℕ) (xs : List ℕ) (c : ℕ) → text_after p (xs ++ c ∷ []) ≡ text_step (text_after p xs) c
+pub text_push : (p : Quoting × List ℕ) (xs : List ℕ) (c : ℕ) → text_after p (xs ++ c ∷ []) ≡ text_step (text_after p xs) c
 text_push p [] c = refl
 text_push p (x ∷ xs) c = text_push (text_step p x) xs c
 

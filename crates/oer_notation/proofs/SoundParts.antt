@@ -3,23 +3,26 @@ use Rattle.std.proofs.Common.{◌≡◌, ℕ, zero, suc, ◌+◌, ◌^◌, ℤ, 
 use Rattle.std.specs.Prelude.{codes}
 use Rattle.std.proofs.lemmas.Bool.{and_parts}
 use Rattle.std.specs.Int.{w64}
+use Rattle.oer_lexer.specs.LeafWords.{behind_second, words_of}
+use Rattle.oer_lexer.specs.declared.leaf.LeafWord.{LeafWord}
 use Rattle.oer_lexer.specs.Token.{Token, word, sign}
 use Rattle.oer_lexer.specs.declared.token.Sign.TheVariants.{OpenBrace, CloseBrace, OpenParenthesis, CloseParenthesis, OpenBracket, CloseBracket, Comma, Ellipsis}
 use Rattle.oer_units.specs.declared.tagging.Class.{Class}
 use Rattle.oer_units.specs.declared.tagging.Class.TheVariants.{Universal, Application, Context, Private}
 use Rattle.oer_units.specs.declared.tagging.Tag.{Tag}
-use Rattle.oer_types.specs.AsnType.{NamedNumber, ia5, visible, numeric, printable, AsnType, boolean, null, integer, enumerated, bit_string, octet_string, object_id, restricted_string, utf8_string, sequence_of, Additions, Alternatives, no_alternatives, alternative}
+use Rattle.oer_types.specs.LeafType.{LeafType}
+use Rattle.oer_types.specs.AsnType.{NamedNumber, AsnType, leaf, sequence_of, Additions, Alternatives, no_alternatives, alternative}
 use Rattle.oer_types.specs.ShapeView.{SeenField, SeenAddition, SeenAlternative, fields_from, additions_from, later_from, root_from}
-use Rattle.oer_types.specs.declared.size.Size.{Size}
-use Rattle.oer_notation.specs.Grammar.{IsId, IsInteger, IsNatural, IsItemNumber, own_number, number_by_place, AreItems, no_items, item, items_marker, IsClass, universal, application, private, context, IsTag, own_tag, tag_by_place, MayBeOptional, plain_addition, optional_addition, IsNeed, IsBracketedSize, IsType, boolean_type, null_type, object_id_type, integer_type, enumerated_type, octet_string_type, bit_string_type, restricted_string_type, utf8_string_type, empty_sequence_type, sequence_type, extensible_sequence_type, sequence_of_type, choice_type, AreComponents, no_components as none_there, component, components_marker, AreAdditions, none_added, added as an_addition, AreAlternatives, none_left, an_alternative, alternatives_marker, AreLater, none_later, a_later}
+use Rattle.oer_notation.specs.Grammar.{IsId, IsInteger, IsNatural, IsItemNumber, own_number, number_by_place, AreItems, no_items, item, items_marker, IsClass, universal, application, private, context, IsTag, own_tag, tag_by_place, MayBeOptional, plain_addition, optional_addition, IsNeed, IsLeaf, bounds_behind, items_behind, nothing_behind, size_behind, IsType, leaf_type, empty_sequence_type, sequence_type, extensible_sequence_type, sequence_of_type, choice_type, AreComponents, no_components as none_there, component, components_marker, AreAdditions, none_added, added as an_addition, AreAlternatives, none_left, an_alternative, alternatives_marker, AreLater, none_later, a_later}
 use Rattle.oer_literals.specs.Numbers.{item_number_of, tag_number_of}
-use Rattle.oer_notation.specs.Numbers.{number_at, bounds_at, bracketed_size_at, string_size_at, list_size_at}
+use Rattle.oer_notation.specs.Leaves.{LeafForm, bounded, leaf_form, listed, plain, sized}
+use Rattle.oer_notation.specs.Numbers.{number_at, bounds_at, bracketed_size_at, list_size_at}
 use Rattle.oer_notation.specs.State.{State, Read, ◌>>=◌, bump, at_sign, at_word, skip_sign, skip_word, id_at, part_at, full}
 use Rattle.oer_notation.specs.Values.{need_at}
-use Rattle.oer_notation.specs.Reading.{Known, most, past_marker, go_on, NamedItems, item_number_at, numbered_at, item_at, items_more, items_at, class_at, tag_at, tagged_at, simple_type, Components, with_marker, with_field, with_addition, Choices, sequence_of_components, choice_of_choices, no_components, no_choices, past_optional, field_at, addition_at, alternative_at, component_at, components_more, alternatives_more, body_at, structure_at, list_at, sequence_at, choice_at, word_type}
+use Rattle.oer_notation.specs.Reading.{Known, most, past_marker, go_on, NamedItems, item_number_at, numbered_at, item_at, items_more, items_at, class_at, tag_at, tagged_at, leaf_at, leaf_type_at, skip_second, Components, with_marker, with_field, with_addition, Choices, sequence_of_components, choice_of_choices, no_components, no_choices, past_optional, field_at, addition_at, alternative_at, component_at, components_more, alternatives_more, body_at, structure_at, list_at, sequence_at, choice_at, word_type}
 use Rattle.oer_notation.specs.declared.word.TypeWord.{TypeWord}
 use Rattle.oer_notation.specs.declared.word.TypeWord.TheVariants as tw
-use Rattle.oer_notation.proofs.SoundNumbers.{item_number_sound, tag_number_sound, bounds_took, bracketed_took, list_size_took, string_size_took}
+use Rattle.oer_notation.proofs.SoundNumbers.{item_number_sound, tag_number_sound, bounds_took, bracketed_took, list_size_took}
 use Rattle.oer_notation.proofs.SoundValues.{need_took}
 use Rattle.oer_notation.proofs.Took.{bind_ok, chosen, same_ok, Took, stay, both, turned, after, ends, answered, one_is, sign_took, word_took, skip_sign_took, skip_word_took, number_took, id_took, id_is, part_took, unmoved}
 use Rattle.oer_notation.proofs.WordTable.{word_of}
@@ -81,8 +84,8 @@ item_took numbered place s r h =
 abbrev Listed : Bool → ℕ → List NamedNumber → Bool → List Token → Type 0
 Listed numbered place is marker ts = (w : List ℕ) × (us : List Token) × (ts ≡ word w ∷ us) × AreItems numbered place is marker (sign Comma ∷ word w ∷ us)
 
-listed : (numbered : Bool) (place : ℕ) (i : NamedNumber) (is : List NamedNumber) (marker : Bool) (a b : List Token) → IsNumbered numbered place i a → AreItems numbered (place + 1) is marker b → Listed numbered place (i ∷ is) marker (a ++ b)
-listed numbered place i is marker a b p q = (i.name, p.0 ++ b, ap (λ a. a ++ b) p.1, item p.2 p.3 q)
+one_listed : (numbered : Bool) (place : ℕ) (i : NamedNumber) (is : List NamedNumber) (marker : Bool) (a b : List Token) → IsNumbered numbered place i a → AreItems numbered (place + 1) is marker b → Listed numbered place (i ∷ is) marker (a ++ b)
+one_listed numbered place i is marker a b p q = (i.name, p.0 ++ b, ap (λ a. a ++ b) p.1, item p.2 p.3 q)
 
 -- behind a comma
 behind : {numbered : Bool} {place : ℕ} {is : List NamedNumber} {marker : Bool} {ts : List Token} → Listed numbered place is marker ts → AreItems numbered place is marker (sign Comma ∷ ts)
@@ -101,10 +104,10 @@ marked_items numbered (suc n) place found s r h =
       | inl p ↦ (
           let m = marked_items numbered n (place + 1) (found ++ i.0.0 ∷ []) (bump i.0.1) r p.1 in
           let z = after (sign Comma) (AreItems numbered (place + 1) m.0 false) (sign_took Comma i.0.1 p.0) m.2 (λ b e. behind e) in
-          (i.0.0 ∷ m.0, m.1 ∙ ap (λ x. (x, true)) (append_assoc found (i.0.0 ∷ []) m.0), both (Listed numbered place (i.0.0 ∷ m.0) false) t z (λ a b e f. listed numbered place i.0.0 m.0 false a b e f)))
+          (i.0.0 ∷ m.0, m.1 ∙ ap (λ x. (x, true)) (append_assoc found (i.0.0 ∷ []) m.0), both (Listed numbered place (i.0.0 ∷ m.0) false) t z (λ a b e f. one_listed numbered place i.0.0 m.0 false a b e f)))
       | inr p ↦ (
           let e = same_ok ((found ++ i.0.0 ∷ [], true), i.0.1) r p.1 in
-          subst (MoreItems numbered place found s) e (i.0.0 ∷ [], refl, both (Listed numbered place (i.0.0 ∷ []) false) t (stay i.0.1 (AreItems numbered (place + 1) [] false) no_items) (λ a b e f. listed numbered place i.0.0 [] false a b e f)))
+          subst (MoreItems numbered place found s) e (i.0.0 ∷ [], refl, both (Listed numbered place (i.0.0 ∷ []) false) t (stay i.0.1 (AreItems numbered (place + 1) [] false) no_items) (λ a b e f. one_listed numbered place i.0.0 [] false a b e f)))
     ]
 
 abbrev SomeItems : Bool → ℕ → List NamedNumber → State → NamedItems × State → Type 0
@@ -124,20 +127,20 @@ items_took numbered (suc n) place found s r h =
             let m = marked_items numbered n (place + 1) now (bump (bump (bump i.0.1))) r p.1 in
             let z = after (sign Comma) (AreItems numbered (place + 1) m.0 false) (sign_took Comma (bump (bump i.0.1)) p.0) m.2 (λ b e. behind e) in
             let y = both (AreItems numbered (place + 1) m.0 true) c.1 z (λ a b e f. subst (λ a. AreItems numbered (place + 1) m.0 true (a ++ b)) (sym e) (items_marker f)) in
-            (i.0.0 ∷ m.0, true, m.1 ∙ ap (λ x. (x, true)) (append_assoc found (i.0.0 ∷ []) m.0), both (Listed numbered place (i.0.0 ∷ m.0) true) t y (λ a b e f. listed numbered place i.0.0 m.0 true a b e f)))
+            (i.0.0 ∷ m.0, true, m.1 ∙ ap (λ x. (x, true)) (append_assoc found (i.0.0 ∷ []) m.0), both (Listed numbered place (i.0.0 ∷ m.0) true) t y (λ a b e f. one_listed numbered place i.0.0 m.0 true a b e f)))
         | inr p ↦ (
             let e = same_ok ((now, true), bump (bump i.0.1)) r p.1 in
             let y = turned (AreItems numbered (place + 1) [] true) c.1 (λ a e. subst (AreItems numbered (place + 1) [] true) (sym e) (items_marker no_items)) in
-            subst (SomeItems numbered place found s) e (i.0.0 ∷ [], true, refl, both (Listed numbered place (i.0.0 ∷ []) true) t y (λ a b e f. listed numbered place i.0.0 [] true a b e f)))
+            subst (SomeItems numbered place found s) e (i.0.0 ∷ [], true, refl, both (Listed numbered place (i.0.0 ∷ []) true) t y (λ a b e f. one_listed numbered place i.0.0 [] true a b e f)))
       ]
       | inr c ↦ elim (chosen (at_sign Comma i.0.1) _ _ _ (subst Goes c i.2)) [
         | inl p ↦ (
             let m = items_took numbered n (place + 1) now (bump i.0.1) r p.1 in
             let z = after (sign Comma) (AreItems numbered (place + 1) m.0 m.1) (sign_took Comma i.0.1 p.0) m.3 (λ b e. behind e) in
-            (i.0.0 ∷ m.0, m.1, m.2 ∙ ap (λ x. (x, m.1)) (append_assoc found (i.0.0 ∷ []) m.0), both (Listed numbered place (i.0.0 ∷ m.0) m.1) t z (λ a b e f. listed numbered place i.0.0 m.0 m.1 a b e f)))
+            (i.0.0 ∷ m.0, m.1, m.2 ∙ ap (λ x. (x, m.1)) (append_assoc found (i.0.0 ∷ []) m.0), both (Listed numbered place (i.0.0 ∷ m.0) m.1) t z (λ a b e f. one_listed numbered place i.0.0 m.0 m.1 a b e f)))
         | inr p ↦ (
             let e = same_ok ((now, false), i.0.1) r p.1 in
-            subst (SomeItems numbered place found s) e (i.0.0 ∷ [], false, refl, both (Listed numbered place (i.0.0 ∷ []) false) t (stay i.0.1 (AreItems numbered (place + 1) [] false) no_items) (λ a b e f. listed numbered place i.0.0 [] false a b e f)))
+            subst (SomeItems numbered place found s) e (i.0.0 ∷ [], false, refl, both (Listed numbered place (i.0.0 ∷ []) false) t (stay i.0.1 (AreItems numbered (place + 1) [] false) no_items) (λ a b e f. one_listed numbered place i.0.0 [] false a b e f)))
       ]
     ]
 
@@ -494,62 +497,49 @@ module _ (known : List Known) (type : State → Read AsnType) (sound : (s : Stat
 
   -- ---- types
 
-  string_took : (k : TypeWord) (make : Size → AsnType) (s : State) (r : AsnType × State) → ((z : Size) (ts : List Token) → IsBracketedSize z ts → IsType known (make z) (word (word_of k) ∷ ts))
-      → (bracketed_size_at s >>= λ z. Ok (make z.0, z.1)) ≡ Ok r → Took s r.1 (λ ts. IsType known r.0 (word (word_of k) ∷ ts))
-  string_took k make s r f h =
-      let z = bind_ok (bracketed_size_at s) _ r h in
-      answered (λ T ts. IsType known T (word (word_of k) ∷ ts)) (make z.0.0, z.0.1) r z.2 (turned (λ ts. IsType known (make z.0.0) (word (word_of k) ∷ ts)) (bracketed_took s z.0 z.1) (f z.0.0))
+  abbrev IsLeafType : LeafForm → AsnType → List Token → Type 0
+  IsLeafType n T ts = (L : LeafType) × (T ≡ leaf L) × IsLeaf n L ts
 
-  octets_took : (k : TypeWord) (make : Size → AsnType) (s : State) (r : AsnType × State) → ((z : Size) (ts : List Token) → IsBracketedSize z ts → IsType known (make z) (word (word_of k) ∷ word (codes "STRING") ∷ ts))
-      → (string_size_at s >>= λ z. Ok (make z.0, z.1)) ≡ Ok r → Took s r.1 (λ ts. IsType known r.0 (word (word_of k) ∷ ts))
-  octets_took k make s r f h =
-      let z = bind_ok (string_size_at s) _ r h in
-      let R : List Token → Type 0 = λ ts. IsType known (make z.0.0) (word (word_of k) ∷ ts) in
-      answered (λ T ts. IsType known T (word (word_of k) ∷ ts)) (make z.0.0, z.0.1) r z.2 (turned R (string_size_took s z.0 z.1) (λ a e. subst R (sym e.1) (f z.0.0 e.0 e.2)))
+  leaf_took : (n : LeafForm) (s : State) (r : AsnType × State) → leaf_at n s ≡ Ok r → Took s r.1 (IsLeafType n r.0)
+  unfolding leaf_at
+  leaf_took (plain L) s r h =
+      answered (IsLeafType (plain L)) (leaf L, s) r h (stay s (IsLeafType (plain L) (leaf L)) (L, refl, nothing_behind))
+  leaf_took (bounded make) s r h =
+      let b = bind_ok (bounds_at s) _ r h in
+      let L = make b.0.0.0 b.0.0.1 in
+      answered (IsLeafType (bounded make)) (leaf L, b.0.1) r b.2
+      (turned (IsLeafType (bounded make) (leaf L)) (bounds_took s b.0 b.1) (λ a e. (L, refl, bounds_behind e)))
+  leaf_took (listed make) s r h =
+      let i = bind_ok (items_at s) _ r h in
+      let L = make i.0.0.0 i.0.0.1 in
+      let t = items_at_took s i.0 i.1 in
+      answered (IsLeafType (listed make)) (leaf L, i.0.1) r i.2
+      (turned (IsLeafType (listed make) (leaf L)) t.1 (λ a e. (L, refl, subst (IsLeaf (listed make) L) (sym e.2) (items_behind e.3))))
+  leaf_took (sized make) s r h =
+      let z = bind_ok (bracketed_size_at s) _ r h in
+      let L = make z.0.0 in
+      answered (IsLeafType (sized make)) (leaf L, z.0.1) r z.2
+      (turned (IsLeafType (sized make) (leaf L)) (bracketed_took s z.0 z.1) (λ a e. (L, refl, size_behind e)))
+
+  -- the second word, if there is one, and what stands behind it
+  second_took : {u : State} {Q : List Token → Type 0} (o : Option (List ℕ)) (s : State) (r : Unit {0} × State) (R : List Token → Type 0)
+      → skip_second o s ≡ Ok r → Took r.1 u Q → ((b : List Token) → Q b → R (behind_second o b)) → Took s u R
+  second_took {u} {Q} None s r R h q f = turned R (subst (λ s. Took s u Q) (sym (ap (λ p. p.1) (same_ok (tt, s) r h))) q) f
+  second_took (Some w) s r R h q f = after (word w) R (skip_word_took w s r h) q f
 
   abbrev Behind : TypeWord → State → AsnType × State → Type 0
   Behind k s r = Took s r.1 (λ ts. IsType known r.0 (word (word_of k) ∷ ts))
 
-  simple_took : (k : TypeWord) (s : State) (r : AsnType × State) → simple_type k s ≡ Ok r → Behind k s r
-  unfolding simple_type
-  simple_took tw.Boolean s r h = answered (λ T ts. IsType known T (word (codes "BOOLEAN") ∷ ts)) (boolean, s) r h (stay s (λ ts. IsType known boolean (word (codes "BOOLEAN") ∷ ts)) boolean_type)
-  simple_took tw.Null s r h = answered (λ T ts. IsType known T (word (codes "NULL") ∷ ts)) (null, s) r h (stay s (λ ts. IsType known null (word (codes "NULL") ∷ ts)) null_type)
-  simple_took tw.Object s r h =
-      let q = bind_ok (skip_word (codes "IDENTIFIER") s) _ r h in
-      answered (λ T ts. IsType known T (word (codes "OBJECT") ∷ ts)) (object_id, q.0.1) r q.2 (ends (word (codes "IDENTIFIER")) (λ ts. IsType known object_id (word (codes "OBJECT") ∷ ts)) (skip_word_took (codes "IDENTIFIER") s q.0 q.1) object_id_type)
-  simple_took tw.Integer s r h =
-      let b = bind_ok (bounds_at s) _ r h in
-      let T = integer b.0.0.0 b.0.0.1 in
-      answered (λ T ts. IsType known T (word (codes "INTEGER") ∷ ts)) (T, b.0.1) r b.2 (turned (λ ts. IsType known T (word (codes "INTEGER") ∷ ts)) (bounds_took s b.0 b.1) (λ a e. integer_type e))
-  simple_took tw.Enumerated s r h =
-      let i = bind_ok (items_at s) _ r h in
-      let T = enumerated i.0.0.0 i.0.0.1 in
-      let t = items_at_took s i.0 i.1 in
-      let R : List Token → Type 0 = λ ts. IsType known T (word (codes "ENUMERATED") ∷ ts) in
-      answered (λ T ts. IsType known T (word (codes "ENUMERATED") ∷ ts)) (T, i.0.1) r i.2 (turned R t.1 (λ a e. subst R (sym e.2) (enumerated_type e.3)))
-  simple_took tw.Octet s r h = octets_took tw.Octet octet_string s r (λ z ts e. octet_string_type e) h
-  simple_took tw.Bit s r h = octets_took tw.Bit bit_string s r (λ z ts e. bit_string_type e) h
-  simple_took tw.Ia5 s r h = string_took tw.Ia5 (restricted_string ia5) s r (λ z ts e. restricted_string_type e) h
-  simple_took tw.Visible s r h = string_took tw.Visible (restricted_string visible) s r (λ z ts e. restricted_string_type e) h
-  simple_took tw.Numeric s r h = string_took tw.Numeric (restricted_string numeric) s r (λ z ts e. restricted_string_type e) h
-  simple_took tw.Printable s r h = string_took tw.Printable (restricted_string printable) s r (λ z ts e. restricted_string_type e) h
-  simple_took tw.Utf8 s r h = string_took tw.Utf8 utf8_string s r (λ z ts e. utf8_string_type e) h
-  simple_took tw.Sequence s r h = absurd (cc)
-  simple_took tw.Choice s r h = absurd (cc)
+  leaf_type_took : (k : LeafWord) (s : State) (r : AsnType × State) → leaf_type_at k s ≡ Ok r → Behind (tw.Leaf k) s r
+  unfolding leaf_type_at
+  leaf_type_took k s r h =
+      let w = bind_ok (skip_second (words_of k).1 s) _ r h in
+      let R : AsnType → List Token → Type 0 = λ T ts. IsType known T (word (words_of k).0 ∷ ts) in
+      second_took (words_of k).1 s w.0 (R r.0) w.1 (leaf_took (leaf_form k) w.0.1 r w.2)
+      (λ b e. subst (λ T. R T (behind_second (words_of k).1 b)) (sym e.1) (leaf_type k e.2))
 
   pub word_type_took : (k : TypeWord) (s : State) (r : AsnType × State) → word_type type k s ≡ Ok r → Behind k s r
   unfolding word_type
-  word_type_took tw.Boolean s r h = simple_took tw.Boolean s r h
-  word_type_took tw.Null s r h = simple_took tw.Null s r h
-  word_type_took tw.Object s r h = simple_took tw.Object s r h
-  word_type_took tw.Integer s r h = simple_took tw.Integer s r h
-  word_type_took tw.Enumerated s r h = simple_took tw.Enumerated s r h
-  word_type_took tw.Octet s r h = simple_took tw.Octet s r h
-  word_type_took tw.Bit s r h = simple_took tw.Bit s r h
-  word_type_took tw.Ia5 s r h = simple_took tw.Ia5 s r h
-  word_type_took tw.Visible s r h = simple_took tw.Visible s r h
-  word_type_took tw.Numeric s r h = simple_took tw.Numeric s r h
-  word_type_took tw.Printable s r h = simple_took tw.Printable s r h
-  word_type_took tw.Utf8 s r h = simple_took tw.Utf8 s r h
+  word_type_took (tw.Leaf k) s r h = leaf_type_took k s r h
   word_type_took tw.Sequence s r h = sequence_took s r h
   word_type_took tw.Choice s r h = choice_took s r h

@@ -5,16 +5,19 @@ use Rattle.std.specs.Int.{Width, w64}
 use Rattle.std.proofs.lemmas.Bool.{cases_lt}
 use Rattle.oer_lexer.specs.Token.{Token}
 use Rattle.oer_types.specs.AsnType.{Additions, Alternatives, AsnType, Fields, NamedNumber, alternative, later, no_alternatives}
+use Rattle.oer_types.specs.LeafType.{LeafType}
 use Rattle.oer_types.specs.FaultTest.{first_fault}
 use Rattle.oer_types.specs.Laws.{NoFaultFound}
-use Rattle.oer_types.specs.Nodes.{type_nodes, fields_nodes, additions_nodes, alternatives_nodes}
-use Rattle.oer_types.specs.Widths.{AreLater as AllLater, HasBoundWidth, HaveItemWidths, HasEndWidth, HasSizeWidths, AreInOrder, HasWidths, FieldsHaveWidths, AdditionsHaveWidths, AlternativesHaveWidths}
+use Rattle.oer_types.specs.Nodes.{leaf_nodes, type_nodes, fields_nodes, additions_nodes, alternatives_nodes}
+use Rattle.oer_types.specs.Widths.{AreLater as AllLater, LeafHasWidths, HasBoundWidth, HaveItemWidths, HasEndWidth, HasSizeWidths, AreInOrder, HasWidths, FieldsHaveWidths, AdditionsHaveWidths, AlternativesHaveWidths}
 use Rattle.oer_types.specs.declared.fault.SchemaFault.TheVariants.{TooManyParts}
 use Rattle.oer_types.specs.declared.size.Size.{Size}
 use Rattle.oer_units.specs.Laws.{HasTagNumber}
 use Rattle.oer_units.specs.declared.tagging.Tag.{Tag}
 use Rattle.oer_types.proofs.Leaves.{some_node}
-use Rattle.oer_notation.specs.Grammar.{IsInteger, an_integer, IsNatural, a_natural, IsBound, no_bound, a_bound, AreBounds, no_bounds, one_number, range, IsSizeEnd, no_end, an_end, IsSize, one_size, sizes, IsBracketedSize, any_size, bracketed, IsListSize, in_brackets, bare, IsItemNumber, own_number, number_by_place, AreItems, no_items, item, items_marker, IsTag, own_tag, tag_by_place, IsDefined, this_definition, later_definition, IsType, boolean_type, null_type, object_id_type, named_type, integer_type, enumerated_type, octet_string_type, bit_string_type, restricted_string_type, utf8_string_type, empty_sequence_type, sequence_type, extensible_sequence_type, sequence_of_type, choice_type, AreComponents, no_components, component, components_marker, AreAdditions, none_added, added, AreAlternatives, none_left, an_alternative, alternatives_marker, AreLater, none_later, a_later}
+use Rattle.oer_notation.proofs.LeafFacts.{HasNodes, KeepsWidths, form_nodes, form_widths}
+use Rattle.oer_notation.specs.Leaves.{LeafForm, bounded, leaf_form, listed, plain, sized}
+use Rattle.oer_notation.specs.Grammar.{IsInteger, an_integer, IsNatural, a_natural, IsBound, no_bound, a_bound, AreBounds, no_bounds, one_number, range, IsSizeEnd, no_end, an_end, IsSize, one_size, sizes, IsBracketedSize, any_size, bracketed, IsListSize, in_brackets, bare, IsItemNumber, own_number, number_by_place, AreItems, no_items, item, items_marker, IsTag, own_tag, tag_by_place, IsDefined, this_definition, later_definition, IsLeaf, bounds_behind, items_behind, nothing_behind, size_behind, IsType, leaf_type, named_type, empty_sequence_type, sequence_type, extensible_sequence_type, sequence_of_type, choice_type, AreComponents, no_components, component, components_marker, AreAdditions, none_added, added, AreAlternatives, none_left, an_alternative, alternatives_marker, AreLater, none_later, a_later}
 use Rattle.oer_notation.specs.Reading.{Known}
 
 pub few_nodes : NoFaultFound → (T : AsnType) → first_fault T ≡ None → type_nodes T ≤ 4096
@@ -98,19 +101,17 @@ defined_widths : {w : List ℕ} {T : AsnType} {ks : List Known} → IsDefined w 
 defined_widths (this_definition e) a = a.0
 defined_widths (later_definition n d) a = defined_widths d a.1
 
+leaf_widths : (n : LeafForm) → HasNodes n → KeepsWidths n → {L : LeafType} {ts : List Token} → IsLeaf n L ts → leaf_nodes L ≤ 4096 → LeafHasWidths L
+leaf_widths (plain L) nodes keeps nothing_behind few = keeps tt tt
+leaf_widths (bounded make) nodes keeps (bounds_behind {low} {high} b) few = let w = bound_widths b in keeps low high w.0 w.1
+leaf_widths (listed make) nodes keeps (items_behind {marker = marker} {items = is} i) few = let n = nodes is marker in keeps is marker (item_widths i (omega arith))
+leaf_widths (sized make) nodes keeps (size_behind {size} z) few = keeps size (bracketed_widths z)
+
 module _ (known : List Known) (all : AllHaveWidths known) where
   mutual
     pub type_widths : {T : AsnType} {ts : List Token} → IsType known T ts → type_nodes T ≤ 4096 → HasWidths T
-    type_widths boolean_type few = tt
-    type_widths null_type few = tt
-    type_widths object_id_type few = tt
+    type_widths (leaf_type k d) few = leaf_widths (leaf_form k) (form_nodes k) (form_widths k) d few
     type_widths (named_type n d) few = defined_widths d all
-    type_widths (integer_type b) few = bound_widths b
-    type_widths (enumerated_type {items = is} i) few = item_widths i (omega arith)
-    type_widths (octet_string_type z) few = bracketed_widths z
-    type_widths (bit_string_type z) few = bracketed_widths z
-    type_widths (restricted_string_type z) few = bracketed_widths z
-    type_widths (utf8_string_type z) few = bracketed_widths z
     type_widths empty_sequence_type few = tt
     type_widths (sequence_type c) few = (component_widths c (omega arith)).0
     type_widths (extensible_sequence_type {fs} {more} c) few = component_widths c (omega arith)

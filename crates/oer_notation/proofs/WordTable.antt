@@ -1,96 +1,90 @@
 -- The words with which types begin, and Names.
 use Rattle.std.proofs.Common.{◌≡◌, ℕ, List, [], ◌∷◌, Bool, true, false, not, cond, ◌||◌, inl, inr, Option, Some, None, refl, sym, ap, subst, ◌∙◌}
-use Rattle.std.specs.Prelude.{codes}
+use Rattle.std.specs.Prelude.{codes, option_map, ◌++◌}
 use Rattle.std.specs.List.{list_any}
 use Rattle.std.specs.Str.{bytes_eq}
 use Rattle.std.proofs.lemmas.Bool.{and_parts}
 use Rattle.std.proofs.lemmas.Slice.Eq.{bytes_eq-Decides}
+use Rattle.oer_lexer.specs.LeafWords.{is_leaf_word, is_second, is_word_of, leaf_among, leaf_word, leaves, second_words, words_among, words_of}
+use Rattle.oer_lexer.specs.declared.leaf.LeafWord.{LeafWord}
 use Rattle.oer_lexer.specs.Token.{Token, word, number, bits, digits, text, sign}
 use Rattle.oer_types.specs.AsnType.{AsnType}
 use Rattle.oer_types.specs.WellFormed.{AnyOf}
-use Rattle.oer_notation.specs.Grammar.{IsName, a_name, reserved, IsDefined, this_definition, later_definition}
+use Rattle.oer_notation.specs.Grammar.{IsName, a_name, IsDefined, this_definition, later_definition}
 use Rattle.oer_notation.specs.Reading.{Known, find, Start, nothing, of_word, of_name, start_word, start_by}
-use Rattle.oer_notation.specs.Words.{is_reserved, is_name, type_word}
+use Rattle.oer_notation.specs.Words.{is_reserved, is_name, other_words, reserved, type_word}
 use Rattle.oer_notation.specs.declared.word.TypeWord.{TypeWord}
 use Rattle.oer_notation.specs.declared.word.TypeWord.TheVariants as tw
-use Rattle.oer_notation.proofs.Took.{same_bytes}
+use Rattle.oer_notation.proofs.Took.{chosen, same_bytes}
 
 abbrev pub word_of : TypeWord → List ℕ
-word_of tw.Boolean = codes "BOOLEAN"
-word_of tw.Null = codes "NULL"
-word_of tw.Object = codes "OBJECT"
-word_of tw.Integer = codes "INTEGER"
-word_of tw.Enumerated = codes "ENUMERATED"
-word_of tw.Octet = codes "OCTET"
-word_of tw.Bit = codes "BIT"
-word_of tw.Ia5 = codes "IA5String"
-word_of tw.Visible = codes "VisibleString"
-word_of tw.Numeric = codes "NumericString"
-word_of tw.Printable = codes "PrintableString"
-word_of tw.Utf8 = codes "UTF8String"
+word_of (tw.Leaf k) = (words_of k).0
 word_of tw.Sequence = codes "SEQUENCE"
 word_of tw.Choice = codes "CHOICE"
 
-abbrev pub all_words : List TypeWord
-all_words = tw.Boolean ∷ tw.Null ∷ tw.Object ∷ tw.Integer ∷ tw.Enumerated ∷ tw.Octet ∷ tw.Bit ∷ tw.Ia5 ∷ tw.Visible ∷ tw.Numeric ∷ tw.Printable ∷ tw.Utf8 ∷ tw.Sequence ∷ tw.Choice ∷ []
-
-abbrev pub look_up : List ℕ → List TypeWord → Option TypeWord
-look_up w [] = None
-look_up w (k ∷ ks) = cond (bytes_eq w (word_of k)) (Some k) (look_up w ks)
-
-pub by_table : (w : List ℕ) → type_word w ≡ look_up w all_words
-unfolding type_word
-by_table w = refl
-
-found_there : (b : Bool) (w : List ℕ) (k : TypeWord) (rest : Option TypeWord) (l : TypeWord) → bytes_eq w (word_of k) ≡ b → (rest ≡ Some l → w ≡ word_of l) → cond b (Some k) rest ≡ Some l → w ≡ word_of l
-found_there true w k rest l e f h = let same : k ≡ l = cc in same_bytes w (word_of k) e ∙ ap word_of same
+found_there : (b : Bool) (w : List ℕ) (k : LeafWord) (rest : Option LeafWord) (l : LeafWord) → bytes_eq w (words_of k).0 ≡ b
+    → (rest ≡ Some l → w ≡ (words_of l).0) → cond b (Some k) rest ≡ Some l → w ≡ (words_of l).0
+found_there true w k rest l e f h = let same : k ≡ l = cc in same_bytes w (words_of k).0 e ∙ ap (λ k. (words_of k).0) same
 found_there false w k rest l e f h = f h
 
-looked_up : (ks : List TypeWord) (w : List ℕ) (l : TypeWord) → look_up w ks ≡ Some l → w ≡ word_of l
+looked_up : (ks : List LeafWord) (w : List ℕ) (l : LeafWord) → leaf_among w ks ≡ Some l → w ≡ (words_of l).0
 looked_up [] w l h = absurd (cc)
-looked_up (k ∷ ks) w l h = found_there (bytes_eq w (word_of k)) w k (look_up w ks) l refl (looked_up ks w l) h
+looked_up (k ∷ ks) w l h = found_there (bytes_eq w (words_of k).0) w k (leaf_among w ks) l refl (looked_up ks w l) h
+
+leaf_is : (o : Option LeafWord) (w : List ℕ) (k : TypeWord) → ((l : LeafWord) → o ≡ Some l → w ≡ (words_of l).0)
+    → option_map (λ l. tw.Leaf l) o ≡ Some k → w ≡ word_of k
+leaf_is None w k f h = absurd (cc)
+leaf_is (Some l) w k f h = let same : tw.Leaf l ≡ k = cc in f l refl ∙ ap word_of same
 
 pub type_word_is : (w : List ℕ) (k : TypeWord) → type_word w ≡ Some k → w ≡ word_of k
-type_word_is w k h = looked_up all_words w k (sym (by_table w) ∙ h)
+unfolding type_word leaf_word
+type_word_is w k h = elim (chosen (bytes_eq w (codes "SEQUENCE")) _ _ _ h) [
+  | inl p ↦ (let same : tw.Sequence ≡ k = cc in same_bytes w (codes "SEQUENCE") p.0 ∙ ap word_of same)
+  | inr p ↦ elim (chosen (bytes_eq w (codes "CHOICE")) _ _ _ p.1) [
+    | inl p ↦ (let same : tw.Choice ≡ k = cc in same_bytes w (codes "CHOICE") p.0 ∙ ap word_of same)
+    | inr p ↦ leaf_is (leaf_among w leaves) w k (looked_up leaves w) p.1
+  ]
+]
 
-abbrev pub among : List ℕ → List (List ℕ) → Bool
-among w [] = false
-among w (v ∷ []) = bytes_eq w v
-among w (v ∷ u ∷ us) = cond (bytes_eq w v) true (among w (u ∷ us))
+-- ---- the words that are no Names
 
-pub reserved_are : (w : List ℕ) → is_reserved w ≡ among w reserved
+or_assoc : (a b c : Bool) → (a || b) || c ≡ a || (b || c)
+or_assoc true b c = refl
+or_assoc false b c = refl
+
+any_append : (p : List ℕ → Bool) (vs us : List (List ℕ)) → list_any p (vs ++ us) ≡ list_any p vs || list_any p us
+any_append p [] us = refl
+any_append p (v ∷ vs) us = ap (λ b. p v || b) (any_append p vs us) ∙ sym (or_assoc (p v) (list_any p vs) (list_any p us))
+
+any_second : (w : List ℕ) (o : Option (List ℕ)) (us : List (List ℕ)) → list_any (bytes_eq w) (second_words o ++ us) ≡ is_second w o || list_any (bytes_eq w) us
+any_second w None us = refl
+any_second w (Some v) us = refl
+
+any_words : (w : List ℕ) (ks : List LeafWord) → list_any (bytes_eq w) (words_among ks) ≡ list_any (is_word_of w) ks
+any_words w [] = refl
+any_words w (k ∷ ks) =
+    ap (λ b. bytes_eq w (words_of k).0 || b) (any_second w (words_of k).1 (words_among ks) ∙ ap (λ b. is_second w (words_of k).1 || b) (any_words w ks))
+    ∙ sym (or_assoc (bytes_eq w (words_of k).0) (is_second w (words_of k).1) (list_any (is_word_of w) ks))
+
+pub reserved_are : (w : List ℕ) → is_reserved w ≡ list_any (bytes_eq w) reserved
 unfolding is_reserved
 reserved_are w = refl
 
-or_is : (a b : Bool) → (a || b) ≡ cond a true b
-or_is true b = refl
-or_is false b = refl
-
-last_is : (a : Bool) → (a || false) ≡ a
-last_is true = refl
-last_is false = refl
-
-any_among : (vs : List (List ℕ)) (w : List ℕ) → list_any (bytes_eq w) vs ≡ among w vs
-any_among [] w = refl
-any_among (v ∷ []) w = last_is (bytes_eq w v)
-any_among (v ∷ u ∷ us) w = or_is (bytes_eq w v) (list_any (bytes_eq w) (u ∷ us)) ∙ ap (cond (bytes_eq w v) true) (any_among (u ∷ us) w)
-
-pub any_reserved : (w : List ℕ) → list_any (bytes_eq w) reserved ≡ is_reserved w
-any_reserved w = any_among reserved w ∙ sym (reserved_are w)
+pub reserved_test : (w : List ℕ) → is_reserved w ≡ is_leaf_word w || list_any (bytes_eq w) other_words
+unfolding is_reserved is_leaf_word
+reserved_test w = any_append (bytes_eq w) (words_among leaves) other_words ∙ ap (λ b. b || list_any (bytes_eq w) other_words) (any_words w leaves)
 
 not_this : (w v : List ℕ) → bytes_eq w v ≡ false → v ≡ w → ⊥
 not_this w v h e = let on = (bytes_eq-Decides w v).1 (sym e) in cc
 
-if_false : (b c : Bool) → cond b true c ≡ false → (b ≡ false) × (c ≡ false)
-if_false true c h = absurd (cc)
-if_false false c h = (refl, h)
+neither : (b c : Bool) → b || c ≡ false → (b ≡ false) × (c ≡ false)
+neither true c h = absurd (cc)
+neither false c h = (refl, h)
 
-none_among : (vs : List (List ℕ)) (w : List ℕ) → among w vs ≡ false → AnyOf (λ v. v ≡ w) vs → ⊥
+none_among : (vs : List (List ℕ)) (w : List ℕ) → list_any (bytes_eq w) vs ≡ false → AnyOf (λ v. v ≡ w) vs → ⊥
 none_among [] w h a = a
-none_among (v ∷ []) w h (inl e) = not_this w v h e
-none_among (v ∷ []) w h (inr a) = a
-none_among (v ∷ u ∷ us) w h (inl e) = not_this w v (if_false (bytes_eq w v) (among w (u ∷ us)) h).0 e
-none_among (v ∷ u ∷ us) w h (inr a) = none_among (u ∷ us) w (if_false (bytes_eq w v) (among w (u ∷ us)) h).1 a
+none_among (v ∷ vs) w h (inl e) = not_this w v (neither (bytes_eq w v) (list_any (bytes_eq w) vs) h).0 e
+none_among (v ∷ vs) w h (inr a) = none_among vs w (neither (bytes_eq w v) (list_any (bytes_eq w) vs) h).1 a
 
 pub off : (b : Bool) → not b ≡ true → b ≡ false
 off true h = absurd (cc)

@@ -6,10 +6,13 @@ use Rattle.std.specs.Str.{chars, encode_utf8_all}
 use Rattle.std.specs.Str.Parse.{IsNumeral, digits_value, signed_digits_value, without_leading_sign, without_leading_plus}
 use Rattle.hex.specs.Hex.{hex_digit_value}
 use Rattle.oer_lexer.specs.FallsInto.{FallsInto}
+use Rattle.oer_lexer.specs.LeafWords.{with_words}
 use Rattle.oer_lexer.specs.Token.{Token, word, number, bits, digits, text, sign}
+use Rattle.oer_lexer.specs.declared.leaf.LeafWord.{LeafWord}
 use Rattle.oer_lexer.specs.declared.token.Sign.TheVariants.{OpenBrace, CloseBrace, OpenParenthesis, CloseParenthesis, OpenBracket, CloseBracket, Comma, Range, Ellipsis, Assign}
 use Rattle.oer_literals.specs.Bits.{is_one}
-use Rattle.oer_types.specs.AsnType.{Need, must, may, default, NamedNumber, ia5, visible, numeric, printable, Alphabet, AsnType, boolean, null, integer, enumerated, bit_string, octet_string, object_id, restricted_string, utf8_string, sequence, extensible_sequence, sequence_of, choice, Fields, no_fields, field, Additions, no_additions, addition, Alternatives, no_alternatives, alternative, later}
+use Rattle.oer_types.specs.AsnType.{Need, must, may, default, NamedNumber, Alphabet, AsnType, leaf, boolean, null, integer, enumerated, bit_string, octet_string, object_id, restricted_string, utf8_string, sequence, extensible_sequence, sequence_of, choice, Fields, no_fields, field, Additions, no_additions, addition, Alternatives, no_alternatives, alternative, later}
+use Rattle.oer_types.specs.LeafType.{LeafType}
 use Rattle.oer_types.specs.AsnValue.{AsnValue, bool, nothing, int, enum, bit_list, octets, text as string, oid}
 use Rattle.oer_types.specs.Bits.{bit}
 use Rattle.oer_types.specs.WellFormed.{AnyOf, IsWellFormed}
@@ -17,19 +20,11 @@ use Rattle.oer_types.specs.declared.size.Size.{Size}
 use Rattle.oer_units.specs.declared.tagging.Class.{Class}
 use Rattle.oer_units.specs.declared.tagging.Class.TheVariants.{Universal, Application, Context, Private}
 use Rattle.oer_units.specs.declared.tagging.Tag.{Tag}
+use Rattle.oer_notation.specs.Leaves.{LeafForm, bounded, leaf_form, listed, plain, sized}
 use Rattle.oer_notation.specs.Reading.{Known}
+use Rattle.oer_notation.specs.Words.{reserved}
 
 -- ---- words and numbers
-
--- the words that are no Names
-abbrev pub reserved : List (List ℕ)
-reserved =
-    codes "BOOLEAN" ∷ codes "INTEGER" ∷ codes "ENUMERATED" ∷ codes "NULL" ∷ codes "OCTET" ∷ codes "BIT" ∷ codes "STRING"
-    ∷ codes "OBJECT" ∷ codes "IDENTIFIER" ∷ codes "IA5String"
-    ∷ codes "VisibleString" ∷ codes "NumericString" ∷ codes "PrintableString" ∷ codes "UTF8String" ∷ codes "SEQUENCE" ∷ codes "OF"
-    ∷ codes "CHOICE" ∷ codes "OPTIONAL" ∷ codes "DEFAULT"
-    ∷ codes "SIZE" ∷ codes "MIN" ∷ codes "MAX" ∷ codes "TRUE" ∷ codes "FALSE" ∷ codes "UNIVERSAL" ∷ codes "APPLICATION"
-    ∷ codes "PRIVATE" ∷ codes "REAL" ∷ codes "SET" ∷ []
 
 -- a word that begins with a small letter
 pub data IsId : List ℕ → Type 0 where
@@ -192,33 +187,22 @@ pub data IsDefined (w : List ℕ) : AsnType → List Known → Type 0 where
   this_definition : {k : Known} {ks : List Known} → k.name ≡ w → IsDefined w k.type (k ∷ ks)
   later_definition : {T : AsnType} {k : Known} {ks : List Known} → (k.name ≡ w → ⊥) → IsDefined w T ks → IsDefined w T (k ∷ ks)
 
--- the words of the strings of one octet for each character
-abbrev pub string_word : Alphabet → List ℕ
-string_word ia5 = codes "IA5String"
-string_word visible = codes "VisibleString"
-string_word numeric = codes "NumericString"
-string_word printable = codes "PrintableString"
+-- what stands behind the words of a type that holds no other, and the type
+pub data IsLeaf : LeafForm → LeafType → List Token → Type 0 where
+  nothing_behind : {L : LeafType} → IsLeaf (plain L) L []
+  bounds_behind : {make : Option ℤ → Option ℤ → LeafType} {low high : Option ℤ} {ts : List Token} → AreBounds low high ts
+      → IsLeaf (bounded make) (make low high) ts
+  items_behind : {make : List NamedNumber → Bool → LeafType} {numbered marker : Bool} {items : List NamedNumber} {w : List ℕ}
+      {ts : List Token} → AreItems numbered 0 items marker (sign Comma ∷ word w ∷ ts)
+      → IsLeaf (listed make) (make items marker) (sign OpenBrace ∷ word w ∷ (ts ++ sign CloseBrace ∷ []))
+  size_behind : {make : Size → LeafType} {size : Size} {ts : List Token} → IsBracketedSize size ts
+      → IsLeaf (sized make) (make size) ts
 
 mutual
   -- a type; Names stand for the types that were defined before
   pub data IsType (known : List Known) : AsnType → List Token → Type 0 where
-    boolean_type : IsType known boolean (word (codes "BOOLEAN") ∷ [])
-    null_type : IsType known null (word (codes "NULL") ∷ [])
-    object_id_type : IsType known object_id (word (codes "OBJECT") ∷ word (codes "IDENTIFIER") ∷ [])
+    leaf_type : (k : LeafWord) {L : LeafType} {ts : List Token} → IsLeaf (leaf_form k) L ts → IsType known (leaf L) (with_words k ts)
     named_type : {w : List ℕ} {T : AsnType} → IsName w → IsDefined w T known → IsType known T (word w ∷ [])
-    integer_type : {low high : Option ℤ} {ts : List Token} → AreBounds low high ts
-        → IsType known (integer low high) (word (codes "INTEGER") ∷ ts)
-    enumerated_type : {numbered marker : Bool} {items : List NamedNumber} {w : List ℕ} {ts : List Token}
-        → AreItems numbered 0 items marker (sign Comma ∷ word w ∷ ts)
-        → IsType known (enumerated items marker) (word (codes "ENUMERATED") ∷ sign OpenBrace ∷ word w ∷ (ts ++ sign CloseBrace ∷ []))
-    octet_string_type : {size : Size} {ts : List Token} → IsBracketedSize size ts
-        → IsType known (octet_string size) (word (codes "OCTET") ∷ word (codes "STRING") ∷ ts)
-    bit_string_type : {size : Size} {ts : List Token} → IsBracketedSize size ts
-        → IsType known (bit_string size) (word (codes "BIT") ∷ word (codes "STRING") ∷ ts)
-    restricted_string_type : {letters : Alphabet} {size : Size} {ts : List Token} → IsBracketedSize size ts
-        → IsType known (restricted_string letters size) (word (string_word letters) ∷ ts)
-    utf8_string_type : {size : Size} {ts : List Token} → IsBracketedSize size ts
-        → IsType known (utf8_string size) (word (codes "UTF8String") ∷ ts)
     empty_sequence_type : IsType known (sequence no_fields) (word (codes "SEQUENCE") ∷ sign OpenBrace ∷ sign CloseBrace ∷ [])
     sequence_type : {fs : Fields} {ts : List Token} → AreComponents known fs None (sign Comma ∷ ts)
         → IsType known (sequence fs) (word (codes "SEQUENCE") ∷ sign OpenBrace ∷ (ts ++ sign CloseBrace ∷ []))

@@ -1,5 +1,6 @@
 pub mod Grammar
 pub mod Laws
+pub mod Leaves
 pub mod Numbers
 pub mod Parsing
 pub mod Reading

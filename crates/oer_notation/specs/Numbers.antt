@@ -63,7 +63,3 @@ bracketed_size_at s = if not (at_sign OpenParenthesis s) then Ok (any_size, s) e
 -- the size of a SEQUENCE OF, in brackets or not
 unfoldable pub list_size_at : State → Read Size
 list_size_at s = if at_word (codes "SIZE") s then size_at s else bracketed_size_at s
-
--- the word STRING, and a size in brackets, or none
-unfoldable pub string_size_at : State → Read Size
-string_size_at s = skip_word (codes "STRING") s >>= λ r. bracketed_size_at r.1

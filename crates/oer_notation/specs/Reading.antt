@@ -1,18 +1,21 @@
 -- Reading a type from tokens: what is read and what is left, or the first fault.
 use Rattle.std.specs.Prelude.{ℕ, zero, suc, ◌+◌, ◌-◌, nat_lt, ℤ, pos, List, [], ◌∷◌, ◌++◌, Bool, true, false, not, ◌&&◌, ◌||◌, Option, Some, None, Ok, Err, codes, if◌then◌else◌}
 use Rattle.std.specs.Str.{bytes_eq}
+use Rattle.oer_lexer.specs.LeafWords.{words_of}
 use Rattle.oer_lexer.specs.Token.{Token, word, number, bits, digits, text, sign}
+use Rattle.oer_lexer.specs.declared.leaf.LeafWord.{LeafWord}
 use Rattle.oer_lexer.specs.declared.token.Sign.TheVariants.{OpenBrace, CloseBrace, OpenParenthesis, CloseParenthesis, OpenBracket, CloseBracket, Comma, Ellipsis}
 use Rattle.oer_units.specs.declared.tagging.Tag.{Tag}
 use Rattle.oer_units.specs.declared.tagging.Class.{Class}
 use Rattle.oer_units.specs.declared.tagging.Class.TheVariants.{Universal, Application, Context, Private}
-use Rattle.oer_types.specs.AsnType.{NamedNumber, ia5, visible, numeric, printable, AsnType, boolean, null, integer, enumerated, bit_string, octet_string, object_id, restricted_string, utf8_string, sequence, extensible_sequence, sequence_of, choice, no_alternatives}
+use Rattle.oer_types.specs.AsnType.{NamedNumber, AsnType, leaf, sequence, extensible_sequence, sequence_of, choice, no_alternatives}
 use Rattle.oer_types.specs.Nodes.{type_nodes}
 use Rattle.oer_types.specs.ShapeView.{SeenField, SeenAddition, SeenAlternative, fields_from, additions_from, later_from, root_from}
 use Rattle.oer_types.specs.WellFormed.{depth}
 use Rattle.oer_types.specs.declared.fault.SchemaFault.TheVariants.{TooDeep}
 use Rattle.oer_literals.specs.Numbers.{item_number_of, tag_number_of}
-use Rattle.oer_notation.specs.Numbers.{number_at, bounds_at, bracketed_size_at, string_size_at, list_size_at}
+use Rattle.oer_notation.specs.Leaves.{LeafForm, bounded, leaf_form, listed, plain, sized}
+use Rattle.oer_notation.specs.Numbers.{number_at, bounds_at, bracketed_size_at, list_size_at}
 use Rattle.oer_notation.specs.State.{State, Read, ◌>>=◌, first, fault, bump, at_sign, at_word, skip_sign, skip_word, id_at, part_at, full}
 use Rattle.oer_notation.specs.Values.{need_at}
 use Rattle.oer_notation.specs.Words.{is_name, type_word}
@@ -143,22 +146,23 @@ tagged_at tagged place s =
     else if at_sign OpenBracket s then Err (fault why.Mixed s)
     else Ok (record { class = Context; number = place }, s)
 
--- a type without types in it, behind the word with which it begins
-unfoldable pub simple_type : TypeWord → State → Read AsnType
-simple_type tw.Boolean s = Ok (boolean, s)
-simple_type tw.Null s = Ok (null, s)
-simple_type tw.Object s = skip_word (codes "IDENTIFIER") s >>= λ r. Ok (object_id, r.1)
-simple_type tw.Integer s = bounds_at s >>= λ b. Ok (integer b.0.0 b.0.1, b.1)
-simple_type tw.Enumerated s = items_at s >>= λ i. Ok (enumerated i.0.0 i.0.1, i.1)
-simple_type tw.Octet s = string_size_at s >>= λ z. Ok (octet_string z.0, z.1)
-simple_type tw.Bit s = string_size_at s >>= λ z. Ok (bit_string z.0, z.1)
-simple_type tw.Ia5 s = bracketed_size_at s >>= λ z. Ok (restricted_string ia5 z.0, z.1)
-simple_type tw.Visible s = bracketed_size_at s >>= λ z. Ok (restricted_string visible z.0, z.1)
-simple_type tw.Numeric s = bracketed_size_at s >>= λ z. Ok (restricted_string numeric z.0, z.1)
-simple_type tw.Printable s = bracketed_size_at s >>= λ z. Ok (restricted_string printable z.0, z.1)
-simple_type tw.Utf8 s = bracketed_size_at s >>= λ z. Ok (utf8_string z.0, z.1)
-simple_type tw.Sequence s = Err s.stop
-simple_type tw.Choice s = Err s.stop
+-- ---- types that hold no other
+
+-- the second word of a type, if it has one
+abbrev pub skip_second : Option (List ℕ) → State → Read (Unit {0})
+skip_second None s = Ok (tt, s)
+skip_second (Some w) s = skip_word w s
+
+-- what stands behind the words
+unfoldable pub leaf_at : LeafForm → State → Read AsnType
+leaf_at (plain L) s = Ok (leaf L, s)
+leaf_at (bounded make) s = bounds_at s >>= λ b. Ok (leaf (make b.0.0 b.0.1), b.1)
+leaf_at (listed make) s = items_at s >>= λ i. Ok (leaf (make i.0.0 i.0.1), i.1)
+leaf_at (sized make) s = bracketed_size_at s >>= λ z. Ok (leaf (make z.0), z.1)
+
+-- behind the first word
+unfoldable pub leaf_type_at : LeafWord → State → Read AsnType
+leaf_type_at k s = skip_second (words_of k).1 s >>= λ r. leaf_at (leaf_form k) r.1
 
 -- ---- components and alternatives
 
@@ -285,18 +289,7 @@ module _ (type : State → Read AsnType) where
 
   -- behind the word with which a type begins
   unfoldable pub word_type : TypeWord → State → Read AsnType
-  word_type tw.Boolean s = simple_type tw.Boolean s
-  word_type tw.Null s = simple_type tw.Null s
-  word_type tw.Object s = simple_type tw.Object s
-  word_type tw.Integer s = simple_type tw.Integer s
-  word_type tw.Enumerated s = simple_type tw.Enumerated s
-  word_type tw.Octet s = simple_type tw.Octet s
-  word_type tw.Bit s = simple_type tw.Bit s
-  word_type tw.Ia5 s = simple_type tw.Ia5 s
-  word_type tw.Visible s = simple_type tw.Visible s
-  word_type tw.Numeric s = simple_type tw.Numeric s
-  word_type tw.Printable s = simple_type tw.Printable s
-  word_type tw.Utf8 s = simple_type tw.Utf8 s
+  word_type (tw.Leaf k) s = leaf_type_at k s
   word_type tw.Sequence s = sequence_at s
   word_type tw.Choice s = choice_at s
 

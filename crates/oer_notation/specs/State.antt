@@ -30,9 +30,9 @@ abbrev pub ◌>>=◌ : {A B : Type 0} → Result A TextFault → (A → Result B
 (Err e) >>= f = Err e
 
 -- What a function returned, seen by view, is what reading gives, unless memory ran out.
-abbrev pub Gives : {X Y : Type 0} → (X → Y) → Result X TextFault → Result Y TextFault → Type 0
-Gives view (Ok x) read = read ≡ Ok (view x)
-Gives view (Err e) read = (e.why ≡ why.Memory → ⊥) → read ≡ Err e
+abbrev pub IsReading : {X Y : Type 0} → (X → Y) → Result X TextFault → Result Y TextFault → Type 0
+IsReading view (Ok x) read = read ≡ Ok (view x)
+IsReading view (Err e) read = (e.why ≡ why.Memory → ⊥) → read ≡ Err e
 
 abbrev pub first_of : List Spot → Option Token
 first_of [] = None

@@ -1,56 +1,25 @@
 -- Values after DEFAULT: what is read and what is left, or the first fault.
-use Rattle.std.specs.Prelude.{ℕ, zero, suc, ◌*◌, ◌-◌, ◌%◌, nat_lt, List, [], ◌∷◌, ◌++◌, length, take, drop, map, ◌==◌, Bool, true, false, not, Option, Some, None, Result, Ok, Err, codes, if◌then◌else◌}
+use Rattle.std.specs.Prelude.{ℕ, zero, suc, ◌*◌, ◌-◌, ◌%◌, nat_lt, List, [], ◌∷◌, ◌++◌, length, take, drop, map, ◌==◌, Bool, true, false, ◌||◌, Option, Some, None, Result, Ok, Err, codes, if◌then◌else◌}
 use Rattle.std.specs.Str.{bytes_eq}
 use Rattle.std.specs.Char.{encode_utf8}
 use Rattle.std.specs.Str.{chars}
 use Rattle.hex.specs.Hex.{decode_of}
 use Rattle.oer_lexer.specs.Token.{Token, word, number, bits, digits, text, sign}
 use Rattle.oer_lexer.specs.declared.token.Sign.TheVariants.{OpenBrace, CloseBrace}
-use Rattle.oer_types.specs.LeafType.{LeafType, bit_string, boolean, enumerated, integer, null, object_id, octet_string, restricted_string, utf8_string}
+use Rattle.oer_types.specs.LeafType.{LeafType, NamedNumber, bit_string, boolean, enumerated, integer, null, object_id, octet_string, restricted_string, utf8_string}
 use Rattle.oer_types.specs.AsnType.{AsnType, Need, default, leaf, may, must}
 use Rattle.oer_types.specs.AsnValue.{AsnValue, bool, nothing, int, enum, bit_list, octets, text as string, oid}
 use Rattle.oer_types.specs.Bits.{bits_of, octets_for}
 use Rattle.oer_literals.specs.Bits.{is_one}
-use Rattle.oer_literals.specs.Items.{items_of, number_named}
+use Rattle.oer_literals.specs.Items.{number_named}
 use Rattle.oer_literals.specs.Numbers.{arc_of, integer_of}
 use Rattle.oer_notation.specs.Numbers.{number_at}
-use Rattle.oer_notation.specs.State.{State, Read, ◌>>=◌, first, fault, bump, at_word, same_sign, skip_sign}
+use Rattle.oer_notation.specs.State.{State, Read, ◌>>=◌, first, fault, bump, at_sign, at_word, same_sign, skip_sign}
 use Rattle.oer_notation.specs.Words.{is_id}
+use Rattle.oer_notation.specs.declared.fault.TextFault.{TextFault}
 use Rattle.oer_notation.specs.declared.fault.TextWhy.TheVariants as why
-use Rattle.oer_notation.specs.declared.value.TextPlace.{TextPlace}
-use Rattle.oer_notation.specs.declared.value.TextPlace.TheVariants as place
-use Rattle.oer_notation.specs.declared.value.ValueKind.{ValueKind}
-use Rattle.oer_notation.specs.declared.value.ValueKind.TheVariants as kind
-
-abbrev pub leaf_kind_of : LeafType → ValueKind
-leaf_kind_of boolean = kind.Truth
-leaf_kind_of null = kind.Nothing
-leaf_kind_of (integer low high) = kind.Number
-leaf_kind_of (enumerated items extensible) = kind.Named
-leaf_kind_of (bit_string size) = kind.Bits
-leaf_kind_of (octet_string size) = kind.Octets
-leaf_kind_of object_id = kind.Arcs
-leaf_kind_of (restricted_string letters size) = kind.Text
-leaf_kind_of (utf8_string size) = kind.Text
-
--- the notation that a type's values have
-abbrev pub kind_of : AsnType → ValueKind
-kind_of (leaf leaf_type) = leaf_kind_of leaf_type
-kind_of _ = kind.Constructed
-
-abbrev pub kind_number : ValueKind → ℕ
-kind_number kind.Truth = 0
-kind_number kind.Nothing = 1
-kind_number kind.Number = 2
-kind_number kind.Named = 3
-kind_number kind.Bits = 4
-kind_number kind.Octets = 5
-kind_number kind.Arcs = 6
-kind_number kind.Text = 7
-kind_number kind.Constructed = 8
-
-abbrev pub is_kind : ValueKind → AsnType → Bool
-is_kind k T = kind_number k == kind_number (kind_of T)
+use Rattle.oer_notation.specs.declared.value.Quoting.{Quoting}
+use Rattle.oer_notation.specs.declared.value.Quoting.TheVariants as quoting
 
 -- between the quotes
 abbrev pub inside : List ℕ → List ℕ
@@ -77,19 +46,19 @@ paired w = if length w % 2 == 1 then w ++ 48 ∷ [] else w
 unfoldable pub digit_bits : List ℕ → Option (List Bool)
 digit_bits w = if nat_lt (length w) 4611686018427387904 then bits_from (octets_in (paired w)) (4 * length w) else None
 
--- A quote that begins or ends a text, or is the first of two, is left out. The text so far, by the place that was reached.
-abbrev pub text_step : TextPlace × List ℕ → ℕ → TextPlace × List ℕ
-text_step (place.First, out) c = (place.Plain, out)
-text_step (place.Plain, out) c = if c == 34 then (place.Quoted, out) else (place.Plain, out ++ encode_utf8 c)
-text_step (place.Quoted, out) c = (place.Plain, out ++ encode_utf8 c)
+-- A quote that begins or ends a text, or is the first of two, is left out. The text so far, by what was reached.
+abbrev pub text_step : Quoting × List ℕ → ℕ → Quoting × List ℕ
+text_step (quoting.First, out) c = (quoting.Plain, out)
+text_step (quoting.Plain, out) c = if c == 34 then (quoting.Quoted, out) else (quoting.Plain, out ++ encode_utf8 c)
+text_step (quoting.Quoted, out) c = (quoting.Plain, out ++ encode_utf8 c)
 
-abbrev pub text_after : TextPlace × List ℕ → List ℕ → TextPlace × List ℕ
+abbrev pub text_after : Quoting × List ℕ → List ℕ → Quoting × List ℕ
 text_after p [] = p
 text_after p (c ∷ cs) = text_after (text_step p c) cs
 
 -- what stands between the quotes of a text, each quote inside once
 unfoldable pub text_in : List ℕ → List ℕ
-text_in w = (text_after (place.First, []) (chars w)).1
+text_in w = (text_after (quoting.First, []) (chars w)).1
 
 abbrev pub is_number : Option Token → Bool
 is_number None = false
@@ -110,47 +79,74 @@ unfoldable pub arcs_at : State → Read AsnValue
 arcs_at s = arcs_more (suc (length s.left)) [] s
     >>= λ r. if nat_lt 1 (length r.0) then (skip_sign CloseBrace r.1 >>= λ e. Ok (oid r.0, e.1)) else Err (fault why.Syntax r.1)
 
--- the value, if the type has this kind of notation
-abbrev pub only_for : ValueKind → AsnType → AsnValue → State → Read AsnValue
-only_for k T v s = if is_kind k T then Ok (v, bump s) else Err (fault why.Default s)
+-- a token with which a value of some type begins
+abbrev pub begins_value : Option Token → Bool
+begins_value None = false
+begins_value (Some (word w)) = is_id w || (bytes_eq w (codes "TRUE") || (bytes_eq w (codes "FALSE") || bytes_eq w (codes "NULL")))
+begins_value (Some (number w)) = true
+begins_value (Some (bits w)) = true
+begins_value (Some (digits w)) = true
+begins_value (Some (text w)) = true
+begins_value (Some (sign u)) = same_sign u OpenBrace
+
+-- the fault of a token with which no value of the type begins: Default where one of another type does
+abbrev pub no_value : State → TextFault
+no_value s = if begins_value (first s) then fault why.Default s else fault why.Syntax s
 
 abbrev pub some_value : {A : Type 0} → (A → AsnValue) → Option A → State → Read AsnValue
 some_value make (Some x) s = Ok (make x, bump s)
 some_value make None s = Err (fault why.Default s)
 
-unfoldable pub word_value : AsnType → List ℕ → State → Read AsnValue
-word_value T w s =
-    if bytes_eq w (codes "TRUE") then only_for kind.Truth T (bool true) s
-    else if bytes_eq w (codes "FALSE") then only_for kind.Truth T (bool false) s
-    else if bytes_eq w (codes "NULL") then only_for kind.Nothing T nothing s
-    else if is_id w then some_value enum (number_named (items_of T) w) s
-    else Err (fault why.Syntax s)
+unfoldable pub truth_at : State → Read AsnValue
+truth_at s =
+    if at_word (codes "TRUE") s then Ok (bool true, bump s)
+    else if at_word (codes "FALSE") s then Ok (bool false, bump s)
+    else Err (no_value s)
 
-unfoldable pub number_value : AsnType → State → Read AsnValue
-number_value T s = if is_kind kind.Number T then (number_at integer_of s >>= λ n. Ok (int n.0, n.1)) else Err (fault why.Default s)
+unfoldable pub null_at : State → Read AsnValue
+null_at s = if at_word (codes "NULL") s then Ok (nothing, bump s) else Err (no_value s)
 
-unfoldable pub digits_value : AsnType → List ℕ → State → Read AsnValue
-digits_value T w s =
-    if is_kind kind.Octets T then some_value octets (octets_in (inside w)) s
-    else if is_kind kind.Bits T then some_value bit_list (digit_bits (inside w)) s
-    else Err (fault why.Default s)
+unfoldable pub integer_at : State → Read AsnValue
+integer_at s = if is_number (first s) then (number_at integer_of s >>= λ n. Ok (int n.0, n.1)) else Err (no_value s)
 
-unfoldable pub sign_value : AsnType → Bool → State → Read AsnValue
-sign_value T brace s = if not brace then Err (fault why.Syntax s)
-    else if is_kind kind.Arcs T then arcs_at (bump s) else Err (fault why.Default s)
+-- the number of an item, by its name
+abbrev pub item_by : List NamedNumber → Option Token → State → Read AsnValue
+item_by items (Some (word w)) s = if is_id w then some_value enum (number_named items w) s else Err (no_value s)
+item_by items _ s = Err (no_value s)
 
-abbrev pub value_by : AsnType → Option Token → State → Read AsnValue
-value_by T None s = Err (fault why.Syntax s)
-value_by T (Some (word w)) s = word_value T w s
-value_by T (Some (number w)) s = number_value T s
-value_by T (Some (bits w)) s = only_for kind.Bits T (bit_list (map is_one (inside w))) s
-value_by T (Some (digits w)) s = digits_value T w s
-value_by T (Some (text w)) s = only_for kind.Text T (string (text_in w)) s
-value_by T (Some (sign u)) s = sign_value T (same_sign u OpenBrace) s
+abbrev pub bits_by : Option Token → State → Read AsnValue
+bits_by (Some (bits w)) s = Ok (bit_list (map is_one (inside w)), bump s)
+bits_by (Some (digits w)) s = some_value bit_list (digit_bits (inside w)) s
+bits_by _ s = Err (no_value s)
+
+abbrev pub octets_by : Option Token → State → Read AsnValue
+octets_by (Some (digits w)) s = some_value octets (octets_in (inside w)) s
+octets_by _ s = Err (no_value s)
+
+abbrev pub text_by : Option Token → State → Read AsnValue
+text_by (Some (text w)) s = Ok (string (text_in w), bump s)
+text_by _ s = Err (no_value s)
+
+-- arcs in braces
+unfoldable pub oid_at : State → Read AsnValue
+oid_at s = if at_sign OpenBrace s then arcs_at (bump s) else Err (no_value s)
+
+-- a value of a type that holds no other
+abbrev pub leaf_value_at : LeafType → State → Read AsnValue
+leaf_value_at boolean s = truth_at s
+leaf_value_at null s = null_at s
+leaf_value_at (integer low high) s = integer_at s
+leaf_value_at (enumerated items extensible) s = item_by items (first s) s
+leaf_value_at (bit_string size) s = bits_by (first s) s
+leaf_value_at (octet_string size) s = octets_by (first s) s
+leaf_value_at object_id s = oid_at s
+leaf_value_at (restricted_string letters size) s = text_by (first s) s
+leaf_value_at (utf8_string size) s = text_by (first s) s
 
 -- a value of the type
 unfoldable pub value_at : AsnType → State → Read AsnValue
-value_at T s = value_by T (first s) s
+value_at (leaf kind) s = leaf_value_at kind s
+value_at _ s = Err (no_value s)
 
 -- what makes a component of the type optional
 unfoldable pub need_at : AsnType → State → Read Need

@@ -1,7 +1,7 @@
 //! A place among the tokens.
 ghost use Rattle.std.specs.Prelude.{◌≡◌, ◌==◌, option_map, if◌then◌else◌};
 ghost use Rattle.oer_lexer.specs.Token.{token_of};
-ghost use Rattle.oer_notation.specs.State.{Gives, at_sign, at_word, bump, fault, first, full, id_at, number_text_at, part_at, same_sign, skip_sign, skip_word, state_of};
+ghost use Rattle.oer_notation.specs.State.{IsReading, at_sign, at_word, bump, fault, first, full, id_at, number_text_at, part_at, same_sign, skip_sign, skip_word, state_of};
 
 use crate::fault::{TextFault, TextWhy};
 use crate::word::is_id;
@@ -109,7 +109,7 @@ impl<'s, 't> Cursor<'s, 't> {
     /// Takes this sign; else Syntax.
     #[tactic(auto, unfolding(crate::specs::State::skip_sign))]
     pub fn expect(&mut self, sign: Sign) -> Result<(), TextFault>
-        ensures { Gives (λ x. (x, state_of self.new)) result (skip_sign sign (state_of self.old)) }
+        ensures { IsReading (λ x. (x, state_of self.new)) result (skip_sign sign (state_of self.old)) }
     {
         if !self.take(sign) {
             return Err(self.fault(TextWhy::Syntax));
@@ -120,7 +120,7 @@ impl<'s, 't> Cursor<'s, 't> {
     /// Takes this word; else Syntax.
     #[tactic(auto, unfolding(crate::specs::State::skip_word))]
     pub fn expect_word(&mut self, word: &str) -> Result<(), TextFault>
-        ensures { Gives (λ x. (x, state_of self.new)) result (skip_word word.now (state_of self.old)) }
+        ensures { IsReading (λ x. (x, state_of self.new)) result (skip_word word.now (state_of self.old)) }
     {
         if !self.take_word(word) {
             return Err(self.fault(TextWhy::Syntax));
@@ -131,7 +131,7 @@ impl<'s, 't> Cursor<'s, 't> {
     /// Takes an id; else Syntax.
     #[tactic(auto, unfolding(crate::specs::State::id_at))]
     pub fn id(&mut self) -> Result<&'t str, TextFault>
-        ensures { Gives (λ w. (w.now, state_of self.new)) result (id_at (state_of self.old)) }
+        ensures { IsReading (λ w. (w.now, state_of self.new)) result (id_at (state_of self.old)) }
     {
         let Some(Token::Word(word)) = self.peek() else {
             return Err(self.fault(TextWhy::Syntax));
@@ -146,7 +146,7 @@ impl<'s, 't> Cursor<'s, 't> {
     /// Takes a number, as it stands; else Syntax.
     #[tactic(auto, unfolding(crate::specs::State::number_text_at))]
     pub fn number(&mut self) -> Result<&'t str, TextFault>
-        ensures { Gives (λ w. (w.now, state_of self.new)) result (number_text_at (state_of self.old)) }
+        ensures { IsReading (λ w. (w.now, state_of self.new)) result (number_text_at (state_of self.old)) }
     {
         let Some(Token::Number(digits)) = self.peek() else {
             return Err(self.fault(TextWhy::Syntax));
@@ -158,7 +158,7 @@ impl<'s, 't> Cursor<'s, 't> {
     /// Counts one more part of the type; where it has all, this fault.
     #[tactic(auto, unfolding(crate::specs::State::part_at))]
     pub fn part(&mut self, full: TextFault) -> Result<(), TextFault>
-        ensures { Gives (λ x. (x, state_of self.new)) result (part_at full (state_of self.old)) }
+        ensures { IsReading (λ x. (x, state_of self.new)) result (part_at full (state_of self.old)) }
     {
         if self.parts == 0 {
             return Err(full);

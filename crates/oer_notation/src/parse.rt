@@ -2,20 +2,20 @@
 ghost use Rattle.std.specs.Prelude.{◌≡◌, [], map, option_map, OnOk, Some, false};
 ghost use Rattle.oer_types.specs.Schema.{the_type};
 ghost use Rattle.oer_types.specs.ShapeView.{named_number, seen_addition, seen_alternative, seen_field, type_of};
-ghost use Rattle.oer_notation.specs.State.{Gives, state_of};
-ghost use Rattle.oer_notation.specs.Reading.{addition_at, alternative_at, alternatives_more, body_at, choice_at, choice_of_choices, class_at, component_at, components_more, field_at, find, is_start, item_at, item_number_at, items_at, items_more, list_at, missing_number, missing_tag, most, named_at, no_choices, no_components, numbered_at, past_marker, past_optional, sequence_at, sequence_of_components, simple_type, start_at, structure_at, tag_at, tagged_at, type_at, with_alternative, word_type};
-ghost use Rattle.oer_notation.specs.declared.word.TypeWord.TheVariants as tw;
+ghost use Rattle.oer_notation.specs.State.{IsReading, state_of};
+ghost use Rattle.oer_notation.specs.Reading.{addition_at, alternative_at, alternatives_more, body_at, choice_at, choice_of_choices, class_at, component_at, components_more, field_at, find, is_start, item_at, item_number_at, items_at, items_more, leaf_at, leaf_type_at, list_at, missing_number, missing_tag, most, named_at, no_choices, no_components, numbered_at, past_marker, sequence_at, sequence_of_components, skip_second, start_at, structure_at, tag_at, tagged_at, type_at, with_alternative, word_type};
+ghost use Rattle.oer_lexer.specs.LeafWords.{words_of};
+ghost use Rattle.oer_notation.specs.Leaves.{leaf_form};
 ghost use Rattle.oer_notation.specs.Views.{choices, components, known, named, start_of};
 
 use crate::cursor::Cursor;
 use crate::fault::{TextFault, TextWhy};
 use crate::number::{
-    read_bounds, read_bracketed_size, read_item_number, read_list_size, read_string_size,
-    read_tag_number,
+    read_bounds, read_bracketed_size, read_item_number, read_list_size, read_tag_number,
 };
 use crate::value::read_need;
 use crate::word::{TypeWord, is_name, type_word};
-use oer_lexer::{Sign, Token};
+use oer_lexer::{LeafWord, Sign, Token};
 use oer_types::{
     Addition, Alt, Field, Item, Schema, SchemaFault, Shape, is_within_depth, parts_left,
 };
@@ -110,7 +110,7 @@ fn missing_number(cursor: &Cursor<'_, '_>) -> TextFault
 
 #[tactic(auto, unfolding(crate::specs::Reading::item_number_at))]
 fn read_number_in_brackets(cursor: &mut Cursor<'_, '_>) -> Result<i64, TextFault>
-    ensures { Gives (λ n. (n, state_of cursor.new)) result (item_number_at (state_of cursor.old)) }
+    ensures { IsReading (λ n. (n, state_of cursor.new)) result (item_number_at (state_of cursor.old)) }
 {
     if !cursor.take(Sign::OpenParenthesis) {
         return Err(missing_number(cursor));
@@ -122,7 +122,7 @@ fn read_number_in_brackets(cursor: &mut Cursor<'_, '_>) -> Result<i64, TextFault
 
 #[tactic(auto, unfolding(crate::specs::Reading::numbered_at))]
 fn read_numbered(cursor: &mut Cursor<'_, '_>, numbered: bool, place: u16) -> Result<i64, TextFault>
-    ensures { Gives (λ n. (n, state_of cursor.new)) result (numbered_at numbered place (state_of cursor.old)) }
+    ensures { IsReading (λ n. (n, state_of cursor.new)) result (numbered_at numbered place (state_of cursor.old)) }
 {
     if numbered {
         return read_number_in_brackets(cursor);
@@ -140,7 +140,7 @@ fn read_item(
     numbered: bool,
     place: u16,
 ) -> Result<Item, TextFault>
-    ensures { Gives (λ i. (named_number i, state_of cursor.new)) result (item_at numbered place (state_of cursor.old)) }
+    ensures { IsReading (λ i. (named_number i, state_of cursor.new)) result (item_at numbered place (state_of cursor.old)) }
 {
     let full = cursor.full();
     let name = cursor.id()?;
@@ -155,7 +155,7 @@ fn read_items(
     cursor: &mut Cursor<'_, '_>,
     numbered: bool,
 ) -> Result<Items, TextFault>
-    ensures { Gives (λ i. (named i, state_of cursor.new)) result (items_more numbered most 0 ([], false) (state_of cursor.old)) }
+    ensures { IsReading (λ i. (named i, state_of cursor.new)) result (items_more numbered most 0 ([], false) (state_of cursor.old)) }
 {
     let mut found = Items {
         items: Vec::new(alloc),
@@ -174,7 +174,7 @@ fn read_items(
 
 #[tactic(auto, unfolding(crate::specs::Reading::items_at))]
 fn read_enumerated(alloc: Global, cursor: &mut Cursor<'_, '_>) -> Result<Items, TextFault>
-    ensures { Gives (λ i. (named i, state_of cursor.new)) result (items_at (state_of cursor.old)) }
+    ensures { IsReading (λ i. (named i, state_of cursor.new)) result (items_at (state_of cursor.old)) }
 {
     cursor.expect(Sign::OpenBrace)?;
     let numbered = cursor.is_before(Sign::OpenParenthesis);
@@ -202,7 +202,7 @@ fn read_class(cursor: &mut Cursor<'_, '_>) -> Class
 /// A tag, after its opening bracket.
 #[tactic(auto, unfolding(crate::specs::Reading::tag_at))]
 fn read_tag(cursor: &mut Cursor<'_, '_>) -> Result<Tag, TextFault>
-    ensures { Gives (λ t. (t, state_of cursor.new)) result (tag_at (state_of cursor.old)) }
+    ensures { IsReading (λ t. (t, state_of cursor.new)) result (tag_at (state_of cursor.old)) }
 {
     let class = read_class(cursor);
     let number = read_tag_number(cursor)?;
@@ -222,7 +222,7 @@ fn missing_tag(cursor: &Cursor<'_, '_>) -> TextFault
 
 #[tactic(auto, unfolding(crate::specs::Reading::tagged_at))]
 fn read_tagged(cursor: &mut Cursor<'_, '_>, tagged: bool, place: u16) -> Result<Tag, TextFault>
-    ensures { Gives (λ t. (t, state_of cursor.new)) result (tagged_at tagged place (state_of cursor.old)) }
+    ensures { IsReading (λ t. (t, state_of cursor.new)) result (tagged_at tagged place (state_of cursor.old)) }
 {
     if !tagged {
         if cursor.is_at(Sign::OpenBracket) {
@@ -260,7 +260,7 @@ fn read_named(
     levels: u8,
     name: &str,
 ) -> Result<Shape, TextFault>
-    ensures { Gives (λ s. (type_of s, state_of cursor.new)) result (named_at levels (find (map known types.now) name.now) (state_of cursor.old)) }
+    ensures { IsReading (λ s. (type_of s, state_of cursor.new)) result (named_at levels (find (map known types.now) name.now) (state_of cursor.old)) }
 {
     let Some(schema) = find(types, name) else {
         return Err(cursor.fault(TextWhy::Name));
@@ -275,7 +275,7 @@ fn read_known(
     cursor: &mut Cursor<'_, '_>,
     levels: u8,
 ) -> Result<Shape, TextFault>
-    ensures { Gives (λ s. (type_of s, state_of cursor.new)) result (named_at levels (Some (type_of shape.now)) (state_of cursor.old)) }
+    ensures { IsReading (λ s. (type_of s, state_of cursor.new)) result (named_at levels (Some (type_of shape.now)) (state_of cursor.old)) }
 {
     let deep = cursor.fault(TextWhy::Schema(SchemaFault::TooDeep));
     if levels == 0 {
@@ -302,7 +302,7 @@ pub fn read_type(
     cursor: &mut Cursor<'_, '_>,
     levels: u8,
 ) -> Result<Shape, TextFault>
-    ensures { Gives (λ s. (type_of s, state_of cursor.new)) result (type_at (map known types.now) levels (state_of cursor.old)) }
+    ensures { IsReading (λ s. (type_of s, state_of cursor.new)) result (type_at (map known types.now) levels (state_of cursor.old)) }
 {
     match begin(cursor) {
         Start::Nothing => Err(cursor.fault(TextWhy::Syntax)),
@@ -329,56 +329,68 @@ fn read_word_type(
     levels: u8,
     word: TypeWord,
 ) -> Result<Shape, TextFault>
-    ensures { Gives (λ s. (type_of s, state_of cursor.new)) result (word_type (type_at (map known types.now) levels) word (state_of cursor.old)) }
+    ensures { IsReading (λ s. (type_of s, state_of cursor.new)) result (word_type (type_at (map known types.now) levels) word (state_of cursor.old)) }
 {
     match word {
         TypeWord::Sequence => read_sequence(alloc, types, cursor, levels),
         TypeWord::Choice => read_choice(alloc, types, cursor, levels),
-        _ => read_simple(alloc, cursor, word),
+        TypeWord::Leaf(leaf) => read_leaf(alloc, cursor, leaf),
     }
 }
 
-/// A type without types in it.
-#[tactic(auto, unfolding(crate::specs::Reading::simple_type))]
-fn read_simple(
+/// A type that holds no other, after its first word.
+#[tactic(auto, unfolding(crate::specs::Reading::leaf_type_at))]
+fn read_leaf(alloc: Global, cursor: &mut Cursor<'_, '_>, leaf: LeafWord) -> Result<Shape, TextFault>
+    ensures { IsReading (λ s. (type_of s, state_of cursor.new)) result (leaf_type_at leaf (state_of cursor.old)) }
+{
+    skip_second(cursor, leaf)?;
+    read_constraint(alloc, cursor, leaf)
+}
+
+/// The second word of a type, if it has one.
+fn skip_second(cursor: &mut Cursor<'_, '_>, leaf: LeafWord) -> Result<(), TextFault>
+    ensures { IsReading (λ x. (x, state_of cursor.new)) result (skip_second (words_of leaf).1 (state_of cursor.old)) }
+{
+    match leaf.words().second {
+        Some(word) => cursor.expect_word(word),
+        None => Ok(()),
+    }
+}
+
+/// What stands after the words of a type that holds no other.
+#[tactic(auto, unfolding(crate::specs::Reading::leaf_at))]
+fn read_constraint(
     alloc: Global,
     cursor: &mut Cursor<'_, '_>,
-    word: TypeWord,
+    leaf: LeafWord,
 ) -> Result<Shape, TextFault>
-    requires sequence { word ≡ tw.Sequence → ⊥ }
-    requires choice { word ≡ tw.Choice → ⊥ }
-    ensures { Gives (λ s. (type_of s, state_of cursor.new)) result (simple_type word (state_of cursor.old)) }
+    ensures { IsReading (λ s. (type_of s, state_of cursor.new)) result (leaf_at (leaf_form leaf) (state_of cursor.old)) }
 {
-    match word {
-        TypeWord::Boolean => Ok(Shape::Boolean),
-        TypeWord::Null => Ok(Shape::Null),
-        TypeWord::Object => {
-            cursor.expect_word("IDENTIFIER")?;
-            Ok(Shape::ObjectId)
-        }
-        TypeWord::Integer => {
+    match leaf {
+        LeafWord::Boolean => Ok(Shape::Boolean),
+        LeafWord::Null => Ok(Shape::Null),
+        LeafWord::ObjectIdentifier => Ok(Shape::ObjectId),
+        LeafWord::Integer => {
             let bounds = read_bounds(cursor)?;
             Ok(Shape::Integer {
                 low: bounds.low,
                 high: bounds.high,
             })
         }
-        TypeWord::Enumerated => {
+        LeafWord::Enumerated => {
             let found = read_enumerated(alloc, cursor)?;
             Ok(Shape::Enumerated {
                 items: found.items,
                 extensible: found.extensible,
             })
         }
-        TypeWord::Octet => Ok(Shape::OctetString(read_string_size(cursor)?)),
-        TypeWord::Bit => Ok(Shape::BitString(read_string_size(cursor)?)),
-        TypeWord::Ia5 => Ok(Shape::Ia5(read_bracketed_size(cursor)?)),
-        TypeWord::Visible => Ok(Shape::Visible(read_bracketed_size(cursor)?)),
-        TypeWord::Numeric => Ok(Shape::Numeric(read_bracketed_size(cursor)?)),
-        TypeWord::Printable => Ok(Shape::Printable(read_bracketed_size(cursor)?)),
-        TypeWord::Utf8 => Ok(Shape::Utf8(read_bracketed_size(cursor)?)),
-        TypeWord::Sequence => unreachable!(),
-        TypeWord::Choice => unreachable!(),
+        LeafWord::OctetString => Ok(Shape::OctetString(read_bracketed_size(cursor)?)),
+        LeafWord::BitString => Ok(Shape::BitString(read_bracketed_size(cursor)?)),
+        LeafWord::Ia5String => Ok(Shape::Ia5(read_bracketed_size(cursor)?)),
+        LeafWord::VisibleString => Ok(Shape::Visible(read_bracketed_size(cursor)?)),
+        LeafWord::NumericString => Ok(Shape::Numeric(read_bracketed_size(cursor)?)),
+        LeafWord::PrintableString => Ok(Shape::Printable(read_bracketed_size(cursor)?)),
+        LeafWord::Utf8String => Ok(Shape::Utf8(read_bracketed_size(cursor)?)),
     }
 }
 
@@ -390,7 +402,7 @@ fn read_sequence(
     cursor: &mut Cursor<'_, '_>,
     levels: u8,
 ) -> Result<Shape, TextFault>
-    ensures { Gives (λ s. (type_of s, state_of cursor.new)) result (sequence_at (type_at (map known types.now) levels) (state_of cursor.old)) }
+    ensures { IsReading (λ s. (type_of s, state_of cursor.new)) result (sequence_at (type_at (map known types.now) levels) (state_of cursor.old)) }
 {
     if cursor.take(Sign::OpenBrace) {
         return read_structure(alloc, types, cursor, levels);
@@ -406,7 +418,7 @@ fn read_list(
     cursor: &mut Cursor<'_, '_>,
     levels: u8,
 ) -> Result<Shape, TextFault>
-    ensures { Gives (λ s. (type_of s, state_of cursor.new)) result (list_at (type_at (map known types.now) levels) (state_of cursor.old)) }
+    ensures { IsReading (λ s. (type_of s, state_of cursor.new)) result (list_at (type_at (map known types.now) levels) (state_of cursor.old)) }
 {
     let size = read_list_size(cursor)?;
     cursor.expect_word("OF")?;
@@ -425,7 +437,7 @@ fn read_structure(
     cursor: &mut Cursor<'_, '_>,
     levels: u8,
 ) -> Result<Shape, TextFault>
-    ensures { Gives (λ s. (type_of s, state_of cursor.new)) result (structure_at (type_at (map known types.now) levels) (state_of cursor.old)) }
+    ensures { IsReading (λ s. (type_of s, state_of cursor.new)) result (structure_at (type_at (map known types.now) levels) (state_of cursor.old)) }
 {
     let mut body = Body {
         root: Vec::new(alloc),
@@ -462,7 +474,7 @@ fn read_body(
     body: &mut Body,
 ) -> Result<(), TextFault>
     requires { components body.old ≡ no_components false }
-    ensures { Gives (λ x. (components body.new, state_of cursor.new)) result (body_at (type_at (map known types.now) levels) (state_of cursor.old)) }
+    ensures { IsReading (λ x. (components body.new, state_of cursor.new)) result (body_at (type_at (map known types.now) levels) (state_of cursor.old)) }
 {
     if cursor.is_at(Sign::CloseBrace) {
         return Ok(());
@@ -485,7 +497,7 @@ fn read_components(
     levels: u8,
     body: &mut Body,
 ) -> Result<(), TextFault>
-    ensures { Gives (λ x. (components body.new, state_of cursor.new)) result (components_more (type_at (map known types.now) levels) most (components body.old) (state_of cursor.old)) }
+    ensures { IsReading (λ x. (components body.new, state_of cursor.new)) result (components_more (type_at (map known types.now) levels) most (components body.old) (state_of cursor.old)) }
 {
     'components: for turn in 0..u16::MAX {
         read_component(alloc, types, cursor, levels, body)?;
@@ -507,7 +519,7 @@ fn read_component(
     levels: u8,
     body: &mut Body,
 ) -> Result<(), TextFault>
-    ensures { Gives (λ x. (components body.new, state_of cursor.new)) result (component_at (type_at (map known types.now) levels) (components body.old) (state_of cursor.old)) }
+    ensures { IsReading (λ x. (components body.new, state_of cursor.new)) result (component_at (type_at (map known types.now) levels) (components body.old) (state_of cursor.old)) }
 {
     if body.extensible {
         let addition = read_addition(alloc, types, cursor, levels)?;
@@ -527,7 +539,7 @@ fn read_field(
     cursor: &mut Cursor<'_, '_>,
     levels: u8,
 ) -> Result<Field, TextFault>
-    ensures { Gives (λ f. (seen_field f, state_of cursor.new)) result (field_at (type_at (map known types.now) levels) (state_of cursor.old)) }
+    ensures { IsReading (λ f. (seen_field f, state_of cursor.new)) result (field_at (type_at (map known types.now) levels) (state_of cursor.old)) }
 {
     let name = cursor.id()?;
     let name = String::from_str(alloc, name)?;
@@ -544,7 +556,7 @@ fn read_addition(
     cursor: &mut Cursor<'_, '_>,
     levels: u8,
 ) -> Result<Addition, TextFault>
-    ensures { Gives (λ a. (seen_addition a, state_of cursor.new)) result (addition_at (type_at (map known types.now) levels) (state_of cursor.old)) }
+    ensures { IsReading (λ a. (seen_addition a, state_of cursor.new)) result (addition_at (type_at (map known types.now) levels) (state_of cursor.old)) }
 {
     let name = cursor.id()?;
     let name = String::from_str(alloc, name)?;
@@ -561,7 +573,7 @@ fn read_choice(
     cursor: &mut Cursor<'_, '_>,
     levels: u8,
 ) -> Result<Shape, TextFault>
-    ensures { Gives (λ s. (type_of s, state_of cursor.new)) result (choice_at (type_at (map known types.now) levels) (state_of cursor.old)) }
+    ensures { IsReading (λ s. (type_of s, state_of cursor.new)) result (choice_at (type_at (map known types.now) levels) (state_of cursor.old)) }
 {
     cursor.expect(Sign::OpenBrace)?;
     let tagged = cursor.is_before(Sign::OpenBracket);
@@ -593,7 +605,7 @@ fn read_alternatives(
     levels: u8,
     tagged: bool,
 ) -> Result<Alternatives, TextFault>
-    ensures { Gives (λ a. (choices a, state_of cursor.new)) result (alternatives_more (type_at (map known types.now) levels) tagged most 0 no_choices (state_of cursor.old)) }
+    ensures { IsReading (λ a. (choices a, state_of cursor.new)) result (alternatives_more (type_at (map known types.now) levels) tagged most 0 no_choices (state_of cursor.old)) }
 {
     let mut found = Alternatives {
         root: Vec::new(alloc),
@@ -630,7 +642,7 @@ fn read_alternative(
     tagged: bool,
     place: u16,
 ) -> Result<Alt, TextFault>
-    ensures { Gives (λ a. (seen_alternative a, state_of cursor.new)) result (alternative_at (type_at (map known types.now) levels) tagged place (state_of cursor.old)) }
+    ensures { IsReading (λ a. (seen_alternative a, state_of cursor.new)) result (alternative_at (type_at (map known types.now) levels) tagged place (state_of cursor.old)) }
 {
     let name = cursor.id()?;
     let tag = read_tagged(cursor, tagged, place)?;

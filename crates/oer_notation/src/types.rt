@@ -5,7 +5,7 @@ ghost use Rattle.oer_lexer.specs.Token.{spots_of};
 ghost use Rattle.oer_types.specs.Schema.{the_type};
 ghost use Rattle.oer_notation.specs.Grammar.{IsDefined, IsNew, Spells, SpellsAll};
 ghost use Rattle.oer_notation.specs.Refusing.{AreNoTypes, IsNoType};
-ghost use Rattle.oer_notation.specs.State.{Gives, state_of};
+ghost use Rattle.oer_notation.specs.State.{IsReading, state_of};
 ghost use Rattle.oer_notation.specs.Reading.{find};
 ghost use Rattle.oer_notation.specs.Parsing.{definition_at, end_of, entries_more, entry_at, name_at, parse, parse_all, start};
 ghost use Rattle.oer_notation.specs.Views.{known, knowns};
@@ -39,7 +39,7 @@ impl Types {
 /// The type that the text spells (NOTATION.md): one type, in which no Name may stand. Of a text that
 /// is rejected the error is the first one from the left, with the byte where it stands; or Memory.
 pub fn parse_type(alloc: Global, text: &str) -> Result<Schema, TextFault>
-    ensures exact { Gives the_type result (parse text.now) }
+    ensures exact { IsReading the_type result (parse text.now) }
     ensures spells { IfOk result (λ schema. Spells (the_type schema) text.now) }
     ensures refused { IfErr result (λ fault. IsNoType fault text.now) }
 {
@@ -51,7 +51,7 @@ pub fn parse_type(alloc: Global, text: &str) -> Result<Schema, TextFault>
 /// The definitions that the text spells (NOTATION.md): one or more `Name ::= type`, in which earlier
 /// Names may stand for their types. The fault is the first one from the left, or Memory.
 pub fn parse_types(alloc: Global, text: &str) -> Result<Types, TextFault>
-    ensures exact { Gives knowns result (parse_all text.now) }
+    ensures exact { IsReading knowns result (parse_all text.now) }
     ensures spells { IfOk result (λ types. SpellsAll (knowns types) text.now) }
     ensures refused { IfErr result (λ fault. AreNoTypes fault text.now) }
 {
@@ -63,7 +63,7 @@ pub fn parse_types(alloc: Global, text: &str) -> Result<Types, TextFault>
 /// The type of a text.
 #[tactic(auto, unfolding(crate::specs::Parsing::parse))]
 fn read_text(alloc: Global, text: &str) -> Result<Schema, TextFault>
-    ensures { Gives the_type result (parse text.now) }
+    ensures { IsReading the_type result (parse text.now) }
 {
     let tokens = lex(alloc, text)?;
     let mut cursor = first(&tokens);
@@ -75,7 +75,7 @@ fn read_text(alloc: Global, text: &str) -> Result<Schema, TextFault>
 /// The definitions of a text.
 #[tactic(auto, unfolding(crate::specs::Parsing::parse_all))]
 fn read_definitions(alloc: Global, text: &str) -> Result<Types, TextFault>
-    ensures { Gives knowns result (parse_all text.now) }
+    ensures { IsReading knowns result (parse_all text.now) }
 {
     let tokens = lex(alloc, text)?;
     let mut cursor = first(&tokens);
@@ -103,7 +103,7 @@ fn first<'s, 't>(tokens: &'s Tokens<'t>) -> Cursor<'s, 't>
 
 /// Whether the text ends here.
 fn expect_end(cursor: &Cursor<'_, '_>) -> Result<(), TextFault>
-    ensures { Gives (λ x. x) result (end_of (state_of cursor.now)) }
+    ensures { IsReading (λ x. x) result (end_of (state_of cursor.now)) }
 {
     if cursor.peek().is_some() {
         return Err(cursor.fault(TextWhy::Syntax));
@@ -121,7 +121,7 @@ fn read_definition(
     types: &[Definition],
     cursor: &mut Cursor<'_, '_>,
 ) -> Result<Schema, TextFault>
-    ensures { Gives (λ s. (the_type s, state_of cursor.new)) result (definition_at (map known types.now) (state_of cursor.old)) }
+    ensures { IsReading (λ s. (the_type s, state_of cursor.new)) result (definition_at (map known types.now) (state_of cursor.old)) }
 {
     let at = cursor.fault(TextWhy::Syntax).at;
     cursor.parts = MAX_PARTS;
@@ -143,7 +143,7 @@ fn read_new_name<'t>(
     types: &[Definition],
     cursor: &mut Cursor<'_, 't>,
 ) -> Result<&'t str, TextFault>
-    ensures { Gives (λ w. (w.now, state_of cursor.new)) result (name_at (map known types.now) (state_of cursor.old)) }
+    ensures { IsReading (λ w. (w.now, state_of cursor.new)) result (name_at (map known types.now) (state_of cursor.old)) }
 {
     let Some(Token::Word(name)) = cursor.peek() else {
         return Err(cursor.fault(TextWhy::Syntax));
@@ -164,7 +164,7 @@ fn read_entry(
     types: &[Definition],
     cursor: &mut Cursor<'_, '_>,
 ) -> Result<Definition, TextFault>
-    ensures { Gives (λ d. (known d, state_of cursor.new)) result (entry_at (map known types.now) (state_of cursor.old)) }
+    ensures { IsReading (λ d. (known d, state_of cursor.new)) result (entry_at (map known types.now) (state_of cursor.old)) }
 {
     let name = read_new_name(types, cursor)?;
     cursor.expect(Sign::Assign)?;
@@ -174,7 +174,7 @@ fn read_entry(
 }
 
 fn read_entries(alloc: Global, cursor: &mut Cursor<'_, '_>) -> Result<Types, TextFault>
-    ensures { Gives knowns result (entries_more (suc (length (state_of cursor.old).left)) [] (state_of cursor.old)) }
+    ensures { IsReading knowns result (entries_more (suc (length (state_of cursor.old).left)) [] (state_of cursor.old)) }
 {
     let mut definitions = Vec::new(alloc);
     'entries: for turn in 0..cursor.spots.len() + 1 {

@@ -1,13 +1,10 @@
 //! Values after DEFAULT.
-ghost use Rattle.std.specs.Prelude.{◌≡◌, ◌==◌, [], suc, length, map, option_map, IfOk, Ok, string_bytes};
-ghost use Rattle.oer_lexer.specs.declared.token.Sign.TheVariants.{OpenBrace};
-ghost use Rattle.oer_literals.specs.Bits.{is_one};
-ghost use Rattle.oer_types.specs.AsnValue.{bit_list, text};
-ghost use Rattle.oer_types.specs.ShapeView.{need_of, type_of};
+ghost use Rattle.std.specs.Prelude.{◌≡◌, [], suc, length, map, option_map, IfOk, Ok, string_bytes};
+ghost use Rattle.oer_types.specs.AsnValue.{bit_list};
+ghost use Rattle.oer_types.specs.ShapeView.{named_number, need_of, type_of};
 ghost use Rattle.oer_types.specs.ValueView.{value_of};
-ghost use Rattle.oer_notation.specs.State.{first, Gives, same_sign, state_of};
-ghost use Rattle.oer_notation.specs.declared.value.ValueKind.TheVariants.{Bits as bits_kind, Text};
-ghost use Rattle.oer_notation.specs.Values.{arcs_at, arcs_more, bits_from, digit_bits, digits_value, inside, is_kind, is_number, kind_number, kind_of, need_at, number_value, octets_in, only_for, sign_value, text_in, text_step, value_at, word_value};
+ghost use Rattle.oer_notation.specs.State.{first, IsReading, state_of};
+ghost use Rattle.oer_notation.specs.Values.{arcs_at, arcs_more, begins_value, bits_by, bits_from, digit_bits, inside, integer_at, is_number, item_by, need_at, no_value, null_at, octets_by, octets_in, oid_at, some_value, text_by, text_in, text_step, truth_at, value_at};
 
 use crate::cursor::{Cursor, is_same as is_same_sign};
 use crate::fault::{TextFault, TextWhy};
@@ -15,52 +12,9 @@ use crate::number::{read_arc, read_bound};
 use crate::word::is_id;
 use hex::FromHexError;
 use oer_lexer::{Sign, Token};
-use oer_literals::{bits_of_digits, items_of, number_named};
-use oer_types::{Bits, Need, Shape, Value};
+use oer_literals::{bits_of_digits, number_named};
+use oer_types::{Bits, Item, Need, Shape, Value};
 use std::alloc::{AllocError, Global};
-
-/// The notations that values of types have.
-#[derive(Clone, Copy, PartialEq, Eq)]
-pub enum ValueKind {
-    Truth,
-    Nothing,
-    Number,
-    Named,
-    Bits,
-    Octets,
-    Arcs,
-    Text,
-    /// None.
-    Constructed,
-}
-
-fn kind_of(shape: &Shape) -> ValueKind
-    ensures { result ≡ kind_of (type_of shape.now) }
-{
-    match shape {
-        Shape::Boolean => ValueKind::Truth,
-        Shape::Null => ValueKind::Nothing,
-        Shape::Integer { .. } => ValueKind::Number,
-        Shape::Enumerated { .. } => ValueKind::Named,
-        Shape::BitString(_) => ValueKind::Bits,
-        Shape::OctetString(_) => ValueKind::Octets,
-        Shape::ObjectId => ValueKind::Arcs,
-        Shape::Ia5(_) => ValueKind::Text,
-        Shape::Visible(_) => ValueKind::Text,
-        Shape::Numeric(_) => ValueKind::Text,
-        Shape::Printable(_) => ValueKind::Text,
-        Shape::Utf8(_) => ValueKind::Text,
-        Shape::Sequence { additions, .. } => match additions {
-            Some(_) => ValueKind::Constructed,
-            None => ValueKind::Constructed,
-        },
-        Shape::SequenceOf { .. } => ValueKind::Constructed,
-        Shape::Choice { additions, .. } => match additions {
-            Some(_) => ValueKind::Constructed,
-            None => ValueKind::Constructed,
-        },
-    }
-}
 
 /// What makes a component of the type optional.
 #[tactic(auto, unfolding(crate::specs::Values::need_at))]
@@ -69,7 +23,7 @@ pub fn read_need(
     cursor: &mut Cursor<'_, '_>,
     shape: &Shape,
 ) -> Result<Need, TextFault>
-    ensures { Gives (λ n. (need_of n, state_of cursor.new)) result (need_at (type_of shape.now) (state_of cursor.old)) }
+    ensures { IsReading (λ n. (need_of n, state_of cursor.new)) result (need_at (type_of shape.now) (state_of cursor.old)) }
 {
     if cursor.take_word("OPTIONAL") {
         return Ok(Need::May);
@@ -83,82 +37,106 @@ pub fn read_need(
 /// A value of the type.
 #[tactic(auto, unfolding(crate::specs::Values::value_at))]
 fn read_value(alloc: Global, cursor: &mut Cursor<'_, '_>, shape: &Shape) -> Result<Value, TextFault>
-    ensures { Gives (λ v. (value_of v, state_of cursor.new)) result (value_at (type_of shape.now) (state_of cursor.old)) }
+    ensures { IsReading (λ v. (value_of v, state_of cursor.new)) result (value_at (type_of shape.now) (state_of cursor.old)) }
+{
+    match shape {
+        Shape::Boolean => read_truth(cursor),
+        Shape::Null => read_null(cursor),
+        Shape::Integer { .. } => read_integer(cursor),
+        Shape::Enumerated { items, .. } => read_item(cursor, items),
+        Shape::BitString(_) => read_bits(alloc, cursor),
+        Shape::OctetString(_) => read_octets(alloc, cursor),
+        Shape::ObjectId => read_object_id(alloc, cursor),
+        Shape::Ia5(_) => read_text(alloc, cursor),
+        Shape::Visible(_) => read_text(alloc, cursor),
+        Shape::Numeric(_) => read_text(alloc, cursor),
+        Shape::Printable(_) => read_text(alloc, cursor),
+        Shape::Utf8(_) => read_text(alloc, cursor),
+        Shape::Sequence { additions, .. } => match additions {
+            Some(_) => Err(no_value(cursor)),
+            None => Err(no_value(cursor)),
+        },
+        Shape::SequenceOf { .. } => Err(no_value(cursor)),
+        Shape::Choice { additions, .. } => match additions {
+            Some(_) => Err(no_value(cursor)),
+            None => Err(no_value(cursor)),
+        },
+    }
+}
+
+/// Whether a value of some type begins with the next token.
+fn begins_value(cursor: &Cursor<'_, '_>) -> bool
+    ensures { result ≡ begins_value (first (state_of cursor.now)) }
 {
     match cursor.peek() {
-        Some(Token::Word(word)) => read_word_value(cursor, shape, word),
-        Some(Token::Number(_)) => read_number_value(cursor, shape),
-        Some(Token::Bits(word)) => read_bits_value(alloc, cursor, shape, word),
-        Some(Token::Digits(word)) => read_digits_value(alloc, cursor, shape, word),
-        Some(Token::Text(word)) => read_text_value(alloc, cursor, shape, word),
-        Some(Token::Sign(sign)) => read_sign_value(alloc, cursor, shape, sign),
-        None => Err(cursor.fault(TextWhy::Syntax)),
+        Some(Token::Word(word)) => {
+            is_id(word) || word == "TRUE" || word == "FALSE" || word == "NULL"
+        }
+        Some(Token::Sign(sign)) => is_same_sign(sign, Sign::OpenBrace),
+        Some(_) => true,
+        None => false,
     }
 }
 
-fn is_kind(kind: ValueKind, shape: &Shape) -> bool
-    ensures { result ≡ is_kind kind (type_of shape.now) }
+/// The fault of a token with which no value of the type begins: Default where one of another type does.
+fn no_value(cursor: &Cursor<'_, '_>) -> TextFault
+    ensures { result ≡ no_value (state_of cursor.now) }
 {
-    is_same(kind, kind_of(shape))
+    if begins_value(cursor) {
+        return cursor.fault(TextWhy::Default);
+    }
+    cursor.fault(TextWhy::Syntax)
 }
 
-fn is_same(a: ValueKind, b: ValueKind) -> bool
-    ensures { result ≡ (kind_number a == kind_number b) }
+#[tactic(auto, unfolding(crate::specs::Values::truth_at))]
+fn read_truth(cursor: &mut Cursor<'_, '_>) -> Result<Value, TextFault>
+    ensures { IsReading (λ v. (value_of v, state_of cursor.new)) result (truth_at (state_of cursor.old)) }
 {
-    a == b
+    if cursor.take_word("TRUE") {
+        return Ok(Value::Bool(true));
+    }
+    if cursor.take_word("FALSE") {
+        return Ok(Value::Bool(false));
+    }
+    Err(no_value(cursor))
 }
 
-/// The value, if the type has this kind of notation; else Default.
-fn only_for(
-    cursor: &mut Cursor<'_, '_>,
-    kind: ValueKind,
-    shape: &Shape,
-    value: Value,
-) -> Result<Value, TextFault>
-    ensures { Gives (λ v. (value_of v, state_of cursor.new)) result (only_for kind (type_of shape.now) (value_of value) (state_of cursor.old)) }
+#[tactic(auto, unfolding(crate::specs::Values::null_at))]
+fn read_null(cursor: &mut Cursor<'_, '_>) -> Result<Value, TextFault>
+    ensures { IsReading (λ v. (value_of v, state_of cursor.new)) result (null_at (state_of cursor.old)) }
 {
-    if !is_kind(kind, shape) {
-        return Err(cursor.fault(TextWhy::Default));
+    if cursor.take_word("NULL") {
+        return Ok(Value::Null);
     }
-    cursor.bump();
-    Ok(value)
+    Err(no_value(cursor))
 }
 
-#[tactic(auto, unfolding(crate::specs::Values::word_value))]
-fn read_word_value(
-    cursor: &mut Cursor<'_, '_>,
-    shape: &Shape,
-    word: &str,
-) -> Result<Value, TextFault>
-    ensures { Gives (λ v. (value_of v, state_of cursor.new)) result (word_value (type_of shape.now) word.now (state_of cursor.old)) }
+#[tactic(auto, unfolding(crate::specs::Values::integer_at))]
+fn read_integer(cursor: &mut Cursor<'_, '_>) -> Result<Value, TextFault>
+    ensures { IsReading (λ v. (value_of v, state_of cursor.new)) result (integer_at (state_of cursor.old)) }
 {
-    if word == "TRUE" {
-        return only_for(cursor, ValueKind::Truth, shape, Value::Bool(true));
+    if !is_at_number(cursor) {
+        return Err(no_value(cursor));
     }
-    if word == "FALSE" {
-        return only_for(cursor, ValueKind::Truth, shape, Value::Bool(false));
-    }
-    if word == "NULL" {
-        return only_for(cursor, ValueKind::Nothing, shape, Value::Null);
-    }
+    Ok(Value::Int(read_bound(cursor)?))
+}
+
+/// The number of an item, by its name.
+fn read_item(cursor: &mut Cursor<'_, '_>, items: &[Item]) -> Result<Value, TextFault>
+    ensures { IsReading (λ v. (value_of v, state_of cursor.new)) result
+        (item_by (map named_number items.now) (first (state_of cursor.old)) (state_of cursor.old)) }
+{
+    let Some(Token::Word(word)) = cursor.peek() else {
+        return Err(no_value(cursor));
+    };
     if !is_id(word) {
-        return Err(cursor.fault(TextWhy::Syntax));
+        return Err(no_value(cursor));
     }
-    let Some(number) = number_named(items_of(shape), word) else {
+    let Some(number) = number_named(items, word) else {
         return Err(cursor.fault(TextWhy::Default));
     };
     cursor.bump();
     Ok(Value::Enum(number))
-}
-
-#[tactic(auto, unfolding(crate::specs::Values::number_value))]
-fn read_number_value(cursor: &mut Cursor<'_, '_>, shape: &Shape) -> Result<Value, TextFault>
-    ensures { Gives (λ v. (value_of v, state_of cursor.new)) result (number_value (type_of shape.now) (state_of cursor.old)) }
-{
-    if !is_kind(ValueKind::Number, shape) {
-        return Err(cursor.fault(TextWhy::Default));
-    }
-    Ok(Value::Int(read_bound(cursor)?))
 }
 
 /// What stands between the quotes of digits or bits.
@@ -175,7 +153,7 @@ fn inside(word: &str) -> &[u8]
 /// The octets of pairs of hexadecimal digits, if all have a pair.
 #[tactic(auto, using(crate::proofs::Loops::octets_given, crate::proofs::Loops::octets_none))]
 fn octets_in(alloc: Global, digits: &[u8]) -> Result<Option<Vec<u8>>, TextFault>
-    ensures { Gives (λ o. option_map (λ v. v.items) o) result (Ok (octets_in digits.now)) }
+    ensures { IsReading (λ o. option_map (λ v. v.items) o) result (Ok (octets_in digits.now)) }
 {
     match hex::decode(alloc, digits) {
         Ok(octets) => Ok(Some(octets)),
@@ -202,7 +180,7 @@ fn bits_from(octets: Option<Vec<u8>>, count: u64) -> Option<Bits>
 /// The bits of hexadecimal digits, four each; none where they are too many to be counted.
 #[tactic(auto, unfolding(crate::specs::Values::digit_bits))]
 fn digit_bits(alloc: Global, digits: &[u8]) -> Result<Option<Bits>, TextFault>
-    ensures { Gives (λ o. o) result (Ok (digit_bits digits.now)) }
+    ensures { IsReading (λ o. o) result (Ok (digit_bits digits.now)) }
 {
     if digits.len() >= 4611686018427387904 {
         return Ok(None);
@@ -215,53 +193,52 @@ fn digit_bits(alloc: Global, digits: &[u8]) -> Result<Option<Bits>, TextFault>
     Ok(bits_from(octets, 4 * digits.len() as u64))
 }
 
-#[tactic(auto, unfolding(crate::specs::Values::digits_value))]
-fn read_digits_value(
+fn read_octets(alloc: Global, cursor: &mut Cursor<'_, '_>) -> Result<Value, TextFault>
+    ensures { IsReading (λ v. (value_of v, state_of cursor.new)) result (octets_by (first (state_of cursor.old)) (state_of cursor.old)) }
+{
+    let Some(Token::Digits(word)) = cursor.peek() else {
+        return Err(no_value(cursor));
+    };
+    let Some(octets) = octets_in(alloc, inside(word))? else {
+        return Err(cursor.fault(TextWhy::Default));
+    };
+    cursor.bump();
+    Ok(Value::Octets(octets))
+}
+
+fn read_bits(alloc: Global, cursor: &mut Cursor<'_, '_>) -> Result<Value, TextFault>
+    ensures { IsReading (λ v. (value_of v, state_of cursor.new)) result (bits_by (first (state_of cursor.old)) (state_of cursor.old)) }
+{
+    match cursor.peek() {
+        Some(Token::Bits(word)) => {
+            let bits = bits_of_digits(alloc, inside(word))?;
+            cursor.bump();
+            Ok(Value::Bits(bits))
+        }
+        Some(Token::Digits(word)) => read_digit_bits(alloc, cursor, word),
+        _ => Err(no_value(cursor)),
+    }
+}
+
+/// Bits by hexadecimal digits.
+fn read_digit_bits(
     alloc: Global,
     cursor: &mut Cursor<'_, '_>,
-    shape: &Shape,
     word: &str,
 ) -> Result<Value, TextFault>
-    ensures { Gives (λ v. (value_of v, state_of cursor.new)) result (digits_value (type_of shape.now) word.now (state_of cursor.old)) }
+    ensures { IsReading (λ v. (value_of v, state_of cursor.new)) result
+        (some_value bit_list (digit_bits (inside word.now)) (state_of cursor.old)) }
 {
-    let fault = cursor.fault(TextWhy::Default);
-    if is_kind(ValueKind::Octets, shape) {
-        let Some(octets) = octets_in(alloc, inside(word))? else {
-            return Err(fault);
-        };
-        cursor.bump();
-        return Ok(Value::Octets(octets));
-    }
-    if !is_kind(ValueKind::Bits, shape) {
-        return Err(fault);
-    }
     let Some(bits) = digit_bits(alloc, inside(word))? else {
-        return Err(fault);
+        return Err(cursor.fault(TextWhy::Default));
     };
     cursor.bump();
     Ok(Value::Bits(bits))
 }
 
-fn read_bits_value(
-    alloc: Global,
-    cursor: &mut Cursor<'_, '_>,
-    shape: &Shape,
-    word: &str,
-) -> Result<Value, TextFault>
-    ensures { Gives (λ v. (value_of v, state_of cursor.new)) result
-        (only_for bits_kind (type_of shape.now) (bit_list (map is_one (inside word.now))) (state_of cursor.old)) }
-{
-    if !is_kind(ValueKind::Bits, shape) {
-        return Err(cursor.fault(TextWhy::Default));
-    }
-    let bits = bits_of_digits(alloc, inside(word))?;
-    cursor.bump();
-    Ok(Value::Bits(bits))
-}
-
-/// A place in a text.
+/// What the character before says of a quote: it opens the text, is inside, or is the first of two.
 #[derive(Clone, Copy)]
-pub enum TextPlace {
+pub enum Quoting {
     /// At the opening quote.
     First,
     Plain,
@@ -269,21 +246,21 @@ pub enum TextPlace {
     Quoted,
 }
 
-/// The place after a character, which is put out unless it is a quote that is left out.
-fn put_character(out: &mut String, place: TextPlace, c: char) -> Result<TextPlace, AllocError>
-    ensures { IfOk result (λ p. (p, string_bytes out.new) ≡ text_step (place, string_bytes out.old) c) }
+/// The same after this character, which is put out unless it is a quote that is left out.
+fn put_character(out: &mut String, quoting: Quoting, c: char) -> Result<Quoting, AllocError>
+    ensures { IfOk result (λ p. (p, string_bytes out.new) ≡ text_step (quoting, string_bytes out.old) c) }
 {
-    match place {
-        TextPlace::First => return Ok(TextPlace::Plain),
-        TextPlace::Plain => {
+    match quoting {
+        Quoting::First => return Ok(Quoting::Plain),
+        Quoting::Plain => {
             if c == '"' {
-                return Ok(TextPlace::Quoted);
+                return Ok(Quoting::Quoted);
             }
         }
-        TextPlace::Quoted => (),
+        Quoting::Quoted => (),
     }
     out.push(c)?;
-    Ok(TextPlace::Plain)
+    Ok(Quoting::Plain)
 }
 
 /// What stands between the quotes of a text, each quote inside once.
@@ -291,24 +268,19 @@ fn text_in(alloc: Global, word: &str) -> Result<String, AllocError>
     ensures { IfOk result (λ s. string_bytes s ≡ text_in word.now) }
 {
     let mut out = String::new(alloc);
-    let mut place = TextPlace::First;
+    let mut quoting = Quoting::First;
     'characters: for c in word.chars() {
-        place = put_character(&mut out, place, c)?;
+        quoting = put_character(&mut out, quoting, c)?;
     }
     Ok(out)
 }
 
-fn read_text_value(
-    alloc: Global,
-    cursor: &mut Cursor<'_, '_>,
-    shape: &Shape,
-    word: &str,
-) -> Result<Value, TextFault>
-    ensures { Gives (λ v. (value_of v, state_of cursor.new)) result (only_for Text (type_of shape.now) (text (text_in word.now)) (state_of cursor.old)) }
+fn read_text(alloc: Global, cursor: &mut Cursor<'_, '_>) -> Result<Value, TextFault>
+    ensures { IsReading (λ v. (value_of v, state_of cursor.new)) result (text_by (first (state_of cursor.old)) (state_of cursor.old)) }
 {
-    if !is_kind(ValueKind::Text, shape) {
-        return Err(cursor.fault(TextWhy::Default));
-    }
+    let Some(Token::Text(word)) = cursor.peek() else {
+        return Err(no_value(cursor));
+    };
     let text = text_in(alloc, word)?;
     cursor.bump();
     Ok(Value::Text(text))
@@ -325,7 +297,7 @@ fn is_at_number(cursor: &Cursor<'_, '_>) -> bool
 
 /// Arcs, up to what isn't a number.
 fn read_arcs(alloc: Global, cursor: &mut Cursor<'_, '_>) -> Result<Vec<u128>, TextFault>
-    ensures { Gives (λ v. (v.items, state_of cursor.new)) result (arcs_more (suc (length (state_of cursor.old).left)) [] (state_of cursor.old)) }
+    ensures { IsReading (λ v. (v.items, state_of cursor.new)) result (arcs_more (suc (length (state_of cursor.old).left)) [] (state_of cursor.old)) }
 {
     let mut arcs = Vec::new(alloc);
     'arcs: for turn in 0..cursor.spots.len() + 1 {
@@ -340,8 +312,8 @@ fn read_arcs(alloc: Global, cursor: &mut Cursor<'_, '_>) -> Result<Vec<u128>, Te
 
 /// Two arcs or more, and the closing brace.
 #[tactic(auto, unfolding(crate::specs::Values::arcs_at))]
-fn read_object_id(alloc: Global, cursor: &mut Cursor<'_, '_>) -> Result<Value, TextFault>
-    ensures { Gives (λ v. (value_of v, state_of cursor.new)) result (arcs_at (state_of cursor.old)) }
+fn read_arcs_and_brace(alloc: Global, cursor: &mut Cursor<'_, '_>) -> Result<Value, TextFault>
+    ensures { IsReading (λ v. (value_of v, state_of cursor.new)) result (arcs_at (state_of cursor.old)) }
 {
     let arcs = read_arcs(alloc, cursor)?;
     if arcs.len() < 2 {
@@ -351,21 +323,13 @@ fn read_object_id(alloc: Global, cursor: &mut Cursor<'_, '_>) -> Result<Value, T
     Ok(Value::Oid(arcs))
 }
 
-#[tactic(auto, unfolding(crate::specs::Values::sign_value))]
-fn read_sign_value(
-    alloc: Global,
-    cursor: &mut Cursor<'_, '_>,
-    shape: &Shape,
-    sign: Sign,
-) -> Result<Value, TextFault>
-    ensures { Gives (λ v. (value_of v, state_of cursor.new)) result (sign_value (type_of shape.now) (same_sign sign OpenBrace) (state_of cursor.old)) }
+/// Arcs in braces.
+#[tactic(auto, unfolding(crate::specs::Values::oid_at))]
+fn read_object_id(alloc: Global, cursor: &mut Cursor<'_, '_>) -> Result<Value, TextFault>
+    ensures { IsReading (λ v. (value_of v, state_of cursor.new)) result (oid_at (state_of cursor.old)) }
 {
-    if !is_same_sign(sign, Sign::OpenBrace) {
-        return Err(cursor.fault(TextWhy::Syntax));
+    if !cursor.take(Sign::OpenBrace) {
+        return Err(no_value(cursor));
     }
-    if !is_kind(ValueKind::Arcs, shape) {
-        return Err(cursor.fault(TextWhy::Default));
-    }
-    cursor.bump();
-    read_object_id(alloc, cursor)
+    read_arcs_and_brace(alloc, cursor)
 }

@@ -3,24 +3,12 @@ ghost use Rattle.std.specs.Prelude.{◌≡◌};
 ghost use Rattle.std.specs.Char.{is_ascii_uppercase};
 ghost use Rattle.std.specs.List.{list_any};
 ghost use Rattle.std.specs.Str.{bytes_eq};
-ghost use Rattle.oer_notation.specs.Words.{begins, is_id, is_name, is_reserved, type_word};
+ghost use Rattle.oer_notation.specs.Words.{begins, is_id, is_name, is_reserved, other_words, type_word};
 
-/// The reserved words, which are no Names.
-const RESERVED: [&str; 29] = [
-    "BOOLEAN",
-    "INTEGER",
-    "ENUMERATED",
-    "NULL",
-    "OCTET",
-    "BIT",
-    "STRING",
-    "OBJECT",
-    "IDENTIFIER",
-    "IA5String",
-    "VisibleString",
-    "NumericString",
-    "PrintableString",
-    "UTF8String",
+use oer_lexer::{LeafWord, is_leaf_word, leaf_word};
+
+/// Words that are no Names, beside those of the types that hold no other.
+const OTHERS: [&str; 15] = [
     "SEQUENCE",
     "OF",
     "CHOICE",
@@ -41,18 +29,8 @@ const RESERVED: [&str; 29] = [
 /// The types that are no Names, by the word with which they begin.
 #[derive(Clone, Copy)]
 pub enum TypeWord {
-    Boolean,
-    Null,
-    Object,
-    Integer,
-    Enumerated,
-    Octet,
-    Bit,
-    Ia5,
-    Visible,
-    Numeric,
-    Printable,
-    Utf8,
+    /// A type that holds no other.
+    Leaf(LeafWord),
     Sequence,
     Choice,
 }
@@ -83,12 +61,20 @@ pub fn is_name(word: &str) -> bool
     begins_with_capital(word) && !is_reserved(word)
 }
 
-// Whether it is one of the words that are no Names.
+/// Whether it is one of the words that are no Names.
+#[tactic(auto, using(crate::proofs::WordTable::reserved_test))]
 fn is_reserved(word: &str) -> bool
     ensures { result ≡ is_reserved word.now }
 {
-    let words: [&str; 29] = RESERVED;
-    is_among(word, words.as_slice())
+    is_leaf_word(word) || is_other(word)
+}
+
+// Whether it is one of them, but none of the words of a type that holds no other.
+fn is_other(word: &str) -> bool
+    ensures { result ≡ list_any (bytes_eq word.now) other_words }
+{
+    let others: [&str; 15] = OTHERS;
+    is_among(word, others.as_slice())
 }
 
 // Whether it is one of these words.
@@ -109,20 +95,8 @@ pub fn type_word(word: &str) -> Option<TypeWord>
     ensures { result ≡ type_word word.now }
 {
     match word {
-        "BOOLEAN" => Some(TypeWord::Boolean),
-        "NULL" => Some(TypeWord::Null),
-        "OBJECT" => Some(TypeWord::Object),
-        "INTEGER" => Some(TypeWord::Integer),
-        "ENUMERATED" => Some(TypeWord::Enumerated),
-        "OCTET" => Some(TypeWord::Octet),
-        "BIT" => Some(TypeWord::Bit),
-        "IA5String" => Some(TypeWord::Ia5),
-        "VisibleString" => Some(TypeWord::Visible),
-        "NumericString" => Some(TypeWord::Numeric),
-        "PrintableString" => Some(TypeWord::Printable),
-        "UTF8String" => Some(TypeWord::Utf8),
         "SEQUENCE" => Some(TypeWord::Sequence),
         "CHOICE" => Some(TypeWord::Choice),
-        _ => None,
+        _ => Some(TypeWord::Leaf(leaf_word(word)?)),
     }
 }

@@ -3,6 +3,8 @@ use Rattle.std.proofs.Common.{◌≡◌, ℕ, ◌<◌, ◌≤◌, List, [], ◌�
 use Rattle.std.specs.Prelude.{IfOk}
 use Rattle.std.specs.declared.alloc.AllocError.{AllocError}
 use Rattle.std.proofs.lemmas.Bool.{le-ltb}
+use Rattle.oer_lexer.specs.LeafWords.{behind_second, with_words, words_of}
+use Rattle.oer_lexer.specs.declared.leaf.LeafWord.{LeafWord}
 use Rattle.oer_lexer.specs.Token.{Token, word, number, bits, digits, text, sign}
 use Rattle.oer_lexer.specs.declared.token.Sign.TheVariants.{OpenBrace, CloseBrace, OpenParenthesis, CloseParenthesis, OpenBracket, CloseBracket, Comma, Range, Ellipsis, Assign}
 use Rattle.oer_types.specs.AsnType.{AsnType, Alternatives, no_alternatives}
@@ -19,6 +21,14 @@ use Rattle.oer_literals.proofs.Lists.{no_zero}
 pub run_append : (w : Written) (xs ys : List Token) → run w (xs ++ ys) ≡ run (run w xs) ys
 run_append w [] ys = refl
 run_append w (x ∷ xs) ys = run_append (step w x) xs ys
+
+-- the words of a type, and what stands behind them
+second_first : (w : Written) (o : Option (List ℕ)) (ts : List Token) → run (run w (behind_second o [])) ts ≡ run w (behind_second o ts)
+second_first w None ts = refl
+second_first w (Some v) ts = refl
+
+pub words_first : (w : Written) (k : LeafWord) (ts : List Token) → run (run w (with_words k [])) ts ≡ run w (with_words k ts)
+words_first w k ts = second_first (step w (word (words_of k).0)) (words_of k).1 ts
 
 -- ---- parts with commas between them
 

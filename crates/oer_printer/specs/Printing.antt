@@ -7,7 +7,10 @@ use Rattle.std.specs.Str.{bytes_eq, chars}
 use Rattle.hex.specs.Hex.{encode_upper}
 use Rattle.oer_lexer.specs.Characters.{quote, double_quote, starts}
 use Rattle.oer_lexer.specs.FallsInto.{sign_text}
+use Rattle.oer_lexer.specs.LeafWords.{with_words}
 use Rattle.oer_lexer.specs.Token.{Token, word, number, bits, digits, text, sign}
+use Rattle.oer_lexer.specs.declared.leaf.LeafWord.{LeafWord}
+use Rattle.oer_lexer.specs.declared.leaf.LeafWord.TheVariants as words
 use Rattle.oer_lexer.specs.declared.token.Sign.{Sign}
 use Rattle.oer_lexer.specs.declared.token.Sign.TheVariants.{OpenBrace, CloseBrace, OpenParenthesis, CloseParenthesis, OpenBracket, CloseBracket, Comma, Range, Ellipsis}
 use Rattle.oer_units.specs.declared.tagging.Class.{Class}
@@ -15,7 +18,7 @@ use Rattle.oer_units.specs.declared.tagging.Class.TheVariants.{Universal, Applic
 use Rattle.oer_units.specs.declared.tagging.Tag.{Tag}
 use Rattle.oer_literals.specs.Bits.{bit_digit}
 use Rattle.oer_literals.specs.Items.{items_of, name_of}
-use Rattle.oer_types.specs.LeafType.{LeafType, bit_string, boolean, enumerated, integer, null, object_id, octet_string, restricted_string, utf8_string}
+use Rattle.oer_types.specs.LeafType.{LeafType, bit_string, boolean, enumerated, integer, null, object_id, octet_string, restricted_string, string_size, utf8_string}
 use Rattle.oer_types.specs.AsnType.{Additions, Alphabet, Alternatives, AsnType, Fields, NamedNumber, Need, addition, alternative, choice, default, extensible_sequence, field, ia5, later, leaf, may, must, no_additions, no_alternatives, no_fields, numeric, printable, sequence, sequence_of, visible}
 use Rattle.oer_types.specs.AsnValue.{AsnValue, leaf_value}
 use Rattle.oer_types.specs.LeafValue.{LeafValue, bit_list, bool, enum, int, nothing, octets, oid, text as string}
@@ -86,12 +89,6 @@ class_tokens Private = word (codes "PRIVATE") ∷ []
 abbrev pub tag_tokens : Tag → List Token
 tag_tokens t = sign OpenBracket ∷ (class_tokens t.class ++ natural_token t.number ∷ sign CloseBracket ∷ [])
 
-abbrev pub alphabet_name : Alphabet → List ℕ
-alphabet_name ia5 = codes "IA5String"
-alphabet_name visible = codes "VisibleString"
-alphabet_name numeric = codes "NumericString"
-alphabet_name printable = codes "PrintableString"
-
 -- ---- values after DEFAULT
 
 abbrev pub truth_word : Bool → List ℕ
@@ -142,16 +139,36 @@ component_tokens name type need = word name ∷ (type ++ need)
 abbrev pub alternative_tokens : List ℕ → Tag → List Token → List Token
 alternative_tokens name tag type = word name ∷ (tag_tokens tag ++ type)
 
+abbrev pub alphabet_word : Alphabet → LeafWord
+alphabet_word ia5 = words.Ia5String
+alphabet_word visible = words.VisibleString
+alphabet_word numeric = words.NumericString
+alphabet_word printable = words.PrintableString
+
+-- the words of a type that holds no other
+abbrev pub words_for : LeafType → LeafWord
+words_for boolean = words.Boolean
+words_for null = words.Null
+words_for (integer low high) = words.Integer
+words_for (enumerated is extensible) = words.Enumerated
+words_for (bit_string size) = words.BitString
+words_for (octet_string size) = words.OctetString
+words_for object_id = words.ObjectIdentifier
+words_for (restricted_string letters size) = alphabet_word letters
+words_for (utf8_string size) = words.Utf8String
+
+abbrev pub size_if : Option Size → List Token
+size_if None = []
+size_if (Some size) = size_tokens size
+
+-- what stands behind them: bounds, items, or a size where there is one
+abbrev pub constraint_tokens : LeafType → List Token
+constraint_tokens (integer low high) = bounds_tokens low high
+constraint_tokens (enumerated is extensible) = in_braces (map item_tokens is ++ marker_if extensible)
+constraint_tokens kind = size_if (string_size kind)
+
 abbrev pub leaf_tokens : LeafType → List Token
-leaf_tokens boolean = word (codes "BOOLEAN") ∷ []
-leaf_tokens null = word (codes "NULL") ∷ []
-leaf_tokens (integer low high) = word (codes "INTEGER") ∷ bounds_tokens low high
-leaf_tokens (enumerated is extensible) = word (codes "ENUMERATED") ∷ in_braces (map item_tokens is ++ marker_if extensible)
-leaf_tokens (bit_string size) = word (codes "BIT") ∷ word (codes "STRING") ∷ size_tokens size
-leaf_tokens (octet_string size) = word (codes "OCTET") ∷ word (codes "STRING") ∷ size_tokens size
-leaf_tokens object_id = word (codes "OBJECT") ∷ word (codes "IDENTIFIER") ∷ []
-leaf_tokens (restricted_string letters size) = word (alphabet_name letters) ∷ size_tokens size
-leaf_tokens (utf8_string size) = word (codes "UTF8String") ∷ size_tokens size
+leaf_tokens kind = with_words (words_for kind) (constraint_tokens kind)
 
 abbrev mutual
   pub type_tokens : AsnType → List Token

@@ -1,6 +1,7 @@
 //! The text of a type.
-ghost use Rattle.std.specs.Prelude.{◌≡◌, ◌↔◌, [], ◌∷◌, IfOk, map, Ok, Err, Some, None, codes, string_bytes};
+ghost use Rattle.std.specs.Prelude.{◌≡◌, ◌↔◌, [], ◌∷◌, IfOk, map, Ok, Err, Some, None, string_bytes};
 ghost use Rattle.oer_types.specs.AsnType.{enumerated, integer, no_alternatives, sequence_of};
+ghost use Rattle.oer_lexer.specs.LeafWords.{with_words};
 ghost use Rattle.oer_lexer.specs.Token.{sign, word};
 ghost use Rattle.oer_lexer.specs.declared.token.Sign.TheVariants.{OpenBrace};
 ghost use Rattle.oer_types.specs.Schema.{the_type};
@@ -16,7 +17,7 @@ use crate::fault::PrintFault;
 use crate::literal::put_value;
 use crate::printable::has_notation;
 use crate::printer::{Edge, Printer};
-use oer_lexer::Sign;
+use oer_lexer::{LeafWord, Sign};
 use oer_types::{Addition, Alt, Field, Item, Need, Schema, Shape, Size};
 use std::alloc::{AllocError, Global};
 
@@ -45,20 +46,20 @@ fn put_type(alloc: Global, shape: &Shape, printer: &mut Printer) -> Result<(), A
     ensures { Puts (type_tokens (type_of shape.now)) printer.old result printer.new }
 {
     match shape {
-        Shape::Boolean => printer.word("BOOLEAN"),
-        Shape::Null => printer.word("NULL"),
+        Shape::Boolean => put_words(printer, LeafWord::Boolean),
+        Shape::Null => put_words(printer, LeafWord::Null),
         Shape::Integer { low, high } => put_integer(alloc, printer, *low, *high),
         Shape::Enumerated { items, extensible } => {
             put_enumerated(alloc, printer, items, *extensible)
         }
-        Shape::BitString(size) => put_binary(alloc, printer, "BIT", *size),
-        Shape::OctetString(size) => put_binary(alloc, printer, "OCTET", *size),
-        Shape::ObjectId => put_words(printer, "OBJECT", "IDENTIFIER"),
-        Shape::Ia5(size) => put_string(alloc, printer, "IA5String", *size),
-        Shape::Visible(size) => put_string(alloc, printer, "VisibleString", *size),
-        Shape::Numeric(size) => put_string(alloc, printer, "NumericString", *size),
-        Shape::Printable(size) => put_string(alloc, printer, "PrintableString", *size),
-        Shape::Utf8(size) => put_string(alloc, printer, "UTF8String", *size),
+        Shape::BitString(size) => put_sized(alloc, printer, LeafWord::BitString, *size),
+        Shape::OctetString(size) => put_sized(alloc, printer, LeafWord::OctetString, *size),
+        Shape::ObjectId => put_words(printer, LeafWord::ObjectIdentifier),
+        Shape::Ia5(size) => put_sized(alloc, printer, LeafWord::Ia5String, *size),
+        Shape::Visible(size) => put_sized(alloc, printer, LeafWord::VisibleString, *size),
+        Shape::Numeric(size) => put_sized(alloc, printer, LeafWord::NumericString, *size),
+        Shape::Printable(size) => put_sized(alloc, printer, LeafWord::PrintableString, *size),
+        Shape::Utf8(size) => put_sized(alloc, printer, LeafWord::Utf8String, *size),
         Shape::Sequence { .. } => put_sequence(alloc, shape, printer),
         Shape::SequenceOf { size, item } => put_list(alloc, item, *size, printer),
         Shape::Choice { .. } => put_choice(alloc, shape, printer),
@@ -73,41 +74,43 @@ fn put_integer(
 ) -> Result<(), AllocError>
     ensures { Puts (type_tokens (integer low high)) printer.old result printer.new }
 {
-    printer.word("INTEGER")?;
+    put_words(printer, LeafWord::Integer)?;
     put_bounds(alloc, printer, low, high)
 }
 
-fn put_words(printer: &mut Printer, one: &str, other: &str) -> Result<(), AllocError>
-    ensures { Puts (word one.now ∷ word other.now ∷ []) printer.old result printer.new }
+/// The words of a type that holds no other.
+fn put_words(printer: &mut Printer, leaf: LeafWord) -> Result<(), AllocError>
+    ensures { Puts (with_words leaf []) printer.old result printer.new }
 {
-    printer.word(one)?;
-    printer.word(other)
+    let words = leaf.words();
+    printer.word(words.first)?;
+    match words.second {
+        Some(second) => printer.word(second),
+        None => Ok(()),
+    }
 }
 
-/// A word, STRING, and a size where there is one.
-fn put_binary(
+/// The words of a type, and a size where there is one.
+#[tactic(auto, using(crate::proofs::Printed::words_first))]
+fn put_sized(
     alloc: Global,
     printer: &mut Printer,
-    name: &str,
+    leaf: LeafWord,
     size: Size,
 ) -> Result<(), AllocError>
-    ensures { Puts (word name.now ∷ word (codes "STRING") ∷ size_tokens size) printer.old result printer.new }
+    ensures { Puts (with_words leaf (size_tokens size)) printer.old result printer.new }
 {
-    printer.word(name)?;
-    put_string(alloc, printer, "STRING", size)
-}
-
-/// A word, and a size where there is one.
-fn put_string(
-    alloc: Global,
-    printer: &mut Printer,
-    name: &str,
-    size: Size,
-) -> Result<(), AllocError>
-    ensures { Puts (word name.now ∷ size_tokens size) printer.old result printer.new }
-{
-    printer.word(name)?;
+    put_words(printer, leaf)?;
     put_size(alloc, printer, size)
+}
+
+/// The words of a type that holds no other, and an opening brace.
+#[tactic(auto, using(crate::proofs::Printed::words_first))]
+fn open_leaf(printer: &mut Printer, leaf: LeafWord) -> Result<(), AllocError>
+    ensures { Puts (with_words leaf (sign OpenBrace ∷ [])) printer.old result printer.new }
+{
+    put_words(printer, leaf)?;
+    printer.sign(Sign::OpenBrace)
 }
 
 /// A word and an opening brace.
@@ -135,7 +138,7 @@ fn put_enumerated(
 ) -> Result<(), AllocError>
     ensures { Puts (type_tokens (enumerated (map named_number items.now) extensible)) printer.old result printer.new }
 {
-    open(printer, "ENUMERATED")?;
+    open_leaf(printer, LeafWord::Enumerated)?;
     put_items(alloc, printer, items)?;
     if !extensible {
         return printer.sign(Sign::CloseBrace);
@@ -197,7 +200,8 @@ fn put_list(
 ) -> Result<(), AllocError>
     ensures { Puts (type_tokens (sequence_of size (type_of item.now))) printer.old result printer.new }
 {
-    put_string(alloc, printer, "SEQUENCE", size)?;
+    printer.word("SEQUENCE")?;
+    put_size(alloc, printer, size)?;
     printer.word("OF")?;
     put_type(alloc, item, printer)
 }

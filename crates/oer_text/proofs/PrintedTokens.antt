@@ -1,26 +1,31 @@
 -- The tokens of a type are the type, and its text falls into them.
 use Rattle.std.proofs.Common.{◌≡◌, ℕ, ◌+◌, List, [], ◌∷◌, ◌++◌, Bool, true, false, cond, ◌&&◌, inl, inr, Option, Some, None, Ok, refl, subst, append-nil}
-use Rattle.std.specs.Prelude.{codes}
+use Rattle.std.specs.Prelude.{IfSome, codes}
 use Rattle.std.proofs.lemmas.Bool.{and_parts}
 use Rattle.oer_lexer.specs.FallsInto.{FallsInto}
+use Rattle.oer_lexer.specs.LeafWords.{behind_second, with_words, words_of}
 use Rattle.oer_lexer.specs.Token.{Token, sign}
+use Rattle.oer_lexer.specs.declared.leaf.LeafWord.{LeafWord}
+use Rattle.oer_lexer.specs.declared.leaf.LeafWord.TheVariants as words
 use Rattle.oer_lexer.specs.declared.token.Sign.TheVariants.{Comma}
 use Rattle.oer_types.specs.LeafType as kind
-use Rattle.oer_types.specs.LeafType.{LeafType}
+use Rattle.oer_types.specs.LeafType.{LeafType, string_size}
 use Rattle.oer_types.specs.AsnType.{Additions, Alternatives, AsnType, Fields, Need, addition, alternative, choice, default, extensible_sequence, field, ia5, later, leaf, may, must, no_additions, no_alternatives, no_fields, numeric, printable, sequence, sequence_of, visible}
 use Rattle.oer_types.specs.Fits.{Fits, DefaultFits, DefaultsFit, FieldDefaultsFit, AdditionDefaultsFit, AlternativeDefaultsFit}
 use Rattle.oer_types.specs.Laws.{WellFormedDefaults}
 use Rattle.oer_types.specs.WellFormed.{AnyOf, Repeats, Somewhere, InFields, InAdditions, InAlternatives, HasNoItems, IsWellFormed, is_identifier, names, item_names, field_names, addition_names, alternative_names}
-use Rattle.oer_types.specs.Widths.{AdditionsHaveWidths, AlternativesHaveWidths, AreInOrder, AreLater as AllLater, FieldsHaveWidths, HasWidths, LeafHasWidths}
+use Rattle.oer_types.specs.Widths.{AdditionsHaveWidths, AlternativesHaveWidths, AreInOrder, AreLater as AllLater, FieldsHaveWidths, HasWidths, HasSizeWidths, LeafHasWidths}
 use Rattle.oer_types.specs.declared.fault.SchemaFault.TheVariants.{BadName, RepeatedName, NoItems}
+use Rattle.oer_types.specs.declared.size.Size.{Size}
 use Rattle.oer_units.specs.Laws.{HasTagNumber}
 use Rattle.oer_units.specs.declared.tagging.Tag.{Tag}
-use Rattle.oer_notation.specs.Grammar.{Spells, IsNeed, needed, optional, with_default, plain_addition, in_brackets, IsType, boolean_type, null_type, object_id_type, integer_type, enumerated_type, octet_string_type, bit_string_type, restricted_string_type, utf8_string_type, empty_sequence_type, sequence_type, extensible_sequence_type, sequence_of_type, choice_type, AreComponents, no_components, component, components_marker, AreAdditions, none_added, added, AreAlternatives, none_left, an_alternative, alternatives_marker, AreLater, none_later, a_later}
+use Rattle.oer_notation.specs.Grammar.{Spells, IsNeed, needed, optional, with_default, plain_addition, in_brackets, IsLeaf, bounds_behind, items_behind, nothing_behind, size_behind, IsType, leaf_type, empty_sequence_type, sequence_type, extensible_sequence_type, sequence_of_type, choice_type, AreComponents, no_components, component, components_marker, AreAdditions, none_added, added, AreAlternatives, none_left, an_alternative, alternatives_marker, AreLater, none_later, a_later}
+use Rattle.oer_notation.specs.Leaves.{LeafForm, bounded, leaf_form, listed, plain as unconstrained, sized}
 use Rattle.oer_notation.specs.Laws.{ParseComplete}
 use Rattle.oer_notation.specs.Parsing.{parse}
 use Rattle.oer_literals.specs.Items.{items_of, leaf_items}
-use Rattle.oer_printer.specs.Printing.{printed, spaced, after_commas, marker, marker_if, need_tokens, type_tokens, field_parts, addition_parts, root_parts, later_parts, has_notation, need_has_notation, have_notation, additions_have_notation, alternatives_have_notation}
-use Rattle.oer_text.proofs.PrintedNumbers.{AllIds, ids, split_ids, id_given, worded}
+use Rattle.oer_printer.specs.Printing.{constraint_tokens, printed, size_if, size_tokens, spaced, words_for, after_commas, marker, marker_if, need_tokens, type_tokens, field_parts, addition_parts, root_parts, later_parts, has_notation, need_has_notation, have_notation, additions_have_notation, alternatives_have_notation}
+use Rattle.oer_text.proofs.PrintedNumbers.{AllIds, ids, split_ids, id_given, is_word_text, worded}
 use Rattle.oer_text.proofs.PrintedParts.{bounds_given, size_given, items_given, tag_given}
 use Rattle.oer_text.proofs.PrintedText.{AreTokens, no_tokens, plain, single, both, falls_into}
 use Rattle.oer_text.proofs.PrintedValues.{value_given}
@@ -115,26 +120,67 @@ later_step place name t T more i l d r =
 
 -- ---- types
 
-leaf_type_given : (kind : LeafType) → Clean (λ Q. Q (leaf kind)) → LeafHasWidths kind → has_notation (leaf kind) ≡ true → Printed (leaf kind)
-leaf_type_given kind.boolean c h n = (boolean_type, worded (codes "BOOLEAN") refl no_tokens)
-leaf_type_given kind.null c h n = (null_type, worded (codes "NULL") refl no_tokens)
-leaf_type_given (kind.integer low high) c h n = let b = bounds_given low high h.0 h.1 in (integer_type b.0, worded (codes "INTEGER") refl b.1)
-leaf_type_given (kind.enumerated [] extensible) c h n = absurd (c.some tt)
-leaf_type_given (kind.enumerated (i ∷ is) extensible) c h n =
+-- what stands behind the words is a size, or nothing
+abbrev Makes : LeafForm → Option Size → LeafType → Type 0
+Makes (unconstrained L) None M = L ≡ M
+Makes (unconstrained L) (Some size) M = ⊥
+Makes (bounded make) o M = ⊥
+Makes (listed make) o M = ⊥
+Makes (sized make) None M = ⊥
+Makes (sized make) (Some size) M = make size ≡ M
+
+abbrev Behind : LeafForm → LeafType → List Token → Type 0
+Behind n L ts = IsLeaf n L ts × AreTokens ts
+
+sized_given : (n : LeafForm) (o : Option Size) (L : LeafType) → Makes n o L → IfSome o HasSizeWidths → Behind n L (size_if o)
+sized_given (unconstrained L) None M e h = (subst (λ M. IsLeaf (unconstrained L) M []) e nothing_behind, no_tokens)
+sized_given (unconstrained L) (Some size) M e h = absurd e
+sized_given (bounded make) o M e h = absurd e
+sized_given (listed make) o M e h = absurd e
+sized_given (sized make) None M e h = absurd e
+sized_given (sized make) (Some size) M e h =
+    let z = size_given size h in
+    (subst (λ M. IsLeaf (sized make) M (size_tokens size)) e (size_behind z.0), z.1)
+
+constraint_given : (kind : LeafType) → Clean (λ Q. Q (leaf kind)) → LeafHasWidths kind → Behind (leaf_form (words_for kind)) kind (constraint_tokens kind)
+constraint_given (kind.integer low high) c h = let b = bounds_given low high h.0 h.1 in (bounds_behind b.0, b.1)
+constraint_given (kind.enumerated [] extensible) c h = absurd (c.some tt)
+constraint_given (kind.enumerated (i ∷ is) extensible) c h =
     let r = items_given (i ∷ is) extensible 0 (ids (item_names (i ∷ is)) c.named) h in
-    (enumerated_type r.0, worded (codes "ENUMERATED") refl (single refl (both (drop_comma r.1) (single refl no_tokens))))
-leaf_type_given (kind.bit_string size) c h n = let z = size_given size h in (bit_string_type z.0, worded (codes "BIT") refl (worded (codes "STRING") refl z.1))
-leaf_type_given (kind.octet_string size) c h n = let z = size_given size h in (octet_string_type z.0, worded (codes "OCTET") refl (worded (codes "STRING") refl z.1))
-leaf_type_given kind.object_id c h n = (object_id_type, worded (codes "OBJECT") refl (worded (codes "IDENTIFIER") refl no_tokens))
-leaf_type_given (kind.restricted_string ia5 size) c h n = let z = size_given size h in (restricted_string_type z.0, worded (codes "IA5String") refl z.1)
-leaf_type_given (kind.restricted_string visible size) c h n = let z = size_given size h in (restricted_string_type z.0, worded (codes "VisibleString") refl z.1)
-leaf_type_given (kind.restricted_string numeric size) c h n = let z = size_given size h in (restricted_string_type z.0, worded (codes "NumericString") refl z.1)
-leaf_type_given (kind.restricted_string printable size) c h n = let z = size_given size h in (restricted_string_type z.0, worded (codes "PrintableString") refl z.1)
-leaf_type_given (kind.utf8_string size) c h n = let z = size_given size h in (utf8_string_type z.0, worded (codes "UTF8String") refl z.1)
+    (items_behind r.0, single refl (both (drop_comma r.1) (single refl no_tokens)))
+constraint_given (kind.restricted_string ia5 size) c h = sized_given _ (Some size) _ refl h
+constraint_given (kind.restricted_string visible size) c h = sized_given _ (Some size) _ refl h
+constraint_given (kind.restricted_string numeric size) c h = sized_given _ (Some size) _ refl h
+constraint_given (kind.restricted_string printable size) c h = sized_given _ (Some size) _ refl h
+constraint_given L c h = sized_given (leaf_form (words_for L)) (string_size L) L refl h
+
+first_text : (k : LeafWord) → is_word_text (words_of k).0 ≡ true
+first_text words.Boolean = refl
+first_text _ = refl
+
+abbrev is_second_text : Option (List ℕ) → Bool
+is_second_text None = true
+is_second_text (Some w) = is_word_text w
+
+second_text : (k : LeafWord) → is_second_text (words_of k).1 ≡ true
+second_text words.Boolean = refl
+second_text _ = refl
+
+second_spelt : (o : Option (List ℕ)) (ts : List Token) → is_second_text o ≡ true → AreTokens ts → AreTokens (behind_second o ts)
+second_spelt None ts h a = a
+second_spelt (Some w) ts h a = worded w h a
+
+words_spelt : (k : LeafWord) (ts : List Token) → AreTokens ts → AreTokens (with_words k ts)
+words_spelt k ts a = worded (words_of k).0 (first_text k) (second_spelt (words_of k).1 ts (second_text k) a)
+
+leaf_type_given : (kind : LeafType) → Clean (λ Q. Q (leaf kind)) → LeafHasWidths kind → Printed (leaf kind)
+leaf_type_given kind c h =
+    let b = constraint_given kind c h in
+    (leaf_type (words_for kind) b.0, words_spelt (words_for kind) (constraint_tokens kind) b.1)
 
 mutual
   types_given : (T : AsnType) → Clean (λ Q. Somewhere Q T) → DefaultsFit T → HasWidths T → has_notation T ≡ true → Printed T
-  types_given (leaf kind) c d h n = leaf_type_given kind c h n
+  types_given (leaf kind) c d h n = leaf_type_given kind c h
   types_given (sequence fs) c d h n =
       let r = fields_given fs (ids (field_names fs) (λ a. c.named (inl a))) (narrow c (λ Q q. inr q)) d h n None [] (no_components, no_tokens) in
       sequence_from fs (subst (PrintedFields fs None) (append-nil (field_parts fs)) r)

@@ -275,7 +275,7 @@ leaf_value_given (kind.enumerated is marker) v a n f h =
     let k : is_some (name_of is f.0) ≡ true = subst (λ x. value_has_notation is x ≡ true) f.1 h in
     subst (IsGiven (enumerated is marker)) (sym f.1) (given_enum is marker f.0 (named is f.0 a n k))
 leaf_value_given (kind.bit_string size) v a n f h = subst (IsGiven (bit_string size)) (sym f.1) (given_bits size f.0)
-leaf_value_given (kind.octet_string size) v a n f h = subst (IsGiven (octet_string size)) (sym f.1) (given_octets size f.0 f.2)
+leaf_value_given (kind.octet_string size) v a n f h = subst (IsGiven (octet_string size)) (sym f.1) (given_octets size f.0 f.2.0)
 leaf_value_given kind.object_id v a n f h =
     let p = f.2 in
     let first = p.4 in
@@ -284,10 +284,10 @@ leaf_value_given kind.object_id v a n f h =
     subst (IsGiven object_id) (sym e) (given_oid p.0 p.1 p.2 (omega (arith, first), (omega (arith, first, second), p.7)))
 leaf_value_given (kind.restricted_string letters size) v a n f h =
     let k : is_visible (chars f.0) ≡ true = subst (λ x. value_has_notation [] x ≡ true) f.1 h in
-    subst (IsGiven (restricted_string letters size)) (sym f.1) (given_string letters size f.0 (IsUtf8-from_ascii f.0 (chars_low letters f.0 f.3)) k)
+    subst (IsGiven (restricted_string letters size)) (sym f.1) (given_string letters size f.0 (IsUtf8-from_ascii f.0 (chars_low letters f.0 f.2.1)) k)
 leaf_value_given (kind.utf8_string size) v a n f h =
     let k : is_visible (chars f.0) ≡ true = subst (λ x. value_has_notation [] x ≡ true) f.1 h in
-    subst (IsGiven (utf8_string size)) (sym f.1) (given_utf8 size f.0 (IsUtf8-from_is_utf8 f.0 f.3) k)
+    subst (IsGiven (utf8_string size)) (sym f.1) (given_utf8 size f.0 (IsUtf8-from_is_utf8 f.0 f.2.1) k)
 
 pub value_given : (T : AsnType) (v : AsnValue) → AllIds (item_names (items_of T)) → (Repeats (item_names (items_of T)) → ⊥) → Fits T v → value_has_notation (items_of T) v ≡ true → IsGiven T v
 value_given (leaf kind) v a n f h = leaf_value_given kind v a n f h

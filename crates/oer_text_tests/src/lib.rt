@@ -6,6 +6,8 @@ mod json;
 #[cfg(test)]
 mod lexer;
 #[cfg(test)]
+mod literals;
+#[cfg(test)]
 mod printing;
 #[cfg(test)]
 mod text;

@@ -1,19 +1,21 @@
 -- A value, filled, has one canonical encoding.
-use Rattle.std.proofs.Common.{◌≡◌, ℕ, suc, max, ◌+◌, ◌*◌, ◌≤◌, List, [], ◌∷◌, ◌++◌, length, Bool, true, false, if◌then◌else◌, ℤ, pos, inl, inr, refl, ap, ap₂, sym, ◌∙◌, subst, arith, length-append, Option, Some, None}
+use Rattle.std.proofs.Common.{◌≡◌, ℕ, suc, max, ◌+◌, ◌≤◌, List, [], ◌∷◌, ◌++◌, length, Bool, true, false, if◌then◌else◌, ℤ, pos, inl, inr, refl, ap, ap₂, sym, ◌∙◌, subst, arith, length-append, Option, Some, None}
 use Rattle.oer_units.specs.Numbers.{unsigned, signed, natural}
 use Rattle.oer_units.specs.Octets.{IsOctets, IsShortest}
-use Rattle.oer_units.specs.Spelling.{IsLength, IsCounted, IsTag, StandsFor, IsEnumerated, IsSubidentifier, IsObjectId, IsJoined}
+use Rattle.oer_units.specs.Spelling.{IsLength, IsTag, StandsFor, IsEnumerated, IsJoined}
 use Rattle.oer_units.specs.declared.tagging.Tag.{Tag}
-use Rattle.oer_units.proofs.Digits.{base128_one, tag_one}
+use Rattle.oer_units.proofs.Digits.{tag_one}
 use Rattle.oer_units.proofs.OneSpelling.{unsigned_one, len_one, counted_least, signed_one}
+use Rattle.oer_types.proofs.Contents.{content_plain}
 use Rattle.oer_types.proofs.Unique.{preamble_one, bits_one}
 use Rattle.oer_types.specs.LeafType as kind
 use Rattle.oer_types.specs.LeafType.{LeafType}
-use Rattle.oer_types.specs.AsnType.{Additions, Alternatives, AsnType, Fields, NamedNumber, Need, addition, alternative, boolean, choice, default, enumerated, extensible_sequence, field, integer, later, leaf, may, must, no_additions, no_alternatives, no_fields, object_id, octet_string, restricted_string, sequence, sequence_of, utf8_string}
-use Rattle.oer_types.specs.AsnValue.{Unknown, unknown, AsnValue, bool, int, enum, bit_list, text, oid, octets, seq, items, chosen, foreign, Places, no_places, absent, present}
+use Rattle.oer_types.specs.AsnType.{Additions, Alternatives, AsnType, Fields, NamedNumber, Need, addition, alternative, boolean, choice, default, enumerated, extensible_sequence, field, integer, later, leaf, may, must, no_additions, no_alternatives, no_fields, sequence, sequence_of}
+use Rattle.oer_types.specs.AsnValue.{Unknown, unknown, AsnValue, bool, int, enum, bit_list, seq, items, chosen, foreign, Places, no_places, absent, present}
 use Rattle.oer_types.specs.Bits.{all_false}
-use Rattle.oer_types.specs.Constraints.{same_tag, size_fits, fixed, all_characters, Form, unsigned_fixed, signed_fixed, unsigned_counted, signed_counted, form_of, optional, optional_with, addition_count}
-use Rattle.oer_types.specs.Encoding.{SpellsInteger, SpellsOctets, SpellsText, IsPresent, IsAbsent, ByBit, ByTag, IsItself, SpellsUnknown, IsSpelling}
+use Rattle.oer_types.specs.Canonical.{leaf_octets}
+use Rattle.oer_types.specs.Constraints.{same_tag, size_fits, fixed, Form, unsigned_fixed, signed_fixed, unsigned_counted, signed_counted, form_of, optional, optional_with, addition_count}
+use Rattle.oer_types.specs.Encoding.{SpellsInteger, IsPresent, IsAbsent, ByBit, ByTag, IsItself, SpellsUnknown, IsSpelling}
 use Rattle.oer_types.specs.Filling.{map_sequence, map_values, map_items, map_chosen, filled_absent, filled_place, filled_by_tag, filled, filled_fields, filled_additions, filled_alternative}
 use Rattle.oer_types.specs.Fits.{after_last, listed, all_absent}
 use Rattle.oer_types.specs.Strict.{IsCanonical, IsLeastSpelling, IsStrictLeafSpelling, IsStrictSpelling, SpellsAdditionsStrictly, SpellsAlternativeStrictly, SpellsFieldsStrictly, StrictBitString, StrictBits, StrictChosen, StrictCounted, StrictExtension, StrictNeed, StrictPreamble, StrictQuantity}
@@ -66,44 +68,6 @@ enumerated_one numbers extensible v b c (o, s, least) (o', t, least') = go s t
         let i = least c o' t in
         let j = least' b o s in
         enum_form_one z b c o o' (omega arith) x (subst (λ y. IsEnumerated y c) (sym same) x')
-
-octets_one : (fix : Option ℕ) (size : Size) (w b c : List ℕ) → Pair (SpellsOctets fix size w) b c → b ≡ c
-octets_one (Some n) size w b c ((o, s, least), (o', t, least')) = s.0 ∙ sym t.0
-octets_one None size w b c (s, t) = counted_least (λ x c. (c ≡ x) × (size_fits size (length c) ≡ true)) w (λ u z o o' n x y. x.0 ∙ sym y.0) b c s t
-
-octet_string_one : (size : Size) (v : AsnValue) (b c : List ℕ) → IsLeastSpelling (octet_string size) v b → IsLeastSpelling (octet_string size) v c → b ≡ c
-octet_string_one size v b c (o, (w, is, s), least) (o', (x, is', t), least') =
-    let both : octets w ≡ octets x = sym is ∙ is' in
-    let same : w ≡ x = cc in
-    octets_one (fixed size) size w b c ((o, s, λ d od sd. least d od (w, is, sd)), (o', subst (λ w. SpellsOctets (fixed size) size w c) (sym same) t, λ d od sd. least' d od (w, is, sd)))
-
-text_one : (test : List ℕ → Bool) (size : Size) (v : AsnValue) (b c : List ℕ) → Pair (λ b. (w : List ℕ) × (v ≡ text w) × SpellsText test (fixed size) size w b) b c → b ≡ c
-text_one test size v b c ((o, (w, is, (s, ok)), least), (o', (x, is', (t, ok')), least')) =
-    let both : text w ≡ text x = sym is ∙ is' in
-    let same : w ≡ x = cc in
-    octets_one (fixed size) size w b c ((o, s, λ d od sd. least d od (w, is, (sd, ok))), (o', subst (λ w. SpellsOctets (fixed size) size w c) (sym same) t, λ d od sd. least' d od (w, is, (sd, ok))))
-
-utf8_one : (size : Size) (v : AsnValue) (b c : List ℕ) → IsLeastSpelling (utf8_string size) v b → IsLeastSpelling (utf8_string size) v c → b ≡ c
-utf8_one size v b c (o, (w, is, ok, fits, s), least) (o', (x, is', ok', fits', t), least') =
-    let both : text w ≡ text x = sym is ∙ is' in
-    let same : w ≡ x = cc in
-    counted_least IsItself w (λ u z o o' n x y. x ∙ sym y) b c (o, s, λ d od sd. least d od (w, is, ok, fits, sd)) (o', subst (λ w. IsCounted IsItself w c) (sym same) t, λ d od sd. least' d od (w, is, ok, fits, sd))
-
-subs_one : (xs : List ℕ) (w z : List ℕ) → IsJoined IsSubidentifier xs w → IsJoined IsSubidentifier xs z → w ≡ z
-subs_one [] w z e e' = e ∙ sym e'
-subs_one (x ∷ xs) w z (b1, b2, e, s, r) (c1, c2, e', t, r') = e ∙ ap₂ (λ x y. x ++ y) (base128_one x b1 c1 s.0 t.0) (subs_one xs b2 c2 r r') ∙ sym e'
-
-oid_form_one : (arcs w z : List ℕ) → IsObjectId arcs w → IsObjectId arcs z → w ≡ z
-oid_form_one arcs w z (a, b, rest, is, low, under, s) (a', b', rest', is', low', under', t) =
-    let both : a ∷ b ∷ rest ≡ a' ∷ b' ∷ rest' = sym is ∙ is' in
-    let xs : (40 * a + b) ∷ rest ≡ (40 * a' + b') ∷ rest' = cc in
-    subs_one ((40 * a + b) ∷ rest) w z s (subst (λ xs. IsJoined IsSubidentifier xs z) (sym xs) t)
-
-oid_one : (v : AsnValue) (b c : List ℕ) → IsLeastSpelling object_id v b → IsLeastSpelling object_id v c → b ≡ c
-oid_one v b c (o, (w, is, s), least) (o', (x, is', t), least') =
-    let both : oid w ≡ oid x = sym is ∙ is' in
-    let same : w ≡ x = cc in
-    counted_least IsObjectId w (λ u z o o' n x y. oid_form_one w u z x y) b c (o, s, λ d od sd. least d od (w, is, sd)) (o', subst (λ w. IsCounted IsObjectId w c) (sym same) t, λ d od sd. least' d od (w, is, sd))
 
 -- equal after filling, by f, and so equal with equal octets
 abbrev IsOne : {A : Type 0} → (A → A) → (A → List ℕ → Type 0) → Type 0
@@ -345,10 +309,7 @@ leaf_one (kind.bit_string size) v w b c (s, is, x) (t, is', y) same =
     let both : bit_list s ≡ bit_list t = sym is ∙ same ∙ is' in
     let h : s ≡ t = cc in
     (same, bit_string_one (fixed size) size s b c x (subst (λ s. StrictBitString (fixed size) size s c) (sym h) y))
-leaf_one kind.object_id v w b c s t same = (same, oid_one v b c s (subst (λ w. IsLeastSpelling object_id w c) (sym same) t))
-leaf_one (kind.restricted_string kind size) v w b c s t same = (same, text_one (all_characters kind) size v b c (s, subst (λ w. IsLeastSpelling (restricted_string kind size) w c) (sym same) t))
-leaf_one (kind.utf8_string size) v w b c s t same = (same, utf8_one size v b c s (subst (λ w. IsLeastSpelling (utf8_string size) w c) (sym same) t))
-leaf_one (kind.octet_string size) v w b c s t same = (same, octet_string_one size v b c s (subst (λ w. IsLeastSpelling (octet_string size) w c) (sym same) t))
+leaf_one (kind.content inner) v w b c s t same = (same, content_plain inner v b s ∙ ap (leaf_octets (kind.content inner)) same ∙ sym (content_plain inner w c t))
 
 mutual
   value_one : (T : AsnType) → IsOne (filled T) (IsStrictSpelling T)

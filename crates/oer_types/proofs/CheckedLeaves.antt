@@ -7,16 +7,16 @@ use Rattle.oer_units.specs.Numbers.{natural, signed}
 use Rattle.oer_units.specs.Octets.{IsOctets, IsShortest}
 use Rattle.oer_units.specs.Reader.{Outcome, Place, Reader, give, refuse, bind, then_read, got, refused, guard, choose, within}
 use Rattle.oer_units.specs.Reading as unit
-use Rattle.oer_units.specs.Reading.{determinant, is_int64, octet, number, counted_number, counted_octets, subidentifier, subidentifiers, object_identifier, arcs_of, with_length}
+use Rattle.oer_units.specs.Reading.{determinant, is_int64, octet, counted_octets, subidentifier, subidentifiers, object_identifier, arcs_of, with_length}
 use Rattle.oer_units.specs.Spelling.{IsLength, IsCounted, IsEnumerated, IsObjectId}
-use Rattle.oer_units.specs.declared.fault.Why.TheVariants.{Character, End, IntegerRange, ObjectId, UnknownEnum}
+use Rattle.oer_units.specs.declared.fault.Why.TheVariants.{Character, End, ObjectId, UnknownEnum}
 use Rattle.oer_units.specs.declared.fault.Why.TheVariants as reason
 use Rattle.oer_units.proofs.Closure.{within_lawful, give_lawful, got_place, got_value, same_spellings}
 use Rattle.oer_units.proofs.Counted.{counted_octets_lawful}
 use Rattle.oer_units.proofs.EnumeratedNumbers.{enumeration_lawful}
 use Rattle.oer_units.proofs.Leasts.{fixed_shortest, len_exists, len_small}
 use Rattle.oer_units.proofs.Lengths.{determinant_lawful, octet_lawful}
-use Rattle.oer_units.proofs.ObjectIds.{object_identifier_lawful, contents_lawful}
+use Rattle.oer_units.proofs.ObjectIds.{contents_lawful}
 use Rattle.oer_units.proofs.OneSpelling.{octets_split}
 use Rattle.oer_units.proofs.Units.{tested_lawful}
 use Rattle.oer_types.proofs.Checked.{front_same, and_checked, within_checked, Input, Checked, flag, with_value, read_spelt, judged_checked, checked_as, give_checked, bind_checked, made_checked, guard_checked, flag_checked}
@@ -30,17 +30,21 @@ use Rattle.oer_types.proofs.Computed.{bitmap_plain, value_plain}
 use Rattle.oer_types.proofs.Fitting.{enc_fits}
 use Rattle.oer_types.proofs.Given.{small_from, value_given}
 use Rattle.oer_types.proofs.LeastBits.{length-padded}
-use Rattle.oer_types.proofs.Parts.{length-bits_of, form_lawful, octets_lawful}
+use Rattle.oer_types.proofs.Parts.{OfSize, length-bits_of, form_lawful, octets_lawful}
 use Rattle.oer_types.proofs.StrictEnc.{strict_within}
-use Rattle.oer_types.proofs.Strings.{text_lawful, utf8_lawful}
-use Rattle.oer_types.specs.AsnType.{AsnType, NamedNumber, boolean, null, integer, enumerated, bit_string, object_id, restricted_string, utf8_string, octet_string, Alphabet}
-use Rattle.oer_types.specs.AsnValue.{AsnValue, nothing, bool, int, enum, bit_list, octets, oid, text}
+use Rattle.oer_types.proofs.Contents.{content_lawful, holds, with_characters, with_test, without_characters, without_test}
+use Rattle.oer_types.specs.LeafType as leaf_type
+use Rattle.oer_types.specs.AsnType.{Alphabet, AsnType, NamedNumber, bit_string, boolean, enumerated, integer, leaf, null, octet_string, restricted_string, utf8_string}
+use Rattle.oer_types.specs.AsnValue.{AsnValue, nothing, bool, int, enum, bit_list, leaf_value}
 use Rattle.oer_types.specs.Bits.{all_false, bits_of, octets_for, padded, spare_bits, IsPreamble, IsBits}
-use Rattle.oer_types.specs.Canonical.{bit_octets, bitmap_octets, integer_octets, string_octets, trimmed, plain_octets}
-use Rattle.oer_types.specs.Checking.{judged, and_also, is_least, ends_in_zeros, are_least_bits, check_length, check_integer, check_enumerated, check_bits, check_subidentifiers, check_object_id, check_octet_string, check_text, check_utf8}
+use Rattle.oer_types.specs.Canonical.{bit_octets, bitmap_octets, integer_octets, trimmed, plain_octets}
+use Rattle.oer_types.specs.Checking.{judged, and_also, is_least, ends_in_zeros, are_least_bits, check_length, check_integer, check_enumerated, check_bits, check_content, check_subidentifiers, check_object_id, check_octet_string, check_text, check_utf8}
 use Rattle.oer_types.specs.Constraints.{Form, unsigned_fixed, signed_fixed, unsigned_counted, signed_counted, form_of, in_range, has_number, all_characters, fixed, size_fits, KeepsLimits}
-use Rattle.oer_types.specs.Encoding.{IsItself, IsSpelling, SpellsBits, SpellsInteger, SpellsOctets, SpellsText}
-use Rattle.oer_types.specs.Reading.{read_bits, read_integer, read_octets, read_text, read_utf8, read_value}
+use Rattle.oer_types.specs.ContentType as kind
+use Rattle.oer_types.specs.ContentType.{ContentType}
+use Rattle.oer_types.specs.Contents.{Sized, SpellsContent, content_octets, content_value, fixed_content, read_content, read_octets, read_text, read_utf8, string_octets}
+use Rattle.oer_types.specs.Encoding.{IsItself, IsSpelling, SpellsBits, SpellsInteger}
+use Rattle.oer_types.specs.Reading.{read_bits, read_integer, read_value}
 use Rattle.oer_types.specs.Strict.{IsStrictSpelling, StrictCounted, StrictBits, StrictBitString}
 use Rattle.oer_types.specs.declared.size.Size.{Size}
 
@@ -192,50 +196,6 @@ module _ (numbers : List NamedNumber) (extensible : Bool) where
       goes_on : UnknownEnum ≡ End → ⊥
       goes_on e = cc
 
--- strings of octets and of characters
-pub octet_string_checked : (s : Size) → KeepsLimits (octet_string s) → Checked flag (read_value (octet_string s)) (check_octet_string (fixed s) s) (IsStrictSpelling (octet_string s))
-unfolding check_octet_string
-octet_string_checked s wf = leaf_checked (octet_string s) wf (λ v. refl) (λ v b h. h) (λ v b h. h) _ (checked_as
-    (made_checked octets (λ f. f) (read_octets (fixed s) s) _ (SpellsOctets (fixed s) s) (λ w b. SpellsOctets (fixed s) s w b × (is_least (string_octets (fixed s)) w b ≡ true)) (octets_lawful (fixed s) s) (λ w b h. h.0)
-    (flag_checked (read_octets (fixed s) s) (judged (is_least (string_octets (fixed s))) (read_octets (fixed s) s)) (λ w b. SpellsOctets (fixed s) s w b × (is_least (string_octets (fixed s)) w b ≡ true)) (whether_checked (is_least (string_octets (fixed s))) (read_octets (fixed s) s) (SpellsOctets (fixed s) s) (octets_lawful (fixed s) s))))
-    (λ v b (w, is, (h, t)). ((w, is, h), subst (λ v. eqb (length b) (length (plain_octets (octet_string s) v)) ≡ true) (sym is) t))
-    (λ v b ((w, is, h), t). (w, is, (h, subst (λ v. eqb (length b) (length (plain_octets (octet_string s) v)) ≡ true) is t))))
-
-character_goes_on : Character ≡ End → ⊥
-character_goes_on e = cc
-
-pub text_checked : (kind : Alphabet) (s : Size) → KeepsLimits (restricted_string kind s) → Checked flag (read_value (restricted_string kind s)) (check_text (all_characters kind) (fixed s) s) (IsStrictSpelling (restricted_string kind s))
-unfolding check_text
-text_checked kind s wf = leaf_checked (restricted_string kind s) wf (λ v. refl) (λ v b h. h) (λ v b h. h) _ (checked_as
-    (made_checked text (λ f. f) (read_text (all_characters kind) (fixed s) s) _ (SpellsText (all_characters kind) (fixed s) s) Raw (text_lawful (all_characters kind) (fixed s) s) (λ w b (x, is, p, (h, t)). subst (λ w. SpellsText (all_characters kind) (fixed s) s w b) (sym is) (h, p))
-    (kept_checked (is_least (string_octets (fixed s))) (λ w. w) (λ w. all_characters kind w ≡ true) (read_octets (fixed s) s) (SpellsOctets (fixed s) s) (octets_lawful (fixed s) s) (λ w. guard (all_characters kind w) Character (give w)) (λ w f. guard (all_characters kind w) Character (give f))
-    (λ w. tested_lawful (all_characters kind w) Character (give w) (λ y b. (y ≡ w) × (b ≡ [])) character_goes_on (give_lawful w))
-    (λ w f. guard_checked (all_characters kind w) Character (λ y e. f && e) (give w) (give f) (λ y b. (y ≡ w) × (b ≡ [])) (give_also w f))))
-    (λ v b (w, is, (x, is', p, (h, t))). (let whole : v ≡ text x = is ∙ ap text is' in ((x, whole, (h, p)), subst (λ v. eqb (length b) (length (plain_octets (restricted_string kind s) v)) ≡ true) (sym whole) t)))
-    (λ v b ((w, is, (h, p)), t). (w, is, (w, refl, p, (h, subst (λ v. eqb (length b) (length (plain_octets (restricted_string kind s) v)) ≡ true) is t)))))
-  where
-    Raw : List ℕ → List ℕ → Type 0
-    Raw w b = (x : List ℕ) × (w ≡ x) × (all_characters kind x ≡ true) × (SpellsOctets (fixed s) s x b × (is_least (string_octets (fixed s)) x b ≡ true))
-
-abbrev Fitting : Size → List ℕ → Type 0
-Fitting s w = (is_utf8 w ≡ true) × (size_fits s (length (chars w)) ≡ true)
-
-pub utf8_checked : (s : Size) → KeepsLimits (utf8_string s) → Checked flag (read_value (utf8_string s)) (check_utf8 s) (IsStrictSpelling (utf8_string s))
-unfolding check_utf8
-utf8_checked s wf = leaf_checked (utf8_string s) wf (λ v. refl) (λ v b h. h) (λ v b h. h) _ (checked_as
-    (made_checked text (λ f. f) (read_utf8 s) _ (λ w b. (is_utf8 w ≡ true) × (size_fits s (length (chars w)) ≡ true) × IsCounted IsItself w b) Raw (utf8_lawful s)
-    (λ w b (x, is, (p, q), (h, t)). subst (λ w. (is_utf8 w ≡ true) × (size_fits s (length (chars w)) ≡ true) × IsCounted IsItself w b) (sym is) (p, q, h))
-    (kept_checked (is_least counted) (λ w. w) (Fitting s) counted_octets (IsCounted IsItself) counted_octets_lawful (λ w. guard (is_utf8 w) Character (guard (size_fits s (length (chars w))) reason.Size (give w))) (λ w f. guard (is_utf8 w) Character (guard (size_fits s (length (chars w))) reason.Size (give f)))
-    (λ w. same_spellings (tested_lawful (is_utf8 w) Character _ (λ y b. (size_fits s (length (chars w)) ≡ true) × ((y ≡ w) × (b ≡ []))) character_goes_on (tested_lawful (size_fits s (length (chars w))) reason.Size (give w) (λ y b. (y ≡ w) × (b ≡ [])) size_goes_on (give_lawful w)))
-    (λ y b (p, (q, r)). ((p, q), r)) (λ y b ((p, q), r). (p, (q, r))))
-    (λ w f. checked_as (guard_checked (is_utf8 w) Character (λ y e. f && e) _ _ (λ y b. (size_fits s (length (chars w)) ≡ true) × ((y ≡ w) × (b ≡ []))) (guard_checked (size_fits s (length (chars w))) reason.Size (λ y e. f && e) (give w) (give f) (λ y b. (y ≡ w) × (b ≡ [])) (give_also w f)))
-    (λ y b (p, (q, r)). ((p, q), r)) (λ y b ((p, q), r). (p, (q, r))))))
-    (λ v b (w, is, (x, is', (p, q), (h, t))). (let whole : v ≡ text x = is ∙ ap text is' in ((x, whole, p, q, h), subst (λ v. eqb (length b) (length (plain_octets (utf8_string s) v)) ≡ true) (sym whole) t)))
-    (λ v b ((w, is, p, q, h), t). (w, is, (w, refl, (p, q), (h, subst (λ v. eqb (length b) (length (plain_octets (utf8_string s) v)) ≡ true) is t)))))
-  where
-    Raw : List ℕ → List ℕ → Type 0
-    Raw w b = (x : List ℕ) × (w ≡ x) × Fitting s x × (IsCounted IsItself x b × (is_least counted x b ≡ true))
-
 -- object identifiers
 no_values : {A B : Type 0} (f : A → B) (o : Outcome A) → then_read (λ y. give true) (then_read (λ x. give (f x)) o) ≡ then_read (λ x. give true) o
 unfolding give
@@ -284,15 +244,60 @@ counted_strict S x b i l c e len s same =
     let long : length l ≡ length (length_octets (length c)) = omega (arith, ap length e, length-append l c, length-append (length_octets (length c)) c) in
     (l, c, e, (by_length (IsLength (length c)) (length_octets (length c)) l parts.0 len (len_exists (length c) (len_small (length c) l parts.0 len))).0 (eq-eqb (length l) (length (length_octets (length c))) long), s)
 
-pub object_id_checked : Checked flag (read_value object_id) check_object_id (IsStrictSpelling object_id)
-object_id_checked = leaf_checked object_id tt (λ v. refl) (λ v b h. h) (λ v b h. h) check_object_id (checked_where
-    (made_checked oid (λ f. f) object_identifier check_object_id (IsCounted IsObjectId) (StrictCounted IsObjectId) object_identifier_lawful (λ w b (l, c, e, short, s). (l, c, e, short.1, s)) id_checked)
-    (λ v b i (w, is, (l, c, e, short, s)). (
-    let whole = strict_counted_only IsObjectId w (object_id_octets w) (λ c. oid_only w c) b (l, c, e, short, s) in
-    ((w, is, (l, c, e, short.1, s)), subst (λ v. eqb (length b) (length (plain_octets object_id v)) ≡ true) (sym is) (eq-eqb (length b) (length (counted (object_id_octets w))) (ap length whole)))))
-    (λ v b i ((w, is, (l, c, e, len, s)), t). (
-    let t' : eqb (length b) (length (counted (object_id_octets w))) ≡ true = subst (λ v. eqb (length b) (length (plain_octets object_id v)) ≡ true) is t in
-    (w, is, counted_strict IsObjectId w b i l c e len s (eqb-true (length b) (length (counted (object_id_octets w))) t' ∙ ap (λ c. length (counted c)) (sym (oid_only w c s)))))))
+-- contents, as short as they may be
+abbrev Shortest : ContentType → List ℕ → List ℕ → Type 0
+Shortest kind w b = SpellsContent kind w b × (eqb (length b) (length (string_octets (fixed_content kind) (content_octets kind w))) ≡ true)
+
+character_goes_on : Character ≡ End → ⊥
+character_goes_on e = cc
+
+octets_checked : (s : Size) → KeepsLimits (octet_string s) → Checked flag (read_octets (fixed s) s) (check_octet_string (fixed s) s) (Shortest (kind.octet_string s))
+unfolding check_octet_string
+octets_checked s wf = flag_checked (read_octets (fixed s) s) (judged (is_least (string_octets (fixed s))) (read_octets (fixed s) s)) (Shortest (kind.octet_string s))
+    (whether_checked (is_least (string_octets (fixed s))) (read_octets (fixed s) s) (Sized (fixed s) (OfSize s)) (octets_lawful (fixed s) s refl wf))
+
+text_checked : (letters : Alphabet) (s : Size) → KeepsLimits (restricted_string letters s) → Checked flag (read_text (all_characters letters) (fixed s) s) (check_text (all_characters letters) (fixed s) s) (Shortest (kind.restricted_string letters s))
+unfolding check_text
+text_checked letters s wf = checked_as
+    (kept_checked (is_least (string_octets (fixed s))) (λ w. w) (λ w. all_characters letters w ≡ true) (read_octets (fixed s) s) (Sized (fixed s) (OfSize s)) (octets_lawful (fixed s) s refl wf) (λ w. guard (all_characters letters w) Character (give w)) (λ w f. guard (all_characters letters w) Character (give f))
+    (λ w. tested_lawful (all_characters letters w) Character (give w) (λ y b. (y ≡ w) × (b ≡ [])) character_goes_on (give_lawful w))
+    (λ w f. guard_checked (all_characters letters w) Character (λ y e. f && e) (give w) (give f) (λ y b. (y ≡ w) × (b ≡ [])) (give_also w f)))
+    (λ w b (x, is, p, (h, t)). subst (λ w. Shortest (kind.restricted_string letters s) w b) (sym is) (with_test (all_characters letters) (fixed s) s x b (h, p), t))
+    (λ w b (h, t). (let k = without_test (all_characters letters) (fixed s) s w b h in (w, refl, k.1, (k.0, t))))
+
+abbrev Fitting : Size → List ℕ → Type 0
+Fitting s w = (is_utf8 w ≡ true) × (size_fits s (length (chars w)) ≡ true)
+
+utf8_checked : (s : Size) → KeepsLimits (utf8_string s) → Checked flag (read_utf8 s) (check_utf8 s) (Shortest (kind.utf8_string s))
+unfolding check_utf8
+utf8_checked s wf = checked_as
+    (kept_checked (is_least counted) (λ w. w) (Fitting s) counted_octets (IsCounted IsItself) counted_octets_lawful (λ w. guard (is_utf8 w) Character (guard (size_fits s (length (chars w))) reason.Size (give w))) (λ w f. guard (is_utf8 w) Character (guard (size_fits s (length (chars w))) reason.Size (give f)))
+    (λ w. same_spellings (tested_lawful (is_utf8 w) Character _ (λ y b. (size_fits s (length (chars w)) ≡ true) × ((y ≡ w) × (b ≡ []))) character_goes_on (tested_lawful (size_fits s (length (chars w))) reason.Size (give w) (λ y b. (y ≡ w) × (b ≡ [])) size_goes_on (give_lawful w)))
+    (λ y b (p, (q, r)). ((p, q), r)) (λ y b ((p, q), r). (p, (q, r))))
+    (λ w f. checked_as (guard_checked (is_utf8 w) Character (λ y e. f && e) _ _ (λ y b. (size_fits s (length (chars w)) ≡ true) × ((y ≡ w) × (b ≡ []))) (guard_checked (size_fits s (length (chars w))) reason.Size (λ y e. f && e) (give w) (give f) (λ y b. (y ≡ w) × (b ≡ [])) (give_also w f)))
+    (λ y b (p, (q, r)). ((p, q), r)) (λ y b ((p, q), r). (p, (q, r)))))
+    (λ w b (x, is, (p, q), (h, t)). subst (λ w. Shortest (kind.utf8_string s) w b) (sym is) (with_characters s x b (p, q, h), t))
+    (λ w b (h, t). (let k = without_characters s w b h in (w, refl, (k.0, k.1), (k.2, t))))
+
+id_least : Checked flag object_identifier check_object_id (Shortest kind.object_id)
+id_least = checked_where id_checked
+    (λ w b i (l, c, e, short, s). ((l, c, e, short.1, s), eq-eqb (length b) (length (counted (object_id_octets w))) (ap length (strict_counted_only IsObjectId w (object_id_octets w) (λ c. oid_only w c) b (l, c, e, short, s)))))
+    (λ w b i ((l, c, e, len, s), t). counted_strict IsObjectId w b i l c e len s (eqb-true (length b) (length (counted (object_id_octets w))) t ∙ ap (λ c. length (counted c)) (sym (oid_only w c s))))
+
+words_checked : (kind : ContentType) → KeepsLimits (leaf (leaf_type.content kind)) → Checked flag (read_content kind) (check_content kind) (Shortest kind)
+words_checked (kind.octet_string s) wf = octets_checked s wf
+words_checked kind.object_id wf = id_least
+words_checked (kind.restricted_string letters s) wf = text_checked letters s wf
+words_checked (kind.utf8_string s) wf = utf8_checked s wf
+
+pub content_checked : (kind : ContentType) → KeepsLimits (leaf (leaf_type.content kind)) → Checked flag (read_value (leaf (leaf_type.content kind))) (check_content kind) (IsStrictSpelling (leaf (leaf_type.content kind)))
+content_checked kind wf = leaf_checked (leaf (leaf_type.content kind)) wf (λ v. refl) (λ v b h. h) (λ v b h. h) (check_content kind) (checked_as
+    (made_checked (λ w. leaf_value (content_value kind w)) (λ f. f) (read_content kind) (check_content kind) (SpellsContent kind) (Shortest kind) (content_lawful kind wf) (λ w b h. h.0) (words_checked kind wf))
+    (λ v b (w, is, (h, t)). ((w, is, h), ap (λ d. eqb (length b) (length d)) (plain v w is) ∙ t))
+    (λ v b ((w, is, h), t). (w, is, (h, ap (λ d. eqb (length b) (length d)) (sym (plain v w is)) ∙ t))))
+  where
+    plain : (v : AsnValue) (w : List ℕ) → v ≡ leaf_value (content_value kind w) → plain_octets (leaf (leaf_type.content kind)) v ≡ string_octets (fixed_content kind) (content_octets kind w)
+    plain v w is = ap (plain_octets (leaf (leaf_type.content kind))) is ∙ holds kind [] (λ w. string_octets (fixed_content kind) (content_octets kind w)) w
 
 -- bits
 and_pair : (f g : Bool) → (f && g) ≡ true → (f ≡ true) × (g ≡ true)

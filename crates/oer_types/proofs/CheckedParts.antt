@@ -14,7 +14,7 @@ use Rattle.oer_units.proofs.Leasts.{quantity_exists}
 use Rattle.oer_units.proofs.TagReaders.{tag_lawful}
 use Rattle.oer_units.proofs.Units.{group_lawful, open_lawful, mapped_lawful, tested_lawful, Each, times_lawful}
 use Rattle.oer_types.proofs.Checked.{Input, Checked, flag, with_value, read_spelt, judged_checked, checked_as, give_checked, and_checked, bind_checked, made_checked, guard_checked, same_bind_checked, within_checked, filled_checked, unlike_checked}
-use Rattle.oer_types.proofs.CheckedLeaves.{by_length, with_length_checked, boolean_checked, null_checked, integer_checked, enumerated_checked, bit_string_checked, object_id_checked, text_checked, utf8_checked, octet_string_checked, bits_by_test}
+use Rattle.oer_types.proofs.CheckedLeaves.{by_length, with_length_checked, boolean_checked, null_checked, integer_checked, enumerated_checked, bit_string_checked, content_checked, bits_by_test}
 use Rattle.oer_types.proofs.Computed.{form_computed}
 use Rattle.oer_types.proofs.Given.{canon_given}
 use Rattle.oer_types.proofs.Main.{takes_some, tag_known, open_is_lawful, value_lawful, fields_lawful, adds_lawful, alts_lawful}
@@ -380,10 +380,7 @@ leaf_is_checked kind.null wf = null_checked
 leaf_is_checked (kind.integer low high) wf = integer_checked low high
 leaf_is_checked (kind.enumerated numbers extensible) wf = enumerated_checked numbers extensible
 leaf_is_checked (kind.bit_string z) wf = bit_string_checked z
-leaf_is_checked kind.object_id wf = object_id_checked
-leaf_is_checked (kind.restricted_string kind z) wf = text_checked kind z wf
-leaf_is_checked (kind.utf8_string z) wf = utf8_checked z wf
-leaf_is_checked (kind.octet_string z) wf = octet_string_checked z wf
+leaf_is_checked (kind.content kind) wf = content_checked kind wf
 
 mutual
   pub value_checked : (T : AsnType) → KeepsLimits T → DefaultsFit T → Checked flag (read_value T) (check_value T) (IsStrictSpelling T)

@@ -1,15 +1,16 @@
 -- The computed octets are the canonical ones.
 use Rattle.std.proofs.Common.{◌≡◌, ℕ, suc, inl, inr, Bool, true, false, ◌||◌, if◌then◌else◌, ℤ, List, [], ◌∷◌, ◌++◌, length, Option, Some, None, refl, sym, ap, ap₂, ◌∙◌, subst, arith, length-append}
-use Rattle.oer_units.specs.Least.{counted, unsigned_octets, enumerated_octets, tag_octets, object_id_octets}
+use Rattle.oer_units.specs.Least.{counted, unsigned_octets, enumerated_octets, tag_octets}
 use Rattle.oer_units.specs.Octets.{IsShortest}
-use Rattle.oer_units.specs.Spelling.{IsTag, IsEnumerated, IsObjectId, IsJoined}
+use Rattle.oer_units.specs.Spelling.{IsTag, IsEnumerated, IsJoined}
 use Rattle.oer_units.specs.declared.tagging.Tag.{Tag}
 use Rattle.oer_units.proofs.Digits.{tag_one}
-use Rattle.oer_units.proofs.LeastDigits.{tag_exists, oid_only}
+use Rattle.oer_units.proofs.LeastDigits.{tag_exists}
 use Rattle.oer_units.proofs.Leasts.{quantity_only, enum_exists}
 use Rattle.oer_units.proofs.Ranges.{enum_within}
-use Rattle.oer_types.proofs.Bridge.{strict_counted_only, word_only, integer_exists}
+use Rattle.oer_types.proofs.Bridge.{strict_counted_only, integer_exists}
 use Rattle.oer_types.proofs.Canonical.{integer_one, enumerated_one}
+use Rattle.oer_types.proofs.Contents.{content_plain}
 use Rattle.oer_types.proofs.Fitting.{tag_is}
 use Rattle.oer_types.proofs.Forms.{form_fits}
 use Rattle.oer_types.proofs.LeastBits.{preamble_exists, bits_exist}
@@ -21,12 +22,12 @@ use Rattle.oer_types.proofs.CanonicalForms.{form_of_canonical}
 use Rattle.oer_types.proofs.StrictEnc.{HasCanonicalForm}
 use Rattle.oer_types.specs.LeafType as kind
 use Rattle.oer_types.specs.LeafType.{LeafType}
-use Rattle.oer_types.specs.AsnType.{Additions, Alternatives, AsnType, Fields, NamedNumber, Need, addition, alternative, bit_string, boolean, choice, default, enumerated, extensible_sequence, field, integer, later, leaf, may, must, no_additions, no_alternatives, no_fields, object_id, octet_string, restricted_string, sequence, sequence_of, utf8_string}
+use Rattle.oer_types.specs.AsnType.{Additions, Alternatives, AsnType, Fields, NamedNumber, Need, addition, alternative, bit_string, boolean, choice, default, enumerated, extensible_sequence, field, integer, later, leaf, may, must, no_additions, no_alternatives, no_fields, sequence, sequence_of}
 use Rattle.oer_types.specs.AsnValue.{Unknown, AsnValue, int, enum, seq, items, chosen, value, Places, no_places, absent, present}
 use Rattle.oer_types.specs.Bits.{all_false, padded, spare_bits}
-use Rattle.oer_types.specs.Canonical.{addition_bits, all_octets, any_present, any_unknown, bit_octets, bitmap_octets, by_tag_octets, canonical_octets, count, extension_octets, integer_octets, leaf_octets, place_bits, place_octets, plain_addition_octets, plain_alternative_octets, plain_field_octets, plain_octets, root_bits, same, string_octets, trimmed, trimmed_additions, trimmed_alternative, trimmed_fields, trimmed_place, trimmed_present, unknown_marks, unknown_octets}
-use Rattle.oer_types.specs.Constraints.{same_tag, size_fits, fixed, all_characters, form_of, optional, optional_with, addition_count, any_size}
-use Rattle.oer_types.specs.Encoding.{SpellsInteger, SpellsOctets, SpellsText, IsItself, IsPresent, IsAbsent, ByTag}
+use Rattle.oer_types.specs.Canonical.{addition_bits, all_octets, any_present, any_unknown, bit_octets, bitmap_octets, by_tag_octets, canonical_octets, count, extension_octets, integer_octets, leaf_octets, place_bits, place_octets, plain_addition_octets, plain_alternative_octets, plain_field_octets, plain_octets, root_bits, same, trimmed, trimmed_additions, trimmed_alternative, trimmed_fields, trimmed_place, trimmed_present, unknown_marks, unknown_octets}
+use Rattle.oer_types.specs.Constraints.{same_tag, fixed, form_of, optional, optional_with, addition_count, any_size}
+use Rattle.oer_types.specs.Encoding.{SpellsInteger, IsItself, IsPresent, IsAbsent, ByTag}
 use Rattle.oer_types.specs.Filling.{map_values, filled_by_tag, filled}
 use Rattle.oer_types.specs.Fits.{listed, all_absent}
 use Rattle.oer_types.specs.Laws.{CanonicalComputed}
@@ -56,16 +57,6 @@ bitmap_plain s b p = strict_counted_only StrictBits s (spare_bits (length s) ∷
 pub bit_string_plain : (fix : Option ℕ) (size : Size) (s : List Bool) (b : List ℕ) → StrictBitString fix size s b → b ≡ bit_octets fix s
 bit_string_plain (Some n) size s b (i, p) = preamble_one s b (padded s) p (preamble_exists s)
 bit_string_plain None size s b (i, p) = bitmap_plain s b p
-
-string_plain : (fix : Option ℕ) (size : Size) (w b : List ℕ) → IsShortest (SpellsOctets fix size w) b → b ≡ string_octets fix w
-string_plain (Some n) size w b (o, s, least) = s.0
-string_plain None size w b h = word_only (λ x c. (c ≡ x) × (size_fits size (length c) ≡ true)) w w (λ c r. r.0) b h
-
-octet_string_plain : (size : Size) (v : AsnValue) (b : List ℕ) → IsLeastSpelling (octet_string size) v b → b ≡ plain_octets (octet_string size) v
-octet_string_plain size v b (o, (w, is, s), least) = string_plain (fixed size) size w b (o, s, λ d od sd. least d od (w, is, sd)) ∙ sym (ap (plain_octets (octet_string size)) is)
-
-letters_plain : (test : List ℕ → Bool) (size : Size) (w b : List ℕ) → IsShortest (SpellsText test (fixed size) size w) b → b ≡ string_octets (fixed size) w
-letters_plain test size w b (o, (s, ok), least) = string_plain (fixed size) size w b (o, s, λ d od sd. least d od (sd, ok))
 
 -- trimmed by f, and spelt as p tells
 abbrev ArePlain : (AsnValue → AsnValue) → (AsnValue → List ℕ) → (AsnValue → List ℕ → Type 0) → Type 0
@@ -187,10 +178,7 @@ leaf_plain kind.null v b (is, e) = (refl, e)
 leaf_plain (kind.integer low high) v b s = (refl, integer_plain low high v b s)
 leaf_plain (kind.enumerated numbers extensible) v b s = (refl, enumerated_plain numbers extensible v b s)
 leaf_plain (kind.bit_string size) v b (s, is, x) = (refl, bit_string_plain (fixed size) size s b x ∙ sym (ap (plain_octets (bit_string size)) is))
-leaf_plain kind.object_id v b (o, (w, is, s), least) = (refl, word_only IsObjectId w (object_id_octets w) (λ c r. oid_only w c r) b (o, s, λ d od sd. least d od (w, is, sd)) ∙ sym (ap (plain_octets object_id) is))
-leaf_plain (kind.restricted_string kind size) v b (o, (w, is, s), least) = (refl, letters_plain (all_characters kind) size w b (o, s, λ d od sd. least d od (w, is, sd)) ∙ sym (ap (plain_octets (restricted_string kind size)) is))
-leaf_plain (kind.utf8_string size) v b (o, (w, is, ok, fits, s), least) = (refl, word_only IsItself w w (λ c r. r) b (o, s, λ d od sd. least d od (w, is, ok, fits, sd)) ∙ sym (ap (plain_octets (utf8_string size)) is))
-leaf_plain (kind.octet_string size) v b s = (refl, octet_string_plain size v b s)
+leaf_plain (kind.content inner) v b s = (refl, content_plain inner v b s)
 
 mutual
   pub value_plain : (T : AsnType) → ArePlain (trimmed T) (plain_octets T) (IsStrictSpelling T)

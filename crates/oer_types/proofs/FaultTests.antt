@@ -22,7 +22,8 @@ use Rattle.oer_types.specs.WellFormed.{AnyMisfit, AnyOf, HasCrossedBounds, HasCr
 use Rattle.oer_types.specs.declared.size.Size.{Size}
 use Rattle.oer_types.specs.declared.fault.SchemaFault.{SchemaFault}
 use Rattle.oer_types.specs.declared.fault.SchemaFault.TheVariants.{TooDeep, TooManyParts, BoundOrder, SizeOrder, BadName, RepeatedName, NoItems, RepeatedNumber, RepeatedTag, DefaultMisfit, EmptyElement}
-use Rattle.oer_types.proofs.FitTests.{both, and_true, fit_sound, fit_complete}
+use Rattle.oer_types.proofs.FitTests.{fit_sound, fit_complete}
+use Rattle.oer_types.proofs.Tests.{and_true, both}
 
 never : Decides false ⊥
 never = (λ e. cc, λ h. absurd h)

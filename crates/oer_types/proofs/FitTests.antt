@@ -1,78 +1,21 @@
 -- The test says which values fit.
-use Rattle.std.proofs.Common.{◌≡◌, ◌↔◌, ◌⊎◌, ⊎_elim, inl, inr, ℕ, suc, ◌+◌, ◌*◌, ◌^◌, ◌<◌, ◌≤◌, List, [], ◌∷◌, length, Bool, true, false, not, ◌&&◌, ◌||◌, leb, ltb, if◌then◌else◌, refl, sym, ap, ap₂, ◌∙◌, arith}
-use Rattle.std.proofs.lemmas.Bool.{lt-ltb, ltb-true, leb-true, le-leb, cases_lt}
-use Rattle.std.specs.Str.{is_utf8, chars}
-use Rattle.oer_units.specs.Octets.{IsOctets}
+use Rattle.std.proofs.Common.{◌≡◌, ◌↔◌, ◌⊎◌, inl, inr, ℕ, suc, ◌^◌, List, [], ◌∷◌, length, Bool, true, false, not, ◌&&◌, ◌||◌, leb, ltb, if◌then◌else◌, refl, sym, ap, ap₂, ◌∙◌}
+use Rattle.std.proofs.lemmas.Bool.{lt-ltb, ltb-true, leb-true, le-leb}
 use Rattle.oer_units.specs.Reading.{is_int64}
 use Rattle.oer_units.specs.declared.tagging.Tag.{Tag}
+use Rattle.oer_types.proofs.Contents.{content_complete, content_sound, held_true, holds}
+use Rattle.oer_types.proofs.Tests.{and_true, below_octets, not_true, octets_below}
+pub use Rattle.oer_types.proofs.Tests.{below_all, both}
 use Rattle.oer_types.specs.LeafType as kind
 use Rattle.oer_types.specs.LeafType.{LeafType}
 use Rattle.oer_types.specs.LeafValue.{LeafValue}
 use Rattle.oer_types.specs.LeafValue as leaf_kind
-use Rattle.oer_types.specs.AsnType.{Additions, Alternatives, AsnType, Fields, addition, alternative, bit_string, boolean, choice, default, enumerated, extensible_sequence, field, integer, later, leaf, may, must, no_additions, no_alternatives, no_fields, null, object_id, octet_string, restricted_string, sequence, sequence_of, utf8_string}
+use Rattle.oer_types.specs.AsnType.{Additions, Alternatives, AsnType, Fields, addition, alternative, bit_string, boolean, choice, default, enumerated, extensible_sequence, field, integer, later, leaf, may, must, no_additions, no_alternatives, no_fields, null, sequence, sequence_of}
 use Rattle.oer_types.specs.AsnValue.{AsnValue, Places, Unknown, Values, absent, chosen, foreign, items, leaf_value, no_places, no_values, present, seq, unknown, value}
-use Rattle.oer_types.specs.Constraints.{addition_count, all_characters, has_number, has_tag, same_tag, size_fits}
-use Rattle.oer_types.specs.Fits.{AllBelow, AllFit, AreArcs, Fits, FitsAdditions, FitsAlternative, FitsByTag, FitsFields, FitsLeaf, FitsUnknown, listed}
-use Rattle.oer_types.specs.FitTest.{additions_fit, all_below, all_fit, alternative_fits, arcs_fit, fields_fit, first_arcs, is_fit, is_fit_leaf, is_without, unknown_fit, values_length}
-
-pub both : (a b : Bool) → (a && b) ≡ true → (a ≡ true) × (b ≡ true)
-both true b h = (refl, h)
-both false b h = cc
-
-pub and_true : (a b : Bool) → a ≡ true → b ≡ true → (a && b) ≡ true
-and_true true b h k = k
-and_true false b h k = h
-
-pub not_true : (a : Bool) → not a ≡ true → a ≡ false
-not_true false h = refl
-not_true true h = cc
-
-pub below_octets : (w : List ℕ) → all_below 256 w ≡ true → IsOctets w
-below_octets [] h = tt
-below_octets (x ∷ w) h = let b = both (ltb x 256) (all_below 256 w) h in (ltb-true x 256 b.0, below_octets w b.1)
-
-pub octets_below : (w : List ℕ) → IsOctets w → all_below 256 w ≡ true
-octets_below [] h = refl
-octets_below (x ∷ w) h = and_true (ltb x 256) (all_below 256 w) (lt-ltb x 256 h.0) (octets_below w h.1)
-
-pub below_all : (n : ℕ) (w : List ℕ) → all_below n w ≡ true → AllBelow n w
-below_all n [] h = tt
-below_all n (x ∷ w) h = let b = both (ltb x n) (all_below n w) h in (ltb-true x n b.0, below_all n w b.1)
-
-pub all_are_below : (n : ℕ) (w : List ℕ) → AllBelow n w → all_below n w ≡ true
-all_are_below n [] h = refl
-all_are_below n (x ∷ w) h = and_true (ltb x n) (all_below n w) (lt-ltb x n h.0) (all_are_below n w h.1)
-
-or_cases : (a b : Bool) → (a || b) ≡ true → (a ≡ true) ⊎ (b ≡ true)
-or_cases true b h = inl refl
-or_cases false b h = inr h
-
-or_right : (a b : Bool) → b ≡ true → (a || b) ≡ true
-or_right true b h = refl
-or_right false b h = h
-
-first_sound : (a b : ℕ) → first_arcs a b ≡ true → (a ≤ 2) × (a < 2 → b < 40) × (40 * a + b < 2 ^ 128)
-first_sound a b h =
-    let l = both (leb a 2 && (leb 2 a || ltb b 40)) (ltb (40 * a + b) (2 ^ 128)) h in
-    let k = both (leb a 2) (leb 2 a || ltb b 40) l.0 in
-    (leb-true a 2 k.0, λ small. ⊎_elim (λ e. absurd (let e2 = leb-true 2 a e in omega arith)) (λ e. ltb-true b 40 e) (or_cases (leb 2 a) (ltb b 40) k.1), ltb-true (40 * a + b) (2 ^ 128) l.1)
-
-second_small : (a b : ℕ) → (a < 2 → b < 40) → (leb 2 a || ltb b 40) ≡ true
-second_small a b h = ⊎_elim (λ l. or_right (leb 2 a) (ltb b 40) (lt-ltb b 40 (h l))) (λ g. ap (λ c. c || ltb b 40) (le-leb 2 a g)) (cases_lt a 2)
-
-first_complete : (a b : ℕ) → a ≤ 2 → (a < 2 → b < 40) → 40 * a + b < 2 ^ 128 → first_arcs a b ≡ true
-first_complete a b l k s = and_true (leb a 2 && (leb 2 a || ltb b 40)) (ltb (40 * a + b) (2 ^ 128)) (and_true (leb a 2) (leb 2 a || ltb b 40) (le-leb a 2 l) (second_small a b k)) (lt-ltb (40 * a + b) (2 ^ 128) s)
-
-arcs_sound : (arcs : List ℕ) → arcs_fit arcs ≡ true → AreArcs arcs
-arcs_sound [] h = cc
-arcs_sound (a ∷ []) h = cc
-arcs_sound (a ∷ b ∷ rest) h =
-    let k = both (first_arcs a b) (all_below (2 ^ 128) rest) h in
-    let f = first_sound a b k.0 in
-    (a, b, rest, refl, f.0, f.1, f.2, below_all (2 ^ 128) rest k.1)
-
-arcs_complete : (arcs : List ℕ) → AreArcs arcs → arcs_fit arcs ≡ true
-arcs_complete arcs (a, b, rest, e, l, k, s, r) = ap arcs_fit e ∙ and_true (first_arcs a b) (all_below (2 ^ 128) rest) (first_complete a b l k s) (all_are_below (2 ^ 128) rest r)
+use Rattle.oer_types.specs.Constraints.{addition_count, has_number, has_tag, same_tag, size_fits}
+use Rattle.oer_types.specs.Contents.{content_fits}
+use Rattle.oer_types.specs.Fits.{AllFit, Fits, FitsAdditions, FitsAlternative, FitsByTag, FitsFields, FitsLeaf, FitsUnknown, listed}
+use Rattle.oer_types.specs.FitTest.{additions_fit, all_below, all_fit, alternative_fits, fields_fit, is_fit, is_fit_leaf, is_without, unknown_fit, values_length}
 
 unknown_sound : (n : ℕ) (us : List Unknown) → unknown_fit n us ≡ true → FitsUnknown n us
 unknown_sound n [] h = tt
@@ -140,16 +83,7 @@ leaf_sound kind.null leaf_kind.nothing h = refl
 leaf_sound (kind.integer low high) (leaf_kind.int z) h = (z, refl, h)
 leaf_sound (kind.enumerated xs e) (leaf_kind.enum z) h = let k = both (is_int64 z) (e || has_number xs z) h in (z, refl, k.0, k.1)
 leaf_sound (kind.bit_string s) (leaf_kind.bit_list bits) h = (bits, refl, h)
-leaf_sound kind.object_id (leaf_kind.oid arcs) h = (arcs, refl, arcs_sound arcs h)
-leaf_sound (kind.restricted_string kind s) (leaf_kind.text w) h =
-    let k = both (all_below 256 w) (all_characters kind w && size_fits s (length w)) h in
-    let l = both (all_characters kind w) (size_fits s (length w)) k.1 in
-    (w, refl, below_octets w k.0, l.0, l.1)
-leaf_sound (kind.utf8_string s) (leaf_kind.text w) h =
-    let k = both (all_below 256 w) (is_utf8 w && size_fits s (length (chars w))) h in
-    let l = both (is_utf8 w) (size_fits s (length (chars w))) k.1 in
-    (w, refl, below_octets w k.0, l.0, l.1)
-leaf_sound (kind.octet_string s) (leaf_kind.octets w) h = let k = both (all_below 256 w) (size_fits s (length w)) h in (w, refl, below_octets w k.0, k.1)
+leaf_sound (kind.content inner) v h = let k = held_true inner (content_fits inner) v h in (k.0, ap leaf_value k.1, content_sound inner k.0 k.2)
 leaf_sound kind v h = absurd (cc)
 
 mutual
@@ -205,12 +139,7 @@ leaf_complete kind.null v e = ap (is_fit null) e
 leaf_complete (kind.integer low high) v (z, e, h) = ap (is_fit (integer low high)) e ∙ h
 leaf_complete (kind.enumerated xs x) v (z, e, h, k) = ap (is_fit (enumerated xs x)) e ∙ and_true (is_int64 z) (x || has_number xs z) h k
 leaf_complete (kind.bit_string s) v (bits, e, h) = ap (is_fit (bit_string s)) e ∙ h
-leaf_complete kind.object_id v (arcs, e, h) = ap (is_fit object_id) e ∙ arcs_complete arcs h
-leaf_complete (kind.restricted_string kind s) v (w, e, o, h, k) =
-    ap (is_fit (restricted_string kind s)) e ∙ and_true (all_below 256 w) (all_characters kind w && size_fits s (length w)) (octets_below w o) (and_true (all_characters kind w) (size_fits s (length w)) h k)
-leaf_complete (kind.utf8_string s) v (w, e, o, h, k) =
-    ap (is_fit (utf8_string s)) e ∙ and_true (all_below 256 w) (is_utf8 w && size_fits s (length (chars w))) (octets_below w o) (and_true (is_utf8 w) (size_fits s (length (chars w))) h k)
-leaf_complete (kind.octet_string s) v (w, e, o, h) = ap (is_fit (octet_string s)) e ∙ and_true (all_below 256 w) (size_fits s (length w)) (octets_below w o) h
+leaf_complete (kind.content inner) v (w, e, h) = ap (is_fit (leaf (kind.content inner))) e ∙ holds inner false (content_fits inner) w ∙ content_complete inner w h
 
 mutual
   pub fit_complete : (T : AsnType) (v : AsnValue) → Fits T v → is_fit T v ≡ true

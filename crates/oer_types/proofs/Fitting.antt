@@ -1,37 +1,23 @@
 -- What has an encoding fits its type.
-use Rattle.std.proofs.Common.{◌≡◌, ℕ, zero, suc, ◌+◌, ◌-◌, ◌≤◌, drop, inl, inr, List, [], ◌∷◌, ◌++◌, length, Bool, true, false, ◌&&◌, leb, eqb, if◌then◌else◌, Option, Some, None, refl, ap, sym, ◌∙◌, subst, arith, length-take-le, le-leb, eqb-true}
+use Rattle.std.proofs.Common.{◌≡◌, ℕ, zero, suc, ◌+◌, ◌-◌, ◌≤◌, drop, inl, inr, List, [], ◌∷◌, ◌++◌, length, Bool, true, false, Option, Some, None, refl, ap, sym, ◌∙◌, subst, arith, length-take-le}
 use Rattle.std.proofs.lemmas.List.{drop-drop}
 use Rattle.oer_units.specs.Octets.{IsOctets}
-use Rattle.oer_units.specs.Spelling.{IsCounted, IsJoined, IsTag, IsSubidentifier}
+use Rattle.oer_units.specs.Spelling.{IsCounted, IsJoined, IsTag}
 use Rattle.oer_units.specs.declared.tagging.Tag.{Tag}
-use Rattle.oer_units.proofs.Lengths.{true_both}
 use Rattle.oer_units.proofs.OneSpelling.{octets_split}
-use Rattle.oer_types.proofs.Parts.{length-bits_of}
+use Rattle.oer_types.proofs.Parts.{fixed_fits, length-bits_of}
+use Rattle.oer_types.proofs.Contents.{sized_fit}
 use Rattle.oer_types.specs.LeafType as kind
 use Rattle.oer_types.specs.LeafType.{LeafType}
 use Rattle.oer_types.specs.AsnType.{Additions, Alternatives, AsnType, Fields, Need, addition, alternative, choice, default, extensible_sequence, field, later, leaf, may, must, no_additions, no_alternatives, no_fields, sequence, sequence_of}
-use Rattle.oer_types.specs.AsnValue.{Unknown, unknown, AsnValue, text, Places}
+use Rattle.oer_types.specs.AsnValue.{Unknown, unknown, AsnValue, Places}
 use Rattle.oer_types.specs.Bits.{bits_of, octets_for, first_bit, later_bits, all_false}
 use Rattle.oer_units.specs.Laws.{HasTagNumber}
-use Rattle.oer_types.specs.Constraints.{addition_count, same_tag, HasSizeLimit, size_fits, at_most, fixed, fixed_by, all_characters, KeepsLimits, FieldsKeepLimits, AdditionsKeepLimits, AlternativesKeepLimits}
-use Rattle.oer_types.specs.Encoding.{ByBit, ByNeed, ByTag, IsItself, IsLeafSpelling, IsPresent, IsSpelling, SpellsAdditions, SpellsAlternative, SpellsBits, SpellsExtension, SpellsFields, SpellsOctets, SpellsText, SpellsUnknown}
-use Rattle.oer_types.specs.Fits.{AllBelow, AllFit, Fits, FitsAdditions, FitsAlternative, FitsByTag, FitsFields, FitsLeaf, FitsPlace, FitsUnknown, IsText, IsThere, all_absent}
+use Rattle.oer_types.specs.Constraints.{addition_count, same_tag, HasSizeLimit, size_fits, fixed, KeepsLimits, FieldsKeepLimits, AdditionsKeepLimits, AlternativesKeepLimits}
+use Rattle.oer_types.specs.Contents.{fixed_content}
+use Rattle.oer_types.specs.Encoding.{ByBit, ByNeed, ByTag, IsItself, IsLeafSpelling, IsPresent, IsSpelling, SpellsAdditions, SpellsAlternative, SpellsBits, SpellsExtension, SpellsFields, SpellsUnknown}
+use Rattle.oer_types.specs.Fits.{AllFit, Fits, FitsAdditions, FitsAlternative, FitsByTag, FitsFields, FitsLeaf, FitsPlace, FitsUnknown, IsThere, all_absent}
 use Rattle.oer_types.specs.declared.size.Size.{Size}
-
-fixed_fits : (low : ℕ) (high : Option ℕ) (n : ℕ) → fixed_by low high ≡ Some n → leb low 18446744073709551615 ≡ true → (leb low n && at_most high n && leb n 18446744073709551615) ≡ true
-fixed_fits low None n e small = absurd (cc)
-fixed_fits low (Some h) n e small = by_test (eqb low h) refl e
-  where
-    by_test : (c : Bool) → eqb low h ≡ c → (if c then Some low else None) ≡ Some n → (leb low n && leb n h && leb n 18446744073709551615) ≡ true
-    by_test false t f = absurd (cc)
-    by_test true t f =
-        let one : low ≡ n = cc in
-        let same : low ≡ h = eqb-true low h t in
-        true_both (leb low n && leb n h) (leb n 18446744073709551615) (true_both (leb low n) (leb n h) (le-leb low n (omega arith)) (le-leb n h (omega arith))) (subst (λ k. leb k 18446744073709551615 ≡ true) one small)
-
-octets_fit : (fix : Option ℕ) (size : Size) (w b : List ℕ) → fixed size ≡ fix → HasSizeLimit size → IsOctets b → SpellsOctets fix size w b → IsOctets w × (size_fits size (length w) ≡ true)
-octets_fit (Some n) size w b e small o (f, g) = (subst IsOctets f o, fixed_fits size.low size.high (length w) (e ∙ ap (λ n. Some n) (sym g)) small)
-octets_fit None size w b e small o (l, c, f, len, (is, ok)) = (subst IsOctets is (octets_split l c (subst IsOctets f o)).1, ap (λ v. size_fits size (length v)) (sym is) ∙ ok)
 
 bits_fit : (fix : Option ℕ) (size : Size) (s : List Bool) (b : List ℕ) → fixed size ≡ fix → HasSizeLimit size → SpellsBits fix size s b → size_fits size (length s) ≡ true
 unfolding octets_for
@@ -39,10 +25,6 @@ bits_fit (Some n) size s b e small (f, g) =
     let many : length s ≡ n = ap length g ∙ length-take-le n (bits_of b) (omega (arith, length-bits_of b)) in
     fixed_fits size.low size.high (length s) (e ∙ ap (λ n. Some n) (sym many)) small
 bits_fit None size s b e small (l, c, f, len, (is, ok)) = ok
-
-all_below : (xs : List ℕ) (b : List ℕ) → IsJoined IsSubidentifier xs b → AllBelow 340282366920938463463374607431768211456 xs
-all_below [] b e = tt
-all_below (x ∷ xs) b (b1, b2, e, s, r) = (s.1, all_below xs b2 r)
 
 -- what S spells in octets has P
 abbrev AlwaysFits : {A : Type 0} → (A → List ℕ → Type 0) → (A → Type 0) → Type 0
@@ -115,19 +97,13 @@ extension_fits true more few f ps us b o (s, m, a, u, e, k, zeros, x, r) =
     let parts = octets_split a u (octets_split m (a ++ u) (subst IsOctets e o)).1 in
     (f s ps a parts.0 x, unknown_fits (addition_count more) (65536 - addition_count more) (drop (addition_count more) s) (omega arith) (ap all_false (drop-drop (65536 - addition_count more) (addition_count more) s) ∙ ap (λ n. all_false (drop n s)) (let whole : addition_count more + (65536 - addition_count more) ≡ 65536 = omega arith in whole) ∙ zeros) us u parts.1 r)
 
-text_fits : (test : List ℕ → Bool) (size : Size) → HasSizeLimit size → AlwaysFits (λ v b. (w : List ℕ) × (v ≡ text w) × SpellsText test (fixed size) size w b) (IsText test size)
-text_fits test size small v b o (w, is, (s, ok)) = let both = octets_fit (fixed size) size w b refl small o s in (w, is, both.0, ok, both.1)
-
 leaf_fits : (kind : LeafType) → KeepsLimits (leaf kind) → AlwaysFits (IsLeafSpelling kind) (FitsLeaf kind)
 leaf_fits kind.boolean wf v b o (x, e, is) = (_, is)
 leaf_fits kind.null wf v b o (is, e) = is
 leaf_fits (kind.integer low high) wf v b o (z, is, ok, s) = (z, is, ok)
 leaf_fits (kind.enumerated numbers extensible) wf v b o (z, is, ok, known, s) = (z, is, ok, known)
 leaf_fits (kind.bit_string size) wf v b o (s, is, x) = (s, is, bits_fit (fixed size) size s b refl wf x)
-leaf_fits kind.object_id wf v b o (arcs, is, (l, c, e, len, (x, y, rest, f, low, under, (b1, b2, g, s, r)))) = (arcs, is, (x, y, rest, f, low, under, s.1, all_below rest b2 r))
-leaf_fits (kind.restricted_string kind size) wf v b o s = text_fits (all_characters kind) size wf v b o s
-leaf_fits (kind.utf8_string size) wf v b o (w, is, ok, fits, s) = (w, is, itself_fits w b o s, ok, fits)
-leaf_fits (kind.octet_string size) wf v b o (w, is, s) = let both = octets_fit (fixed size) size w b refl wf o s in (w, is, both.0, both.1)
+leaf_fits (kind.content inner) wf v b o (w, is, s) = (w, is, sized_fit (fixed_content inner) inner w b o s)
 
 mutual
   pub enc_fits : (T : AsnType) → KeepsLimits T → AlwaysFits (IsSpelling T) (Fits T)

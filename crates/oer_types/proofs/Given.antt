@@ -1,21 +1,22 @@
 -- What fits has canonical octets, unless these are too many.
-use Rattle.std.proofs.Common.{◌≡◌, ℕ, suc, ◌^◌, ◌<◌, ◌≤◌, max, inl, inr, Bool, true, false, ◌&&◌, ◌||◌, eqb, leb, if◌then◌else◌, ℤ, List, [], ◌∷◌, ◌++◌, length, map, Option, Some, None, refl, sym, ap, ◌∙◌, subst, arith, length-append, leb-true, eqb-true, ap₂, le-leb}
+use Rattle.std.proofs.Common.{◌≡◌, ℕ, suc, ◌^◌, ◌<◌, ◌≤◌, max, inl, inr, Bool, true, false, ◌&&◌, ◌||◌, leb, if◌then◌else◌, ℤ, List, [], ◌∷◌, ◌++◌, length, map, Option, Some, None, refl, sym, ap, ◌∙◌, subst, arith, length-append, leb-true, ap₂, le-leb}
 use Rattle.std.proofs.lemmas.List.{length-map, drop_all}
-use Rattle.std.specs.Str.{is_utf8, chars}
-use Rattle.oer_units.specs.Least.{octets_needed, length_octets, counted, unsigned_octets, enumerated_octets, tag_octets, object_id_octets}
-use Rattle.oer_units.specs.Octets.{IsOctets, IsShortest}
+use Rattle.oer_units.specs.Least.{octets_needed, length_octets, counted, unsigned_octets, enumerated_octets, tag_octets}
+use Rattle.oer_units.specs.Octets.{IsShortest}
 use Rattle.oer_units.specs.Reading.{is_int64}
-use Rattle.oer_units.specs.Spelling.{IsCounted, IsEnumerated, IsObjectId, IsJoined}
+use Rattle.oer_units.specs.Spelling.{IsEnumerated, IsJoined}
 use Rattle.oer_units.specs.declared.tagging.Tag.{Tag}
-use Rattle.oer_units.proofs.LeastDigits.{tag_exists, oid_only}
+use Rattle.oer_units.proofs.LeastDigits.{tag_exists}
 use Rattle.oer_units.proofs.Leasts.{quantity_exists, enum_exists}
 use Rattle.oer_units.proofs.Lengths.{both_true}
 use Rattle.oer_units.proofs.Numbers.{needed_64}
 use Rattle.oer_units.proofs.Ranges.{enum_within}
-use Rattle.oer_types.proofs.Bridge.{strict_counted_exists, word_exists, integer_exists}
+use Rattle.oer_types.proofs.Bridge.{strict_counted_exists, integer_exists}
+use Rattle.oer_types.proofs.Contents.{content_strict, holds}
 use Rattle.oer_types.proofs.FillFits.{fill_listed}
 use Rattle.oer_types.proofs.Forms.{form_fits}
-use Rattle.oer_types.proofs.LeastBits.{preamble_exists, bits_exist, oid_exists, oid_octets}
+use Rattle.oer_types.proofs.LeastBits.{preamble_exists, bits_exist}
+use Rattle.oer_types.proofs.Parts.{fixed_is}
 use Rattle.oer_types.proofs.Same.{same-refl, same_tag-true}
 use Rattle.oer_types.proofs.Trimming.{fill_trimmed}
 use Rattle.oer_types.proofs.UnknownBits.{fits_rise, marks_length, AreShort, unknown_exists, marks_set, last_below}
@@ -23,15 +24,17 @@ use Rattle.oer_types.proofs.StrictOctets.{strict_octets}
 use Rattle.oer_types.proofs.TrimmedFits.{trim_fits}
 use Rattle.oer_types.specs.LeafType as kind
 use Rattle.oer_types.specs.LeafType.{LeafType}
-use Rattle.oer_types.specs.AsnType.{Additions, Alternatives, AsnType, Fields, NamedNumber, Need, addition, alternative, bit_string, boolean, choice, default, enumerated, extensible_sequence, field, integer, later, leaf, may, must, no_additions, no_alternatives, no_fields, object_id, octet_string, restricted_string, sequence, sequence_of, utf8_string}
-use Rattle.oer_types.specs.AsnValue.{Unknown, unknown, AsnValue, int, enum, text, oid, octets, items, Places, absent, present}
+use Rattle.oer_types.specs.AsnType.{Additions, Alternatives, AsnType, Fields, NamedNumber, Need, addition, alternative, bit_string, boolean, choice, default, enumerated, extensible_sequence, field, integer, later, leaf, may, must, no_additions, no_alternatives, no_fields, sequence, sequence_of}
+use Rattle.oer_types.specs.AsnValue.{Unknown, unknown, AsnValue, int, enum, items, leaf_value, Places, absent, present}
 use Rattle.oer_types.specs.Bits.{all_false, padded, spare_bits}
 use Rattle.oer_types.specs.Canonical.{addition_bits, all_octets, any_present, any_unknown, bit_octets, bitmap_octets, by_tag_octets, canonical_octets, count, extension_octets, integer_octets, leaf_octets, place_bits, place_octets, plain_addition_octets, plain_alternative_octets, plain_field_octets, plain_octets, root_bits, same, string_octets, trimmed, trimmed_additions, trimmed_alternative, trimmed_fields, trimmed_place, unknown_marks, unknown_octets}
 use Rattle.oer_units.specs.Laws.{HasTagNumber}
-use Rattle.oer_types.specs.Constraints.{same_tag, size_fits, at_most, fixed, fixed_by, all_characters, form_of, in_range, has_number, optional, optional_with, addition_count, KeepsLimits, FieldsKeepLimits, AdditionsKeepLimits, AlternativesKeepLimits, any_size}
-use Rattle.oer_types.specs.Encoding.{SpellsInteger, SpellsOctets, SpellsText, IsItself, IsPresent, IsAbsent, ByTag}
+use Rattle.oer_types.specs.Constraints.{same_tag, size_fits, at_most, fixed, form_of, in_range, has_number, optional, optional_with, addition_count, KeepsLimits, FieldsKeepLimits, AdditionsKeepLimits, AlternativesKeepLimits, any_size}
+use Rattle.oer_types.specs.ContentType.{ContentType}
+use Rattle.oer_types.specs.Contents.{FitsContent, content_octets, content_value, fixed_content}
+use Rattle.oer_types.specs.Encoding.{SpellsInteger, IsItself, IsPresent, IsAbsent, ByTag}
 use Rattle.oer_types.specs.Filling.{filled_by_tag, filled}
-use Rattle.oer_types.specs.Fits.{AllFit, AreArcs, Fits, FitsAdditions, FitsAlternative, FitsByTag, FitsFields, FitsLeaf, FitsPlace, FitsUnknown, after_last, all_absent, listed}
+use Rattle.oer_types.specs.Fits.{AllFit, Fits, FitsAdditions, FitsAlternative, FitsByTag, FitsFields, FitsLeaf, FitsPlace, FitsUnknown, after_last, all_absent, listed}
 use Rattle.oer_types.specs.Laws.{CanonicalGiven}
 use Rattle.oer_types.specs.Strict.{IsLeastSpelling, IsStrictLeafSpelling, IsStrictSpelling, SpellsAdditionsStrictly, SpellsAlternativeStrictly, SpellsFieldsStrictly, StrictBitString, StrictBits, StrictCounted, StrictExtension, StrictNeed, StrictQuantity}
 use Rattle.oer_types.specs.declared.size.Size.{Size}
@@ -57,49 +60,6 @@ small_counted c h = small_right (length_octets (length c)) c h
 
 size_below : (size : Size) (n : ℕ) → size_fits size n ≡ true → n < 2 ^ 64
 size_below size n e = let small = leb-true n 18446744073709551615 (both_true (leb size.low n && at_most size.high n) (leb n 18446744073709551615) e).1 in omega arith
-
-fixed_is : (low : ℕ) (high : Option ℕ) (n k : ℕ) → fixed_by low high ≡ Some n → (leb low k && at_most high k && leb k 18446744073709551615) ≡ true → k ≡ n
-fixed_is low None n k e f = absurd (cc)
-fixed_is low (Some h) n k e f = by_test (eqb low h) refl e
-  where
-    by_test : (c : Bool) → eqb low h ≡ c → (if c then Some low else None) ≡ Some n → k ≡ n
-    by_test false t g = absurd (cc)
-    by_test true t g =
-        let one : low ≡ n = cc in
-        let same : low ≡ h = eqb-true low h t in
-        let both = both_true (leb low k) (leb k h) (both_true (leb low k && leb k h) (leb k 18446744073709551615) f).0 in
-        let i = leb-true low k both.0 in
-        let j = leb-true k h both.1 in
-        omega arith
-
-string_exists : (fix : Option ℕ) (size : Size) (w : List ℕ) → fixed size ≡ fix → IsOctets w → size_fits size (length w) ≡ true → IsShortest (SpellsOctets fix size w) (string_octets fix w)
-string_exists (Some n) size w e o f = (o, (refl, fixed_is size.low size.high n (length w) e f), λ d od s. omega (arith, ap length s.0))
-string_exists None size w e o f = word_exists (λ x c. (c ≡ x) × (size_fits size (length c) ≡ true)) w w (λ c r. r.0) o (refl, f) (needed_64 (length w) (size_below size (length w) f))
-
-octet_string_exists : (size : Size) (w : List ℕ) → IsOctets w → size_fits size (length w) ≡ true → IsLeastSpelling (octet_string size) (octets w) (string_octets (fixed size) w)
-octet_string_exists size w o f = go (string_exists (fixed size) size w refl o f)
-  where
-    go : IsShortest (SpellsOctets (fixed size) size w) (string_octets (fixed size) w) → IsLeastSpelling (octet_string size) (octets w) (string_octets (fixed size) w)
-    go (o', s, least) = (o', (w, refl, s), λ d od (x, is, t). (let same : x ≡ w = cc in least d od (subst (λ x. SpellsOctets (fixed size) size x d) same t)))
-
-letters_exist : (test : List ℕ → Bool) (size : Size) (w : List ℕ) → IsOctets w → test w ≡ true → size_fits size (length w) ≡ true
-    → IsShortest (λ b. (x : List ℕ) × (text w ≡ text x) × SpellsText test (fixed size) size x b) (string_octets (fixed size) w)
-letters_exist test size w o ok f = go (string_exists (fixed size) size w refl o f)
-  where
-    go : IsShortest (SpellsOctets (fixed size) size w) (string_octets (fixed size) w) → IsShortest (λ b. (x : List ℕ) × (text w ≡ text x) × SpellsText test (fixed size) size x b) (string_octets (fixed size) w)
-    go (o', s, least) = (o', (w, refl, (s, ok)), λ d od (x, is, (t, ok')). (let same : x ≡ w = cc in least d od (subst (λ x. SpellsOctets (fixed size) size x d) same t)))
-
-utf8_exists : (size : Size) (w : List ℕ) → IsOctets w → is_utf8 w ≡ true → size_fits size (length (chars w)) ≡ true → Small (counted w) → IsLeastSpelling (utf8_string size) (text w) (counted w)
-utf8_exists size w o ok f small = go (word_exists IsItself w w (λ c r. r) o refl (small_needed w (small_counted w small)))
-  where
-    go : IsShortest (IsCounted IsItself w) (counted w) → IsLeastSpelling (utf8_string size) (text w) (counted w)
-    go (o', s, least) = (o', (w, refl, ok, f, s), λ d od (x, is, ok', f', t). (let same : x ≡ w = cc in least d od (subst (λ x. IsCounted IsItself x d) same t)))
-
-oid_leaf : (w : List ℕ) → AreArcs w → Small (counted (object_id_octets w)) → IsLeastSpelling object_id (oid w) (counted (object_id_octets w))
-oid_leaf w a small = go (word_exists IsObjectId w (object_id_octets w) (λ c r. oid_only w c r) (oid_octets w a) (oid_exists w a) (small_needed (object_id_octets w) (small_counted (object_id_octets w) small)))
-  where
-    go : IsShortest (IsCounted IsObjectId w) (counted (object_id_octets w)) → IsLeastSpelling object_id (oid w) (counted (object_id_octets w))
-    go (o', s, least) = (o', (w, refl, s), λ d od (x, is, t). (let same : x ≡ w = cc in least d od (subst (λ x. IsCounted IsObjectId x d) same t)))
 
 integer_leaf : (low high : Option ℤ) (z : ℤ) → in_range low high z ≡ true → IsLeastSpelling (integer low high) (int z) (integer_octets (form_of low high) z)
 integer_leaf low high z ok = go (integer_exists (form_of low high) z (form_fits low high z ok))
@@ -316,16 +276,23 @@ items_given size T vs f a one s =
       every_given (Fits T) (trimmed T) (plain_octets T) (IsStrictSpelling T) one vs a (small_right (counted (unsigned_octets (count (listed ws)))) (all_octets (plain_octets T) (listed ws)) s),
     )
 
+small_content : (fix : Option ℕ) (d : List ℕ) → Small (string_octets fix d) → octets_needed (length d) ≤ 127
+small_content (Some n) d s = small_needed d s
+small_content None d s = small_needed d (small_counted d s)
+
+content_given : (inner : ContentType) (w : List ℕ) → FitsContent inner w → IsGiven (leaf (kind.content inner)) (leaf_value (content_value inner w))
+content_given inner w f s =
+    let octets : List ℕ = content_octets inner w in
+    let is : plain_octets (leaf (kind.content inner)) (leaf_value (content_value inner w)) ≡ string_octets (fixed_content inner) octets = holds inner [] (λ w. string_octets (fixed_content inner) (content_octets inner w)) w in
+    subst (IsStrictSpelling (leaf (kind.content inner)) (leaf_value (content_value inner w))) (sym is) (content_strict inner w f (small_content (fixed_content inner) octets (subst Small is s)))
+
 leaf_given : (kind : LeafType) → KeepsLimits (leaf kind) → AreGiven (FitsLeaf kind) (λ v. v) (leaf_octets kind) (IsStrictLeafSpelling kind)
 leaf_given kind.boolean w v (x, is) = λ s. (x, is, ap (plain_octets boolean) is)
 leaf_given kind.null w v is = λ s. (is, refl)
 leaf_given (kind.integer low high) w v (z, is, ok) = subst (IsGiven (integer low high)) (sym is) (λ s. integer_leaf low high z ok)
 leaf_given (kind.enumerated numbers extensible) w v (z, is, ok, known) = subst (IsGiven (enumerated numbers extensible)) (sym is) (λ s. enumerated_leaf numbers extensible z ok known)
 leaf_given (kind.bit_string size) w v (b, is, f) = subst (IsGiven (bit_string size)) (sym is) (λ s. (b, refl, bit_string_exists (fixed size) size b refl f s))
-leaf_given kind.object_id w v (x, is, a) = subst (IsGiven object_id) (sym is) (λ s. oid_leaf x a s)
-leaf_given (kind.restricted_string kind size) w v (x, is, o, ok, f) = subst (IsGiven (restricted_string kind size)) (sym is) (λ s. letters_exist (all_characters kind) size x o ok f)
-leaf_given (kind.utf8_string size) w v (x, is, o, ok, f) = subst (IsGiven (utf8_string size)) (sym is) (λ s. utf8_exists size x o ok f s)
-leaf_given (kind.octet_string size) w v (x, is, o, f) = subst (IsGiven (octet_string size)) (sym is) (λ s. octet_string_exists size x o f)
+leaf_given (kind.content inner) w v (x, is, f) = subst (IsGiven (leaf (kind.content inner))) (sym is) (content_given inner x f)
 
 mutual
   pub value_given : (T : AsnType) → KeepsLimits T → AreGiven (Fits T) (trimmed T) (plain_octets T) (IsStrictSpelling T)

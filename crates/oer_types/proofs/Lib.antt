@@ -4,6 +4,8 @@ pub mod Shapes
 pub mod Packing
 pub mod Parts
 pub mod Strings
+pub mod Tests
+pub mod Contents
 pub mod Main
 pub mod Unique
 pub mod Canonical

@@ -1,28 +1,28 @@
 -- What the reader of a type reads are its encodings.
 use Rattle.std.proofs.Common.{◌≡◌, ℕ, zero, suc, ◌≤◌, inl, inr, ◌&&◌, ◌||◌, not, List, [], ◌∷◌, ◌++◌, length, Bool, true, false, eqb, if◌then◌else◌, refl, ap, sym, ◌∙◌, subst, append-nil, arith, length-append, ℤ, Option, Some, None}
-use Rattle.std.specs.Str.{is_utf8, chars}
 use Rattle.oer_units.specs.Lawful.{Lawful}
 use Rattle.oer_units.specs.Numbers.{unsigned, signed, natural}
 use Rattle.oer_units.specs.Reader.{Reader, give, guard}
-use Rattle.oer_units.specs.Reading.{octet, is_int64, object_identifier, open_type}
-use Rattle.oer_units.specs.Spelling.{IsLength, IsCounted, StandsFor, IsEnumerated, IsObjectId, IsTag}
+use Rattle.oer_units.specs.Reading.{octet, is_int64, open_type}
+use Rattle.oer_units.specs.Spelling.{IsCounted, StandsFor, IsEnumerated, IsTag}
 use Rattle.oer_units.specs.declared.fault.Why.TheVariants.{End, UnknownAlternative, UnknownEnum}
 use Rattle.oer_units.specs.declared.tagging.Tag.{Tag}
 use Rattle.oer_units.proofs.Closure.{give_lawful, refuse_lawful, bind_lawful, same_spellings}
 use Rattle.oer_units.proofs.EnumeratedNumbers.{enumeration_lawful}
 use Rattle.oer_units.proofs.Lengths.{octet_lawful, open_type_lawful}
-use Rattle.oer_units.proofs.ObjectIds.{object_identifier_lawful}
 use Rattle.oer_units.proofs.Units.{mapped_lawful, tested_lawful}
-use Rattle.oer_types.proofs.Parts.{form_lawful, octets_lawful, by_bit_lawful, by_need_lawful, by_tag_lawful, extension_lawful, sequence_lawful, extensible_lawful, items_lawful, choice_lawful, bits_lawful}
-use Rattle.oer_types.proofs.Strings.{text_lawful, utf8_lawful}
+use Rattle.oer_types.proofs.Parts.{form_lawful, len_some, by_bit_lawful, by_need_lawful, by_tag_lawful, extension_lawful, sequence_lawful, extensible_lawful, items_lawful, choice_lawful, bits_lawful}
+use Rattle.oer_types.proofs.Contents.{content_fixed, content_lawful, may_be_nothing}
 use Rattle.oer_types.specs.LeafType as kind
 use Rattle.oer_types.specs.LeafType.{LeafType}
 use Rattle.oer_types.specs.AsnType.{Additions, Alternatives, AsnType, Fields, addition, alternative, choice, default, extensible_sequence, field, later, leaf, may, must, no_additions, no_alternatives, no_fields, sequence, sequence_of}
-use Rattle.oer_types.specs.AsnValue.{AsnValue, bool, nothing, int, enum, bit_list, text, oid, octets, Places, no_places}
+use Rattle.oer_types.specs.AsnValue.{AsnValue, bool, nothing, int, enum, bit_list, leaf_value, Places, no_places}
 use Rattle.oer_types.specs.Bits.{first_bit, later_bits, octets_for, IsPreamble, IsBits}
-use Rattle.oer_types.specs.Constraints.{AdditionsKeepLimits, AlternativesKeepLimits, FieldsKeepLimits, Form, KeepsLimits, all_characters, fixed, form_of, has_number, has_tag, in_range, is_zero, leaf_may_be_empty, may_all_be_empty, may_be_empty, optional, same_tag, signed_counted, signed_fixed, size_fits, unsigned_counted, unsigned_fixed}
-use Rattle.oer_types.specs.Encoding.{ByTag, IsItself, IsLeafSpelling, IsSpelling, SpellsAdditions, SpellsAlternative, SpellsBits, SpellsExtension, SpellsFields, SpellsInteger, SpellsOctets, SpellsText}
-use Rattle.oer_types.specs.Reading.{read_additions, read_alternative, read_bits, read_extension, read_fields, read_integer, read_leaf, read_octets, read_text, read_utf8, read_value}
+use Rattle.oer_types.specs.Constraints.{AdditionsKeepLimits, AlternativesKeepLimits, FieldsKeepLimits, Form, KeepsLimits, fixed, form_of, has_number, has_tag, in_range, is_zero, leaf_may_be_empty, may_all_be_empty, may_be_empty, optional, same_tag, signed_counted, signed_fixed, size_fits, unsigned_counted, unsigned_fixed}
+use Rattle.oer_types.specs.ContentType.{ContentType}
+use Rattle.oer_types.specs.Contents.{IsContent, Sized, SpellsContent, content_value, fixed_content, read_content}
+use Rattle.oer_types.specs.Encoding.{ByTag, IsLeafSpelling, IsSpelling, SpellsAdditions, SpellsAlternative, SpellsBits, SpellsExtension, SpellsFields, SpellsInteger}
+use Rattle.oer_types.specs.Reading.{read_additions, read_alternative, read_bits, read_extension, read_fields, read_integer, read_leaf, read_value}
 use Rattle.oer_types.specs.declared.size.Size.{Size}
 use Rattle.oer_units.specs.Reading as unit
 
@@ -45,10 +45,6 @@ tag_known (later name u T more) t v b s = tag_or_later (same_tag u t) (has_tag t
 pub open_is_lawful : {A : Type 0} (r : Reader A) (S : A → List ℕ → Type 0) → Lawful r S → Lawful (open_type r) (IsCounted S)
 unfolding open_type
 open_is_lawful r S l = open_type_lawful r S l
-
-pub len_some : (n : ℕ) (b : List ℕ) → IsLength n b → 1 ≤ length b
-len_some n b (inl s) = omega (arith, ap length s.0)
-len_some n b (inr (k, w, e, low, high, many, is)) = omega (arith, ap length e)
 
 pub counted_some : {A : Type 0} (S : A → List ℕ → Type 0) (x : A) (b : List ℕ) → IsCounted S x b → 1 ≤ length b
 counted_some S x b (l, c, e, len, s) = omega (arith, ap length e, length-append l c, len_some (length c) l len)
@@ -109,11 +105,6 @@ form_some (signed_fixed n) z b w (e, f) = omega arith
 form_some unsigned_counted z b w s = counted_some (StandsFor natural) z b s
 form_some signed_counted z b w s = counted_some (StandsFor signed) z b s
 
-octets_some : (fix : Option ℕ) (s : Size) (w b : List ℕ) → is_zero fix ≡ false → SpellsOctets fix s w b → 1 ≤ length b
-octets_some None s w b e t = counted_some (λ x c. (c ≡ x) × (size_fits s (length c) ≡ true)) w b t
-octets_some (Some zero) s w b e t = absurd (cc)
-octets_some (Some (suc n)) s w b e (f, g) = omega (arith, ap length f)
-
 pub preamble_some : (s : List Bool) (p : List ℕ) → 1 ≤ length s → IsPreamble s p → 1 ≤ length p
 unfolding octets_for
 preamble_some s p l (padding, e, f, g) = omega arith
@@ -140,16 +131,18 @@ either_some : (one others : Bool) → (one && others) ≡ false → (b b1 b2 : L
 either_some false others e b b1 b2 g f h = omega (arith, ap length g, length-append b1 b2, f refl)
 either_some true others e b b1 b2 g f h = omega (arith, ap length g, length-append b1 b2, h e)
 
+sized_some : (fix : Option ℕ) (kind : ContentType) (w b : List ℕ) → fixed_content kind ≡ fix → is_zero fix ≡ false → Sized fix (IsContent kind) w b → 1 ≤ length b
+sized_some None kind w b e t s = counted_some (IsContent kind) w b s
+sized_some (Some zero) kind w b e t s = absurd (cc)
+sized_some (Some (suc n)) kind w b e t s = omega (arith, content_fixed kind (suc n) w b e s)
+
 leaf_takes_some : (kind : LeafType) → leaf_may_be_empty kind ≡ false → (v : AsnValue) (b : List ℕ) → IsLeafSpelling kind v b → 1 ≤ length b
 leaf_takes_some kind.boolean e v b (x, f, g) = omega (arith, ap length f)
 leaf_takes_some kind.null e v b s = absurd (cc)
 leaf_takes_some (kind.integer low high) e v b (z, f, g, s) = form_some (form_of low high) z b (form_wide low high).is_wide s
 leaf_takes_some (kind.enumerated numbers extensible) e v b (z, f, g, h, s) = enum_some z b s
 leaf_takes_some (kind.bit_string s) e v b (w, f, g) = bits_some (fixed s) s w b e g
-leaf_takes_some kind.object_id e v b (w, f, s) = counted_some IsObjectId w b s
-leaf_takes_some (kind.restricted_string kind s) e v b (w, f, (g, t)) = octets_some (fixed s) s w b e g
-leaf_takes_some (kind.utf8_string s) e v b (w, f, t, u, g) = counted_some IsItself w b g
-leaf_takes_some (kind.octet_string s) e v b (w, f, g) = octets_some (fixed s) s w b e g
+leaf_takes_some (kind.content inner) e v b (w, is, s) = sized_some (fixed_content inner) inner w b refl (may_be_nothing inner e) s
 
 mutual
   pub takes_some : (T : AsnType) → may_be_empty T ≡ false → (v : AsnValue) (b : List ℕ) → IsSpelling T v b → 1 ≤ length b
@@ -165,27 +158,23 @@ mutual
   all_take_some (field name may T fs) e none s ps b t = absurd (omega arith)
   all_take_some (field name (default d) T fs) e none s ps b t = absurd (omega arith)
 
-leaf_lawful : (kind : LeafType) → Lawful (read_leaf kind) (IsLeafSpelling kind)
-leaf_lawful kind.boolean = same_spellings (mapped_lawful (λ x. bool (not (eqb x 0))) octet (λ x b. b ≡ x ∷ []) octet_lawful)
+leaf_lawful : (kind : LeafType) → KeepsLimits (leaf kind) → Lawful (read_leaf kind) (IsLeafSpelling kind)
+leaf_lawful kind.boolean wf = same_spellings (mapped_lawful (λ x. bool (not (eqb x 0))) octet (λ x b. b ≡ x ∷ []) octet_lawful)
     (λ v b (x, e, f). (x, f, e)) (λ v b (x, f, e). (x, e, f))
-leaf_lawful kind.null = give_lawful nothing
-leaf_lawful (kind.integer low high) = same_spellings (mapped_lawful int (read_integer (form_of low high) (in_range low high)) (λ z b. (in_range low high z ≡ true) × SpellsInteger (form_of low high) z b) (form_lawful (form_of low high) (in_range low high)))
+leaf_lawful kind.null wf = give_lawful nothing
+leaf_lawful (kind.integer low high) wf = same_spellings (mapped_lawful int (read_integer (form_of low high) (in_range low high)) (λ z b. (in_range low high z ≡ true) × SpellsInteger (form_of low high) z b) (form_lawful (form_of low high) (in_range low high)))
     (λ v b (z, e, (f, g)). (z, e, f, g)) (λ v b (z, e, f, g). (z, e, (f, g)))
-leaf_lawful (kind.enumerated numbers extensible) = same_spellings
+leaf_lawful (kind.enumerated numbers extensible) wf = same_spellings
     (bind_lawful unit.enumerated (λ z. guard (extensible || has_number numbers z) UnknownEnum (give (enum z))) (λ z b. (is_int64 z ≡ true) × IsEnumerated z b) (λ z v b. ((extensible || has_number numbers z) ≡ true) × ((v ≡ enum z) × (b ≡ []))) enumeration_lawful
     (λ z. tested_lawful (extensible || has_number numbers z) UnknownEnum (give (enum z)) (λ v b. (v ≡ enum z) × (b ≡ [])) unknown_goes_on (give_lawful (enum z))))
     (λ v b (z, b1, b2, (f, g), (t, (is, none)), e). (z, is, f, t, subst (λ w. IsEnumerated z w) (sym (e ∙ ap (λ w. b1 ++ w) none ∙ append-nil b1)) g))
     (λ v b (z, is, f, t, g). (z, b, [], (f, g), (t, (is, refl)), sym (append-nil b)))
-leaf_lawful (kind.bit_string s) = mapped_lawful bit_list (read_bits (fixed s) s) (SpellsBits (fixed s) s) (bits_lawful (fixed s) s)
-leaf_lawful kind.object_id = mapped_lawful oid object_identifier (IsCounted IsObjectId) object_identifier_lawful
-leaf_lawful (kind.restricted_string kind s) = mapped_lawful text (read_text (all_characters kind) (fixed s) s) (SpellsText (all_characters kind) (fixed s) s) (text_lawful (all_characters kind) (fixed s) s)
-leaf_lawful (kind.utf8_string s) = same_spellings (mapped_lawful text (read_utf8 s) (λ w b. (is_utf8 w ≡ true) × (size_fits s (length (chars w)) ≡ true) × IsCounted IsItself w b) (utf8_lawful s))
-    (λ v b (w, is, (t, u, s)). (w, is, t, u, s)) (λ v b (w, is, t, u, s). (w, is, (t, u, s)))
-leaf_lawful (kind.octet_string s) = mapped_lawful octets (read_octets (fixed s) s) (SpellsOctets (fixed s) s) (octets_lawful (fixed s) s)
+leaf_lawful (kind.bit_string s) wf = mapped_lawful bit_list (read_bits (fixed s) s) (SpellsBits (fixed s) s) (bits_lawful (fixed s) s)
+leaf_lawful (kind.content inner) wf = mapped_lawful (λ w. leaf_value (content_value inner w)) (read_content inner) (SpellsContent inner) (content_lawful inner wf)
 
 mutual
   pub value_lawful : (T : AsnType) → KeepsLimits T → Lawful (read_value T) (IsSpelling T)
-  value_lawful (leaf kind) w = leaf_lawful kind
+  value_lawful (leaf kind) w = leaf_lawful kind w
   value_lawful (sequence fs) w = sequence_lawful (optional fs) (read_fields fs) (SpellsFields fs) (fields_lawful fs w)
   value_lawful (extensible_sequence fs more) w = extensible_lawful (optional fs) (read_fields fs) (SpellsFields fs) (fields_lawful fs w.0)
       (λ x. read_extension x more (read_additions more)) (λ x. SpellsExtension x more (SpellsAdditions more)) (λ x. extension_lawful x more (read_additions more) (SpellsAdditions more) (adds_lawful more w.1))

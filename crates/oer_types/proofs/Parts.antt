@@ -1,10 +1,10 @@
 -- The steps of a value.
-use Rattle.std.proofs.Common.{◌≡◌, ℕ, suc, ◌-◌, ◌*◌, ◌^◌, ◌<◌, ◌≤◌, ◌&&◌, ◌||◌, List, [], ◌∷◌, ◌++◌, length, take, drop, Bool, true, false, leb, ltb, eqb, inl, inr, refl, ap, ap₂, sym, ◌∙◌, subst, append-nil, arith, le-leb, leb-true, leb-false, lt-ltb, eq-eqb, eqb-true, take-append-drop, length-take-le, take_at, drop_at, ℤ, Option, Some, None}
+use Rattle.std.proofs.Common.{◌≡◌, ℕ, suc, ◌-◌, ◌*◌, ◌^◌, ◌<◌, ◌≤◌, ◌&&◌, ◌||◌, List, [], ◌∷◌, ◌++◌, length, take, drop, Bool, true, false, leb, ltb, eqb, if◌then◌else◌, inl, inr, refl, ap, ap₂, sym, ◌∙◌, subst, append-nil, arith, le-leb, leb-true, leb-false, lt-ltb, eq-eqb, eqb-true, take-append-drop, length-take-le, take_at, drop_at, ℤ, Option, Some, None}
 use Rattle.oer_units.specs.Lawful.{Lawful}
 use Rattle.oer_units.specs.Numbers.{unsigned, signed, natural}
 use Rattle.oer_units.specs.Reader.{Reader, give, bind, guard, group, within, times}
 use Rattle.oer_units.specs.Reading.{octet, tag, counted_octets}
-use Rattle.oer_units.specs.Spelling.{IsCounted, IsTag, IsJoined}
+use Rattle.oer_units.specs.Spelling.{IsCounted, IsJoined, IsLength, IsTag}
 use Rattle.oer_units.specs.declared.fault.Why.TheVariants.{End, BitUnused, PreamblePadding, UnknownAddition, UnknownAlternative}
 use Rattle.oer_units.specs.declared.tagging.Tag.{Tag}
 use Rattle.oer_units.proofs.Closure.{Then, give_lawful, bind_lawful, same_spellings, within_lawful}
@@ -15,10 +15,11 @@ use Rattle.oer_units.proofs.Units.{group_lawful, choose_lawful, guard_lawful, te
 use Rattle.oer_types.specs.AsnType.{Alternatives, Need, must, may, default, Additions}
 use Rattle.oer_types.specs.AsnValue.{Unknown, unknown, foreign, AsnValue, seq, items, chosen, Places, no_places, absent, present}
 use Rattle.oer_types.specs.Bits.{bits_of, all_false, first_bit, later_bits, octets_for, IsPreamble, IsBits}
-use Rattle.oer_types.specs.Constraints.{has_tag, size_fits, at_most, Form, unsigned_fixed, signed_fixed, unsigned_counted, signed_counted, addition_count, any_size}
-use Rattle.oer_types.specs.Encoding.{SpellsInteger, SpellsOctets, IsPresent, IsAbsent, ByBit, ByNeed, ByTag, IsItself, SpellsUnknown, SpellsChosen, SpellsExtension, SpellsBits, SpellsBitmap}
+use Rattle.oer_types.specs.Constraints.{HasSizeLimit, fixed, fixed_by, has_tag, size_fits, at_most, Form, unsigned_fixed, signed_fixed, unsigned_counted, signed_counted, addition_count, any_size}
+use Rattle.oer_types.specs.Contents.{Sized, read_octets}
+use Rattle.oer_types.specs.Encoding.{SpellsInteger, IsPresent, IsAbsent, ByBit, ByNeed, ByTag, IsItself, SpellsUnknown, SpellsChosen, SpellsExtension, SpellsBits, SpellsBitmap}
 use Rattle.oer_types.specs.Fits.{listed, all_absent}
-use Rattle.oer_types.specs.Reading.{read_integer, read_octets, preamble, bitmap, quantity, read_present, read_absent, read_by_bit, read_by_need, read_by_tag, read_unknown, read_both, read_chosen, read_extension, read_sequence, read_extensible, read_items, read_choice, read_bits, bits_sized}
+use Rattle.oer_types.specs.Reading.{read_integer, preamble, bitmap, quantity, read_present, read_absent, read_by_bit, read_by_need, read_by_tag, read_unknown, read_both, read_chosen, read_extension, read_sequence, read_extensible, read_items, read_choice, read_bits, bits_sized}
 use Rattle.oer_types.specs.declared.size.Size.{Size}
 use Rattle.oer_units.specs.declared.fault.Why.TheVariants as reason
 
@@ -40,11 +41,46 @@ form_lawful (signed_fixed n) test = fixed_form signed test n
 form_lawful unsigned_counted test = counted_form natural test
 form_lawful signed_counted test = counted_form signed test
 
-pub octets_lawful : (fix : Option ℕ) (s : Size) → Lawful (read_octets fix s) (SpellsOctets fix s)
-octets_lawful (Some n) s = same_spellings (group_lawful n)
-    (λ w b (e, l). (sym e, ap length e ∙ l))
-    (λ w b (e, l). (sym e, ap length e ∙ l))
-octets_lawful None s = with_length_lawful (λ n. guard (size_fits s n) reason.Size (group n)) (λ x c. (c ≡ x) × (size_fits s (length c) ≡ true))
+pub len_some : (n : ℕ) (b : List ℕ) → IsLength n b → 1 ≤ length b
+len_some n b (inl s) = omega (arith, ap length s.0)
+len_some n b (inr (k, w, e, low, high, many, is)) = omega (arith, ap length e)
+
+-- the one size that a constraint leaves is allowed
+pub fixed_fits : (low : ℕ) (high : Option ℕ) (n : ℕ) → fixed_by low high ≡ Some n → leb low 18446744073709551615 ≡ true → (leb low n && at_most high n && leb n 18446744073709551615) ≡ true
+fixed_fits low None n e small = absurd (cc)
+fixed_fits low (Some h) n e small = by_test (eqb low h) refl e
+  where
+    by_test : (c : Bool) → eqb low h ≡ c → (if c then Some low else None) ≡ Some n → (leb low n && leb n h && leb n 18446744073709551615) ≡ true
+    by_test false t f = absurd (cc)
+    by_test true t f =
+        let one : low ≡ n = cc in
+        let same : low ≡ h = eqb-true low h t in
+        true_both (leb low n && leb n h) (leb n 18446744073709551615) (true_both (leb low n) (leb n h) (le-leb low n (omega arith)) (le-leb n h (omega arith))) (subst (λ k. leb k 18446744073709551615 ≡ true) one small)
+
+-- and no other is
+pub fixed_is : (low : ℕ) (high : Option ℕ) (n k : ℕ) → fixed_by low high ≡ Some n → (leb low k && at_most high k && leb k 18446744073709551615) ≡ true → k ≡ n
+fixed_is low None n k e f = absurd (cc)
+fixed_is low (Some h) n k e f = by_test (eqb low h) refl e
+  where
+    by_test : (c : Bool) → eqb low h ≡ c → (if c then Some low else None) ≡ Some n → k ≡ n
+    by_test false t g = absurd (cc)
+    by_test true t g =
+        let one : low ≡ n = cc in
+        let same : low ≡ h = eqb-true low h t in
+        let both = both_true (leb low k) (leb k h) (both_true (leb low k && leb k h) (leb k 18446744073709551615) f).0 in
+        let i = leb-true low k both.0 in
+        let j = leb-true k h both.1 in
+        omega arith
+
+-- octets in the size
+abbrev pub OfSize : Size → List ℕ → List ℕ → Type 0
+OfSize s w c = (c ≡ w) × (size_fits s (length c) ≡ true)
+
+pub octets_lawful : (fix : Option ℕ) (s : Size) → fixed s ≡ fix → HasSizeLimit s → Lawful (read_octets fix s) (Sized fix (OfSize s))
+octets_lawful (Some n) s one small = same_spellings (group_lawful n)
+    (λ w b (e, l). (sym e, fixed_fits s.low s.high (length b) (one ∙ ap (λ n. Some n) (sym l)) small))
+    (λ w b (e, t). (sym e, fixed_is s.low s.high n (length b) one t))
+octets_lawful None s one small = with_length_lawful (λ n. guard (size_fits s n) reason.Size (group n)) (OfSize s)
     (λ n. same_spellings (tested_lawful (size_fits s n) reason.Size (group n) (λ x c. (x ≡ c) × (length c ≡ n)) size_goes_on (group_lawful n))
     (λ x c (t, (e, l)). ((sym e, ap (size_fits s) l ∙ t), l))
     (λ x c ((e, t), l). (ap (size_fits s) (sym l) ∙ t, (sym e, l))))

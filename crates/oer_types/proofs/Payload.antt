@@ -1,9 +1,8 @@
 -- A value has no more octets than its encoding.
-use Rattle.std.proofs.Common.{◌≡◌, ℕ, inl, inr, ◌+◌, ◌*◌, ◌-◌, ◌≤◌, List, [], ◌∷◌, ◌++◌, length, drop, Bool, true, false, Option, Some, None, refl, ap, ◌∙◌, arith, length-append, length-take-le}
-use Rattle.oer_units.specs.Spelling.{IsCounted, IsJoined, IsSubidentifier, IsObjectId}
+use Rattle.std.proofs.Common.{◌≡◌, ℕ, inl, inr, ◌+◌, ◌-◌, ◌≤◌, List, [], ◌∷◌, ◌++◌, length, drop, Bool, true, false, Option, Some, None, refl, ap, ◌∙◌, arith, length-append, length-take-le}
+use Rattle.oer_units.specs.Spelling.{IsCounted, IsJoined}
 use Rattle.oer_units.specs.declared.tagging.Tag.{Tag}
-use Rattle.oer_units.proofs.Counted.{every_long}
-use Rattle.oer_types.proofs.Main.{len_some}
+use Rattle.oer_types.proofs.Contents.{content_long, content_payload}
 use Rattle.oer_types.proofs.Parts.{length-bits_of}
 use Rattle.oer_types.proofs.Sizes.{unknown_long, counted_octets_long}
 use Rattle.oer_types.specs.LeafType as kind
@@ -12,7 +11,7 @@ use Rattle.oer_types.specs.AsnType.{Additions, Alternatives, AsnType, Fields, Ne
 use Rattle.oer_types.specs.AsnValue.{Unknown, AsnValue, Places}
 use Rattle.oer_types.specs.Bits.{bits_of, octets_for, first_bit, later_bits}
 use Rattle.oer_types.specs.Constraints.{same_tag, fixed, addition_count}
-use Rattle.oer_types.specs.Encoding.{ByBit, ByNeed, ByTag, IsLeafSpelling, IsPresent, IsSpelling, SpellsAdditions, SpellsAlternative, SpellsBits, SpellsExtension, SpellsFields, SpellsOctets}
+use Rattle.oer_types.specs.Encoding.{ByBit, ByNeed, ByTag, IsLeafSpelling, IsPresent, IsSpelling, SpellsAdditions, SpellsAlternative, SpellsBits, SpellsExtension, SpellsFields}
 use Rattle.oer_types.specs.Fits.{listed, all_absent}
 use Rattle.oer_types.specs.Nodes.{contents, payload, values_payload, places_payload}
 use Rattle.oer_types.specs.declared.size.Size.{Size}
@@ -44,10 +43,6 @@ every_paid : (S : AsnValue → List ℕ → Type 0) → Paid payload S → (vs :
 every_paid S f [] b e = omega arith
 every_paid S f (v ∷ vs) b (b1, b2, e, s, r) = omega (arith, ap length e, length-append b1 b2, f v b1 s, every_paid S f vs b2 r)
 
-octets_paid : (fix : Option ℕ) (size : Size) → Paid length (SpellsOctets fix size)
-octets_paid (Some n) size w b (e, l) = omega (arith, ap length e)
-octets_paid None size w b (l, c, e, len, (is, ok)) = omega (arith, ap length e, length-append l c, ap length is)
-
 abbrev bits_payload : List Bool → ℕ
 bits_payload s = octets_for (length s)
 
@@ -59,13 +54,6 @@ bits_paid (Some n) size s b (e, is) =
 bits_paid None size s b (l, c, e, len, ((u, d, f, low, none, is), ok)) =
     let many : length s ≡ length (bits_of d) - u = ap length is ∙ length-take-le (length (bits_of d) - u) (bits_of d) (omega arith) in
     omega (arith, length-bits_of d, ap length e, length-append l c, ap length f)
-
-sub_some : (n : ℕ) (w : List ℕ) → IsSubidentifier n w → 1 ≤ length w
-sub_some n [] s = absurd s.0
-sub_some n (x ∷ w) s = omega arith
-
-oid_paid : Paid length (IsCounted IsObjectId)
-oid_paid arcs b (l, c, e, len, (x, y, rest, is, low, under, s)) = omega (arith, ap length e, length-append l c, len_some (length c) l len, ap length is, every_long IsSubidentifier sub_some ((40 * x + y) ∷ rest) c s)
 
 absent_paid : (more : Additions) → places_payload (all_absent more) ≡ 0
 absent_paid no_additions = refl
@@ -83,10 +71,7 @@ leaf_paid kind.null v b (is, e) = omega (arith, ap payload is)
 leaf_paid (kind.integer low high) v b (z, is, ok, s) = omega (arith, ap payload is)
 leaf_paid (kind.enumerated numbers extensible) v b (z, is, ok, l, s) = omega (arith, ap payload is)
 leaf_paid (kind.bit_string size) v b (s, is, x) = omega (arith, ap payload is, bits_paid (fixed size) size s b x)
-leaf_paid kind.object_id v b (w, is, x) = omega (arith, ap payload is, oid_paid w b x)
-leaf_paid (kind.restricted_string kind size) v b (w, is, x) = omega (arith, ap payload is, octets_paid (fixed size) size w b x.0)
-leaf_paid (kind.utf8_string size) v b (w, is, ok, l, x) = omega (arith, ap payload is, counted_octets_long w b x)
-leaf_paid (kind.octet_string size) v b (w, is, x) = omega (arith, ap payload is, octets_paid (fixed size) size w b x)
+leaf_paid (kind.content inner) v b (w, is, x) = omega (arith, ap payload is, content_payload inner w, content_long inner w b x)
 
 mutual
   pub value_paid : (T : AsnType) → Paid payload (IsSpelling T)

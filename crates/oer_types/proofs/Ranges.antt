@@ -6,7 +6,7 @@ use Rattle.std.proofs.lemmas.Bool.{le-leb, lt-ltb}
 use Rattle.oer_units.specs.Reading.{is_int64}
 use Rattle.oer_types.specs.Constraints.{above, below, in_range}
 use Rattle.oer_types.specs.FitTest.{all_below, first_arcs, arcs_fit}
-use Rattle.oer_types.proofs.FitTests.{and_true}
+use Rattle.oer_types.proofs.Tests.{and_true}
 
 low_128 : (z : ℤ) → FitsSigned w128 z → int_le (negsuc 170141183460469231731687303715884105727) z ≡ true
 low_128 (pos n) f = refl

@@ -3,7 +3,8 @@ use Rattle.std.proofs.Common.{◌≡◌, ℕ, suc, inl, inr, drop, ◌+◌, ◌*
 use Rattle.oer_units.specs.Spelling.{IsCounted, IsJoined}
 use Rattle.oer_units.specs.declared.tagging.Tag.{Tag}
 use Rattle.oer_types.proofs.Leaves.{leaf_is, leaf_some}
-use Rattle.oer_types.proofs.Main.{takes_some, len_some, preamble_some, tag_some}
+use Rattle.oer_types.proofs.Main.{takes_some, preamble_some, tag_some}
+use Rattle.oer_types.proofs.Parts.{len_some}
 use Rattle.oer_types.specs.LeafType.{LeafType}
 use Rattle.oer_types.specs.AsnType.{Additions, Alternatives, AsnType, Fields, Need, addition, alternative, boolean, choice, default, extensible_sequence, field, later, leaf, may, must, no_additions, no_alternatives, no_fields, sequence, sequence_of}
 use Rattle.oer_types.specs.AsnValue.{AsnValue, Places, Unknown}

@@ -6,14 +6,14 @@ use Rattle.oer_units.specs.Reader.{Reader, give, bind, guard}
 use Rattle.oer_units.specs.Reading.{counted_octets}
 use Rattle.oer_units.specs.Spelling.{IsCounted}
 use Rattle.oer_units.specs.declared.fault.Why.{Why}
-use Rattle.oer_units.specs.declared.fault.Why.TheVariants.{End, Character, BitUnused}
+use Rattle.oer_units.specs.declared.fault.Why.TheVariants.{End, Character}
 use Rattle.oer_units.proofs.Closure.{give_lawful, bind_lawful, same_spellings}
 use Rattle.oer_units.proofs.Counted.{counted_octets_lawful}
 use Rattle.oer_units.proofs.Units.{tested_lawful}
-use Rattle.oer_types.proofs.Parts.{octets_lawful, size_goes_on}
-use Rattle.oer_types.specs.Constraints.{size_fits}
-use Rattle.oer_types.specs.Encoding.{IsItself, SpellsOctets, SpellsText}
-use Rattle.oer_types.specs.Reading.{read_octets, read_text, read_utf8}
+use Rattle.oer_types.proofs.Parts.{OfSize, octets_lawful, size_goes_on}
+use Rattle.oer_types.specs.Constraints.{HasSizeLimit, fixed, size_fits}
+use Rattle.oer_types.specs.Contents.{Sized, read_octets, read_text, read_utf8}
+use Rattle.oer_types.specs.Encoding.{IsItself}
 use Rattle.oer_types.specs.declared.size.Size.{Size}
 use Rattle.oer_units.specs.declared.fault.Why.TheVariants as reason
 
@@ -29,8 +29,8 @@ kept_lawful test why r S goes_on l = same_spellings
     (subst (λ y. S y b) (sym is) (subst (λ v. S w v) (sym whole) s), ap test is ∙ t)))
     (λ x b (s, t). (x, b, [], s, (t, (refl, refl)), sym (append-nil b)))
 
-pub text_lawful : (test : List ℕ → Bool) (fix : Option ℕ) (z : Size) → Lawful (read_text test fix z) (SpellsText test fix z)
-text_lawful test fix z = kept_lawful test Character (read_octets fix z) (SpellsOctets fix z) character_goes_on (octets_lawful fix z)
+pub text_lawful : (test : List ℕ → Bool) (fix : Option ℕ) (z : Size) → fixed z ≡ fix → HasSizeLimit z → Lawful (read_text test fix z) (λ w b. Sized fix (OfSize z) w b × (test w ≡ true))
+text_lawful test fix z one small = kept_lawful test Character (read_octets fix z) (Sized fix (OfSize z)) character_goes_on (octets_lawful fix z one small)
 
 pub utf8_lawful : (z : Size) → Lawful (read_utf8 z) (λ w b. (is_utf8 w ≡ true) × (size_fits z (length (chars w)) ≡ true) × IsCounted IsItself w b)
 utf8_lawful z = same_spellings

@@ -13,7 +13,7 @@ use Rattle.oer_types.specs.AsnType.{AsnType}
 use Rattle.oer_types.specs.AsnValue.{AsnValue}
 use Rattle.oer_types.specs.Constraints.{KeepsLimits}
 use Rattle.oer_types.specs.Encoding.{IsSpelling}
-use Rattle.oer_types.specs.Laws.{IsDead, IsBeyond, Means, MeansInside, Tells, named, ReadsEncodings, ReadsInside, ReadsEach, OneReading}
+use Rattle.oer_types.specs.Laws.{IsDead, IsBeyond, Means, MeansInside, IsRightAnswer, named, ReadsEncodings, ReadsInside, ReadsEach, OneReading}
 use Rattle.oer_types.specs.Reading.{read_value}
 
 -- the octets in front of an input of octets
@@ -33,7 +33,7 @@ means_inside Limit T n t rest m = m
 means_inside Window T n t rest m = dead_beyond T t n m
 means_inside _ T n t rest m = m
 
-answered : (T : AsnType) → KeepsLimits T → (input : List ℕ) (n : ℕ) → IsOctets input → (o : Outcome AsnValue) → read_value T (at input n) ≡ o → Tells (λ why t rest. Means why T n t rest) T input n o
+answered : (T : AsnType) → KeepsLimits T → (input : List ℕ) (n : ℕ) → IsOctets input → (o : Outcome AsnValue) → read_value T (at input n) ≡ o → IsRightAnswer (λ why t rest. Means why T n t rest) T input n o
 answered T w input n octs (got v q) e =
     let a = (value_lawful T w).sound (at input n) v q e in
     (a.0, a.2, (let i = a.3 in omega arith), encodes_from T w v a.0 (front input a.0 q.input octs a.2) a.1)
@@ -42,7 +42,7 @@ answered T w input n octs (refused why rest) e = let a = (value_lawful T w).refu
 pub reads_encodings : ReadsEncodings
 reads_encodings T w input n octs = answered T w input n octs (read_value T (at input n)) refl
 
-inside : (T : AsnType) (input : List ℕ) (n : ℕ) (o : Outcome AsnValue) → Tells (λ why t rest. Means why T n t rest) T input n o → Tells (λ why t rest. MeansInside why T n t rest) T input n (named o)
+inside : (T : AsnType) (input : List ℕ) (n : ℕ) (o : Outcome AsnValue) → IsRightAnswer (λ why t rest. Means why T n t rest) T input n o → IsRightAnswer (λ why t rest. MeansInside why T n t rest) T input n (named o)
 inside T input n (got v q) a = a
 inside T input n (refused why rest) (t, e, short, m) = (t, e, short, means_inside why T n t rest m)
 

@@ -1,13 +1,16 @@
 -- The canonical octets of a value, computed.
 use Rattle.std.specs.Prelude.{ℕ, suc, ◌-◌, List, [], ◌∷◌, ◌++◌, length, replicate, Bool, true, false, ◌&&◌, ◌||◌, eqb, if◌then◌else◌, ℤ, pos, negsuc, Option, Some, None}
-use Rattle.oer_units.specs.Least.{big_endian, counted, enumerated_octets, fixed_signed_octets, object_id_octets, signed_octets, tag_octets, unsigned_octets}
+use Rattle.oer_units.specs.Least.{big_endian, counted, enumerated_octets, fixed_signed_octets, signed_octets, tag_octets, unsigned_octets}
 use Rattle.oer_units.specs.declared.tagging.Tag.{Tag}
-use Rattle.oer_types.specs.LeafType.{LeafType, bit_string, boolean, enumerated, integer, null, object_id, octet_string, restricted_string, utf8_string}
+use Rattle.oer_types.specs.LeafType.{LeafType, bit_string, boolean, content, enumerated, integer, null}
 use Rattle.oer_types.specs.LeafValue.{LeafValue, bit_list, bool, enum, int, nothing, octets, oid, text}
 use Rattle.oer_types.specs.AsnType.{Additions, Alternatives, AsnType, Fields, Need, addition, alternative, choice, default, extensible_sequence, field, later, leaf, may, must, no_additions, no_alternatives, no_fields, sequence, sequence_of}
 use Rattle.oer_types.specs.AsnValue.{AsnValue, Places, Unknown, Values, absent, chosen, foreign, items, leaf_value, no_places, no_values, present, seq, unknown, value}
 use Rattle.oer_types.specs.Bits.{padded, spare_bits}
 use Rattle.oer_types.specs.Constraints.{Form, addition_count, fixed, form_of, same_tag, signed_counted, signed_fixed, unsigned_counted, unsigned_fixed}
+use Rattle.oer_types.specs.ContentType.{ContentType}
+use Rattle.oer_types.specs.Contents.{content_octets, fixed_content, held}
+pub use Rattle.oer_types.specs.Contents.{string_octets}
 use Rattle.oer_types.specs.Filling.{filled, filled_by_tag, map_chosen, map_items, map_sequence}
 
 abbrev pub same_bool : Bool → Bool → Bool
@@ -122,17 +125,9 @@ abbrev pub at_bits : (List Bool → List ℕ) → AsnValue → List ℕ
 at_bits f (leaf_value (bit_list s)) = f s
 at_bits f _ = []
 
-abbrev pub at_text : (List ℕ → List ℕ) → AsnValue → List ℕ
-at_text f (leaf_value (text w)) = f w
-at_text f _ = []
-
-abbrev pub at_oid : (List ℕ → List ℕ) → AsnValue → List ℕ
-at_oid f (leaf_value (oid w)) = f w
-at_oid f _ = []
-
-abbrev pub at_octets : (List ℕ → List ℕ) → AsnValue → List ℕ
-at_octets f (leaf_value (octets w)) = f w
-at_octets f _ = []
+abbrev pub at_content : ContentType → (List ℕ → List ℕ) → AsnValue → List ℕ
+at_content kind f (leaf_value v) = held kind [] f v
+at_content kind f _ = []
 
 abbrev pub at_seq : (Places → Places → List Unknown → List ℕ) → AsnValue → List ℕ
 at_seq f (seq r a us) = f r a us
@@ -164,11 +159,6 @@ integer_octets (signed_fixed k) x = fixed_signed_octets k x
 integer_octets unsigned_counted (pos n) = counted (unsigned_octets n)
 integer_octets unsigned_counted (negsuc n) = []
 integer_octets signed_counted x = counted (signed_octets x)
-
--- octets or characters by their one size or with a length
-abbrev pub string_octets : Option ℕ → List ℕ → List ℕ
-string_octets (Some n) w = w
-string_octets None w = counted w
 
 -- how many values
 abbrev pub count : Values → ℕ
@@ -242,10 +232,7 @@ leaf_octets null v = []
 leaf_octets (integer low high) v = at_int (integer_octets (form_of low high)) v
 leaf_octets (enumerated numbers extensible) v = at_enum enumerated_octets v
 leaf_octets (bit_string size) v = at_bits (bit_octets (fixed size)) v
-leaf_octets object_id v = at_oid (λ w. counted (object_id_octets w)) v
-leaf_octets (restricted_string kind size) v = at_text (string_octets (fixed size)) v
-leaf_octets (utf8_string size) v = at_text counted v
-leaf_octets (octet_string size) v = at_octets (string_octets (fixed size)) v
+leaf_octets (content kind) v = at_content kind (λ w. string_octets (fixed_content kind) (content_octets kind w)) v
 
 -- The octets of a value as it stands.
 abbrev mutual

@@ -11,7 +11,8 @@ use Rattle.oer_units.specs.Reading.{counted_number, counted_octets, determinant,
 use Rattle.oer_units.specs.declared.fault.Why.TheVariants.{Character, IntegerRange, ObjectId, UnknownAddition, UnknownAlternative, UnknownEnum}
 use Rattle.oer_units.specs.declared.tagging.Tag.{Tag}
 use Rattle.oer_types.specs.Limits.{addition_places}
-use Rattle.oer_types.specs.LeafType.{LeafType, bit_string, boolean, enumerated, integer, null, object_id, octet_string, restricted_string, utf8_string}
+use Rattle.oer_types.specs.ContentType.{ContentType, object_id, octet_string, restricted_string, utf8_string}
+use Rattle.oer_types.specs.LeafType.{LeafType, bit_string, boolean, content, enumerated, integer, null}
 use Rattle.oer_types.specs.AsnType.{Additions, Alternatives, AsnType, Fields, Need, addition, alternative, choice, default, extensible_sequence, field, later, leaf, may, must, no_additions, no_alternatives, no_fields, sequence, sequence_of}
 use Rattle.oer_types.specs.AsnValue.{AsnValue}
 use Rattle.oer_types.specs.Bits.{all_false, bits_of, first_bit, later_bits, spare_bits}
@@ -101,7 +102,8 @@ abbrev pub check_extension : Bool → Additions → (List Bool → Reader Bool) 
 check_extension false more c = give true
 check_extension true more c =
     bind (judged (is_bitmap (addition_count more)) bitmap)
-    (λ y. guard (all_false (drop addition_places y.0)) UnknownAddition (and_also y.1 (both (c y.0) (check_unknown (drop (addition_count more) y.0)))))
+    (λ y. guard (all_false (drop addition_places y.0)) UnknownAddition
+    (and_also y.1 (both (c y.0) (check_unknown (drop (addition_count more) y.0)))))
 
 unfoldable pub check_sequence : ℕ → (List Bool → Reader Bool) → Reader Bool
 check_sequence k c = bind (preamble k) c
@@ -156,16 +158,19 @@ unfoldable pub check_utf8 : Size → Reader Bool
 check_utf8 s = bind (judged (is_least counted) counted_octets) (λ y. guard (is_utf8 y.0) Character
     (guard (size_fits s (length (chars y.0))) reason.Size (give y.1)))
 
+abbrev pub check_content : ContentType → Reader Bool
+check_content (octet_string s) = check_octet_string (fixed s) s
+check_content object_id = check_object_id
+check_content (restricted_string letters s) = check_text (all_characters letters) (fixed s) s
+check_content (utf8_string s) = check_utf8 s
+
 abbrev pub check_leaf : LeafType → Reader Bool
 check_leaf boolean = bind octet (λ x. give (eqb x 0 || eqb x 255))
 check_leaf null = give true
 check_leaf (integer low high) = check_integer (form_of low high) (in_range low high)
 check_leaf (enumerated numbers extensible) = check_enumerated (λ z. extensible || has_number numbers z)
 check_leaf (bit_string s) = check_bits (fixed s) s
-check_leaf object_id = check_object_id
-check_leaf (restricted_string kind s) = check_text (all_characters kind) (fixed s) s
-check_leaf (utf8_string s) = check_utf8 s
-check_leaf (octet_string s) = check_octet_string (fixed s) s
+check_leaf (content kind) = check_content kind
 
 abbrev mutual
   pub check_value : AsnType → Reader Bool

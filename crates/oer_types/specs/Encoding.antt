@@ -1,17 +1,17 @@
 -- Which octets are encodings of which values (Basic-OER).
 use Rattle.std.specs.Prelude.{◌≡◌, ℕ, suc, ◌⊎◌, List, [], ◌∷◌, ◌++◌, length, take, drop, Bool, true, false, not, ◌||◌, eqb, ℤ, Option, Some, None}
-use Rattle.std.specs.Str.{is_utf8, chars}
 use Rattle.oer_units.specs.Numbers.{natural, signed, unsigned}
 use Rattle.oer_units.specs.Octets.{IsOctets}
 use Rattle.oer_units.specs.Reading.{is_int64}
-use Rattle.oer_units.specs.Spelling.{IsCounted, IsEnumerated, IsJoined, IsObjectId, IsTag, StandsFor}
+use Rattle.oer_units.specs.Spelling.{IsCounted, IsEnumerated, IsJoined, IsTag, StandsFor}
 use Rattle.oer_units.specs.declared.tagging.Tag.{Tag}
 use Rattle.oer_types.specs.Limits.{addition_places}
-use Rattle.oer_types.specs.LeafType.{LeafType, bit_string, boolean, enumerated, integer, null, object_id, octet_string, restricted_string, utf8_string}
+use Rattle.oer_types.specs.LeafType.{LeafType, bit_string, boolean, content, enumerated, integer, null}
 use Rattle.oer_types.specs.AsnType.{Additions, Alternatives, AsnType, Fields, Need, addition, alternative, choice, default, extensible_sequence, field, later, leaf, may, must, no_additions, no_alternatives, no_fields, sequence, sequence_of}
-use Rattle.oer_types.specs.AsnValue.{AsnValue, Places, Unknown, absent, bit_list, bool, chosen, enum, foreign, int, items, no_places, nothing, octets, oid, present, seq, text, unknown}
+use Rattle.oer_types.specs.AsnValue.{AsnValue, Places, Unknown, absent, bit_list, bool, chosen, enum, foreign, int, items, leaf_value, no_places, nothing, present, seq, unknown}
 use Rattle.oer_types.specs.Bits.{IsBits, IsPreamble, all_false, bits_of, first_bit, later_bits, octets_for}
-use Rattle.oer_types.specs.Constraints.{Form, addition_count, all_characters, any_size, fixed, form_of, has_number, has_tag, in_range, optional, same_tag, signed_counted, signed_fixed, size_fits, unsigned_counted, unsigned_fixed}
+use Rattle.oer_types.specs.Constraints.{Form, addition_count, any_size, fixed, form_of, has_number, has_tag, in_range, optional, same_tag, signed_counted, signed_fixed, size_fits, unsigned_counted, unsigned_fixed}
+use Rattle.oer_types.specs.Contents.{SpellsContent, content_value}
 use Rattle.oer_types.specs.Fits.{Fits, all_absent, listed}
 use Rattle.oer_types.specs.declared.size.Size.{Size}
 
@@ -22,11 +22,6 @@ SpellsInteger (signed_fixed n) z b = (length b ≡ n) × (signed b ≡ z)
 SpellsInteger unsigned_counted z b = IsCounted (StandsFor natural) z b
 SpellsInteger signed_counted z b = IsCounted (StandsFor signed) z b
 
--- the octets w alone where one size is fixed, else with a length in front
-abbrev pub SpellsOctets : Option ℕ → Size → List ℕ → List ℕ → Type 0
-SpellsOctets (Some n) size w b = (b ≡ w) × (length w ≡ n)
-SpellsOctets None size w b = IsCounted (λ x c. (c ≡ x) × (size_fits size (length c) ≡ true)) w b
-
 -- the bits s in whole octets where one size is fixed, else as a counted list with the number of unused bits
 abbrev pub SpellsBits : Option ℕ → Size → List Bool → List ℕ → Type 0
 SpellsBits (Some n) size s b = (length b ≡ octets_for n) × (s ≡ take n (bits_of b))
@@ -35,10 +30,6 @@ SpellsBits None size s b = IsCounted (λ s c. IsBits s c × (size_fits size (len
 -- the bits s as a BIT STRING without size constraint
 abbrev pub SpellsBitmap : List Bool → List ℕ → Type 0
 SpellsBitmap s b = SpellsBits None any_size s b
-
--- characters, an octet for each, all passing the test
-abbrev pub SpellsText : (List ℕ → Bool) → Option ℕ → Size → List ℕ → List ℕ → Type 0
-SpellsText test fix size w b = SpellsOctets fix size w b × (test w ≡ true)
 
 -- the first component is there, spelt by the first octets; Rest: the others
 abbrev pub IsPresent : (AsnValue → List ℕ → Type 0) → (Places → List ℕ → Type 0) → Places → List ℕ → Type 0
@@ -103,15 +94,8 @@ IsLeafSpelling (enumerated numbers extensible) v b = (z : ℤ) × (v ≡ enum z)
     × ((extensible || has_number numbers z) ≡ true) × IsEnumerated z b
 -- BIT STRING (13).
 IsLeafSpelling (bit_string size) v b = (s : List Bool) × (v ≡ bit_list s) × SpellsBits (fixed size) size s b
--- OBJECT IDENTIFIER (21): the contents of X.690 after a length.
-IsLeafSpelling object_id v b = (arcs : List ℕ) × (v ≡ oid arcs) × IsCounted IsObjectId arcs b
--- IA5String, VisibleString, NumericString, PrintableString (27): an octet for each character.
-IsLeafSpelling (restricted_string kind size) v b = (w : List ℕ) × (v ≡ text w) × SpellsText (all_characters kind) (fixed size) size w b
--- UTF8String (27): UTF-8 after a length; the size counts characters.
-IsLeafSpelling (utf8_string size) v b = (w : List ℕ) × (v ≡ text w) × (is_utf8 w ≡ true)
-    × (size_fits size (length (chars w)) ≡ true) × IsCounted IsItself w b
--- OCTET STRING (14).
-IsLeafSpelling (octet_string size) v b = (w : List ℕ) × (v ≡ octets w) × SpellsOctets (fixed size) size w b
+-- OCTET STRING, OBJECT IDENTIFIER and the character strings: contents after a length, or alone where their number is fixed.
+IsLeafSpelling (content kind) v b = (w : List ℕ) × (v ≡ leaf_value (content_value kind w)) × SpellsContent kind w b
 
 -- b spells v by Basic-OER.
 abbrev mutual

@@ -1,28 +1,15 @@
 -- Whether a value fits a type, as a test.
-use Rattle.std.specs.Prelude.{ℕ, suc, ◌+◌, ◌*◌, ◌^◌, List, [], ◌∷◌, length, Bool, true, false, not, ◌&&◌, ◌||◌, leb, ltb, if◌then◌else◌}
-use Rattle.std.specs.Str.{is_utf8, chars}
+use Rattle.std.specs.Prelude.{ℕ, suc, ◌^◌, List, [], ◌∷◌, length, Bool, true, false, not, ◌&&◌, ◌||◌, leb, ltb, if◌then◌else◌}
 use Rattle.oer_units.specs.Reading.{is_int64}
 use Rattle.oer_units.specs.declared.tagging.Tag.{Tag}
 use Rattle.oer_types.specs.Limits.{last_place}
-use Rattle.oer_types.specs.LeafType.{LeafType, bit_string, boolean, enumerated, integer, null, object_id, octet_string, restricted_string, utf8_string}
-use Rattle.oer_types.specs.LeafValue.{LeafValue, bit_list, bool, enum, int, nothing, octets, oid, text}
+use Rattle.oer_types.specs.LeafType.{LeafType, bit_string, boolean, content, enumerated, integer, null}
+use Rattle.oer_types.specs.LeafValue.{LeafValue, bit_list, bool, enum, int, nothing}
 use Rattle.oer_types.specs.AsnType.{Additions, Alternatives, AsnType, Fields, Need, addition, alternative, choice, default, extensible_sequence, field, later, leaf, may, must, no_additions, no_alternatives, no_fields, sequence, sequence_of}
 use Rattle.oer_types.specs.AsnValue.{AsnValue, Places, Unknown, Values, absent, chosen, foreign, items, leaf_value, no_places, no_values, present, seq, unknown, value}
-use Rattle.oer_types.specs.Constraints.{addition_count, all_characters, has_number, has_tag, in_range, same_tag, size_fits}
-
--- each is below n
-abbrev pub all_below : ℕ → List ℕ → Bool
-all_below n [] = true
-all_below n (x ∷ xs) = ltb x n && all_below n xs
-
--- the first two arcs come from one subidentifier below 2^128
-abbrev pub first_arcs : ℕ → ℕ → Bool
-first_arcs a b = leb a 2 && (leb 2 a || ltb b 40) && ltb (40 * a + b) (2 ^ 128)
-
-abbrev pub arcs_fit : List ℕ → Bool
-arcs_fit [] = false
-arcs_fit (a ∷ []) = false
-arcs_fit (a ∷ b ∷ rest) = first_arcs a b && all_below (2 ^ 128) rest
+use Rattle.oer_types.specs.Contents.{content_fits, held}
+pub use Rattle.oer_types.specs.Contents.{all_below, arcs_fit, first_arcs}
+use Rattle.oer_types.specs.Constraints.{addition_count, has_number, has_tag, in_range, same_tag, size_fits}
 
 abbrev pub values_length : Values → ℕ
 values_length no_values = 0
@@ -52,10 +39,7 @@ is_fit_leaf null nothing = true
 is_fit_leaf (integer low high) (int z) = in_range low high z
 is_fit_leaf (enumerated xs extensible) (enum z) = is_int64 z && (extensible || has_number xs z)
 is_fit_leaf (bit_string s) (bit_list bits) = size_fits s (length bits)
-is_fit_leaf object_id (oid arcs) = arcs_fit arcs
-is_fit_leaf (restricted_string kind s) (text w) = all_below 256 w && (all_characters kind w && size_fits s (length w))
-is_fit_leaf (utf8_string s) (text w) = all_below 256 w && (is_utf8 w && size_fits s (length (chars w)))
-is_fit_leaf (octet_string s) (octets w) = all_below 256 w && size_fits s (length w)
+is_fit_leaf (content kind) v = held kind false (content_fits kind) v
 is_fit_leaf kind v = false
 
 abbrev mutual

@@ -1,16 +1,16 @@
 -- Which values fit a type.
-use Rattle.std.specs.Prelude.{◌≡◌, ℕ, suc, ◌+◌, ◌*◌, ◌^◌, ◌<◌, ◌≤◌, ◌⊎◌, List, [], ◌∷◌, length, Bool, true, false, ◌||◌, ℤ}
-use Rattle.std.specs.Str.{is_utf8, chars}
+use Rattle.std.specs.Prelude.{◌≡◌, ℕ, suc, ◌≤◌, ◌⊎◌, List, [], ◌∷◌, length, Bool, true, false, ◌||◌, ℤ}
 use Rattle.oer_units.specs.Octets.{IsOctets}
 use Rattle.oer_units.specs.Reading.{is_int64}
 use Rattle.oer_units.specs.declared.tagging.Tag.{Tag}
 use Rattle.oer_types.specs.Limits.{last_place}
-use Rattle.oer_types.specs.LeafType.{LeafType, bit_string, boolean, enumerated, integer, null, object_id, octet_string, restricted_string, utf8_string}
+use Rattle.oer_types.specs.LeafType.{LeafType, bit_string, boolean, content, enumerated, integer, null}
 use Rattle.oer_types.specs.AsnType.{Additions, Alternatives, AsnType, Fields, Need, addition, alternative, choice, default, extensible_sequence, field, later, leaf, may, must, no_additions, no_alternatives, no_fields, sequence, sequence_of}
-use Rattle.oer_types.specs.AsnValue.{AsnValue, Places, Unknown, Values, absent, bit_list, bool, chosen, enum, foreign, int, items, no_places, no_values, nothing, octets, oid, present, seq, text, unknown, value}
+use Rattle.oer_types.specs.AsnValue.{AsnValue, Places, Unknown, Values, absent, bit_list, bool, chosen, enum, foreign, int, items, leaf_value, no_places, no_values, nothing, present, seq, unknown, value}
+use Rattle.oer_types.specs.Contents.{FitsContent, content_value}
+pub use Rattle.oer_types.specs.Contents.{AllBelow, AreArcs}
 use Rattle.oer_units.specs.Laws.{HasTagNumber}
-use Rattle.oer_types.specs.Constraints.{addition_count, all_characters, has_number, has_tag, in_range, same_tag, size_fits}
-use Rattle.oer_types.specs.declared.size.Size.{Size}
+use Rattle.oer_types.specs.Constraints.{addition_count, has_number, has_tag, in_range, same_tag, size_fits}
 
 -- values as the list of a SEQUENCE OF
 abbrev pub listed : List AsnValue → Values
@@ -27,20 +27,6 @@ abbrev pub after_last : List Unknown → ℕ
 after_last [] = 0
 after_last (unknown n w ∷ []) = suc n
 after_last (unknown n w ∷ u ∷ us) = after_last (u ∷ us)
-
--- each is below n
-abbrev pub AllBelow : ℕ → List ℕ → Type 0
-AllBelow n [] = Unit {0}
-AllBelow n (x ∷ xs) = (x < n) × AllBelow n xs
-
--- two arcs or more; the first is 0, 1 or 2, the second at most 39 under 0 and 1 (X.690, 8.19.4); numbers below 2^128
-abbrev pub AreArcs : List ℕ → Type 0
-AreArcs arcs = (a : ℕ) × (b : ℕ) × (rest : List ℕ) × (arcs ≡ a ∷ b ∷ rest) × (a ≤ 2) × (a < 2 → b < 40) × (40 * a + b < 2 ^ 128)
-    × AllBelow (2 ^ 128) rest
-
--- a text of characters that pass the test, as many as the constraint allows
-abbrev pub IsText : (List ℕ → Bool) → Size → AsnValue → Type 0
-IsText test size v = (w : List ℕ) × (v ≡ text w) × IsOctets w × (test w ≡ true) × (size_fits size (length w) ≡ true)
 
 -- each has P
 abbrev pub AllFit : (AsnValue → Type 0) → List AsnValue → Type 0
@@ -83,10 +69,7 @@ FitsLeaf null v = v ≡ nothing
 FitsLeaf (integer low high) v = (z : ℤ) × (v ≡ int z) × (in_range low high z ≡ true)
 FitsLeaf (enumerated numbers extensible) v = (z : ℤ) × (v ≡ enum z) × (is_int64 z ≡ true) × ((extensible || has_number numbers z) ≡ true)
 FitsLeaf (bit_string size) v = (s : List Bool) × (v ≡ bit_list s) × (size_fits size (length s) ≡ true)
-FitsLeaf object_id v = (arcs : List ℕ) × (v ≡ oid arcs) × AreArcs arcs
-FitsLeaf (restricted_string kind size) v = IsText (all_characters kind) size v
-FitsLeaf (utf8_string size) v = (w : List ℕ) × (v ≡ text w) × IsOctets w × (is_utf8 w ≡ true) × (size_fits size (length (chars w)) ≡ true)
-FitsLeaf (octet_string size) v = (w : List ℕ) × (v ≡ octets w) × IsOctets w × (size_fits size (length w) ≡ true)
+FitsLeaf (content kind) v = (w : List ℕ) × (v ≡ leaf_value (content_value kind w)) × FitsContent kind w
 
 -- Which values fit a type: of its kind, within its bounds and sizes, each part fitting (X.680).
 abbrev mutual

@@ -46,9 +46,9 @@ MeansInside End T n t rest = (rest ≡ []) × HasNone T t
 MeansInside why T n t rest = IsDead T t
 
 -- what an answer says, t being the octets that were taken; Refusal: what a refusal means
-abbrev pub Tells : (Why → List ℕ → List ℕ → Type 0) → AsnType → List ℕ → ℕ → Outcome AsnValue → Type 0
-Tells Refusal T input n (got v q) = (t : List ℕ) × (input ≡ t ++ q.input) × (length t ≤ n) × Encodes T v t
-Tells Refusal T input n (refused why rest) = (t : List ℕ) × (input ≡ t ++ rest) × (length t ≤ n) × Refusal why t rest
+abbrev pub IsRightAnswer : (Why → List ℕ → List ℕ → Type 0) → AsnType → List ℕ → ℕ → Outcome AsnValue → Type 0
+IsRightAnswer Refusal T input n (got v q) = (t : List ℕ) × (input ≡ t ++ q.input) × (length t ≤ n) × Encodes T v t
+IsRightAnswer Refusal T input n (refused why rest) = (t : List ℕ) × (input ≡ t ++ rest) × (length t ≤ n) × Refusal why t rest
 
 -- an answer by the name that its reason has in an open type
 abbrev pub named : Outcome AsnValue → Outcome AsnValue
@@ -58,12 +58,12 @@ named (refused why rest) = refused (named_inside why) rest
 -- What is read from an input within a limit is an encoding at its front; a refusal says that there is none.
 abbrev pub ReadsEncodings : Type 0
 ReadsEncodings = (T : AsnType) → KeepsLimits T → (input : List ℕ) (n : ℕ) → IsOctets input
-    → Tells (λ why t rest. Means why T n t rest) T input n (read_value T (at input n))
+    → IsRightAnswer (λ why t rest. Means why T n t rest) T input n (read_value T (at input n))
 
 -- The same in an open type of n octets.
 abbrev pub ReadsInside : Type 0
 ReadsInside = (T : AsnType) → KeepsLimits T → (input : List ℕ) (n : ℕ) → IsOctets input
-    → Tells (λ why t rest. MeansInside why T n t rest) T input n (named (read_value T (at input n)))
+    → IsRightAnswer (λ why t rest. MeansInside why T n t rest) T input n (named (read_value T (at input n)))
 
 -- An encoding at the front, within the limit, is read, whatever follows it.
 abbrev pub ReadsEach : Type 0

@@ -1,10 +1,12 @@
 pub mod Limits
 pub mod LeafValue
+pub mod ContentType
 pub mod LeafType
 pub mod AsnValue
 pub mod AsnType
 pub mod Bits
 pub mod Constraints
+pub mod Contents
 pub mod Fits
 pub mod Filling
 pub mod Encoding

@@ -1,19 +1,20 @@
 -- How a value is read from a list: the groups, the steps and the refusals, in their order.
 use Rattle.std.specs.Prelude.{ℕ, suc, ◌-◌, ◌*◌, ◌^◌, List, [], ◌∷◌, length, take, drop, Bool, true, false, not, ◌&&◌, ◌||◌, leb, ltb, eqb, ℤ, Option, Some, None}
-use Rattle.std.specs.Str.{is_utf8, chars}
 use Rattle.oer_units.specs.Reading as unit
 use Rattle.oer_units.specs.declared.fault.Why.TheVariants as reason
 use Rattle.oer_units.specs.Numbers.{natural, signed, unsigned}
 use Rattle.oer_units.specs.Reader.{Reader, bind, choose, give, group, guard, refuse, times, within}
-use Rattle.oer_units.specs.Reading.{counted_number, counted_octets, number, object_identifier, octet, open_type, tag, with_length}
-use Rattle.oer_units.specs.declared.fault.Why.TheVariants.{BitUnused, Character, IntegerRange, PreamblePadding, UnknownAddition, UnknownAlternative, UnknownEnum}
+use Rattle.oer_units.specs.Reading.{counted_number, counted_octets, number, octet, open_type, tag, with_length}
+use Rattle.oer_units.specs.declared.fault.Why.TheVariants.{BitUnused, IntegerRange, PreamblePadding, UnknownAddition, UnknownAlternative, UnknownEnum}
 use Rattle.oer_units.specs.declared.tagging.Tag.{Tag}
 use Rattle.oer_types.specs.Limits.{addition_places}
-use Rattle.oer_types.specs.LeafType.{LeafType, bit_string, boolean, enumerated, integer, null, object_id, octet_string, restricted_string, utf8_string}
+use Rattle.oer_types.specs.LeafType.{LeafType, bit_string, boolean, content, enumerated, integer, null}
 use Rattle.oer_types.specs.AsnType.{Additions, Alternatives, AsnType, Fields, Need, addition, alternative, choice, default, extensible_sequence, field, later, leaf, may, must, no_additions, no_alternatives, no_fields, sequence, sequence_of}
-use Rattle.oer_types.specs.AsnValue.{AsnValue, Places, Unknown, absent, bit_list, bool, chosen, enum, foreign, int, items, no_places, nothing, octets, oid, present, seq, text, unknown}
+use Rattle.oer_types.specs.AsnValue.{AsnValue, Places, Unknown, absent, bit_list, bool, chosen, enum, foreign, int, items, leaf_value, no_places, nothing, present, seq, unknown}
 use Rattle.oer_types.specs.Bits.{all_false, bits_of, first_bit, later_bits, octets_for}
-use Rattle.oer_types.specs.Constraints.{Form, addition_count, all_characters, any_size, fixed, form_of, has_number, has_tag, in_range, optional, same_tag, signed_counted, signed_fixed, size_fits, unsigned_counted, unsigned_fixed}
+use Rattle.oer_types.specs.Constraints.{Form, addition_count, any_size, fixed, form_of, has_number, has_tag, in_range, optional, same_tag, signed_counted, signed_fixed, size_fits, unsigned_counted, unsigned_fixed}
+use Rattle.oer_types.specs.Contents.{content_value, read_content}
+pub use Rattle.oer_types.specs.Contents.{read_octets, read_text, read_utf8}
 use Rattle.oer_types.specs.Fits.{all_absent, listed}
 use Rattle.oer_types.specs.declared.size.Size.{Size}
 
@@ -23,11 +24,6 @@ read_integer (unsigned_fixed n) test = number IntegerRange natural test n
 read_integer (signed_fixed n) test = number IntegerRange signed test n
 read_integer unsigned_counted test = counted_number natural test
 read_integer signed_counted test = counted_number signed test
-
--- as many octets as the one size says, or a length's
-abbrev pub read_octets : Option ℕ → Size → Reader (List ℕ)
-read_octets (Some n) s = group n
-read_octets None s = with_length (λ n. guard (size_fits s n) reason.Size (group n))
 
 -- k bits, and zeros to the octet's end
 unfoldable pub preamble : ℕ → Reader (List Bool)
@@ -115,14 +111,6 @@ read_chosen extensible more r t =
 unfoldable pub read_choice : Bool → Alternatives → (Tag → Reader AsnValue) → Reader AsnValue
 read_choice extensible more r = bind tag (read_chosen extensible more r)
 
--- characters that pass the test
-abbrev pub read_text : (List ℕ → Bool) → Option ℕ → Size → Reader (List ℕ)
-read_text test fix s = bind (read_octets fix s) (λ w. guard (test w) Character (give w))
-
--- UTF-8 after a length; its size counts characters
-abbrev pub read_utf8 : Size → Reader (List ℕ)
-read_utf8 s = bind counted_octets (λ w. guard (is_utf8 w) Character (guard (size_fits s (length (chars w))) reason.Size (give w)))
-
 -- a value that holds no other, case by case as IsLeafSpelling has them
 abbrev pub read_leaf : LeafType → Reader AsnValue
 read_leaf boolean = bind octet (λ x. give (bool (not (eqb x 0))))
@@ -131,10 +119,7 @@ read_leaf (integer low high) = bind (read_integer (form_of low high) (in_range l
 read_leaf (enumerated numbers extensible) =
     bind unit.enumerated (λ z. guard (extensible || has_number numbers z) UnknownEnum (give (enum z)))
 read_leaf (bit_string s) = bind (read_bits (fixed s) s) (λ w. give (bit_list w))
-read_leaf object_id = bind object_identifier (λ w. give (oid w))
-read_leaf (restricted_string kind s) = bind (read_text (all_characters kind) (fixed s) s) (λ w. give (text w))
-read_leaf (utf8_string s) = bind (read_utf8 s) (λ w. give (text w))
-read_leaf (octet_string s) = bind (read_octets (fixed s) s) (λ w. give (octets w))
+read_leaf (content kind) = bind (read_content kind) (λ w. give (leaf_value (content_value kind w)))
 
 -- How a value is read, case by case as IsSpelling has them.
 abbrev mutual

@@ -22,10 +22,7 @@ fn copy(alloc: Global, shape: &Shape) -> Result<Shape, AllocError>
     match shape {
         Shape::Boolean => Ok(Shape::Boolean),
         Shape::Null => Ok(Shape::Null),
-        Shape::Integer { low, high } => Ok(Shape::Integer {
-            low: *low,
-            high: *high,
-        }),
+        &Shape::Integer { low, high } => Ok(Shape::Integer { low, high }),
         Shape::Enumerated { items, extensible } => Ok(Shape::Enumerated {
             items: copy_items(alloc, items)?,
             extensible: *extensible,

@@ -24,7 +24,7 @@ use Rattle.oer_writer.specs.Parts.{chosen_octets, field_bits, field_octets, firs
 use Rattle.oer_writer.proofs.Components.{count_of, extended_is, field_first, values_len}
 use Rattle.oer_writer.proofs.Places.{field_bits_first}
 
-nil : (n : ℕ) → 0 ≤ n
+pub nil : (n : ℕ) → 0 ≤ n
 nil n = omega arith
 
 -- ---- numbers and strings
@@ -83,7 +83,7 @@ unfolding enumerated_octets
 item_few (pos n) h = either_few (nat_lt n 128) n (128 + length (signed_octets (pos n))) (signed_octets (pos n)) (signed_few (pos n) h)
 item_few (negsuc n) h = omega (arith, signed_few (negsuc n) h)
 
-string_few : (o : Option ℕ) (w : List ℕ) → length w < 2 ^ 64 → length (string_octets o w) ≤ 9 + length w
+pub string_few : (o : Option ℕ) (w : List ℕ) → length w < 2 ^ 64 → length (string_octets o w) ≤ 9 + length w
 string_few (Some n) w h = omega arith
 string_few None w h = counted_few w h
 
@@ -97,6 +97,7 @@ leaf_bound n v h (choice extensible more) = nil n
 
 bool_leaf : (kind : LeafType) (x : Bool) → length (leaf_octets kind (bool x)) ≤ 1
 bool_leaf kind.boolean x = omega arith
+bool_leaf kind.object_id x = nil 1
 bool_leaf _ x = nil 1
 
 pub bool_bound : (T : AsnType) (x : Bool) → length (canonical_octets T (bool x)) ≤ 1
@@ -104,6 +105,7 @@ bool_bound T x = leaf_bound 1 (leaf_kind.bool x) (λ kind. bool_leaf kind x) T
 
 null_leaf : (kind : LeafType) → length (leaf_octets kind nothing) ≤ 0
 null_leaf kind.null = nil 0
+null_leaf kind.object_id = nil 0
 null_leaf _ = nil 0
 
 pub null_bound : (T : AsnType) → length (canonical_octets T nothing) ≤ 0
@@ -111,6 +113,7 @@ null_bound T = leaf_bound 0 leaf_kind.nothing null_leaf T
 
 int_leaf : (kind : LeafType) (z : ℤ) → FitsSigned w128 z → length (leaf_octets kind (int z)) ≤ 17
 int_leaf (kind.integer low high) z h = int_few (form_of low high) z (form_small low high) h
+int_leaf kind.object_id z h = nil 17
 int_leaf _ z h = nil 17
 
 pub int_bound : (T : AsnType) (z : ℤ) → FitsSigned w128 z → length (canonical_octets T (int z)) ≤ 17
@@ -118,6 +121,7 @@ int_bound T z h = leaf_bound 17 (leaf_kind.int z) (λ kind. int_leaf kind z h) T
 
 item_leaf : (kind : LeafType) (z : ℤ) → FitsSigned w128 z → length (leaf_octets kind (enum z)) ≤ 17
 item_leaf (kind.enumerated numbers extensible) z h = item_few z h
+item_leaf kind.object_id z h = nil 17
 item_leaf _ z h = nil 17
 
 pub item_bound : (T : AsnType) (z : ℤ) → FitsSigned w128 z → length (canonical_octets T (enum z)) ≤ 17
@@ -165,7 +169,7 @@ more_most (Some n) done mid j k v e is h = λ T. omega (arith, e, is, h T)
 
 -- ---- components
 
-kept_few : (need : Need) (T : AsnType) (p : Option AsnValue) → length (place_octets_of T (kept_place need T p)) ≤ length (place_octets_of T p)
+pub kept_few : (need : Need) (T : AsnType) (p : Option AsnValue) → length (place_octets_of T (kept_place need T p)) ≤ length (place_octets_of T p)
 kept_few need T None = nil 0
 kept_few need T (Some v) = by (is_kept need T v)
   where
@@ -187,7 +191,7 @@ first_few : (first : Option Bool) → length (first_bits first) ≤ 1
 first_few None = nil 1
 first_few (Some x) = omega arith
 
-root_few : (first : Option Bool) (fs : Fields) (xs : List (Option Value)) → length (root_octets first fs (places_of xs)) ≤ length xs / 8 + 1 + length (field_octets fs (places_of xs))
+pub root_few : (first : Option Bool) (fs : Fields) (xs : List (Option Value)) → length (root_octets first fs (places_of xs)) ≤ length xs / 8 + 1 + length (field_octets fs (places_of xs))
 unfolding octets_for
 root_few first fs xs =
     let a = first_bits first in

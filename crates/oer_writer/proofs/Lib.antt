@@ -9,3 +9,6 @@ pub mod Sizes
 pub mod WholeValues
 pub mod Compared
 pub mod Bounds
+pub mod ShortNumbers
+pub mod Forms
+pub mod TypeBounds

@@ -36,6 +36,6 @@ IsSame c = (c.differing ≡ None) × (length c.octets.now ≤ c.at)
 abbrev pub StandsAt : List ℕ → ℕ → List ℕ → Type 0
 StandsAt octets at part = (at + length part ≤ length octets) × (take (at + length part) octets ≡ take at octets ++ part)
 
--- these are the next octets, and none differed
-abbrev pub Follows : Comparison → List ℕ → Type 0
-Follows c next = (c.differing ≡ None) × StandsAt c.octets.now c.at next
+-- the part stands next, and no octet differed before it
+abbrev pub StandsNext : Comparison → List ℕ → Type 0
+StandsNext c part = (c.differing ≡ None) × StandsAt c.octets.now c.at part

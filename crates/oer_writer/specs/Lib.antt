@@ -5,3 +5,4 @@ pub mod Write
 pub mod Comparing
 pub mod Gathering
 pub mod Bounds
+pub mod TypeBounds

@@ -11,11 +11,11 @@ use oer_units::{Sink, SinkFault};
 
 // Writes an element, if it is a BOOLEAN.
 #[tactic(auto, using(crate::proofs::Views::views))]
-fn put_element<W: Sink>(value: &Value, done: u64, w: &mut W) -> Result<u64, SinkFault>
-    ensures { Wrote done (canonical_octets boolean (value_of value.now)) (W.contents w.old) (W.failed w.old) result (W.contents w.new) (W.failed w.new) }
+fn put_element<W: Sink>(value: &Value, done: u64, sink: &mut W) -> Result<u64, SinkFault>
+    ensures { Wrote done (canonical_octets boolean (value_of value.now)) (W.contents sink.old) (W.failed sink.old) result (W.contents sink.new) (W.failed sink.new) }
 {
     match value {
-        Value::Bool(value) => put_boolean(*value, done, w),
+        Value::Bool(value) => put_boolean(*value, done, sink),
         _ => Ok(done),
     }
 }
@@ -24,13 +24,13 @@ fn put_element<W: Sink>(value: &Value, done: u64, w: &mut W) -> Result<u64, Sink
 pub(crate) fn put_booleans<W: Sink>(
     values: &[Value],
     done: u64,
-    w: &mut W,
+    sink: &mut W,
 ) -> Result<u64, SinkFault>
-    ensures { Wrote done (values_octets boolean (values_of values.now)) (W.contents w.old) (W.failed w.old) result (W.contents w.new) (W.failed w.new) }
+    ensures { Wrote done (values_octets boolean (values_of values.now)) (W.contents sink.old) (W.failed sink.old) result (W.contents sink.new) (W.failed sink.new) }
 {
     let mut done = done;
     for value in values {
-        done = put_element(value, done, w)?;
+        done = put_element(value, done, sink)?;
     }
     Ok(done)
 }

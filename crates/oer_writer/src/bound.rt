@@ -1,22 +1,16 @@
 //! At most how many octets a value has. Each of these adds them to those done, and answers none where they
 //! come to 2^64 or where it finds no bound. They look at the value alone, and take less time than to
 //! measure it.
-ghost use Rattle.std.specs.Prelude.{◌≡◌, ◌+◌, IfSome, map};
+ghost use Rattle.std.specs.Prelude.{map};
 ghost use Rattle.oer_types.specs.AsnValue.{chosen, enum, int, items, octets, seq, text};
 ghost use Rattle.oer_types.specs.ValueView.{places_of, unknown_of, value_of, values_of};
 ghost use Rattle.oer_writer.specs.Bounds.{Bounds, BoundsPlaces, BoundsValues};
 
 use crate::leaf::quantity_len;
+use crate::most::plus;
 use crate::presence::is_extended;
 use oer_types::{Unknown, Value};
 use oer_units::{Tag, tag_len};
-
-// So many more.
-fn plus(done: u64, count: u64) -> Option<u64>
-    ensures { IfSome result (λ n. n ≡ done + count) }
-{
-    done.checked_add(count)
-}
 
 // Of an INTEGER.
 fn bound_integer(value: i128, done: u64) -> Option<u64>
@@ -106,7 +100,7 @@ fn bound_list(values: &[Value], done: u64) -> Option<u64>
 }
 
 #[cycle(bound)]
-fn bound_values(values: &[Value], done: u64) -> Option<u64>
+pub(crate) fn bound_values(values: &[Value], done: u64) -> Option<u64>
     ensures { BoundsValues done (values_of values.now) result }
 {
     let mut done = done;

@@ -3,7 +3,7 @@ ghost use Rattle.std.specs.Prelude.{◌≡◌, ◌↔◌, ◌<◌, ◌^◌, Some
 ghost use Rattle.std.specs.Io.{WritesAtMost};
 ghost use Rattle.std.specs.Io.KnownBytes.{WriteAppends};
 ghost use Rattle.oer_units.specs.Stream.{counted_write};
-ghost use Rattle.oer_writer.specs.Comparing.{Follows, IsSame, StandsAt, beside, failed_of, held_by};
+ghost use Rattle.oer_writer.specs.Comparing.{IsSame, StandsAt, StandsNext, beside, failed_of, held_by};
 
 use oer_units::Sink;
 use std::io;
@@ -37,11 +37,11 @@ impl<'a> Comparison<'a> {
         }
     }
 
-    // Whether the octets are the next ones.
-    fn follows(&self, next: &[u8]) -> bool
-        ensures { IsTrue result ↔ Follows self.now next.now }
+    // Whether the part stands next.
+    fn stands_next(&self, part: &[u8]) -> bool
+        ensures { IsTrue result ↔ StandsNext self.now part.now }
     {
-        self.differing.is_none() && stands_at(self.octets, self.at, next)
+        self.differing.is_none() && stands_at(self.octets, self.at, part)
     }
 
     // Whether all octets came, and no other.
@@ -68,7 +68,7 @@ impl Sink for Comparison<'_> {
     ghost failed = { λ s. failed_of s };
 
     fn push(&mut self, from: &[u8]) -> io::Result<usize> {
-        if self.follows(from) {
+        if self.stands_next(from) {
             self.at += from.len();
             return Ok(from.len());
         }

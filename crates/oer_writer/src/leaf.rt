@@ -11,71 +11,68 @@ ghost use Rattle.oer_types.specs.ValueView.{value_of};
 ghost use Rattle.oer_writer.specs.Parts.{leaf_octets};
 ghost use Rattle.oer_writer.specs.Wrote.{Wrote};
 
+use crate::form::form_by;
+use crate::short::{put_natural, put_short, short_len};
 use crate::slice::{Nowhere, is_fixed, put_count, put_counted, put_slice, put_string, settle};
 use oer_types::{Bits, Form, Shape, Size, Value};
 use oer_units::{
     Sink, SinkFault, Tag, Width, enumerated_len, put_enumerated, put_signed_counted,
-    put_subidentifier, put_tag, put_unsigned_counted, signed_counted_len, subidentifier_len,
-    tag_len, unsigned_counted_len,
+    put_subidentifier, put_tag, signed_counted_len, subidentifier_len, tag_len,
 };
 
 // Writes a tag (X.696, 8.7).
-pub(crate) fn put_tag_octets<W: Sink>(tag: Tag, done: u64, w: &mut W) -> Result<u64, SinkFault>
-    ensures { Wrote done (tag_octets tag) (W.contents w.old) (W.failed w.old) result (W.contents w.new) (W.failed w.new) }
+pub(crate) fn put_tag_octets<W: Sink>(tag: Tag, done: u64, sink: &mut W) -> Result<u64, SinkFault>
+    ensures { Wrote done (tag_octets tag) (W.contents sink.old) (W.failed sink.old) result (W.contents sink.new) (W.failed sink.new) }
 {
-    settle(done, tag_len(tag), put_tag(tag, w))
+    settle(done, tag_len(tag), put_tag(tag, sink))
 }
 
 // How many octets the number of elements has.
 pub(crate) fn quantity_len(count: usize) -> u64
     ensures { result ≡ length (counted (unsigned_octets count)) }
 {
-    unsigned_counted_len(count as i128)
+    short_len(count as u64)
 }
 
 // Writes how many elements there are (X.696, 17.2).
-pub(crate) fn put_quantity<W: Sink>(count: usize, done: u64, w: &mut W) -> Result<u64, SinkFault>
-    ensures { Wrote done (counted (unsigned_octets count)) (W.contents w.old) (W.failed w.old) result (W.contents w.new) (W.failed w.new) }
+pub(crate) fn put_quantity<W: Sink>(count: usize, done: u64, sink: &mut W) -> Result<u64, SinkFault>
+    ensures { Wrote done (counted (unsigned_octets count)) (W.contents sink.old) (W.failed sink.old) result (W.contents sink.new) (W.failed sink.new) }
 {
-    settle(
-        done,
-        quantity_len(count),
-        put_unsigned_counted(count as i128, w),
-    )
+    put_short(count as u64, done, sink)
 }
 
 // Writes a BOOLEAN (X.696, 9).
-pub(crate) fn put_boolean<W: Sink>(value: bool, done: u64, w: &mut W) -> Result<u64, SinkFault>
-    ensures { Wrote done ((if value then 255 else 0) ∷ []) (W.contents w.old) (W.failed w.old) result (W.contents w.new) (W.failed w.new) }
+pub(crate) fn put_boolean<W: Sink>(value: bool, done: u64, sink: &mut W) -> Result<u64, SinkFault>
+    ensures { Wrote done ((if value then 255 else 0) ∷ []) (W.contents sink.old) (W.failed sink.old) result (W.contents sink.new) (W.failed sink.new) }
 {
-    put_slice(&[if value { 255 } else { 0 }], done, w)
+    put_slice(&[if value { 255 } else { 0 }], done, sink)
 }
 
 // Writes an ENUMERATED (X.696, 11).
-pub(crate) fn put_item<W: Sink>(value: i64, done: u64, w: &mut W) -> Result<u64, SinkFault>
-    ensures { Wrote done (enumerated_octets value) (W.contents w.old) (W.failed w.old) result (W.contents w.new) (W.failed w.new) }
+pub(crate) fn put_item<W: Sink>(value: i64, done: u64, sink: &mut W) -> Result<u64, SinkFault>
+    ensures { Wrote done (enumerated_octets value) (W.contents sink.old) (W.failed sink.old) result (W.contents sink.new) (W.failed sink.new) }
 {
-    settle(done, enumerated_len(value), put_enumerated(value, w))
+    settle(done, enumerated_len(value), put_enumerated(value, sink))
 }
 
 // Writes the lowest octets of a number in two's complement.
-fn put_low<W: Sink>(value: i128, count: usize, done: u64, w: &mut W) -> Result<u64, SinkFault>
+fn put_low<W: Sink>(value: i128, count: usize, done: u64, sink: &mut W) -> Result<u64, SinkFault>
     requires { count ≤ 8 }
-    ensures { Wrote done (big_endian count (cast_unsigned w128 value)) (W.contents w.old) (W.failed w.old) result (W.contents w.new) (W.failed w.new) }
+    ensures { Wrote done (big_endian count (cast_unsigned w128 value)) (W.contents sink.old) (W.failed sink.old) result (W.contents sink.new) (W.failed sink.new) }
 {
     let low = (value.cast_unsigned() % (1 << 64)) as u64;
-    put_slice(&low.to_be_bytes()[8 - count..], done, w)
+    put_slice(&low.to_be_bytes()[8 - count..], done, sink)
 }
 
 // Writes a number in the octets of the width (X.696, 10.3 and 10.4).
-fn put_fixed<W: Sink>(value: i128, width: Width, done: u64, w: &mut W) -> Result<u64, SinkFault>
-    ensures { Wrote done (fixed_signed_octets (octets_of_width width) value) (W.contents w.old) (W.failed w.old) result (W.contents w.new) (W.failed w.new) }
+fn put_fixed<W: Sink>(value: i128, width: Width, done: u64, sink: &mut W) -> Result<u64, SinkFault>
+    ensures { Wrote done (fixed_signed_octets (octets_of_width width) value) (W.contents sink.old) (W.failed sink.old) result (W.contents sink.new) (W.failed sink.new) }
 {
     match width {
-        Width::One => put_low(value.max(-256), 1, done, w),
-        Width::Two => put_low(value.max(-65536), 2, done, w),
-        Width::Four => put_low(value.max(-4294967296), 4, done, w),
-        Width::Eight => put_low(value.max(-18446744073709551616), 8, done, w),
+        Width::One => put_low(value.max(-256), 1, done, sink),
+        Width::Two => put_low(value.max(-65536), 2, done, sink),
+        Width::Four => put_low(value.max(-4294967296), 4, done, sink),
+        Width::Eight => put_low(value.max(-18446744073709551616), 8, done, sink),
     }
 }
 
@@ -85,25 +82,19 @@ pub(crate) fn put_integer<W: Sink>(
     high: Option<i128>,
     value: i128,
     done: u64,
-    w: &mut W,
+    sink: &mut W,
 ) -> Result<u64, SinkFault>
-    ensures { Wrote done (integer_octets (form_of low high) value) (W.contents w.old) (W.failed w.old) result (W.contents w.new) (W.failed w.new) }
+    ensures { Wrote done (integer_octets (form_of low high) value) (W.contents sink.old) (W.failed sink.old) result (W.contents sink.new) (W.failed sink.new) }
 {
-    match Form::of_bounds(low, high) {
-        Form::UnsignedFixed(width) if value >= 0 => put_fixed(value, width, done, w),
-        Form::SignedFixed(width) => put_fixed(value, width, done, w),
-        Form::UnsignedCounted if value >= 0 => {
-            settle(
-                done,
-                unsigned_counted_len(value),
-                put_unsigned_counted(value, w),
-            )
-        }
+    match form_by(low, high) {
+        Form::UnsignedFixed(width) if value >= 0 => put_fixed(value, width, done, sink),
+        Form::SignedFixed(width) => put_fixed(value, width, done, sink),
+        Form::UnsignedCounted if value >= 0 => put_natural(value, done, sink),
         Form::SignedCounted => {
             settle(
                 done,
                 signed_counted_len(value),
-                put_signed_counted(value, w),
+                put_signed_counted(value, sink),
             )
         }
         _ => Ok(done),
@@ -123,12 +114,12 @@ pub(crate) fn put_bits_head<W: Sink>(
     length: u64,
     unused: u8,
     done: u64,
-    w: &mut W,
+    sink: &mut W,
 ) -> Result<u64, SinkFault>
-    ensures { Wrote done (length_octets length ++ unused ∷ []) (W.contents w.old) (W.failed w.old) result (W.contents w.new) (W.failed w.new) }
+    ensures { Wrote done (length_octets length ++ unused ∷ []) (W.contents sink.old) (W.failed sink.old) result (W.contents sink.new) (W.failed sink.new) }
 {
-    let done = put_count(length, done, w)?;
-    put_slice(&[unused], done, w)
+    let done = put_count(length, done, sink)?;
+    put_slice(&[unused], done, sink)
 }
 
 // Writes a BIT STRING (X.696, 13).
@@ -136,17 +127,17 @@ pub(crate) fn put_bits<W: Sink>(
     size: Size,
     bits: &Bits,
     done: u64,
-    w: &mut W,
+    sink: &mut W,
 ) -> Result<u64, SinkFault>
-    ensures { Wrote done (bit_octets (fixed size) bits.now) (W.contents w.old) (W.failed w.old) result (W.contents w.new) (W.failed w.new) }
+    ensures { Wrote done (bit_octets (fixed size) bits.now) (W.contents sink.old) (W.failed sink.old) result (W.contents sink.new) (W.failed sink.new) }
 {
     let octets = bits.octets();
     if is_fixed(size) {
-        return put_slice(octets, done, w);
+        return put_slice(octets, done, sink);
     }
     let unused = unused_bits(bits.count() as u128);
-    let done = put_bits_head(octets.len() as u64 + 1, unused, done, w)?;
-    put_slice(octets, done, w)
+    let done = put_bits_head(octets.len() as u64 + 1, unused, done, sink)?;
+    put_slice(octets, done, sink)
 }
 
 // Writes the digits of `n` in base 128 before the last octet of the buffer, 128 added to each. It
@@ -166,38 +157,38 @@ fn fill_upper(n: u128, buffer: &mut [u8; 20]) -> usize
 }
 
 // Writes the subidentifier of the first two arcs (X.690, 8.19.4).
-fn put_first<W: Sink>(first: u128, second: u128, done: u64, w: &mut W) -> Result<u64, SinkFault>
-    ensures { Wrote done (base128_octets (40 * first + second)) (W.contents w.old) (W.failed w.old) result (W.contents w.new) (W.failed w.new) }
+fn put_first<W: Sink>(first: u128, second: u128, done: u64, sink: &mut W) -> Result<u64, SinkFault>
+    ensures { Wrote done (base128_octets (40 * first + second)) (W.contents sink.old) (W.failed sink.old) result (W.contents sink.new) (W.failed sink.new) }
 {
     let low = 40 * (first % 128) + second % 128;
     let rest = 40 * (first / 128) + second / 128 + low / 128;
     let mut buffer = [0u8; 20];
     buffer[19] = (low % 128) as u8;
     let from = fill_upper(rest, &mut buffer);
-    put_slice(&buffer[from..], done, w)
+    put_slice(&buffer[from..], done, sink)
 }
 
 // Writes a subidentifier (X.690, 8.19.2).
-fn put_arc<W: Sink>(arc: u128, done: u64, w: &mut W) -> Result<u64, SinkFault>
-    ensures { Wrote done (base128_octets arc) (W.contents w.old) (W.failed w.old) result (W.contents w.new) (W.failed w.new) }
+fn put_arc<W: Sink>(arc: u128, done: u64, sink: &mut W) -> Result<u64, SinkFault>
+    ensures { Wrote done (base128_octets arc) (W.contents sink.old) (W.failed sink.old) result (W.contents sink.new) (W.failed sink.new) }
 {
-    settle(done, subidentifier_len(arc), put_subidentifier(arc, w))
+    settle(done, subidentifier_len(arc), put_subidentifier(arc, sink))
 }
 
 // Writes subidentifiers, one after another.
-fn put_arcs<W: Sink>(arcs: &[u128], done: u64, w: &mut W) -> Result<u64, SinkFault>
-    ensures { Wrote done (subidentifier_octets arcs.now) (W.contents w.old) (W.failed w.old) result (W.contents w.new) (W.failed w.new) }
+fn put_arcs<W: Sink>(arcs: &[u128], done: u64, sink: &mut W) -> Result<u64, SinkFault>
+    ensures { Wrote done (subidentifier_octets arcs.now) (W.contents sink.old) (W.failed sink.old) result (W.contents sink.new) (W.failed sink.new) }
 {
     let mut done = done;
     for arc in arcs {
-        done = put_arc(*arc, done, w)?;
+        done = put_arc(*arc, done, sink)?;
     }
     Ok(done)
 }
 
 // Writes the contents of an OBJECT IDENTIFIER.
-fn put_all_arcs<W: Sink>(arcs: &[u128], done: u64, w: &mut W) -> Result<u64, SinkFault>
-    ensures { Wrote done (object_id_octets arcs.now) (W.contents w.old) (W.failed w.old) result (W.contents w.new) (W.failed w.new) }
+fn put_all_arcs<W: Sink>(arcs: &[u128], done: u64, sink: &mut W) -> Result<u64, SinkFault>
+    ensures { Wrote done (object_id_octets arcs.now) (W.contents sink.old) (W.failed sink.old) result (W.contents sink.new) (W.failed sink.new) }
 {
     let Some((first, later)) = arcs.split_first() else {
         return Ok(done);
@@ -205,25 +196,29 @@ fn put_all_arcs<W: Sink>(arcs: &[u128], done: u64, w: &mut W) -> Result<u64, Sin
     let Some((second, rest)) = later.split_first() else {
         return Ok(done);
     };
-    let done = put_first(*first, *second, done, w)?;
-    put_arcs(rest, done, w)
+    let done = put_first(*first, *second, done, sink)?;
+    put_arcs(rest, done, sink)
 }
 
 // Writes an OBJECT IDENTIFIER (X.696, 21).
-pub(crate) fn put_object_id<W: Sink>(arcs: &[u128], done: u64, w: &mut W) -> Result<u64, SinkFault>
-    ensures { Wrote done (counted (object_id_octets arcs.now)) (W.contents w.old) (W.failed w.old) result (W.contents w.new) (W.failed w.new) }
+pub(crate) fn put_object_id<W: Sink>(
+    arcs: &[u128],
+    done: u64,
+    sink: &mut W,
+) -> Result<u64, SinkFault>
+    ensures { Wrote done (counted (object_id_octets arcs.now)) (W.contents sink.old) (W.failed sink.old) result (W.contents sink.new) (W.failed sink.new) }
 {
     let length = put_all_arcs(arcs, 0, &mut Nowhere)?;
-    let done = put_count(length, done, w)?;
-    put_all_arcs(arcs, done, w)
+    let done = put_count(length, done, sink)?;
+    put_all_arcs(arcs, done, sink)
 }
 
 // Writes an alternative that the type doesn't know (X.696, 20).
-fn put_foreign<W: Sink>(tag: Tag, octets: &[u8], done: u64, w: &mut W) -> Result<u64, SinkFault>
-    ensures { Wrote done (tag_octets tag ++ counted octets.now) (W.contents w.old) (W.failed w.old) result (W.contents w.new) (W.failed w.new) }
+fn put_foreign<W: Sink>(tag: Tag, octets: &[u8], done: u64, sink: &mut W) -> Result<u64, SinkFault>
+    ensures { Wrote done (tag_octets tag ++ counted octets.now) (W.contents sink.old) (W.failed sink.old) result (W.contents sink.new) (W.failed sink.new) }
 {
-    let done = put_tag_octets(tag, done, w)?;
-    put_counted(octets, done, w)
+    let done = put_tag_octets(tag, done, sink)?;
+    put_counted(octets, done, sink)
 }
 
 // Writes a value that holds no other.
@@ -232,26 +227,31 @@ pub(crate) fn put_leaf<W: Sink>(
     shape: &Shape,
     value: &Value,
     done: u64,
-    w: &mut W,
+    sink: &mut W,
 ) -> Result<u64, SinkFault>
-    ensures { Wrote done (leaf_octets (type_of shape.now) (value_of value.now)) (W.contents w.old) (W.failed w.old) result (W.contents w.new) (W.failed w.new) }
+    ensures { Wrote done (leaf_octets (type_of shape.now) (value_of value.now)) (W.contents sink.old) (W.failed sink.old) result (W.contents sink.new) (W.failed sink.new) }
 {
     match (shape, value) {
-        (Shape::Boolean, Value::Bool(value)) => put_boolean(*value, done, w),
+        (Shape::Boolean, Value::Bool(value)) => put_boolean(*value, done, sink),
         (Shape::Integer { low, high }, Value::Int(value)) => {
-            put_integer(*low, *high, *value, done, w)
+            put_integer(*low, *high, *value, done, sink)
         }
-        (Shape::Enumerated { .. }, Value::Enum(value)) => put_item(*value, done, w),
-        (Shape::BitString(size), Value::Bits(bits)) => put_bits(*size, bits, done, w),
-        (Shape::OctetString(size), Value::Octets(octets)) => put_string(*size, octets, done, w),
-        (Shape::ObjectId, Value::Oid(arcs)) => put_object_id(arcs, done, w),
-        (Shape::Ia5(size), Value::Text(text)) => put_string(*size, text.as_bytes(), done, w),
-        (Shape::Visible(size), Value::Text(text)) => put_string(*size, text.as_bytes(), done, w),
-        (Shape::Numeric(size), Value::Text(text)) => put_string(*size, text.as_bytes(), done, w),
-        (Shape::Printable(size), Value::Text(text)) => put_string(*size, text.as_bytes(), done, w),
-        (Shape::Utf8(_), Value::Text(text)) => put_counted(text.as_bytes(), done, w),
+        (Shape::Enumerated { .. }, Value::Enum(value)) => put_item(*value, done, sink),
+        (Shape::BitString(size), Value::Bits(bits)) => put_bits(*size, bits, done, sink),
+        (Shape::OctetString(size), Value::Octets(octets)) => put_string(*size, octets, done, sink),
+        (Shape::ObjectId, Value::Oid(arcs)) => put_object_id(arcs, done, sink),
+        (Shape::Ia5(size), Value::Text(text)) => put_string(*size, text.as_bytes(), done, sink),
+        (Shape::Visible(size), Value::Text(text)) => put_string(*size, text.as_bytes(), done, sink),
+        (Shape::Numeric(size), Value::Text(text)) => put_string(*size, text.as_bytes(), done, sink),
+        (Shape::Printable(size), Value::Text(text)) => put_string(
+            *size,
+            text.as_bytes(),
+            done,
+            sink,
+        ),
+        (Shape::Utf8(_), Value::Text(text)) => put_counted(text.as_bytes(), done, sink),
         (Shape::Choice { .. }, Value::Foreign { tag, octets }) => {
-            put_foreign(*tag, octets, done, w)
+            put_foreign(*tag, octets, done, sink)
         }
         _ => Ok(done),
     }

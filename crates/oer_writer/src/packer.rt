@@ -56,23 +56,28 @@ impl Packer {
     }
 
     // Takes a bit. A whole octet goes to the sink.
-    pub(crate) fn put<W: Sink>(&mut self, bit: bool, done: u64, w: &mut W) -> Result<u64, SinkFault>
+    pub(crate) fn put<W: Sink>(
+        &mut self,
+        bit: bool,
+        done: u64,
+        sink: &mut W,
+    ) -> Result<u64, SinkFault>
         requires { IsReady self.old }
-        ensures { Packs (bit ∷ []) self.old self.new done (W.contents w.old) (W.failed w.old) result (W.contents w.new) (W.failed w.new) }
+        ensures { Packs (bit ∷ []) self.old self.new done (W.contents sink.old) (W.failed sink.old) result (W.contents sink.new) (W.failed sink.new) }
     {
         match self.take(bit) {
             None => Ok(done),
-            Some(octet) => put_slice(&[octet], done, w),
+            Some(octet) => put_slice(&[octet], done, sink),
         }
     }
 
     // Writes the octet that is begun, with zeros at its end.
-    pub(crate) fn finish<W: Sink>(self, done: u64, w: &mut W) -> Result<u64, SinkFault>
+    pub(crate) fn finish<W: Sink>(self, done: u64, sink: &mut W) -> Result<u64, SinkFault>
         requires { IsReady self }
-        ensures { Wrote done (pending self []) (W.contents w.old) (W.failed w.old) result (W.contents w.new) (W.failed w.new) }
+        ensures { Wrote done (pending self []) (W.contents sink.old) (W.failed sink.old) result (W.contents sink.new) (W.failed sink.new) }
     {
         if self.weight < 128 {
-            return put_slice(&[self.octet], done, w);
+            return put_slice(&[self.octet], done, sink);
         }
         Ok(done)
     }

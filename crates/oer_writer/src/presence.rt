@@ -40,15 +40,15 @@ fn put_place_bit<W: Sink>(
     place: &Option<Value>,
     packer: &mut Packer,
     done: u64,
-    w: &mut W,
+    sink: &mut W,
 ) -> Result<u64, SinkFault>
     requires { IsReady packer.old }
-    ensures { Packs (place_bit (need_of field.now.need) (kept_place (need_of field.now.need) (type_of field.now.shape) (option_map value_of place.now))) packer.old packer.new done (W.contents w.old) (W.failed w.old) result (W.contents w.new) (W.failed w.new) }
+    ensures { Packs (place_bit (need_of field.now.need) (kept_place (need_of field.now.need) (type_of field.now.shape) (option_map value_of place.now))) packer.old packer.new done (W.contents sink.old) (W.failed sink.old) result (W.contents sink.new) (W.failed sink.new) }
 {
     match &field.need {
         Need::Must => Ok(done),
-        Need::May => packer.put(kept(field, place).is_some(), done, w),
-        Need::Default(_) => packer.put(kept(field, place).is_some(), done, w),
+        Need::May => packer.put(kept(field, place).is_some(), done, sink),
+        Need::Default(_) => packer.put(kept(field, place).is_some(), done, sink),
     }
 }
 
@@ -58,10 +58,10 @@ pub(crate) fn put_root_bits<W: Sink>(
     places: &[Option<Value>],
     packer: &mut Packer,
     done: u64,
-    w: &mut W,
+    sink: &mut W,
 ) -> Result<u64, SinkFault>
     requires { IsReady packer.old }
-    ensures { Packs (field_bits (fields_of fields.now) (places_of places.now)) packer.old packer.new done (W.contents w.old) (W.failed w.old) result (W.contents w.new) (W.failed w.new) }
+    ensures { Packs (field_bits (fields_of fields.now) (places_of places.now)) packer.old packer.new done (W.contents sink.old) (W.failed sink.old) result (W.contents sink.new) (W.failed sink.new) }
 {
     let mut done = done;
     let mut rest = places;
@@ -69,7 +69,7 @@ pub(crate) fn put_root_bits<W: Sink>(
         let Some((place, more)) = rest.split_first() else {
             return Ok(done);
         };
-        done = put_place_bit(field, place, packer, done, w)?;
+        done = put_place_bit(field, place, packer, done, sink)?;
         rest = more;
     }
     Ok(done)
@@ -81,10 +81,10 @@ pub(crate) fn put_known_bits<W: Sink>(
     places: &[Option<Value>],
     packer: &mut Packer,
     done: u64,
-    w: &mut W,
+    sink: &mut W,
 ) -> Result<u64, SinkFault>
     requires { IsReady packer.old }
-    ensures { Packs (known_bits (additions_of additions.now) (places_of places.now)) packer.old packer.new done (W.contents w.old) (W.failed w.old) result (W.contents w.new) (W.failed w.new) }
+    ensures { Packs (known_bits (additions_of additions.now) (places_of places.now)) packer.old packer.new done (W.contents sink.old) (W.failed sink.old) result (W.contents sink.new) (W.failed sink.new) }
 {
     let mut done = done;
     let mut rest = places;
@@ -92,7 +92,7 @@ pub(crate) fn put_known_bits<W: Sink>(
         let Some((place, more)) = rest.split_first() else {
             return Ok(done);
         };
-        done = packer.put(place.is_some(), done, w)?;
+        done = packer.put(place.is_some(), done, sink)?;
         rest = more;
     }
     Ok(done)
@@ -103,16 +103,16 @@ fn put_mark<W: Sink>(
     count: usize,
     packer: &mut Packer,
     done: u64,
-    w: &mut W,
+    sink: &mut W,
 ) -> Result<u64, SinkFault>
     requires { IsReady packer.old }
-    ensures { Packs (replicate count false ++ true ∷ []) packer.old packer.new done (W.contents w.old) (W.failed w.old) result (W.contents w.new) (W.failed w.new) }
+    ensures { Packs (replicate count false ++ true ∷ []) packer.old packer.new done (W.contents sink.old) (W.failed sink.old) result (W.contents sink.new) (W.failed sink.new) }
 {
     let mut sum = done;
     for _ in 0..count {
-        sum = packer.put(false, sum, w)?;
+        sum = packer.put(false, sum, sink)?;
     }
-    packer.put(true, sum, w)
+    packer.put(true, sum, sink)
 }
 
 // Takes the bits of the additions that the type doesn't know, from the place `next` on.
@@ -121,16 +121,16 @@ pub(crate) fn put_unknown_bits<W: Sink>(
     unknown: &[Unknown],
     packer: &mut Packer,
     done: u64,
-    w: &mut W,
+    sink: &mut W,
 ) -> Result<u64, SinkFault>
     requires { IsReady packer.old }
-    ensures { Packs (unknown_marks next (map unknown_of unknown.now)) packer.old packer.new done (W.contents w.old) (W.failed w.old) result (W.contents w.new) (W.failed w.new) }
+    ensures { Packs (unknown_marks next (map unknown_of unknown.now)) packer.old packer.new done (W.contents sink.old) (W.failed sink.old) result (W.contents sink.new) (W.failed sink.new) }
 {
     let mut done = done;
     let mut next = next;
     for one in unknown {
         let place = one.place as usize;
-        done = put_mark(place.saturating_sub(next), packer, done, w)?;
+        done = put_mark(place.saturating_sub(next), packer, done, sink)?;
         next = place + 1;
     }
     Ok(done)
@@ -156,14 +156,14 @@ fn put_first_bit<W: Sink>(
     first: Option<bool>,
     packer: &mut Packer,
     done: u64,
-    w: &mut W,
+    sink: &mut W,
 ) -> Result<u64, SinkFault>
     requires { IsReady packer.old }
-    ensures { Packs (first_bits first) packer.old packer.new done (W.contents w.old) (W.failed w.old) result (W.contents w.new) (W.failed w.new) }
+    ensures { Packs (first_bits first) packer.old packer.new done (W.contents sink.old) (W.failed sink.old) result (W.contents sink.new) (W.failed sink.new) }
 {
     match first {
         None => Ok(done),
-        Some(bit) => packer.put(bit, done, w),
+        Some(bit) => packer.put(bit, done, sink),
     }
 }
 
@@ -226,14 +226,14 @@ pub(crate) fn put_preamble<W: Sink>(
     fields: &[Field],
     places: &[Option<Value>],
     done: u64,
-    w: &mut W,
+    sink: &mut W,
 ) -> Result<u64, SinkFault>
-    ensures { Wrote done (padded (first_bits first ++ field_bits (fields_of fields.now) (places_of places.now))) (W.contents w.old) (W.failed w.old) result (W.contents w.new) (W.failed w.new) }
+    ensures { Wrote done (padded (first_bits first ++ field_bits (fields_of fields.now) (places_of places.now))) (W.contents sink.old) (W.failed sink.old) result (W.contents sink.new) (W.failed sink.new) }
 {
     let mut packer = Packer::new();
-    let done = put_first_bit(first, &mut packer, done, w)?;
-    let done = put_root_bits(fields, places, &mut packer, done, w)?;
-    packer.finish(done, w)
+    let done = put_first_bit(first, &mut packer, done, sink)?;
+    let done = put_root_bits(fields, places, &mut packer, done, sink)?;
+    packer.finish(done, sink)
 }
 
 // Writes the bits of a bitmap.
@@ -242,14 +242,14 @@ fn put_marks<W: Sink>(
     added: &[Option<Value>],
     unknown: &[Unknown],
     done: u64,
-    w: &mut W,
+    sink: &mut W,
 ) -> Result<u64, SinkFault>
-    ensures { Wrote done (padded (known_bits (additions_of additions.now) (places_of added.now) ++ unknown_marks (length additions.now) (map unknown_of unknown.now))) (W.contents w.old) (W.failed w.old) result (W.contents w.new) (W.failed w.new) }
+    ensures { Wrote done (padded (known_bits (additions_of additions.now) (places_of added.now) ++ unknown_marks (length additions.now) (map unknown_of unknown.now))) (W.contents sink.old) (W.failed sink.old) result (W.contents sink.new) (W.failed sink.new) }
 {
     let mut packer = Packer::new();
-    let done = put_known_bits(additions, added, &mut packer, done, w)?;
-    let done = put_unknown_bits(additions.len(), unknown, &mut packer, done, w)?;
-    packer.finish(done, w)
+    let done = put_known_bits(additions, added, &mut packer, done, sink)?;
+    let done = put_unknown_bits(additions.len(), unknown, &mut packer, done, sink)?;
+    packer.finish(done, sink)
 }
 
 // Writes the bitmap of the additions (X.696, 16.4).
@@ -258,17 +258,17 @@ pub(crate) fn put_bitmap<W: Sink>(
     added: &[Option<Value>],
     unknown: &[Unknown],
     done: u64,
-    w: &mut W,
+    sink: &mut W,
 ) -> Result<u64, SinkFault>
-    ensures { Wrote done (bitmap_octets (known_bits (additions_of additions.now) (places_of added.now) ++ unknown_marks (length additions.now) (map unknown_of unknown.now))) (W.contents w.old) (W.failed w.old) result (W.contents w.new) (W.failed w.new) }
+    ensures { Wrote done (bitmap_octets (known_bits (additions_of additions.now) (places_of added.now) ++ unknown_marks (length additions.now) (map unknown_of unknown.now))) (W.contents sink.old) (W.failed sink.old) result (W.contents sink.new) (W.failed sink.new) }
 {
     let known = additions.len().min(added.len()) as u128;
     let count = known + count_unknown_bits(additions.len(), unknown);
     let Ok(length) = u64::try_from((count + 7) / 8 + 1) else {
         return Err(SinkFault { written: done });
     };
-    let done = put_bits_head(length, unused_bits(count), done, w)?;
-    put_marks(additions, added, unknown, done, w)
+    let done = put_bits_head(length, unused_bits(count), done, sink)?;
+    put_marks(additions, added, unknown, done, sink)
 }
 
 // Whether an addition is there.
@@ -287,13 +287,13 @@ pub(crate) fn is_extended(added: &[Option<Value>], unknown: &[Unknown]) -> bool
 pub(crate) fn put_unknown<W: Sink>(
     unknown: &[Unknown],
     done: u64,
-    w: &mut W,
+    sink: &mut W,
 ) -> Result<u64, SinkFault>
-    ensures { Wrote done (unknown_octets (map unknown_of unknown.now)) (W.contents w.old) (W.failed w.old) result (W.contents w.new) (W.failed w.new) }
+    ensures { Wrote done (unknown_octets (map unknown_of unknown.now)) (W.contents sink.old) (W.failed sink.old) result (W.contents sink.new) (W.failed sink.new) }
 {
     let mut done = done;
     for one in unknown {
-        done = put_counted(&one.octets, done, w)?;
+        done = put_counted(&one.octets, done, sink)?;
     }
     Ok(done)
 }

@@ -21,14 +21,14 @@ fn put_open_head<W: Sink>(
     shape: &Shape,
     value: &Value,
     done: u64,
-    w: &mut W,
+    sink: &mut W,
 ) -> Result<u64, SinkFault>
-    ensures { WroteHead done (canonical_octets (type_of shape.now) (value_of value.now)) (W.contents w.old) (W.failed w.old) result (W.contents w.new) (W.failed w.new) }
+    ensures { WroteHead done (canonical_octets (type_of shape.now) (value_of value.now)) (W.contents sink.old) (W.failed sink.old) result (W.contents sink.new) (W.failed sink.new) }
 {
     let Some(length) = measured(shape, value, 0) else {
         return Err(SinkFault { written: done });
     };
-    put_count(length, done, w)
+    put_count(length, done, sink)
 }
 
 // Writes the canonical octets of a value.
@@ -38,19 +38,19 @@ pub(crate) fn put<W: Sink>(
     shape: &Shape,
     value: &Value,
     done: u64,
-    w: &mut W,
+    sink: &mut W,
 ) -> Result<u64, SinkFault>
-    ensures { Wrote done (canonical_octets (type_of shape.now) (value_of value.now)) (W.contents w.old) (W.failed w.old) result (W.contents w.new) (W.failed w.new) }
+    ensures { Wrote done (canonical_octets (type_of shape.now) (value_of value.now)) (W.contents sink.old) (W.failed sink.old) result (W.contents sink.new) (W.failed sink.new) }
 {
     match value {
         Value::Seq {
             root,
             added,
             unknown,
-        } => put_sequence(shape, root, added, unknown, done, w),
-        Value::List(values) => put_list(shape, values, done, w),
-        Value::Chosen { tag, value } => put_chosen(shape, *tag, value, done, w),
-        _ => put_leaf(shape, value, done, w),
+        } => put_sequence(shape, root, added, unknown, done, sink),
+        Value::List(values) => put_list(shape, values, done, sink),
+        Value::Chosen { tag, value } => put_chosen(shape, *tag, value, done, sink),
+        _ => put_leaf(shape, value, done, sink),
     }
 }
 
@@ -63,24 +63,24 @@ fn put_sequence<W: Sink>(
     added: &[Option<Value>],
     unknown: &[Unknown],
     done: u64,
-    w: &mut W,
+    sink: &mut W,
 ) -> Result<u64, SinkFault>
-    ensures { Wrote done (canonical_octets (type_of shape.now) (seq (places_of places.now) (places_of added.now) (map unknown_of unknown.now))) (W.contents w.old) (W.failed w.old) result (W.contents w.new) (W.failed w.new) }
+    ensures { Wrote done (canonical_octets (type_of shape.now) (seq (places_of places.now) (places_of added.now) (map unknown_of unknown.now))) (W.contents sink.old) (W.failed sink.old) result (W.contents sink.new) (W.failed sink.new) }
 {
     let Shape::Sequence { root, additions } = shape else {
         return Ok(done);
     };
     let fields: &[Field] = root;
     let Some(additions) = additions else {
-        return put_root(None, fields, places, done, w);
+        return put_root(None, fields, places, done, sink);
     };
     let additions: &[Addition] = additions;
     let extended = is_extended(added, unknown);
-    let done = put_root(Some(extended), fields, places, done, w)?;
+    let done = put_root(Some(extended), fields, places, done, sink)?;
     if !extended {
         return Ok(done);
     }
-    put_extension(additions, added, unknown, done, w)
+    put_extension(additions, added, unknown, done, sink)
 }
 
 // Writes the preamble of a SEQUENCE, and the components of its root.
@@ -90,12 +90,12 @@ fn put_root<W: Sink>(
     fields: &[Field],
     places: &[Option<Value>],
     done: u64,
-    w: &mut W,
+    sink: &mut W,
 ) -> Result<u64, SinkFault>
-    ensures { Wrote done (root_octets extended (fields_of fields.now) (places_of places.now)) (W.contents w.old) (W.failed w.old) result (W.contents w.new) (W.failed w.new) }
+    ensures { Wrote done (root_octets extended (fields_of fields.now) (places_of places.now)) (W.contents sink.old) (W.failed sink.old) result (W.contents sink.new) (W.failed sink.new) }
 {
-    let done = put_preamble(extended, fields, places, done, w)?;
-    put_fields(fields, places, done, w)
+    let done = put_preamble(extended, fields, places, done, sink)?;
+    put_fields(fields, places, done, sink)
 }
 
 // Writes what follows the root, where an addition is there.
@@ -105,13 +105,13 @@ fn put_extension<W: Sink>(
     added: &[Option<Value>],
     unknown: &[Unknown],
     done: u64,
-    w: &mut W,
+    sink: &mut W,
 ) -> Result<u64, SinkFault>
-    ensures { Wrote done (addition_octets (additions_of additions.now) (places_of added.now) (map unknown_of unknown.now)) (W.contents w.old) (W.failed w.old) result (W.contents w.new) (W.failed w.new) }
+    ensures { Wrote done (addition_octets (additions_of additions.now) (places_of added.now) (map unknown_of unknown.now)) (W.contents sink.old) (W.failed sink.old) result (W.contents sink.new) (W.failed sink.new) }
 {
-    let done = put_bitmap(additions, added, unknown, done, w)?;
-    let done = put_additions(additions, added, done, w)?;
-    put_unknown(unknown, done, w)
+    let done = put_bitmap(additions, added, unknown, done, sink)?;
+    let done = put_additions(additions, added, done, sink)?;
+    put_unknown(unknown, done, sink)
 }
 
 // Writes a SEQUENCE OF (X.696, 17).
@@ -121,15 +121,15 @@ fn put_list<W: Sink>(
     shape: &Shape,
     values: &[Value],
     done: u64,
-    w: &mut W,
+    sink: &mut W,
 ) -> Result<u64, SinkFault>
-    ensures { Wrote done (canonical_octets (type_of shape.now) (items (values_of values.now))) (W.contents w.old) (W.failed w.old) result (W.contents w.new) (W.failed w.new) }
+    ensures { Wrote done (canonical_octets (type_of shape.now) (items (values_of values.now))) (W.contents sink.old) (W.failed sink.old) result (W.contents sink.new) (W.failed sink.new) }
 {
     let Shape::SequenceOf { item, .. } = shape else {
         return Ok(done);
     };
-    let done = put_quantity(values.len(), done, w)?;
-    put_values(item, values, done, w)
+    let done = put_quantity(values.len(), done, sink)?;
+    put_values(item, values, done, sink)
 }
 
 // Writes an alternative of a CHOICE (X.696, 20).
@@ -140,22 +140,22 @@ fn put_chosen<W: Sink>(
     tag: Tag,
     value: &Value,
     done: u64,
-    w: &mut W,
+    sink: &mut W,
 ) -> Result<u64, SinkFault>
-    ensures { Wrote done (canonical_octets (type_of shape.now) (chosen tag (value_of value.now))) (W.contents w.old) (W.failed w.old) result (W.contents w.new) (W.failed w.new) }
+    ensures { Wrote done (canonical_octets (type_of shape.now) (chosen tag (value_of value.now))) (W.contents sink.old) (W.failed sink.old) result (W.contents sink.new) (W.failed sink.new) }
 {
     let Shape::Choice { root, additions } = shape else {
         return Ok(done);
     };
     let alternatives: &[Alt] = root;
-    let done = put_tag_octets(tag, done, w)?;
+    let done = put_tag_octets(tag, done, sink)?;
     if contains_tag(alternatives, tag) {
-        return put_alternative(alternatives, tag, value, done, w);
+        return put_alternative(alternatives, tag, value, done, sink);
     }
     let Some(additions) = additions else {
         return Ok(done);
     };
-    put_later(additions, tag, value, done, w)
+    put_later(additions, tag, value, done, sink)
 }
 
 // Writes the components of a root that are kept.
@@ -164,9 +164,9 @@ fn put_fields<W: Sink>(
     fields: &[Field],
     places: &[Option<Value>],
     done: u64,
-    w: &mut W,
+    sink: &mut W,
 ) -> Result<u64, SinkFault>
-    ensures { Wrote done (field_octets (fields_of fields.now) (places_of places.now)) (W.contents w.old) (W.failed w.old) result (W.contents w.new) (W.failed w.new) }
+    ensures { Wrote done (field_octets (fields_of fields.now) (places_of places.now)) (W.contents sink.old) (W.failed sink.old) result (W.contents sink.new) (W.failed sink.new) }
 {
     let mut done = done;
     let mut rest = places;
@@ -174,7 +174,7 @@ fn put_fields<W: Sink>(
         let Some((place, more)) = rest.split_first() else {
             return Ok(done);
         };
-        done = put_field(field, place, done, w)?;
+        done = put_field(field, place, done, sink)?;
         rest = more;
     }
     Ok(done)
@@ -185,13 +185,13 @@ fn put_field<W: Sink>(
     field: &Field,
     place: &Option<Value>,
     done: u64,
-    w: &mut W,
+    sink: &mut W,
 ) -> Result<u64, SinkFault>
-    ensures { Wrote done (place_octets_of (type_of field.now.shape) (kept_place (need_of field.now.need) (type_of field.now.shape) (option_map value_of place.now))) (W.contents w.old) (W.failed w.old) result (W.contents w.new) (W.failed w.new) }
+    ensures { Wrote done (place_octets_of (type_of field.now.shape) (kept_place (need_of field.now.need) (type_of field.now.shape) (option_map value_of place.now))) (W.contents sink.old) (W.failed sink.old) result (W.contents sink.new) (W.failed sink.new) }
 {
     match kept(field, place) {
         None => Ok(done),
-        Some(value) => put(&field.shape, value, done, w),
+        Some(value) => put(&field.shape, value, done, sink),
     }
 }
 
@@ -201,9 +201,9 @@ fn put_additions<W: Sink>(
     additions: &[Addition],
     places: &[Option<Value>],
     done: u64,
-    w: &mut W,
+    sink: &mut W,
 ) -> Result<u64, SinkFault>
-    ensures { Wrote done (known_octets (additions_of additions.now) (places_of places.now)) (W.contents w.old) (W.failed w.old) result (W.contents w.new) (W.failed w.new) }
+    ensures { Wrote done (known_octets (additions_of additions.now) (places_of places.now)) (W.contents sink.old) (W.failed sink.old) result (W.contents sink.new) (W.failed sink.new) }
 {
     let mut done = done;
     let mut rest = places;
@@ -211,7 +211,7 @@ fn put_additions<W: Sink>(
         let Some((place, more)) = rest.split_first() else {
             return Ok(done);
         };
-        done = put_addition(addition, place, done, w)?;
+        done = put_addition(addition, place, done, sink)?;
         rest = more;
     }
     Ok(done)
@@ -222,15 +222,15 @@ fn put_addition<W: Sink>(
     addition: &Addition,
     place: &Option<Value>,
     done: u64,
-    w: &mut W,
+    sink: &mut W,
 ) -> Result<u64, SinkFault>
-    ensures { Wrote done (counted_place (type_of addition.now.shape) (option_map value_of place.now)) (W.contents w.old) (W.failed w.old) result (W.contents w.new) (W.failed w.new) }
+    ensures { Wrote done (counted_place (type_of addition.now.shape) (option_map value_of place.now)) (W.contents sink.old) (W.failed sink.old) result (W.contents sink.new) (W.failed sink.new) }
 {
     match place {
         None => Ok(done),
         Some(value) => {
-            let done = put_open_head(&addition.shape, value, done, w)?;
-            put(&addition.shape, value, done, w)
+            let done = put_open_head(&addition.shape, value, done, sink)?;
+            put(&addition.shape, value, done, sink)
         }
     }
 }
@@ -240,16 +240,16 @@ fn put_values<W: Sink>(
     item: &Shape,
     values: &[Value],
     done: u64,
-    w: &mut W,
+    sink: &mut W,
 ) -> Result<u64, SinkFault>
-    ensures { Wrote done (values_octets (type_of item.now) (values_of values.now)) (W.contents w.old) (W.failed w.old) result (W.contents w.new) (W.failed w.new) }
+    ensures { Wrote done (values_octets (type_of item.now) (values_of values.now)) (W.contents sink.old) (W.failed sink.old) result (W.contents sink.new) (W.failed sink.new) }
 {
     if let Shape::Boolean = item {
-        return put_booleans(values, done, w);
+        return put_booleans(values, done, sink);
     }
     let mut done = done;
     for value in values {
-        done = put(item, value, done, w)?;
+        done = put(item, value, done, sink)?;
     }
     Ok(done)
 }
@@ -261,13 +261,13 @@ fn put_alternative<W: Sink>(
     tag: Tag,
     value: &Value,
     done: u64,
-    w: &mut W,
+    sink: &mut W,
 ) -> Result<u64, SinkFault>
-    ensures { Wrote done (chosen_octets (root_of alternatives.now no_alternatives) tag (value_of value.now)) (W.contents w.old) (W.failed w.old) result (W.contents w.new) (W.failed w.new) }
+    ensures { Wrote done (chosen_octets (root_of alternatives.now no_alternatives) tag (value_of value.now)) (W.contents sink.old) (W.failed sink.old) result (W.contents sink.new) (W.failed sink.new) }
 {
     for alternative in alternatives {
         if is_same_tag(alternative.tag, tag) {
-            return put(&alternative.shape, value, done, w);
+            return put(&alternative.shape, value, done, sink);
         }
     }
     Ok(done)
@@ -280,14 +280,14 @@ fn put_later<W: Sink>(
     tag: Tag,
     value: &Value,
     done: u64,
-    w: &mut W,
+    sink: &mut W,
 ) -> Result<u64, SinkFault>
-    ensures { Wrote done (chosen_octets (later_of alternatives.now) tag (value_of value.now)) (W.contents w.old) (W.failed w.old) result (W.contents w.new) (W.failed w.new) }
+    ensures { Wrote done (chosen_octets (later_of alternatives.now) tag (value_of value.now)) (W.contents sink.old) (W.failed sink.old) result (W.contents sink.new) (W.failed sink.new) }
 {
     for alternative in alternatives {
         if is_same_tag(alternative.tag, tag) {
-            let done = put_open_head(&alternative.shape, value, done, w)?;
-            return put(&alternative.shape, value, done, w);
+            let done = put_open_head(&alternative.shape, value, done, sink)?;
+            return put(&alternative.shape, value, done, sink);
         }
     }
     Ok(done)

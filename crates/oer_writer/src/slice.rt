@@ -49,25 +49,25 @@ pub(crate) fn added(done: u64, count: u64) -> Option<u64>
 }
 
 // Writes the octets, in one push where the sink takes them.
-pub(crate) fn put_slice<W: Sink>(octets: &[u8], done: u64, w: &mut W) -> Result<u64, SinkFault>
-    ensures { Wrote done octets.now (W.contents w.old) (W.failed w.old) result (W.contents w.new) (W.failed w.new) }
+pub(crate) fn put_slice<W: Sink>(octets: &[u8], done: u64, sink: &mut W) -> Result<u64, SinkFault>
+    ensures { Wrote done octets.now (W.contents sink.old) (W.failed sink.old) result (W.contents sink.new) (W.failed sink.new) }
 {
-    settle(done, octets.len() as u64, put_octets(octets, w))
+    settle(done, octets.len() as u64, put_octets(octets, sink))
 }
 
 // Writes a length determinant (X.696, 8.6).
-pub(crate) fn put_count<W: Sink>(n: u64, done: u64, w: &mut W) -> Result<u64, SinkFault>
-    ensures { Wrote done (length_octets n) (W.contents w.old) (W.failed w.old) result (W.contents w.new) (W.failed w.new) }
+pub(crate) fn put_count<W: Sink>(n: u64, done: u64, sink: &mut W) -> Result<u64, SinkFault>
+    ensures { Wrote done (length_octets n) (W.contents sink.old) (W.failed sink.old) result (W.contents sink.new) (W.failed sink.new) }
 {
-    settle(done, length_len(n), put_length(n, w))
+    settle(done, length_len(n), put_length(n, sink))
 }
 
 // Writes the octets after their length.
-pub(crate) fn put_counted<W: Sink>(octets: &[u8], done: u64, w: &mut W) -> Result<u64, SinkFault>
-    ensures { Wrote done (counted octets.now) (W.contents w.old) (W.failed w.old) result (W.contents w.new) (W.failed w.new) }
+pub(crate) fn put_counted<W: Sink>(octets: &[u8], done: u64, sink: &mut W) -> Result<u64, SinkFault>
+    ensures { Wrote done (counted octets.now) (W.contents sink.old) (W.failed sink.old) result (W.contents sink.new) (W.failed sink.new) }
 {
-    let done = put_count(octets.len() as u64, done, w)?;
-    put_slice(octets, done, w)
+    let done = put_count(octets.len() as u64, done, sink)?;
+    put_slice(octets, done, sink)
 }
 
 // Whether the constraint allows one size alone.
@@ -82,13 +82,13 @@ pub(crate) fn put_string<W: Sink>(
     size: Size,
     octets: &[u8],
     done: u64,
-    w: &mut W,
+    sink: &mut W,
 ) -> Result<u64, SinkFault>
-    ensures { Wrote done (string_octets (fixed size) octets.now) (W.contents w.old) (W.failed w.old) result (W.contents w.new) (W.failed w.new) }
+    ensures { Wrote done (string_octets (fixed size) octets.now) (W.contents sink.old) (W.failed sink.old) result (W.contents sink.new) (W.failed sink.new) }
 {
     if is_fixed(size) {
-        put_slice(octets, done, w)
+        put_slice(octets, done, sink)
     } else {
-        put_counted(octets, done, w)
+        put_counted(octets, done, sink)
     }
 }

@@ -1,21 +1,20 @@
 use Rattle.std.proofs.Common.{◌∙◌, subst, Global, Option, Vec, Some, ◌-◌, ◌+◌, Bool, true, false, length, arith, rules, refl, sym, ap}
 use Rattle.oer_units.specs.Reader.{Reader}
-use Rattle.oer_types.specs.AsnType.{choice, extensible_sequence, ia5, no_alternatives, null, numeric, printable, restricted_string, sequence, sequence_of, visible}
+use Rattle.oer_types.specs.AsnType.{choice, extensible_sequence, no_alternatives, sequence, sequence_of}
 use Rattle.oer_types.specs.Checking.{check_open, check_value}
 use Rattle.oer_types.specs.Constraints.{KeepsLimits}
 use Rattle.oer_types.specs.Fits.{DefaultsFit}
 use Rattle.oer_types.specs.ShapeView.{additions_of, fields_of, later_of, need_of, root_of, type_of}
 use Rattle.oer_types.specs.declared.shape.Addition.{Addition}
 use Rattle.oer_types.specs.declared.shape.Shape.{Sequence, Shape}
-use Rattle.oer_types.proofs.Shapes.{type_of-Ia5, type_of-Numeric, type_of-Printable, type_of-Visible}
 use Rattle.oer_checker.specs.BitView.{bits_in}
 use Rattle.oer_checker.specs.Places.{place_of}
 use Rattle.oer_checker.specs.Steps.{and_after, check_there, is_default, left_open}
 use Rattle.oer_checker.proofs.Exits.{at_stop}
 use Rattle.oer_checker.proofs.FieldSteps.{additions_end, additions_next, additions_stop, count_is, extensible_stop, fields_end, fields_next, fields_stop, if_absent, items_stop, items_then, known_stop, later_got, later_stop, map_stop, no_extension, root_stop, sequence_stop, sequence_then, there_got, there_stop, times_end, times_next, times_start, times_stop, unknown_got, unknown_stop}
-use Rattle.oer_checker.proofs.Joins.{give_got}
 use Rattle.oer_checker.proofs.LengthSteps.{open_stop, open_then}
-use Rattle.oer_checker.proofs.Shapes.{type_of-Boolean, type_of-Null}
+use Rattle.oer_checker.proofs.ShapeCases.{is_leaf}
+use Rattle.oer_checker.proofs.Shapes.{type_of-Boolean}
 use Rattle.oer_checker.proofs.TagSteps.{choice_later, choice_none, choice_root, choice_stop, later_end, later_here, later_next, first_value, root_defaults, root_limits}
 use Rattle.oer_checker.proofs.Sizes.{additions_fall, alternative_falls, fields_fall, later_fall}
 use Rattle.oer_checker.proofs.TypeSteps.{as_choice, as_closed, as_extensible, as_items, as_open, as_sequence, by_type, choice_defaults, choice_limits, open_defaults, open_limits}
@@ -46,13 +45,13 @@ pub check_fields-returns : goal.check_fields-returns
 check_fields-returns t c = fields_end c.args.fields.now c.loop-field.field-index (bits_in c.loop-field.left) c.loop-field.is_canonical _ _ c.loop-field-test.false c.loop-field.invariant
 
 pub check_later-returns-then-is_same_tag : goal.check_later-returns-then-is_same_tag
-check_later-returns-then-is_same_tag t c = c.check_open.ensures ∙ ap (λ (r : Reader Bool). r (place_of c.args.place)) (later_here c.args.alternatives.now c.loop-alternative.alternative-index c.alternative-item.result c.args.tag _ c.loop-alternative-test.true c.alternative-item.is (sym c.if-is_same_tag.true ∙ c.is_same_tag.ensures) c.loop-alternative.invariant)
+check_later-returns-then-is_same_tag t c = c.check_open.ensures ∙ ap (λ (r : Reader Bool). r (place_of c.args.cursor)) (later_here c.args.alternatives.now c.loop-alternative.alternative-index c.alternative-item.result c.args.tag _ c.loop-alternative-test.true c.alternative-item.is (sym c.if-is_same_tag.true ∙ c.is_same_tag.ensures) c.loop-alternative.invariant)
 
 pub check_later-loop-alternative-preserved : goal.check_later-loop-alternative-preserved
 check_later-loop-alternative-preserved t c = later_next c.args.alternatives.now c.loop-alternative.alternative-index c.alternative-item.result c.args.tag _ c.loop-alternative-test.true c.alternative-item.is (sym c.if-is_same_tag.false ∙ c.is_same_tag.ensures) c.loop-alternative.invariant
 
 pub check_later-returns : goal.check_later-returns
-check_later-returns t c = c.check_octets.ensures ∙ ap (λ (r : Reader Bool). r (place_of c.args.place)) (later_end c.args.alternatives.now c.loop-alternative.alternative-index c.args.tag _ c.loop-alternative-test.false c.loop-alternative.invariant)
+check_later-returns t c = c.check_octets.ensures ∙ ap (λ (r : Reader Bool). r (place_of c.args.cursor)) (later_end c.args.alternatives.now c.loop-alternative.alternative-index c.args.tag _ c.loop-alternative-test.false c.loop-alternative.invariant)
 
 pub check_elements-returns-in-Boolean : goal.check_elements-returns-in-Boolean
 check_elements-returns-in-Boolean t c = rw (c.in-Boolean.is, type_of-Boolean) c.check_booleans.ensures
@@ -209,29 +208,14 @@ check_choice-check_later-requires t c =
 pub check_shape-returns-in-SequenceOf : goal.check_shape-returns-in-SequenceOf
 check_shape-returns-in-SequenceOf t c =
     let s = c.in-SequenceOf in
-    let is = as_items c.args.shape.now s.size s.item s.is ∙ ap (λ (i : Shape). sequence_of s.size (type_of i)) (sym c.deref-in-SequenceOf.ensures) in
-    by_type (type_of c.args.shape.now) (sequence_of s.size (type_of c.deref-in-SequenceOf.result.now)) _ _ is c.check_items.ensures
+    let is = as_items c.args.shape.now s.size s.item s.is ∙ ap (λ (i : Shape). sequence_of s.size (type_of i)) (sym c.deref.ensures) in
+    by_type (type_of c.args.shape.now) (sequence_of s.size (type_of c.deref.result.now)) _ _ is c.check_items.ensures
 
 pub check_shape-returns-in-None : goal.check_shape-returns-in-None
 check_shape-returns-in-None t c =
     let s = c.in-Sequence in
     let fs = c.deref-in-None.result.now in
     by_type (type_of c.args.shape.now) (sequence (fields_of fs)) _ _ (as_sequence c.args.shape.now s.root s.additions fs s.is c.in-None.is c.deref-in-None.ensures.value) c.check_sequence.ensures
-
-pub check_shape-returns-in-Null : goal.check_shape-returns-in-Null
-check_shape-returns-in-Null t c = by_type (type_of c.args.shape.now) null _ _ (ap type_of c.in-Null.is ∙ type_of-Null) (give_got true _)
-
-pub check_shape-returns-in-Ia5 : goal.check_shape-returns-in-Ia5
-check_shape-returns-in-Ia5 t c = by_type (type_of c.args.shape.now) (restricted_string ia5 c.in-Ia5.size) _ _ (ap type_of c.in-Ia5.is ∙ type_of-Ia5 c.in-Ia5.size) c.check_text.ensures
-
-pub check_shape-returns-in-Visible : goal.check_shape-returns-in-Visible
-check_shape-returns-in-Visible t c = by_type (type_of c.args.shape.now) (restricted_string visible c.in-Visible.size) _ _ (ap type_of c.in-Visible.is ∙ type_of-Visible c.in-Visible.size) c.check_text-in-Visible.ensures
-
-pub check_shape-returns-in-Numeric : goal.check_shape-returns-in-Numeric
-check_shape-returns-in-Numeric t c = by_type (type_of c.args.shape.now) (restricted_string numeric c.in-Numeric.size) _ _ (ap type_of c.in-Numeric.is ∙ type_of-Numeric c.in-Numeric.size) c.check_text-in-Numeric.ensures
-
-pub check_shape-returns-in-Printable : goal.check_shape-returns-in-Printable
-check_shape-returns-in-Printable t c = by_type (type_of c.args.shape.now) (restricted_string printable c.in-Printable.size) _ _ (ap type_of c.in-Printable.is ∙ type_of-Printable c.in-Printable.size) c.check_text-in-Printable.ensures
 
 pub check_fields-field_fits-requires : goal.check_fields-field_fits-requires
 check_fields-field_fits-requires t c = record { one = (c.loop-field.field-index, c.loop-field-test.true, c.field-item.is); limits = c.requires.limits; defaults = c.requires.defaults }
@@ -247,3 +231,6 @@ check_shape-check_extensible-requires t c =
     let s = c.in-Sequence in
     let d = c.decreases in
     (omega arith, ((s.root, c.in-Some.additions, s.is ∙ ap (λ (m : Option (Vec Addition Global)). Sequence s.root m) c.in-Some.is, c.deref-in-Some.ensures.value, c.deref-in-Some-2.ensures.value), (c.requires.limits, c.requires.defaults)))
+
+pub check_shape-check_leaf-requires : goal.check_shape-check_leaf-requires
+check_shape-check_leaf-requires t c = is_leaf c.args.shape.now c.in_default.not-Sequence c.in_default.not-SequenceOf c.in_default.not-Choice

@@ -15,13 +15,13 @@ pub returns-then-not-first-clause-found : goal.returns-then-not-first-clause-fou
 returns-then-not-first-clause-found c =
     let e = c.requires.checked in
     let s = bits_in c.args.bits in
-    addition_absent c.args.additions.now (length c.args.additions.now) refl s (place_of c.args.place) e.1 e.0 e.2 c.args.index (sym c.if-not-first.true ∙ c.first.ensures ∙ ap first_bit c.skip.ensures)
+    addition_absent c.args.additions.now (length c.args.additions.now) refl s (place_of c.args.cursor) e.1 e.0 e.2 c.args.index (sym c.if-not-first.true ∙ c.first.ensures ∙ ap first_bit c.skip.ensures)
 
 pub returns-in_default-clause-found : goal.returns-in_default-clause-found
 returns-in_default-clause-found c =
     let e = c.requires.checked in
     let xs = c.args.additions.now in
-    let p = parted xs (length xs) refl (bits_in c.args.bits) (place_of c.args.place) e.1 e.0 e.2 in
+    let p = parted xs (length xs) refl (bits_in c.args.bits) (place_of c.args.cursor) e.1 e.0 e.2 in
     absurd (no_refusal _ p.1 _ _ (p.0, p.3) c.in_default.ensures)
 
 pub unknown_in-requires-clause-checked : goal.unknown_in-requires-clause-checked
@@ -29,8 +29,8 @@ unknown_in-requires-clause-checked c =
     let e = c.requires.checked in
     let xs = c.args.additions.now in
     let s = bits_in c.args.bits in
-    let p = parted xs (length xs) refl s (place_of c.args.place) e.1 e.0 e.2 in
-    let ends = same_end (check_additions (additions_of xs) s (place_of c.args.place)) p.1 (place_of c.in-Ok.next) _ (p.0, p.3) c.in-Ok.ensures in
+    let p = parted xs (length xs) refl s (place_of c.args.cursor) e.1 e.0 e.2 in
+    let ends = same_end (check_additions (additions_of xs) s (place_of c.args.cursor)) p.1 (place_of c.in-Ok.next) _ (p.0, p.3) c.in-Ok.ensures in
     (p.2, e.1, p.4 ∙ ap (λ q. check_unknown (drop (length xs) s) q) (sym ends))
 
 pub returns-then-index-additions-clause-found : goal.returns-then-index-additions-clause-found
@@ -38,11 +38,11 @@ returns-then-index-additions-clause-found c =
     let e = c.requires.checked in
     let xs = c.args.additions.now in
     let s = bits_in c.args.bits in
-    let p = parted xs (length xs) refl s (place_of c.args.place) e.1 e.0 e.2 in
-    let ends = same_end (check_additions (additions_of xs) s (place_of c.args.place)) p.1 (place_of c.in-Ok.next) _ (p.0, p.3) c.in-Ok.ensures in
+    let p = parted xs (length xs) refl s (place_of c.args.cursor) e.1 e.0 e.2 in
+    let ends = same_end (check_additions (additions_of xs) s (place_of c.args.cursor)) p.1 (place_of c.in-Ok.next) _ (p.0, p.3) c.in-Ok.ensures in
     λ o. c.unknown_in.ensures.found o
     ∙ ap (λ q. lookup o (to_addition c.args.index) (parts_in (unknown_parts (length xs) (drop (length xs) s) q))) ends
-    ∙ unknown_look xs (length xs) refl s (place_of c.args.place) e.1 e.0 e.2 c.args.index c.if-index-additions.true o
+    ∙ unknown_look xs (length xs) refl s (place_of c.args.cursor) e.1 e.0 e.2 c.args.index c.if-index-additions.true o
 
 pub check_additions-requires-2-clause-limits : goal.check_additions-requires-2-clause-limits
 check_additions-requires-2-clause-limits c = additions_front c.args.additions.now c.args.index c.requires.limits
@@ -55,7 +55,7 @@ returns-in_default-check_additions-clause-found c =
     let e = c.requires.checked in
     let xs = c.args.additions.now in
     let y = nth xs c.args.index c.if-index-additions.false in
-    let o = addition_found xs (length xs) refl (bits_in c.args.bits) (place_of c.args.place) e.1 e.0 e.2 c.args.index y.0 c.if-index-additions.false y.1 in
+    let o = addition_found xs (length xs) refl (bits_in c.args.bits) (place_of c.args.cursor) e.1 e.0 e.2 c.args.index y.0 c.if-index-additions.false y.1 in
     absurd (no_refusal _ o.0 _ _ o.1 c.in_default-check_additions.ensures)
 
 pub content_at-requires-clause-limits : goal.content_at-requires-clause-limits
@@ -70,7 +70,7 @@ returns-in_default-content_at-clause-found c =
     let xs = c.args.additions.now in
     let s = bits_in c.args.bits in
     let x = c.index-additions-index.result in
-    let o = addition_found xs (length xs) refl s (place_of c.args.place) e.1 e.0 e.2 c.args.index x c.if-index-additions.false c.index-additions-index.is in
+    let o = addition_found xs (length xs) refl s (place_of c.args.cursor) e.1 e.0 e.2 c.args.index x c.if-index-additions.false c.index-additions-index.is in
     let there = sym c.if-not-first.false ∙ c.first.ensures ∙ ap first_bit c.skip.ensures in
     let ends = same_end _ o.0 (place_of c.in-Ok-check_additions.start) _ o.1 c.in-Ok-check_additions.ensures in
     absurd (is_unread _ (addition_entry x c.args.index (first_bit (drop c.args.index s))) o.0 (place_of c.in-Ok-check_additions.start) _ there o.2 ends c.in_default-content_at.ensures.read)
@@ -81,15 +81,15 @@ returns-clause-found c =
     let xs = c.args.additions.now in
     let s = bits_in c.args.bits in
     let x = c.index-additions-index.result in
-    let o = addition_found xs (length xs) refl s (place_of c.args.place) e.1 e.0 e.2 c.args.index x c.if-index-additions.false c.index-additions-index.is in
+    let o = addition_found xs (length xs) refl s (place_of c.args.cursor) e.1 e.0 e.2 c.args.index x c.if-index-additions.false c.index-additions-index.is in
     let there = sym c.if-not-first.false ∙ c.first.ensures ∙ ap first_bit c.skip.ensures in
     let ends = same_end _ o.0 (place_of c.in-Ok-check_additions.start) _ o.1 c.in-Ok-check_additions.ensures in
     is_read _ (addition_entry x c.args.index (first_bit (drop c.args.index s))) o.0 (place_of c.in-Ok-check_additions.start) _ _ there o.2 ends c.in-Some.ensures.read
 
 pub returns-then-index-additions-clause-stands : goal.returns-then-index-additions-clause-stands
 returns-then-index-additions-clause-stands c =
-    beyond_stands c.args.additions.now c.args.index (bits_in c.args.bits) (place_of c.args.place) (place_of c.in-Ok.next) _ c.unknown_in.result c.requires.limits c.requires.defaults c.if-index-additions.true c.in-Ok.ensures c.unknown_in.ensures.stands
+    beyond_stands c.args.additions.now c.args.index (bits_in c.args.bits) (place_of c.args.cursor) (place_of c.in-Ok.next) _ c.unknown_in.result c.requires.limits c.requires.defaults c.if-index-additions.true c.in-Ok.ensures c.unknown_in.ensures.stands
 
 pub returns-clause-stands : goal.returns-clause-stands
 returns-clause-stands c =
-    addition_stands c.args.additions.now c.args.index (bits_in c.args.bits) (place_of c.args.place) (place_of c.in-Ok-check_additions.start) _ _ _ c.requires.limits c.requires.defaults c.if-index-additions.false c.in-Ok-check_additions.ensures c.in-Some.ensures.stands
+    addition_stands c.args.additions.now c.args.index (bits_in c.args.bits) (place_of c.args.cursor) (place_of c.in-Ok-check_additions.start) _ _ _ c.requires.limits c.requires.defaults c.if-index-additions.false c.in-Ok-check_additions.ensures c.in-Some.ensures.stands

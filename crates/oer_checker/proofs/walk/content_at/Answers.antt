@@ -19,4 +19,4 @@ pub returns-clause-read : goal.returns-clause-read
 returns-clause-read c = content_read (check_value (type_of c.args.shape.now)) _ _ c.in-Ok.count c.in-Ok.field-0-0-1 c.in-Ok.ensures _ _ _ c.in-Ok-check_shape.ensures (search rules) c.octets_between.ensures
 
 pub returns-clause-stands : goal.returns-clause-stands
-returns-clause-stands c = content_stands (type_of c.args.shape.now) c.requires.limits c.requires.defaults (place_of c.args.place) (place_of c.in-Ok.next) (place_of c.in-Ok-check_shape.end) c.in-Ok.count c.in-Ok.field-0-0-1 _ _ _ c.in-Ok.ensures c.in-Ok-check_shape.ensures (search rules) c.octets_between.ensures refl
+returns-clause-stands c = content_stands (type_of c.args.shape.now) c.requires.limits c.requires.defaults (place_of c.args.cursor) (place_of c.in-Ok.next) (place_of c.in-Ok-check_shape.end) c.in-Ok.count c.in-Ok.field-0-0-1 _ _ _ c.in-Ok.ensures c.in-Ok-check_shape.ensures (search rules) c.octets_between.ensures refl

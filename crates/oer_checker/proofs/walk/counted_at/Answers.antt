@@ -14,4 +14,4 @@ pub returns-clause-read : goal.returns-clause-read
 returns-clause-read c = counted_read _ _ _ c.in-Ok.count c.in-Ok.field-0-0-1 _ c.in-Ok.ensures c.in-Ok-group_at.ensures
 
 pub returns-clause-stands : goal.returns-clause-stands
-returns-clause-stands c = counted_stands (place_of c.args.place) (place_of c.in-Ok.next) _ c.in-Ok.count c.in-Ok.field-0-0-1 _ _ c.in-Ok.ensures c.in-Ok-group_at.ensures refl
+returns-clause-stands c = counted_stands (place_of c.args.cursor) (place_of c.in-Ok.next) _ c.in-Ok.count c.in-Ok.field-0-0-1 _ _ c.in-Ok.ensures c.in-Ok-group_at.ensures refl

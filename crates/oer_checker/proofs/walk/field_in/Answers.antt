@@ -12,7 +12,7 @@ use Rattle.oer_checker.proofs.Standing.{fields_stand, value_stands}
 use Rattle.oer_checker.proofs.walk.field_in.Goals as goal
 
 pub returns-then-index-fields-clause-found : goal.returns-then-index-fields-clause-found
-returns-then-index-fields-clause-found c = let e = c.requires.checked in field_missing c.args.fields.now c.args.index (bits_in c.args.bits) (place_of c.args.place) e.1 e.0 e.2 (search rules)
+returns-then-index-fields-clause-found c = let e = c.requires.checked in field_missing c.args.fields.now c.args.index (bits_in c.args.bits) (place_of c.args.cursor) e.1 e.0 e.2 (search rules)
 
 pub returns-then-not-is_present-clause-found : goal.returns-then-not-is_present-clause-found
 returns-then-not-is_present-clause-found c =
@@ -21,7 +21,7 @@ returns-then-not-is_present-clause-found c =
     let x = c.index-fields-index.result in
     let s = bits_in c.args.bits in
     let less : c.args.index < length xs = search rules in
-    let o = field_found xs c.args.index s x (place_of c.args.place) e.1 e.0 e.2 less c.index-fields-index.is in
+    let o = field_found xs c.args.index s x (place_of c.args.cursor) e.1 e.0 e.2 less c.index-fields-index.is in
     let there = c.presence-is_present.ensures.there ∙ ap (is_there (need_of x.need)) (c.skip.ensures ∙ ap (λ k. drop k s) c.optional.ensures.is) in
     not_there _ _ o.0 _ (sym c.if-not-is_present.true ∙ there) o.2
 
@@ -35,7 +35,7 @@ pub returns-in_default-clause-found : goal.returns-in_default-clause-found
 returns-in_default-clause-found c =
     let e = c.requires.checked in
     let less : c.args.index < length c.args.fields.now = search rules in
-    let o = field_found c.args.fields.now c.args.index (bits_in c.args.bits) c.index-fields-index.result (place_of c.args.place) e.1 e.0 e.2 less c.index-fields-index.is in
+    let o = field_found c.args.fields.now c.args.index (bits_in c.args.bits) c.index-fields-index.result (place_of c.args.cursor) e.1 e.0 e.2 less c.index-fields-index.is in
     absurd (no_refusal _ o.0 _ _ o.1 c.in_default.ensures)
 
 pub encoding_at-requires-clause-limits : goal.encoding_at-requires-clause-limits
@@ -55,7 +55,7 @@ returns-in_default-encoding_at-clause-found c =
     let x = c.index-fields-index.result in
     let s = bits_in c.args.bits in
     let less : c.args.index < length xs = search rules in
-    let o = field_found xs c.args.index s x (place_of c.args.place) e.1 e.0 e.2 less c.index-fields-index.is in
+    let o = field_found xs c.args.index s x (place_of c.args.cursor) e.1 e.0 e.2 less c.index-fields-index.is in
     let there = c.presence-is_present.ensures.there ∙ ap (is_there (need_of x.need)) (c.skip.ensures ∙ ap (λ k. drop k s) c.optional.ensures.is) in
     absurd (is_unread _ (field_entry x c.args.index (drop (optional (fields_of (take c.args.index xs))) s)) o.0 (place_of c.in-Ok.start) _ (sym c.if-not-is_present.false ∙ there) o.2 (same_end _ o.0 _ _ o.1 c.in-Ok.ensures) c.in_default-encoding_at.ensures)
 
@@ -66,7 +66,7 @@ returns-clause-found c =
     let x = c.index-fields-index.result in
     let s = bits_in c.args.bits in
     let less : c.args.index < length xs = search rules in
-    let o = field_found xs c.args.index s x (place_of c.args.place) e.1 e.0 e.2 less c.index-fields-index.is in
+    let o = field_found xs c.args.index s x (place_of c.args.cursor) e.1 e.0 e.2 less c.index-fields-index.is in
     let there = c.presence-is_present.ensures.there ∙ ap (is_there (need_of x.need)) (c.skip.ensures ∙ ap (λ k. drop k s) c.optional.ensures.is) in
     is_read _ (field_entry x c.args.index (drop (optional (fields_of (take c.args.index xs))) s)) o.0 (place_of c.in-Ok.start) _ _ (sym c.if-not-is_present.false ∙ there) o.2 (same_end _ o.0 _ _ o.1 c.in-Ok.ensures) c.in-Some.ensures
 
@@ -78,5 +78,5 @@ returns-clause-stands c =
     let less : i < length xs = search rules in
     let w = field_limits xs i x less c.index-fields-index.is c.requires.limits in
     let d = field_defaults xs i x less c.index-fields-index.is c.requires.defaults in
-    let o = fields_stand xs i (bits_in c.args.bits) (place_of c.args.place) (place_of c.in-Ok.start) _ c.requires.limits c.requires.defaults c.in-Ok.ensures in
-    value_stands (type_of x.shape) w d (λ n a. AreFields (fields_of xs) i (bits_in c.args.bits) a) o.0 (place_of c.args.place) (place_of c.in-Ok.start) _ _ o.2 (λ n. o.1) c.in-Some.ensures refl
+    let o = fields_stand xs i (bits_in c.args.bits) (place_of c.args.cursor) (place_of c.in-Ok.start) _ c.requires.limits c.requires.defaults c.in-Ok.ensures in
+    value_stands (type_of x.shape) w d (λ n a. AreFields (fields_of xs) i (bits_in c.args.bits) a) o.0 (place_of c.args.cursor) (place_of c.in-Ok.start) _ _ o.2 (λ n. o.1) c.in-Some.ensures refl

@@ -1,14 +1,13 @@
-use Rattle.std.proofs.Common.{◌∙◌, Option, Some, Vec, Global, map, length, ◌-◌, ◌+◌, Ok, Err, arith, refl, rules, sym, ap, add-one}
+use Rattle.std.proofs.Common.{◌∙◌, Option, Some, None, Vec, Global, map, length, ◌-◌, ◌+◌, Ok, Err, arith, refl, rules, sym, ap, add-one}
 use Rattle.std.proofs.lemmas.Grind.{common_steps}
 use Rattle.oer_units.specs.Reading.{open_type}
 use Rattle.oer_units.proofs.ReadExits.{at_exit}
 use Rattle.oer_units.proofs.ReadOpen.{open_filled, open_stop, open_unfilled, open_value_stop}
-use Rattle.oer_units.proofs.ReadSteps.{Reads-give}
-use Rattle.oer_types.specs.AsnValue.{nothing}
+use Rattle.oer_units.proofs.ReadSteps.{Reads-memory}
 use Rattle.oer_types.specs.Reading.{read_value}
 use Rattle.oer_types.specs.ShapeView.{additions_of, fields_of, later_of, type_of}
 use Rattle.oer_types.specs.ValueView.{places_of, unknown_of, value_of}
-use Rattle.oer_types.proofs.Shapes.{type_of-Choice, type_of-Ia5, type_of-Numeric, type_of-Printable, type_of-Sequence, type_of-Visible}
+use Rattle.oer_types.proofs.Shapes.{type_of-Choice, type_of-Sequence}
 use Rattle.oer_types.proofs.Values.{value_of-List, value_of-Seq}
 use Rattle.oer_writer.proofs.Sizes.{additions_fall, fields_fall, later_fall}
 use Rattle.oer_types.specs.declared.shape.Addition.{Addition}
@@ -18,8 +17,7 @@ use Rattle.oer_decoder.specs.Starts.{added_of, start_of}
 use Rattle.oer_decoder.proofs.Extensions.{extensible_stop, extensible_then, extension_known, extension_none, extension_stop, extension_then, rest_then}
 use Rattle.oer_decoder.proofs.Loops.{addition_count_is, adds_end, adds_next, adds_none, adds_stop, elements_end, elements_next, elements_none, elements_stop, fields_end, fields_next, fields_none, fields_stop, items_stop, items_then, leads_memory, listed_is, place_none, place_then, root_stop, root_then, sequence_stop, sequence_then}
 use Rattle.oer_decoder.proofs.Picks.{choice_found, choice_later, choice_none, choice_with-is, has_marker, more_of, choice_refused, choice_stop, chosen_stop, chosen_then, later_end, later_foreign, later_found, later_here, later_next, later_stop, root_end, root_here, root_next}
-use Rattle.oer_decoder.proofs.Shapes.{type_of-Boolean, type_of-Null}
-use Rattle.oer_decoder.proofs.Values.{value_of-Null}
+use Rattle.oer_decoder.proofs.Shapes.{type_of-Boolean}
 use Rattle.oer_decoder.proofs.value.+read.Goals as goal
 
 -- ---- an open type
@@ -28,21 +26,21 @@ pub read_open-returns-in_err-size : goal.read_open-returns-in_err-size
 read_open-returns-in_err-size g t c =
     rw (at_exit c.from_residual.result c.in_err-size.field-0.0 c.from_residual.ensures.1) (open_stop (read_value (type_of c.args.shape.now)) _ _ _ c.in_err-size.ensures.reads)
 
-pub read_open-returns-in_err-value : goal.read_open-returns-in_err-value
-read_open-returns-in_err-value g t c =
-    rw (at_exit c.from_residual-in_err-value.result c.in_err-value.field-0.0 c.from_residual-in_err-value.ensures.1)
-    (open_value_stop (read_value (type_of c.args.shape.now)) _ _ _ _ c.in_ok-size.size _ c.in_ok-size.ensures.room c.in_ok-size.ensures.reads c.enter-outer.ensures.entered c.in_err-value.ensures.reads)
+pub read_open-returns-in_err-read_shape : goal.read_open-returns-in_err-read_shape
+read_open-returns-in_err-read_shape g t c =
+    rw (at_exit c.from_residual-in_err-read_shape.result c.in_err-read_shape.field-0.0 c.from_residual-in_err-read_shape.ensures.1)
+    (open_value_stop (read_value (type_of c.args.shape.now)) _ _ _ _ c.in_ok-size.size _ c.in_ok-size.ensures.room c.in_ok-size.ensures.reads c.enter-outer.ensures.entered c.in_err-read_shape.ensures.reads)
 
 pub read_open-returns-in_err-leave : goal.read_open-returns-in_err-leave
 read_open-returns-in_err-leave g t c =
     let e = c.in_err-leave.ensures in
     rw (at_exit c.from_residual-in_err-leave.result c.in_err-leave.field-0.0 c.from_residual-in_err-leave.ensures.1)
-    (open_unfilled (read_value (type_of c.args.shape.now)) _ _ _ _ _ c.in_ok-size.size (value_of c.in_ok-value.value) _ c.in_ok-size.ensures.room c.in_ok-size.ensures.reads c.enter-outer.ensures.entered c.in_ok-value.ensures.reads (omega (arith, e.unfilled)) e.fault.0 e.fault.1 e.err)
+    (open_unfilled (read_value (type_of c.args.shape.now)) _ _ _ _ _ c.in_ok-size.size (value_of c.read_shape.new.value) _ c.in_ok-size.ensures.room c.in_ok-size.ensures.reads c.enter-outer.ensures.entered c.in_ok-read_shape.ensures.reads (omega (arith, e.unfilled)) e.fault.0 e.fault.1 e.err)
 
 pub read_open-returns : goal.read_open-returns
 read_open-returns g t c =
     let e = c.in_ok-leave.ensures in
-    open_filled (read_value (type_of c.args.shape.now)) _ _ _ _ _ c.in_ok-size.size (value_of c.in_ok-value.value) _ _ c.in_ok-size.ensures.room c.in_ok-size.ensures.reads c.enter-outer.ensures.entered c.in_ok-value.ensures.reads (omega (arith, e.filled, c.read_shape.new.w.bound.ordered)) e.ok c.enter-outer.ensures.end c.enter-outer.ensures.inside
+    open_filled (read_value (type_of c.args.shape.now)) _ _ _ _ _ c.in_ok-size.size (value_of c.read_shape.new.value) _ _ c.in_ok-size.ensures.room c.in_ok-size.ensures.reads c.enter-outer.ensures.entered c.in_ok-read_shape.ensures.reads (omega (arith, e.filled, c.read_shape.new.w.bound.ordered)) e.ok c.enter-outer.ensures.end c.enter-outer.ensures.inside
 
 -- ---- elements
 
@@ -52,90 +50,96 @@ read_elements-returns-in-Boolean g t c = rw (c.in-Boolean.is, type_of-Boolean) c
 pub read_elements-loop-i-init : goal.read_elements-loop-i-init
 read_elements-loop-i-init g t c = elements_none c.args.count (read_value (type_of c.args.item.now)) _ _ c.new-values.ensures.items
 
-pub read_elements-returns-in_err-value : goal.read_elements-returns-in_err-value
-read_elements-returns-in_err-value g t c =
-    rw (at_exit c.from_residual.result c.in_err-value.field-0.0 c.from_residual.ensures.1)
-    (elements_stop (c.args.count - c.loop-i.i) (c.args.count - (c.loop-i.i + 1)) (read_value (type_of c.args.item.now)) c.loop-i.values.items _ _ _ _ _ (omega arith) c.loop-i.invariant c.in_err-value.ensures.reads)
+pub read_elements-returns-in_err-read_shape : goal.read_elements-returns-in_err-read_shape
+read_elements-returns-in_err-read_shape g t c =
+    rw (at_exit c.from_residual.result c.in_err-read_shape.field-0.0 c.from_residual.ensures.1)
+    (elements_stop (c.args.count - c.loop-i.i) (c.args.count - (c.loop-i.i + 1)) (read_value (type_of c.args.item.now)) c.loop-i.values.items _ _ _ _ _ (omega arith) c.loop-i.invariant c.in_err-read_shape.ensures.reads)
 
 pub read_elements-loop-i-preserved : goal.read_elements-loop-i-preserved
 read_elements-loop-i-preserved g t c =
-    elements_next (c.args.count - c.loop-i.i) (c.args.count - (c.loop-i.i + 1)) (read_value (type_of c.args.item.now)) c.loop-i.values.items _ c.in_ok-value.value _ _ _ _ (omega arith) (grind (arith, common_steps)) c.loop-i.invariant c.in_ok-value.ensures.reads
+    elements_next (c.args.count - c.loop-i.i) (c.args.count - (c.loop-i.i + 1)) (read_value (type_of c.args.item.now)) c.loop-i.values.items _ c.read_shape.new.value _ _ _ _ (omega arith) (grind (arith, common_steps)) c.loop-i.invariant c.in_ok-read_shape.ensures.reads
 
 pub read_elements-returns-then-is_err : goal.read_elements-returns-then-is_err
 read_elements-returns-then-is_err g t c =
     leads_memory _ _ _ _ _ _ c.fault.ensures.why c.fault.ensures.taken
-    (elements_next (c.args.count - c.loop-i.i) (c.args.count - (c.loop-i.i + 1)) (read_value (type_of c.args.item.now)) c.loop-i.values.items _ c.in_ok-value.value _ _ _ _ (omega arith) refl c.loop-i.invariant c.in_ok-value.ensures.reads)
+    (elements_next (c.args.count - c.loop-i.i) (c.args.count - (c.loop-i.i + 1)) (read_value (type_of c.args.item.now)) c.loop-i.values.items _ c.read_shape.new.value _ _ _ _ (omega arith) refl c.loop-i.invariant c.in_ok-read_shape.ensures.reads)
 
 pub read_elements-returns : goal.read_elements-returns
 read_elements-returns g t c = elements_end (c.args.count - c.loop-i.i) (read_value (type_of c.args.item.now)) c.loop-i.values.items _ _ _ (omega arith) c.loop-i.invariant
 
 -- ---- components
 
+pub read_fields-returns-in_default : goal.read_fields-returns-in_default
+read_fields-returns-in_default g t c = Reads-memory _ _ _ c.fault.ensures.why c.fault.ensures.taken
+
 pub read_fields-loop-field-init : goal.read_fields-loop-field-init
-read_fields-loop-field-init g t c = fields_none c.args.fields.now c.args.bits.now _ _ c.new-places.ensures.items
+read_fields-loop-field-init g t c = record {
+  leads = fields_none c.args.fields.now c.args.bits.now _ _ c.in-Ok.ensures.items;
+  room = omega (arith, c.in-Ok.ensures.len, c.in-Ok.ensures.exact);
+}
 
-pub read_fields-returns-in_err-place : goal.read_fields-returns-in_err-place
-read_fields-returns-in_err-place g t c =
-    rw (at_exit c.from_residual.result c.in_err-place.field-0.0 c.from_residual.ensures.1)
-    (fields_stop c.args.fields.now c.loop-field.field-index c.field-item.result c.loop-field.left.now c.presence-is_present.result.0 c.loop-field.places.items _ _ _ _ _ c.loop-field-test.true c.field-item.is c.presence-is_present.ensures.there c.loop-field.invariant c.in_err-place.ensures)
+pub read_fields-push_reserved-requires : goal.read_fields-push_reserved-requires
+read_fields-push_reserved-requires g t c = omega (arith, c.loop-field-test.true, c.loop-field.invariant.room)
 
-pub read_fields-returns-then-is_err : goal.read_fields-returns-then-is_err
-read_fields-returns-then-is_err g t c =
-    leads_memory _ _ _ _ _ _ c.fault.ensures.why c.fault.ensures.taken
-    (fields_next c.args.fields.now c.loop-field.field-index c.field-item.result c.loop-field.left.now c.presence-is_present.result.1.now c.presence-is_present.result.0 c.loop-field.places.items _ c.in_ok-place.place _ _ _ _ c.loop-field-test.true c.field-item.is c.presence-is_present.ensures.there c.presence-is_present.ensures.left refl c.loop-field.invariant c.in_ok-place.ensures)
+pub read_fields-push_reserved-requires-in-loop-field : goal.read_fields-push_reserved-requires-in-loop-field
+read_fields-push_reserved-requires-in-loop-field g t c = omega (arith, c.loop-field-test.true, c.loop-field.invariant.room)
+
+pub read_fields-loop-field-preserved-then-not-is_present : goal.read_fields-loop-field-preserved-then-not-is_present
+read_fields-loop-field-preserved-then-not-is_present g t c = record {
+  leads = fields_next c.args.fields.now c.loop-field.field-index c.field-item.result c.loop-field.left.now c.presence-is_present.result.1.now c.presence-is_present.result.0 c.loop-field.places.items _ None _ _ _ _ c.loop-field-test.true c.field-item.is c.presence-is_present.ensures.there c.presence-is_present.ensures.left c.push_reserved.ensures.items c.loop-field.invariant.leads (place_none c.presence-is_present.result.0 (read_value (type_of c.field-item.result.shape)) _ (search rules));
+  room = omega (arith, c.loop-field-test.true, c.loop-field.invariant.room, c.push_reserved.ensures.len, c.push_reserved.ensures.capacity);
+}
+
+pub read_fields-returns-in_err-read_shape : goal.read_fields-returns-in_err-read_shape
+read_fields-returns-in_err-read_shape g t c =
+    rw (at_exit c.from_residual.result c.in_err-read_shape.field-0.0 c.from_residual.ensures.1)
+    (fields_stop c.args.fields.now c.loop-field.field-index c.field-item.result c.loop-field.left.now c.presence-is_present.result.0 c.loop-field.places.items _ _ _ _ _ c.loop-field-test.true c.field-item.is c.presence-is_present.ensures.there c.loop-field.invariant.leads (place_then c.presence-is_present.result.0 (read_value (type_of c.field-item.result.shape)) _ _ (Err c.in_err-read_shape.field-0.0) (search rules) c.in_err-read_shape.ensures.reads))
 
 pub read_fields-loop-field-preserved : goal.read_fields-loop-field-preserved
-read_fields-loop-field-preserved g t c =
-    fields_next c.args.fields.now c.loop-field.field-index c.field-item.result c.loop-field.left.now c.presence-is_present.result.1.now c.presence-is_present.result.0 c.loop-field.places.items _ c.in_ok-place.place _ _ _ _ c.loop-field-test.true c.field-item.is c.presence-is_present.ensures.there c.presence-is_present.ensures.left (grind (arith, common_steps)) c.loop-field.invariant c.in_ok-place.ensures
+read_fields-loop-field-preserved g t c = record {
+  leads = fields_next c.args.fields.now c.loop-field.field-index c.field-item.result c.loop-field.left.now c.presence-is_present.result.1.now c.presence-is_present.result.0 c.loop-field.places.items _ (Some c.read_shape.new.value) _ _ _ _ c.loop-field-test.true c.field-item.is c.presence-is_present.ensures.there c.presence-is_present.ensures.left c.push_reserved-in-loop-field.ensures.items c.loop-field.invariant.leads (place_then c.presence-is_present.result.0 (read_value (type_of c.field-item.result.shape)) _ _ (Ok (value_of c.read_shape.new.value)) (search rules) c.in_ok-read_shape.ensures.reads);
+  room = omega (arith, c.loop-field-test.true, c.loop-field.invariant.room, c.push_reserved-in-loop-field.ensures.len, c.push_reserved-in-loop-field.ensures.capacity);
+}
 
 pub read_fields-returns : goal.read_fields-returns
-read_fields-returns g t c = fields_end c.args.fields.now c.loop-field.field-index c.loop-field.left.now c.loop-field.places.items _ _ _ c.loop-field-test.false c.loop-field.invariant
+read_fields-returns g t c = fields_end c.args.fields.now c.loop-field.field-index c.loop-field.left.now c.loop-field.places.items _ _ _ c.loop-field-test.false c.loop-field.invariant.leads
 
 -- ---- additions
 
+pub read_additions-returns-in_default : goal.read_additions-returns-in_default
+read_additions-returns-in_default g t c = Reads-memory _ _ _ c.fault.ensures.why c.fault.ensures.taken
+
 pub read_additions-loop-addition-init : goal.read_additions-loop-addition-init
-read_additions-loop-addition-init g t c = adds_none c.args.additions.now c.args.bits.now _ _ c.new-places.ensures.items
+read_additions-loop-addition-init g t c = record {
+  leads = adds_none c.args.additions.now c.args.bits.now _ _ c.in-Ok.ensures.items;
+  room = omega (arith, c.in-Ok.ensures.len, c.in-Ok.ensures.exact);
+}
 
-pub read_additions-returns-in_err-place : goal.read_additions-returns-in_err-place
-read_additions-returns-in_err-place g t c =
-    rw (at_exit c.from_residual.result c.in_err-place.field-0.0 c.from_residual.ensures.1)
-    (adds_stop c.args.additions.now c.loop-addition.addition-index c.addition-item.result c.loop-addition.left.now c.first-is_present.result c.loop-addition.places.items _ _ _ _ _ c.loop-addition-test.true c.addition-item.is c.first-is_present.ensures c.loop-addition.invariant c.in_err-place.ensures)
+pub read_additions-push_reserved-requires : goal.read_additions-push_reserved-requires
+read_additions-push_reserved-requires g t c = omega (arith, c.loop-addition-test.true, c.loop-addition.invariant.room)
 
-pub read_additions-returns-then-is_err : goal.read_additions-returns-then-is_err
-read_additions-returns-then-is_err g t c =
-    leads_memory _ _ _ _ _ _ c.fault.ensures.why c.fault.ensures.taken
-    (adds_next c.args.additions.now c.loop-addition.addition-index c.addition-item.result c.loop-addition.left.now c.after-rest.result.now c.first-is_present.result c.loop-addition.places.items _ c.in_ok-place.place _ _ _ _ c.loop-addition-test.true c.addition-item.is c.first-is_present.ensures c.after-rest.ensures refl c.loop-addition.invariant c.in_ok-place.ensures)
+pub read_additions-push_reserved-requires-in-loop-addition : goal.read_additions-push_reserved-requires-in-loop-addition
+read_additions-push_reserved-requires-in-loop-addition g t c = omega (arith, c.loop-addition-test.true, c.loop-addition.invariant.room)
+
+pub read_additions-loop-addition-preserved-then-not-is_present : goal.read_additions-loop-addition-preserved-then-not-is_present
+read_additions-loop-addition-preserved-then-not-is_present g t c = record {
+  leads = adds_next c.args.additions.now c.loop-addition.addition-index c.addition-item.result c.loop-addition.left.now c.after-rest.result.now c.first-is_present.result c.loop-addition.places.items _ None _ _ _ _ c.loop-addition-test.true c.addition-item.is c.first-is_present.ensures c.after-rest.ensures c.push_reserved.ensures.items c.loop-addition.invariant.leads (place_none c.first-is_present.result (open_type (read_value (type_of c.addition-item.result.shape))) _ (search rules));
+  room = omega (arith, c.loop-addition-test.true, c.loop-addition.invariant.room, c.push_reserved.ensures.len, c.push_reserved.ensures.capacity);
+}
+
+pub read_additions-returns-in_err-read_open : goal.read_additions-returns-in_err-read_open
+read_additions-returns-in_err-read_open g t c =
+    rw (at_exit c.from_residual.result c.in_err-read_open.field-0.0 c.from_residual.ensures.1)
+    (adds_stop c.args.additions.now c.loop-addition.addition-index c.addition-item.result c.loop-addition.left.now c.first-is_present.result c.loop-addition.places.items _ _ _ _ _ c.loop-addition-test.true c.addition-item.is c.first-is_present.ensures c.loop-addition.invariant.leads (place_then c.first-is_present.result (open_type (read_value (type_of c.addition-item.result.shape))) _ _ (Err c.in_err-read_open.field-0.0) (search rules) c.in_err-read_open.ensures))
 
 pub read_additions-loop-addition-preserved : goal.read_additions-loop-addition-preserved
-read_additions-loop-addition-preserved g t c =
-    adds_next c.args.additions.now c.loop-addition.addition-index c.addition-item.result c.loop-addition.left.now c.after-rest.result.now c.first-is_present.result c.loop-addition.places.items _ c.in_ok-place.place _ _ _ _ c.loop-addition-test.true c.addition-item.is c.first-is_present.ensures c.after-rest.ensures (grind (arith, common_steps)) c.loop-addition.invariant c.in_ok-place.ensures
+read_additions-loop-addition-preserved g t c = record {
+  leads = adds_next c.args.additions.now c.loop-addition.addition-index c.addition-item.result c.loop-addition.left.now c.after-rest.result.now c.first-is_present.result c.loop-addition.places.items _ (Some c.read_open.new.value) _ _ _ _ c.loop-addition-test.true c.addition-item.is c.first-is_present.ensures c.after-rest.ensures c.push_reserved-in-loop-addition.ensures.items c.loop-addition.invariant.leads (place_then c.first-is_present.result (open_type (read_value (type_of c.addition-item.result.shape))) _ _ (Ok (value_of c.read_open.new.value)) (search rules) c.in_ok-read_open.ensures);
+  room = omega (arith, c.loop-addition-test.true, c.loop-addition.invariant.room, c.push_reserved-in-loop-addition.ensures.len, c.push_reserved-in-loop-addition.ensures.capacity);
+}
 
 pub read_additions-returns : goal.read_additions-returns
-read_additions-returns g t c = adds_end c.args.additions.now c.loop-addition.addition-index c.loop-addition.left.now c.loop-addition.places.items _ _ _ c.loop-addition-test.false c.loop-addition.invariant
-
--- ---- a place
-
-pub read_place-returns-then-not-is_present : goal.read_place-returns-then-not-is_present
-read_place-returns-then-not-is_present g t c = place_none c.args.is_present _ _ (search rules)
-
-pub read_place-returns-in_err-value : goal.read_place-returns-in_err-value
-read_place-returns-in_err-value g t c =
-    rw (at_exit c.from_residual.result c.in_err-value.field-0.0 c.from_residual.ensures.1)
-    (place_then c.args.is_present (read_value (type_of c.args.shape.now)) _ _ (Err c.in_err-value.field-0.0) (search rules) c.in_err-value.ensures.reads)
-
-pub read_place-returns : goal.read_place-returns
-read_place-returns g t c = place_then c.args.is_present (read_value (type_of c.args.shape.now)) _ _ (Ok (value_of c.in_ok-value.value)) (search rules) c.in_ok-value.ensures.reads
-
-pub read_open_place-returns-then-not-is_present : goal.read_open_place-returns-then-not-is_present
-read_open_place-returns-then-not-is_present g t c = place_none c.args.is_present _ _ (search rules)
-
-pub read_open_place-returns-in_err-value : goal.read_open_place-returns-in_err-value
-read_open_place-returns-in_err-value g t c =
-    rw (at_exit c.from_residual.result c.in_err-value.field-0.0 c.from_residual.ensures.1)
-    (place_then c.args.is_present (open_type (read_value (type_of c.args.shape.now))) _ _ (Err c.in_err-value.field-0.0) (search rules) c.in_err-value.ensures)
-
-pub read_open_place-returns : goal.read_open_place-returns
-read_open_place-returns g t c = place_then c.args.is_present (open_type (read_value (type_of c.args.shape.now))) _ _ (Ok (value_of c.in_ok-value.value)) (search rules) c.in_ok-value.ensures
+read_additions-returns g t c = adds_end c.args.additions.now c.loop-addition.addition-index c.loop-addition.left.now c.loop-addition.places.items _ _ _ c.loop-addition-test.false c.loop-addition.invariant.leads
 
 -- ---- lists
 
@@ -225,16 +229,16 @@ read_rest-returns g t c =
 
 -- ---- alternatives
 
-pub read_alternative-returns-in_err-value : goal.read_alternative-returns-in_err-value
-read_alternative-returns-in_err-value g t c =
-    rw (at_exit c.from_residual.result c.in_err-value.field-0.0 c.from_residual.ensures.1)
+pub read_alternative-returns-in_err-read_shape : goal.read_alternative-returns-in_err-read_shape
+read_alternative-returns-in_err-read_shape g t c =
+    rw (at_exit c.from_residual.result c.in_err-read_shape.field-0.0 c.from_residual.ensures.1)
     (chosen_stop c.args.tag (read_value (type_of c.alternative-item.result.shape)) _ _ _ _ _ c.loop-alternative.invariant.still
-    (root_here c.args.alternatives.now c.loop-alternative.alternative-index c.alternative-item.result c.args.tag _ c.loop-alternative-test.true c.alternative-item.is c.if-is_same_tag.ensures c.loop-alternative.invariant.same) c.in_err-value.ensures.reads)
+    (root_here c.args.alternatives.now c.loop-alternative.alternative-index c.alternative-item.result c.args.tag _ c.loop-alternative-test.true c.alternative-item.is c.if-is_same_tag.ensures c.loop-alternative.invariant.same) c.in_err-read_shape.ensures.reads)
 
 pub read_alternative-returns-then-is_same_tag : goal.read_alternative-returns-then-is_same_tag
 read_alternative-returns-then-is_same_tag g t c =
-    chosen_then c.args.tag (read_value (type_of c.alternative-item.result.shape)) _ _ _ _ _ (value_of c.in_ok-value.value) _ c.loop-alternative.invariant.still
-    (root_here c.args.alternatives.now c.loop-alternative.alternative-index c.alternative-item.result c.args.tag _ c.loop-alternative-test.true c.alternative-item.is c.if-is_same_tag.ensures c.loop-alternative.invariant.same) c.in_ok-value.ensures.reads c.chosen.ensures
+    chosen_then c.args.tag (read_value (type_of c.alternative-item.result.shape)) _ _ _ _ _ (value_of c.read_shape.new.value) _ c.loop-alternative.invariant.still
+    (root_here c.args.alternatives.now c.loop-alternative.alternative-index c.alternative-item.result c.args.tag _ c.loop-alternative-test.true c.alternative-item.is c.if-is_same_tag.ensures c.loop-alternative.invariant.same) c.in_ok-read_shape.ensures.reads c.set_chosen.ensures
 
 pub read_alternative-loop-alternative-preserved : goal.read_alternative-loop-alternative-preserved
 read_alternative-loop-alternative-preserved g t c =
@@ -246,16 +250,16 @@ read_alternative-loop-alternative-preserved g t c =
 pub read_alternative-returns : goal.read_alternative-returns
 read_alternative-returns g t c = root_end c.args.alternatives.now c.loop-alternative.alternative-index c.args.tag _ _ _ c.loop-alternative.invariant.still c.loop-alternative-test.false c.loop-alternative.invariant.same
 
-pub read_open_alternative-returns-in_err-value : goal.read_open_alternative-returns-in_err-value
-read_open_alternative-returns-in_err-value g t c =
-    rw (at_exit c.from_residual.result c.in_err-value.field-0.0 c.from_residual.ensures.1)
+pub read_open_alternative-returns-in_err-read_open : goal.read_open_alternative-returns-in_err-read_open
+read_open_alternative-returns-in_err-read_open g t c =
+    rw (at_exit c.from_residual.result c.in_err-read_open.field-0.0 c.from_residual.ensures.1)
     (chosen_stop c.args.tag (open_type (read_value (type_of c.alternative-item.result.shape))) _ _ _ _ _ c.loop-alternative.invariant.still
-    (later_here c.args.alternatives.now c.loop-alternative.alternative-index c.alternative-item.result c.args.tag _ c.loop-alternative-test.true c.alternative-item.is c.if-is_same_tag.ensures c.loop-alternative.invariant.same) c.in_err-value.ensures)
+    (later_here c.args.alternatives.now c.loop-alternative.alternative-index c.alternative-item.result c.args.tag _ c.loop-alternative-test.true c.alternative-item.is c.if-is_same_tag.ensures c.loop-alternative.invariant.same) c.in_err-read_open.ensures)
 
 pub read_open_alternative-returns-then-is_same_tag : goal.read_open_alternative-returns-then-is_same_tag
 read_open_alternative-returns-then-is_same_tag g t c =
-    chosen_then c.args.tag (open_type (read_value (type_of c.alternative-item.result.shape))) _ _ _ _ _ (value_of c.in_ok-value.value) _ c.loop-alternative.invariant.still
-    (later_here c.args.alternatives.now c.loop-alternative.alternative-index c.alternative-item.result c.args.tag _ c.loop-alternative-test.true c.alternative-item.is c.if-is_same_tag.ensures c.loop-alternative.invariant.same) c.in_ok-value.ensures c.chosen.ensures
+    chosen_then c.args.tag (open_type (read_value (type_of c.alternative-item.result.shape))) _ _ _ _ _ (value_of c.read_open.new.value) _ c.loop-alternative.invariant.still
+    (later_here c.args.alternatives.now c.loop-alternative.alternative-index c.alternative-item.result c.args.tag _ c.loop-alternative-test.true c.alternative-item.is c.if-is_same_tag.ensures c.loop-alternative.invariant.same) c.in_ok-read_open.ensures c.set_chosen.ensures
 
 pub read_open_alternative-loop-alternative-preserved : goal.read_open_alternative-loop-alternative-preserved
 read_open_alternative-loop-alternative-preserved g t c =
@@ -269,33 +273,16 @@ read_open_alternative-returns g t c = later_end c.args.alternatives.now c.loop-a
 
 -- ---- what follows a tag that no alternative of the root has
 
-pub read_later_alternative-returns-in_err-found : goal.read_later_alternative-returns-in_err-found
-read_later_alternative-returns-in_err-found g t c =
-    rw (at_exit c.from_residual.result c.in_err-found.field-0.0 c.from_residual.ensures.1)
-    (later_stop c.args.alternatives.now c.args.tag _ _ _ c.in_err-found.ensures)
+pub read_later_alternative-returns-in_err-is_found : goal.read_later_alternative-returns-in_err-is_found
+read_later_alternative-returns-in_err-is_found g t c =
+    rw (at_exit c.from_residual.result c.in_err-is_found.field-0.0 c.from_residual.ensures.1)
+    (later_stop c.args.alternatives.now c.args.tag _ _ _ c.in_err-is_found.ensures)
 
-pub read_later_alternative-returns-in-Some : goal.read_later_alternative-returns-in-Some
-read_later_alternative-returns-in-Some g t c = later_found c.args.alternatives.now c.args.tag _ _ (value_of c.in-Some.value) (rw c.in-Some.is at c.in_ok-found.ensures)
+pub read_later_alternative-returns-then-is_found : goal.read_later_alternative-returns-then-is_found
+read_later_alternative-returns-then-is_found g t c = later_found c.args.alternatives.now c.args.tag _ _ (value_of c.read_open_alternative.new.value) (rw c.if-is_found.true at c.in_ok-is_found.ensures)
 
-pub read_later_alternative-returns-in-None : goal.read_later_alternative-returns-in-None
-read_later_alternative-returns-in-None g t c = later_foreign c.args.alternatives.now c.args.tag _ _ _ _ (rw c.in-None.is at c.in_ok-found.ensures) c.foreign.ensures
-
--- ---- shapes
-
-pub read_shape-returns-in-Null-clause-reads : goal.read_shape-returns-in-Null-clause-reads
-read_shape-returns-in-Null-clause-reads g t c = rw (c.in-Null.is, type_of-Null, value_of-Null) (Reads-give nothing _)
-
-pub read_shape-returns-in-Ia5-clause-reads : goal.read_shape-returns-in-Ia5-clause-reads
-read_shape-returns-in-Ia5-clause-reads g t c = rw (c.in-Ia5.is, type_of-Ia5) c.read_text.ensures
-
-pub read_shape-returns-in-Visible-clause-reads : goal.read_shape-returns-in-Visible-clause-reads
-read_shape-returns-in-Visible-clause-reads g t c = rw (c.in-Visible.is, type_of-Visible) c.read_text-in-Visible.ensures
-
-pub read_shape-returns-in-Numeric-clause-reads : goal.read_shape-returns-in-Numeric-clause-reads
-read_shape-returns-in-Numeric-clause-reads g t c = rw (c.in-Numeric.is, type_of-Numeric) c.read_text-in-Numeric.ensures
-
-pub read_shape-returns-in-Printable-clause-reads : goal.read_shape-returns-in-Printable-clause-reads
-read_shape-returns-in-Printable-clause-reads g t c = rw (c.in-Printable.is, type_of-Printable) c.read_text-in-Printable.ensures
+pub read_later_alternative-returns : goal.read_later_alternative-returns
+read_later_alternative-returns g t c = later_foreign c.args.alternatives.now c.args.tag _ _ _ _ (rw c.if-is_found.false at c.in_ok-is_found.ensures) c.set_foreign.ensures
 
 -- ---- a sequence with an extension marker
 
@@ -340,7 +327,7 @@ read_shape-read_choice-requires g t c κs within =
 pub read_choice-read_later_alternative-requires : goal.read_choice-read_later_alternative-requires
 read_choice-read_later_alternative-requires g t c κs within =
     let h = c.requires.is in
-    let smaller = later_fall c.args.shape.now h.0 c.args.additions.now c.in-Some-additions.additions _ h.1 c.in-Some-additions.is refl in
+    let smaller = later_fall c.args.shape.now h.0 c.args.additions.now c.in-Some.additions _ h.1 c.in-Some.is refl in
     (rw c.deref.ensures.value (omega (arith, smaller, c.decreases)), within)
 
 pub read_choice-returns-in_err-tag : goal.read_choice-returns-in_err-tag
@@ -349,28 +336,28 @@ read_choice-returns-in_err-tag g t c =
     rw (at_exit c.from_residual.result c.in_err-tag.field-0.0 c.from_residual.ensures.1, h.1, type_of-Choice, choice_with-is)
     (choice_stop (has_marker c.args.additions.now) h.0.items (later_of (more_of c.args.additions.now)) _ _ _ c.in_err-tag.ensures.reads)
 
-pub read_choice-returns-in_err-found : goal.read_choice-returns-in_err-found
-read_choice-returns-in_err-found g t c =
+pub read_choice-returns-in_err-is_found : goal.read_choice-returns-in_err-is_found
+read_choice-returns-in_err-is_found g t c =
     let h = c.requires.is in
-    rw (at_exit c.from_residual-in_err-found.result c.in_err-found.field-0.0 c.from_residual-in_err-found.ensures.1, h.1, type_of-Choice, choice_with-is)
-    (choice_refused (has_marker c.args.additions.now) h.0.items (later_of (more_of c.args.additions.now)) _ _ _ c.in_ok-tag.tag _ c.in_ok-tag.ensures.reads (rw h.2 at c.in_err-found.ensures))
+    rw (at_exit c.from_residual-in_err-is_found.result c.in_err-is_found.field-0.0 c.from_residual-in_err-is_found.ensures.1, h.1, type_of-Choice, choice_with-is)
+    (choice_refused (has_marker c.args.additions.now) h.0.items (later_of (more_of c.args.additions.now)) _ _ _ c.in_ok-tag.tag _ c.in_ok-tag.ensures.reads (rw h.2 at c.in_err-is_found.ensures))
+
+pub read_choice-returns-then-is_found : goal.read_choice-returns-then-is_found
+read_choice-returns-then-is_found g t c =
+    let h = c.requires.is in
+    rw (h.1, type_of-Choice, choice_with-is)
+    (choice_found (has_marker c.args.additions.now) h.0.items (later_of (more_of c.args.additions.now)) _ _ _ c.in_ok-tag.tag (value_of c.read_alternative.new.value) c.in_ok-tag.ensures.reads (rw (h.2, c.if-is_found.true) at c.in_ok-is_found.ensures))
 
 pub read_choice-returns-in-Some : goal.read_choice-returns-in-Some
 read_choice-returns-in-Some g t c =
     let h = c.requires.is in
-    rw (h.1, type_of-Choice, choice_with-is)
-    (choice_found (has_marker c.args.additions.now) h.0.items (later_of (more_of c.args.additions.now)) _ _ _ c.in_ok-tag.tag (value_of c.in-Some.value) c.in_ok-tag.ensures.reads (rw (h.2, c.in-Some.is) at c.in_ok-found.ensures))
+    rw (h.1, c.in-Some.is, type_of-Choice)
+    (choice_later h.0.items c.in-Some.additions.items _ _ _ _ c.in_ok-tag.tag _ c.in_ok-tag.ensures.reads
+    (rw (h.2, c.if-is_found.false) at c.in_ok-is_found.ensures) (rw c.deref.ensures.value at c.read_later_alternative.ensures))
 
-pub read_choice-returns-in-Some-additions : goal.read_choice-returns-in-Some-additions
-read_choice-returns-in-Some-additions g t c =
+pub read_choice-returns-in-None : goal.read_choice-returns-in-None
+read_choice-returns-in-None g t c =
     let h = c.requires.is in
-    rw (h.1, c.in-Some-additions.is, type_of-Choice)
-    (choice_later h.0.items c.in-Some-additions.additions.items _ _ _ _ c.in_ok-tag.tag _ c.in_ok-tag.ensures.reads
-    (rw (h.2, c.in-None.is) at c.in_ok-found.ensures) (rw c.deref.ensures.value at c.read_later_alternative.ensures))
-
-pub read_choice-returns-in-None-additions : goal.read_choice-returns-in-None-additions
-read_choice-returns-in-None-additions g t c =
-    let h = c.requires.is in
-    rw (h.1, c.in-None-additions.is, type_of-Choice)
+    rw (h.1, c.in-None.is, type_of-Choice)
     (choice_none h.0.items _ _ _ c.in_ok-tag.tag _ c.in_ok-tag.ensures.reads
-    (rw (h.2, c.in-None.is) at c.in_ok-found.ensures) c.fault.ensures.why c.fault.ensures.taken)
+    (rw (h.2, c.if-is_found.false) at c.in_ok-is_found.ensures) c.fault.ensures.why c.fault.ensures.taken)

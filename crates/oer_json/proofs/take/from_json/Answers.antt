@@ -4,13 +4,13 @@ use Rattle.oer_types.specs.Schema.{the_type}
 use Rattle.oer_types.specs.ShapeView.{type_of}
 use Rattle.oer_types.specs.ValueView.{value_of}
 use Rattle.oer_types.specs.WellFormed.{IsWellFormed}
-use Rattle.oer_json.specs.Answer.{Gives}
+use Rattle.oer_json.specs.Answer.{IsSameOrMemory}
 use Rattle.oer_json.specs.Take.{taken}
 use Rattle.oer_json.proofs.Promised.{again, fits, refused, takes}
 use Rattle.oer_json.proofs.take.from_json.Goals as goal
 
-exact : (c : goal.After-take_fitting) → Gives value_of c.take_fitting.result (taken (the_type c.args.schema.now) (view c.args.json.now))
-exact c = subst (λ s. Gives value_of c.take_fitting.result (taken (type_of s) (view c.args.json.now))) c.shape.ensures.same c.take_fitting.ensures
+exact : (c : goal.After-take_fitting) → IsSameOrMemory value_of c.take_fitting.result (taken (the_type c.args.schema.now) (view c.args.json.now))
+exact c = subst (λ s. IsSameOrMemory value_of c.take_fitting.result (taken (type_of s) (view c.args.json.now))) c.shape.ensures.same c.take_fitting.ensures
 
 well_formed : (c : goal.After-take_fitting) → IsWellFormed (the_type c.args.schema.now)
 well_formed c = subst (λ s. IsWellFormed (type_of s)) c.shape.ensures.same c.shape.ensures.well_formed

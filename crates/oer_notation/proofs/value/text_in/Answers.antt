@@ -12,8 +12,8 @@ characters-preserved c =
     let steps : l.c-iterator.rest.now ≡ encode_utf8 c.in-Some.c ++ c.next.new.self.rest.now = assumption (c.in-Some.ensures.steps) in
     record {
       is = l.invariant.is
-          ∙ ap (text_after (l.place, string_bytes l.out)) (chars_past_char l.c-iterator.rest.now c.next.new.self.rest.now c.in-Some.c l.invariant.utf8 steps)
-          ∙ ap (λ p. text_after p (chars c.next.new.self.rest.now)) (sym c.in_ok-place.ensures);
+          ∙ ap (text_after (l.quoting, string_bytes l.out)) (chars_past_char l.c-iterator.rest.now c.next.new.self.rest.now c.in-Some.c l.invariant.utf8 steps)
+          ∙ ap (λ p. text_after p (chars c.next.new.self.rest.now)) (sym c.in_ok-quoting.ensures);
       utf8 = IsUtf8-past_char l.c-iterator.rest.now c.next.new.self.rest.now c.in-Some.c l.invariant.utf8 steps;
     }
 
@@ -22,4 +22,4 @@ unfolding text_in
 returns c =
     let l = c.characters in
     let none : length l.c-iterator.rest.now ≡ 0 = assumption (c.in-None.ensures.steps) in
-    ap (λ p. p.1) (sym (l.invariant.is ∙ ap (λ r. text_after (l.place, string_bytes l.out) (chars r)) (empty_of l.c-iterator.rest.now none) ∙ ap (text_after (l.place, string_bytes l.out)) chars-nil))
+    ap (λ p. p.1) (sym (l.invariant.is ∙ ap (λ r. text_after (l.quoting, string_bytes l.out) (chars r)) (empty_of l.c-iterator.rest.now none) ∙ ap (text_after (l.quoting, string_bytes l.out)) chars-nil))

@@ -41,19 +41,19 @@ put_fields-loop-field-preserved t c =
     c.in_ok-put_comma.ensures c.in_ok-put_field.ensures)
 
 pub put_type-returns-in-Ia5 : goal.put_type-returns-in-Ia5
-put_type-returns-in-Ia5 t c = rw (c.in-Ia5.is, type_of-Ia5) c.put_string.ensures
+put_type-returns-in-Ia5 t c = rw (c.in-Ia5.is, type_of-Ia5) c.put_sized-in-Ia5.ensures
 
 pub put_type-returns-in-Visible : goal.put_type-returns-in-Visible
-put_type-returns-in-Visible t c = rw (c.in-Visible.is, type_of-Visible) c.put_string-in-Visible.ensures
+put_type-returns-in-Visible t c = rw (c.in-Visible.is, type_of-Visible) c.put_sized-in-Visible.ensures
 
 pub put_type-returns-in-Numeric : goal.put_type-returns-in-Numeric
-put_type-returns-in-Numeric t c = rw (c.in-Numeric.is, type_of-Numeric) c.put_string-in-Numeric.ensures
+put_type-returns-in-Numeric t c = rw (c.in-Numeric.is, type_of-Numeric) c.put_sized-in-Numeric.ensures
 
 pub put_type-returns-in-Printable : goal.put_type-returns-in-Printable
-put_type-returns-in-Printable t c = rw (c.in-Printable.is, type_of-Printable) c.put_string-in-Printable.ensures
+put_type-returns-in-Printable t c = rw (c.in-Printable.is, type_of-Printable) c.put_sized-in-Printable.ensures
 
 pub put_type-returns-in-Utf8 : goal.put_type-returns-in-Utf8
-put_type-returns-in-Utf8 t c = rw (c.in-Utf8.is, type_of-Utf8) c.put_string-in-Utf8.ensures
+put_type-returns-in-Utf8 t c = rw (c.in-Utf8.is, type_of-Utf8) c.put_sized-in-Utf8.ensures
 
 pub put_sequence-returns-in-None : goal.put_sequence-returns-in-None
 put_sequence-returns-in-None t c =

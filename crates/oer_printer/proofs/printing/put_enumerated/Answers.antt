@@ -10,16 +10,16 @@ use Rattle.oer_printer.proofs.printing.put_enumerated.Goals as goal
 pub returns-then-not-extensible : goal.returns-then-not-extensible
 returns-then-not-extensible c =
     let ps = map item_tokens (map named_number c.args.items.now) in
-    let w₁ = written c.open.new.printer in
+    let w₁ = written c.open_leaf.new.printer in
     let none = sym (append-nil ps) in
     rw c.if-not-extensible.true (puts_last (word (codes "ENUMERATED") ∷ in_braces (ps ++ [])) (sign CloseBrace) c.args.printer.now c.put_items.new.printer c.sign.new.self c.sign.result c.sign.ensures
-    (wrapped (written c.args.printer.now) w₁ (written c.put_items.new.printer) (word (codes "ENUMERATED")) (ps ++ []) c.in_ok-open.ensures
+    (wrapped (written c.args.printer.now) w₁ (written c.put_items.new.printer) (word (codes "ENUMERATED")) (ps ++ []) c.in_ok-open_leaf.ensures
     (c.in_ok-put_items.ensures ∙ ap (λ qs. run w₁ (joined qs)) none)))
 
 pub returns : goal.returns
 returns c =
     let ps = map item_tokens (map named_number c.args.items.now) in
-    let w₁ = written c.open.new.printer in
+    let w₁ = written c.open_leaf.new.printer in
     rw c.if-not-extensible.false (puts_last (word (codes "ENUMERATED") ∷ in_braces (ps ++ marker ∷ [])) (sign CloseBrace) c.args.printer.now c.put_marker.new.printer c.sign-2.new.self c.sign-2.result c.sign-2.ensures
-    (wrapped (written c.args.printer.now) w₁ (written c.put_marker.new.printer) (word (codes "ENUMERATED")) (ps ++ marker ∷ []) c.in_ok-open.ensures
+    (wrapped (written c.args.printer.now) w₁ (written c.put_marker.new.printer) (word (codes "ENUMERATED")) (ps ++ marker ∷ []) c.in_ok-open_leaf.ensures
     (marked w₁ (written c.put_items.new.printer) (written c.put_marker.new.printer) (written c.put_marker.new.printer) c.is_empty.result ps [] c.in_ok-put_items.ensures c.in_ok-put_marker.ensures refl (c.is_empty.ensures ∙ no_items c.args.items.now))))

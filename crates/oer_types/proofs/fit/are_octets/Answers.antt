@@ -1,5 +1,5 @@
 use Rattle.std.proofs.Common.{sym}
-use Rattle.oer_types.proofs.FitTests.{octets_below}
+use Rattle.oer_types.proofs.Tests.{octets_below}
 use Rattle.oer_types.proofs.Packing.{octets_from}
 use Rattle.oer_types.proofs.fit.are_octets.Goals as goal
 

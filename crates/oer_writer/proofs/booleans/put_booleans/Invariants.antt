@@ -6,4 +6,4 @@ use Rattle.oer_writer.specs.Wrote.{Ahead}
 use Rattle.oer_writer.proofs.booleans.put_booleans.Given as goal
 
 abbrev pub invariant-loop-value : goal.invariant-loop-value
-invariant-loop-value g l = Ahead l.fn.done (values_octets boolean (values_of l.values)) (g.W.Sink.contents l.fn.w) (g.W.Sink.failed l.fn.w) l.done (g.W.Sink.contents l.w) (g.W.Sink.failed l.w) (values_octets boolean (values_of (drop l.value-index l.values)))
+invariant-loop-value g l = Ahead l.fn.done (values_octets boolean (values_of l.values)) (g.W.Sink.contents l.fn.sink) (g.W.Sink.failed l.fn.sink) l.done (g.W.Sink.contents l.sink) (g.W.Sink.failed l.sink) (values_octets boolean (values_of (drop l.value-index l.values)))

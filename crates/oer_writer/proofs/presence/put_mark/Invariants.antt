@@ -3,4 +3,4 @@ use Rattle.oer_writer.proofs.PackSteps.{Through}
 use Rattle.oer_writer.proofs.presence.put_mark.Given as goal
 
 abbrev pub invariant-loop : goal.invariant-loop
-invariant-loop g l = Through l.fn.done (replicate l.count false ++ true ∷ []) l.fn.packer (g.W.Sink.contents l.fn.w) (g.W.Sink.failed l.fn.w) l.sum (g.W.Sink.contents l.w) (g.W.Sink.failed l.w) l.packer (replicate (l.count - l.counter) false ++ true ∷ [])
+invariant-loop g l = Through l.fn.done (replicate l.count false ++ true ∷ []) l.fn.packer (g.W.Sink.contents l.fn.sink) (g.W.Sink.failed l.fn.sink) l.sum (g.W.Sink.contents l.sink) (g.W.Sink.failed l.sink) l.packer (replicate (l.count - l.counter) false ++ true ∷ [])

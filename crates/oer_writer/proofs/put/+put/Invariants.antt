@@ -7,24 +7,24 @@ use Rattle.oer_writer.specs.Wrote.{Ahead}
 use Rattle.oer_writer.proofs.put.+put.Given as goal
 
 abbrev pub invariant-put_fields-loop-field : goal.invariant-put_fields-loop-field
-invariant-put_fields-loop-field g l = Ahead l.fn.done (field_octets (fields_of l.fields) (places_of l.places)) (g.W.Sink.contents l.fn.w) (g.W.Sink.failed l.fn.w) l.done (g.W.Sink.contents l.w) (g.W.Sink.failed l.w) (field_octets (fields_of (drop l.field-index l.fields)) (places_of l.rest))
+invariant-put_fields-loop-field g l = Ahead l.fn.done (field_octets (fields_of l.fields) (places_of l.places)) (g.W.Sink.contents l.fn.sink) (g.W.Sink.failed l.fn.sink) l.done (g.W.Sink.contents l.sink) (g.W.Sink.failed l.sink) (field_octets (fields_of (drop l.field-index l.fields)) (places_of l.rest))
 
 abbrev pub invariant-put_additions-loop-addition : goal.invariant-put_additions-loop-addition
-invariant-put_additions-loop-addition g l = Ahead l.fn.done (known_octets (additions_of l.additions) (places_of l.places)) (g.W.Sink.contents l.fn.w) (g.W.Sink.failed l.fn.w) l.done (g.W.Sink.contents l.w) (g.W.Sink.failed l.w) (known_octets (additions_of (drop l.addition-index l.additions)) (places_of l.rest))
+invariant-put_additions-loop-addition g l = Ahead l.fn.done (known_octets (additions_of l.additions) (places_of l.places)) (g.W.Sink.contents l.fn.sink) (g.W.Sink.failed l.fn.sink) l.done (g.W.Sink.contents l.sink) (g.W.Sink.failed l.sink) (known_octets (additions_of (drop l.addition-index l.additions)) (places_of l.rest))
 
 abbrev pub invariant-put_values-loop-value : goal.invariant-put_values-loop-value
-invariant-put_values-loop-value g l = Ahead l.fn.done (values_octets (type_of l.item) (values_of l.values)) (g.W.Sink.contents l.fn.w) (g.W.Sink.failed l.fn.w) l.done (g.W.Sink.contents l.w) (g.W.Sink.failed l.w) (values_octets (type_of l.item) (values_of (drop l.value-index l.values)))
+invariant-put_values-loop-value g l = Ahead l.fn.done (values_octets (type_of l.item) (values_of l.values)) (g.W.Sink.contents l.fn.sink) (g.W.Sink.failed l.fn.sink) l.done (g.W.Sink.contents l.sink) (g.W.Sink.failed l.sink) (values_octets (type_of l.item) (values_of (drop l.value-index l.values)))
 
 abbrev pub invariant-put_alternative-loop-alternative : goal.invariant-put_alternative-loop-alternative
 invariant-put_alternative-loop-alternative g l = record {
   octets : chosen_octets (root_of (drop l.alternative-index l.alternatives) no_alternatives) l.tag (value_of l.value) ≡ chosen_octets (root_of l.alternatives no_alternatives) l.tag (value_of l.value);
-  contents : g.W.Sink.contents l.w ≡ g.W.Sink.contents l.fn.w;
-  failed : g.W.Sink.failed l.w ≡ g.W.Sink.failed l.fn.w;
+  contents : g.W.Sink.contents l.sink ≡ g.W.Sink.contents l.fn.sink;
+  failed : g.W.Sink.failed l.sink ≡ g.W.Sink.failed l.fn.sink;
 }
 
 abbrev pub invariant-put_later-loop-alternative : goal.invariant-put_later-loop-alternative
 invariant-put_later-loop-alternative g l = record {
   octets : chosen_octets (later_of (drop l.alternative-index l.alternatives)) l.tag (value_of l.value) ≡ chosen_octets (later_of l.alternatives) l.tag (value_of l.value);
-  contents : g.W.Sink.contents l.w ≡ g.W.Sink.contents l.fn.w;
-  failed : g.W.Sink.failed l.w ≡ g.W.Sink.failed l.fn.w;
+  contents : g.W.Sink.contents l.sink ≡ g.W.Sink.contents l.fn.sink;
+  failed : g.W.Sink.failed l.sink ≡ g.W.Sink.failed l.fn.sink;
 }

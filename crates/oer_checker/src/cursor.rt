@@ -1,0 +1,51 @@
+//! Cursors over the octets that are checked.
+ghost use Rattle.std.specs.Prelude.{◌≡◌, ◌≤◌, ◌&&◌, IfErr, IfOk, length, true};
+ghost use Rattle.oer_checker.specs.Places.{ended, outcome, place_of, same};
+ghost use Rattle.oer_checker.specs.Plain.{is_plain};
+
+use crate::stop::Stop;
+use oer_units::ReadFault;
+
+/// The octets that are left, and how many of them the bound in force still allows.
+#[derive(Clone, Copy)]
+pub struct Cursor<'a> {
+    pub rest: &'a [u8],
+    pub left: u64,
+}
+
+impl<'a> Cursor<'a> {
+    /// The cursor after `taken` octets with what was read from them, or the error there.
+    pub(crate) fn after<T>(
+        self,
+        answer: Result<T, ReadFault>,
+        taken: u64,
+    ) -> Result<(T, Cursor<'a>), Stop<'a>>
+        requires came { taken ≤ length self.rest.now }
+        requires room { taken ≤ self.left }
+        requires fault { IfErr answer (λ e. e.taken ≡ taken) }
+        requires plain { IfErr answer (λ e. is_plain e.why ≡ true) }
+        ensures { outcome same result ≡ ended (place_of self.entry) answer taken }
+    {
+        let rest = &self.rest[taken as usize..];
+        match answer {
+            Ok(value) => Ok((
+                value,
+                Cursor {
+                    rest,
+                    left: self.left - taken,
+                },
+            )),
+            Err(fault) => Err(Stop {
+                why: fault.why,
+                rest,
+            }),
+        }
+    }
+}
+
+/// Whether both hold.
+pub(crate) fn both(one: bool, other: bool) -> bool
+    ensures { result ≡ (one && other) }
+{
+    one && other
+}

@@ -1,0 +1,39 @@
+//! Types without parts.
+ghost use Rattle.std.specs.Prelude.{◌≡◌};
+ghost use Rattle.oer_types.specs.Checking.{check_value};
+ghost use Rattle.oer_types.specs.ShapeView.{type_of};
+ghost use Rattle.oer_checker.specs.Facts.{IsLeaf};
+ghost use Rattle.oer_checker.specs.Places.{outcome, place_of, same};
+
+use crate::bit_strings::check_bit_string;
+use crate::cursor::Cursor;
+use crate::numbers::{check_boolean, check_enumerated, check_integer};
+use crate::stop::Stop;
+use crate::strings::{check_object_id, check_octet_string, check_text, check_utf8};
+use oer_types::{Alphabet, Shape};
+
+/// The encoding of a value of a type without parts, and whether it is canonical.
+#[tactic(auto, using(crate::proofs::Shapes::shapes))]
+#[inline(always)]
+pub fn check_leaf<'a>(shape: &Shape, cursor: Cursor<'a>) -> Result<(bool, Cursor<'a>), Stop<'a>>
+    requires { IsLeaf (type_of shape.now) }
+    ensures { outcome same result ≡ check_value (type_of shape.now) (place_of cursor.entry) }
+{
+    match shape {
+        Shape::Boolean => check_boolean(cursor),
+        Shape::Null => Ok((true, cursor)),
+        Shape::Integer { low, high } => check_integer(*low, *high, cursor),
+        Shape::Enumerated { items, extensible } => check_enumerated(items, *extensible, cursor),
+        Shape::BitString(size) => check_bit_string(*size, cursor),
+        Shape::OctetString(size) => check_octet_string(*size, cursor),
+        Shape::ObjectId => check_object_id(cursor),
+        Shape::Ia5(size) => check_text(Alphabet::Ia5, *size, cursor),
+        Shape::Visible(size) => check_text(Alphabet::Visible, *size, cursor),
+        Shape::Numeric(size) => check_text(Alphabet::Numeric, *size, cursor),
+        Shape::Printable(size) => check_text(Alphabet::Printable, *size, cursor),
+        Shape::Utf8(size) => check_utf8(*size, cursor),
+        Shape::SequenceOf { .. } => unreachable!(),
+        Shape::Sequence { .. } => unreachable!(),
+        Shape::Choice { .. } => unreachable!(),
+    }
+}

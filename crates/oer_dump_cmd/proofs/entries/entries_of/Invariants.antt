@@ -1,7 +1,0 @@
-use Rattle.std.proofs.Common.{◌≡◌, ◌≤◌, map, take, vec_len}
-use Rattle.oer_checker.specs.Rows.{lines_of}
-use Rattle.oer_dump_cmd.specs.Entries.{spot_in, spot_of}
-use Rattle.oer_dump_cmd.proofs.entries.entries_of.Given as goal
-
-abbrev pub invariant-loop-row : goal.invariant-loop-row
-invariant-loop-row l = (1 ≤ vec_len l.frames) × (map spot_of l.entries.items ≡ map spot_in (lines_of (take l.row-index l.row-items)))

@@ -1,0 +1,48 @@
+//! What octets are, with names and values.
+
+use crate::bits::NamedBit;
+use crate::frame::Name;
+use oer_units::Tag;
+use serde_json::Value as Json;
+
+/// What the octets of an entry are.
+#[derive(Drop)]
+pub enum What<'a> {
+    /// The preamble of a SEQUENCE.
+    Preamble(Vec<NamedBit<'a>>),
+    /// The bitmap of its additions.
+    Bitmap(Vec<NamedBit<'a>>),
+    /// The quantity of a SEQUENCE OF.
+    Quantity(u64),
+    /// The tag of a CHOICE, and the name of the alternative.
+    Tag(Tag, Name<'a>),
+    /// The length of an open type.
+    Length(u64),
+    /// A value without parts, as its JSON. Where it is octets, each has two digits there.
+    Value(Json),
+    /// What the type doesn't know.
+    Unknown,
+    /// Octets after the value.
+    Follows,
+    /// The octets that were taken last, by which all are rejected.
+    Rejected,
+}
+
+/// Octets, and what they are.
+#[derive(Drop)]
+pub struct Entry<'a> {
+    /// How many octets are before them.
+    pub offset: usize,
+    pub octets: &'a [u8],
+    /// The path to the part of which they are a piece.
+    pub path: String,
+    /// The names on that path.
+    pub names: String,
+    /// The kind of its type.
+    pub kind: &'static str,
+    pub what: What<'a>,
+    /// The canonical spelling, if they are another one.
+    pub canonical: Option<Vec<u8>>,
+    /// Whether the part has the value of its DEFAULT, so that canonical octets leave it out.
+    pub is_default: bool,
+}

@@ -1,0 +1,9 @@
+mod LineSteps
+mod LineLaws
+mod LineForms
+mod ListingSteps
+mod LinePaths
+mod LineParts
+mod LineSplits
+mod Distinct
+mod LineNames

@@ -1,0 +1,277 @@
+use Rattle.std.proofs.Common.{◌∙◌, Global, Option, Vec, Some, Ok, Err, ◌-◌, ◌+◌, ◌++◌, ◌∷◌, [], List, true, false, arith, rules, refl, sym, ap, ap₂}
+use Rattle.oer_types.specs.AsnType.{no_alternatives}
+use Rattle.oer_types.specs.Parts.{to_addition, to_chosen, to_component, to_item}
+use Rattle.oer_types.specs.ShapeView.{additions_of, fields_of, later_of, root_of, type_of}
+use Rattle.oer_types.specs.declared.shape.Addition.{Addition}
+use Rattle.oer_types.specs.declared.shape.Shape.{Sequence}
+use Rattle.oer_checker.specs.BitView.{bits_in}
+use Rattle.oer_checker.specs.Places.{place_of}
+use Rattle.oer_rows.specs.Rows.{Line, Walker, halted, lines_of, path_in, stuck, walk_alternative, walk_later, walk_open, walk_value}
+use Rattle.oer_rows.specs.declared.row.Halt.TheVariants.{Refused}
+use Rattle.oer_checker.proofs.Exits.{at_stop}
+use Rattle.oer_rows.proofs.LineSteps.{additions_end, additions_next, additions_stop, at_inner, bits_stop, both_stop, both_then, by_walk, choice_later, choice_none, choice_root, extension_none, extension_stop, extension_then, fields_end, fields_next, fields_stop, if_not, if_so, inside_ends, inside_left, inside_stop, later_end, later_here, later_next, no_inner, root_end, root_here, root_next, root_stop, root_then, sticks, tag_stop, tag_then, taken_stop, taken_then, times_end, times_next, times_start, times_stop, type_arm}
+use Rattle.oer_checker.proofs.Sizes.{additions_fall, alternatives_fall, fields_fall, later_fall}
+use Rattle.oer_checker.proofs.ShapeCases.{is_leaf}
+use Rattle.oer_checker.proofs.TypeSteps.{as_choice, as_closed, as_extensible, as_open}
+use Rattle.oer_rows.proofs.trace.+list.Goals as goal
+
+-- ---- one unit, and what follows it
+
+pub list_items-returns-in_err-count : goal.list_items-returns-in_err-count
+list_items-returns-in_err-count t c = rw (at_stop c.from_residual.result c.in_err-count.field-0.0 c.from_residual.ensures.1) (taken_stop (λ x. x) c.args.spot.now _ _ _ c.args.cursor _ _ _ _ c.sized_quantity_at-answer.ensures c.in_err-count.ensures)
+
+pub list_items-returns : goal.list_items-returns
+list_items-returns t c = by_walk c.list_elements.result _ _ _ (taken_then (λ x. x) c.args.spot.now _ _ _ c.args.cursor _ _ _ _ c.sized_quantity_at-answer.ensures c.in_ok-count.ensures) c.list_elements.ensures
+
+pub list_sequence-returns-in_err-bits : goal.list_sequence-returns-in_err-bits
+list_sequence-returns-in_err-bits t c = rw (at_stop c.from_residual.result c.in_err-bits.field-0.0 c.from_residual.ensures.1) (taken_stop bits_in c.args.spot.now _ _ _ c.args.cursor _ _ _ _ (rw c.optional.ensures.is at c.preamble-answer.ensures) c.in_err-bits.ensures)
+
+pub list_sequence-returns : goal.list_sequence-returns
+list_sequence-returns t c = by_walk c.list_fields.result _ _ _ (taken_then bits_in c.args.spot.now _ _ _ c.args.cursor _ _ _ _ (rw c.optional.ensures.is at c.preamble-answer.ensures) c.in_ok-bits.ensures) c.list_fields.ensures
+
+-- ---- components
+
+pub list_field-returns-then-not-is_present : goal.list_field-returns-then-not-is_present
+list_field-returns-then-not-is_present t c = if_not c.args.is_present _ _ c.args.cursor (search rules)
+
+pub list_field-returns-in_err-inner : goal.list_field-returns-in_err-inner
+list_field-returns-in_err-inner t c = rw (at_stop c.from_residual.result c.in_err-inner.field-0.0 c.from_residual.ensures.1) (no_inner c.args.spot.now (to_component c.args.index) _ _ _ c.in_err-inner.ensures)
+
+pub list_field-returns : goal.list_field-returns
+list_field-returns t c =
+    if_so c.args.is_present _ _ _ _ c.list_shape.result (search rules)
+    (at_inner (walk_value (type_of c.args.field.now.shape)) c.args.spot.now c.in_ok-inner.inner (to_component c.args.index) c.list_shape.result _ _ _ c.in_ok-inner.ensures c.list_shape.ensures)
+
+pub list_fields-loop-field-preserved : goal.list_fields-loop-field-preserved
+list_fields-loop-field-preserved t c = (
+  omega arith,
+  fields_next c.args.fields.now c.loop-field.field-index c.field-item.result c.args.spot.now.total (path_in c.args.spot.now) (bits_in c.loop-field.left) (bits_in c.presence-is_present.result.1) c.presence-is_present.result.0 _ _ _ c.in_ok-at.at _ c.loop-field-test.true c.field-item.is c.presence-is_present.ensures.there c.presence-is_present.ensures.left c.loop-field.invariant.1 (rw c.loop-field.invariant.0 at c.in_ok-at.ensures),
+)
+
+pub list_fields-returns-in_err-at : goal.list_fields-returns-in_err-at
+list_fields-returns-in_err-at t c = rw (at_stop c.from_residual.result c.in_err-at.field-0.0 c.from_residual.ensures.1)
+    (fields_stop c.args.fields.now c.loop-field.field-index c.field-item.result c.args.spot.now.total (path_in c.args.spot.now) (bits_in c.loop-field.left) (bits_in c.presence-is_present.result.1) c.presence-is_present.result.0 _ _ _ _ _ c.loop-field-test.true c.field-item.is c.presence-is_present.ensures.there c.presence-is_present.ensures.left c.loop-field.invariant.1 (rw c.loop-field.invariant.0 at c.in_err-at.ensures))
+
+pub list_fields-returns : goal.list_fields-returns
+list_fields-returns t c = fields_end c.args.fields.now c.loop-field.field-index c.args.spot.now.total (path_in c.args.spot.now) (bits_in c.loop-field.left) _ c.loop-field.at _ c.loop-field-test.false c.loop-field.invariant.1
+
+-- ---- additions
+
+pub list_addition-returns-then-not-is_present : goal.list_addition-returns-then-not-is_present
+list_addition-returns-then-not-is_present t c = if_not c.args.is_present _ _ c.args.cursor (search rules)
+
+pub list_addition-returns-in_err-inner : goal.list_addition-returns-in_err-inner
+list_addition-returns-in_err-inner t c = rw (at_stop c.from_residual.result c.in_err-inner.field-0.0 c.from_residual.ensures.1) (no_inner c.args.spot.now (to_addition c.args.index) _ _ _ c.in_err-inner.ensures)
+
+pub list_addition-returns : goal.list_addition-returns
+list_addition-returns t c =
+    if_so c.args.is_present _ _ _ _ c.list_open.result (search rules)
+    (at_inner (λ total path. walk_open total path (walk_value (type_of c.args.addition.now.shape) total path)) c.args.spot.now c.in_ok-inner.inner (to_addition c.args.index) c.list_open.result _ _ _ c.in_ok-inner.ensures c.list_open.ensures)
+
+pub list_additions-loop-addition-preserved : goal.list_additions-loop-addition-preserved
+list_additions-loop-addition-preserved t c = (
+  omega arith,
+  additions_next c.args.additions.now c.loop-addition.addition-index c.addition-item.result c.args.spot.now.total (path_in c.args.spot.now) (bits_in c.loop-addition.left) (bits_in c.later-left.result) c.first-is_present.result _ _ _ c.in_ok-at.at _ c.loop-addition-test.true c.addition-item.is c.first-is_present.ensures c.later-left.ensures c.loop-addition.invariant.1 (rw c.loop-addition.invariant.0 at c.in_ok-at.ensures),
+)
+
+pub list_additions-returns-in_err-at : goal.list_additions-returns-in_err-at
+list_additions-returns-in_err-at t c = rw (at_stop c.from_residual.result c.in_err-at.field-0.0 c.from_residual.ensures.1)
+    (additions_stop c.args.additions.now c.loop-addition.addition-index c.addition-item.result c.args.spot.now.total (path_in c.args.spot.now) (bits_in c.loop-addition.left) (bits_in c.later-left.result) c.first-is_present.result _ _ _ _ _ c.loop-addition-test.true c.addition-item.is c.first-is_present.ensures c.later-left.ensures c.loop-addition.invariant.1 (rw c.loop-addition.invariant.0 at c.in_err-at.ensures))
+
+pub list_additions-returns : goal.list_additions-returns
+list_additions-returns t c = additions_end c.args.additions.now c.loop-addition.addition-index c.args.spot.now.total (path_in c.args.spot.now) (bits_in c.loop-addition.left) _ c.loop-addition.at _ c.loop-addition-test.false c.loop-addition.invariant.1
+
+pub list_extension-returns-then-not-is_extended : goal.list_extension-returns-then-not-is_extended
+list_extension-returns-then-not-is_extended t c = extension_none (additions_of c.args.additions.now) c.args.is_extended _ _ _ _ c.args.cursor (search rules)
+
+pub list_extension-returns-in_err-bits : goal.list_extension-returns-in_err-bits
+list_extension-returns-in_err-bits t c = rw (at_stop c.from_residual.result c.in_err-bits.field-0.0 c.from_residual.ensures.1)
+    (extension_stop c.args.additions.now c.args.is_extended c.args.spot.now _ _ _ c.args.cursor _ c.in_err-bits.field-0.0 (search rules) c.addition_map-answer.ensures.bits c.in_err-bits.ensures)
+
+pub list_extension-returns-in_err-end : goal.list_extension-returns-in_err-end
+list_extension-returns-in_err-end t c = rw (at_stop c.from_residual-in_err-end.result c.in_err-end.field-0.0 c.from_residual-in_err-end.ensures.1)
+    (by_walk (Err c.in_err-end.field-0.0) _ _ _ (extension_then c.args.additions.now c.args.is_extended c.args.spot.now _ _ _ c.args.cursor _ _ (search rules) c.addition_map-answer.ensures.bits c.in_ok-bits.ensures) (both_stop _ _ _ _ _ c.in_err-end.field-0.0 c.in_err-end.ensures))
+
+pub list_extension-returns : goal.list_extension-returns
+list_extension-returns t c =
+    by_walk c.list_rest.result _ _ _
+    (both_then _ _ _ _ _ c.in_ok-end.end c.in_ok-end.ensures ∙ extension_then c.args.additions.now c.args.is_extended c.args.spot.now _ _ _ c.args.cursor _ _ (search rules) c.addition_map-answer.ensures.bits c.in_ok-bits.ensures)
+    c.list_rest.ensures
+
+-- ---- elements
+
+pub list_elements-loop-turn-init : goal.list_elements-loop-turn-init
+list_elements-loop-turn-init t c = times_start (λ i. walk_value (type_of c.args.item.now) c.args.spot.now.total (path_in c.args.spot.now ++ (to_item i ∷ []))) c.args.count _ _
+
+pub list_elements-loop-turn-preserved : goal.list_elements-loop-turn-preserved
+list_elements-loop-turn-preserved t c =
+    times_next (λ i. walk_value (type_of c.args.item.now) c.args.spot.now.total (path_in c.args.spot.now ++ (to_item i ∷ []))) (c.args.count - c.loop-turn.turn) (c.args.count - (c.loop-turn.turn + 1)) c.loop-turn.turn _ _ _ c.in_ok-at.at _ (omega arith) c.loop-turn.invariant
+    (at_inner (walk_value (type_of c.args.item.now)) c.args.spot.now c.in_ok-inner.inner (to_item c.loop-turn.turn) (Ok c.in_ok-at.at) _ _ _ c.in_ok-inner.ensures c.in_ok-at.ensures)
+
+pub list_elements-returns-in_err-inner : goal.list_elements-returns-in_err-inner
+list_elements-returns-in_err-inner t c = rw (at_stop c.from_residual.result c.in_err-inner.field-0.0 c.from_residual.ensures.1) (no_inner c.args.spot.now (to_item c.loop-turn.turn) _ _ _ c.in_err-inner.ensures)
+
+pub list_elements-returns-in_err-at : goal.list_elements-returns-in_err-at
+list_elements-returns-in_err-at t c = rw (at_stop c.from_residual-in_err-at.result c.in_err-at.field-0.0 c.from_residual-in_err-at.ensures.1)
+    (times_stop (λ i. walk_value (type_of c.args.item.now) c.args.spot.now.total (path_in c.args.spot.now ++ (to_item i ∷ []))) (c.args.count - c.loop-turn.turn) (c.args.count - (c.loop-turn.turn + 1)) c.loop-turn.turn _ _ _ _ _ (omega arith) c.loop-turn.invariant
+    (at_inner (walk_value (type_of c.args.item.now)) c.args.spot.now c.in_ok-inner.inner (to_item c.loop-turn.turn) (Err c.in_err-at.field-0.0) _ _ _ c.in_ok-inner.ensures c.in_err-at.ensures))
+
+pub list_elements-returns : goal.list_elements-returns
+list_elements-returns t c = times_end (λ i. walk_value (type_of c.args.item.now) c.args.spot.now.total (path_in c.args.spot.now ++ (to_item i ∷ []))) (c.args.count - c.loop-turn.turn) c.loop-turn.turn _ c.loop-turn.at _ (omega arith) c.loop-turn.invariant
+
+-- ---- open types
+
+pub list_open-returns-in_err-count : goal.list_open-returns-in_err-count
+list_open-returns-in_err-count t c = rw (at_stop c.from_residual.result c.in_err-count.field-0.0 c.from_residual.ensures.1) (taken_stop (λ x. x) c.args.spot.now _ _ _ c.args.cursor _ _ _ _ c.sized_length_at-answer.ensures c.in_err-count.ensures)
+
+pub list_open-returns-in_err-end : goal.list_open-returns-in_err-end
+list_open-returns-in_err-end t c = rw (at_stop c.from_residual-in_err-end.result c.in_err-end.field-0.0 c.from_residual-in_err-end.ensures.1)
+    (by_walk (Err c.in_err-end.field-0.0) _ _ _ (taken_then (λ x. x) c.args.spot.now _ _ _ c.args.cursor _ _ _ _ c.sized_length_at-answer.ensures c.in_ok-count.ensures) (inside_stop c.in_ok-count.count _ _ _ (place_of c.in_ok-count.next) c.in_err-end.field-0.0 c.in_err-end.ensures))
+
+pub list_open-returns-then-end-gt0 : goal.list_open-returns-then-end-gt0
+list_open-returns-then-end-gt0 t c =
+    sym (taken_then (λ x. x) c.args.spot.now _ _ _ c.args.cursor _ _ _ _ c.sized_length_at-answer.ensures c.in_ok-count.ensures)
+    ∙ inside_left c.in_ok-count.count _ _ _ (place_of c.in_ok-count.next) c.in_ok-end.end c.in_ok-end.ensures (omega arith)
+
+pub list_open-returns : goal.list_open-returns
+list_open-returns t c =
+    rw c.saturating_sub.ensures
+    (sym (taken_then (λ x. x) c.args.spot.now _ _ _ c.args.cursor _ _ _ _ c.sized_length_at-answer.ensures c.in_ok-count.ensures)
+    ∙ inside_ends c.in_ok-count.count _ _ _ (place_of c.in_ok-count.next) c.in_ok-end.end c.in_ok-end.ensures (omega arith))
+
+-- ---- a SEQUENCE with an extension marker
+
+pub list_extensible-returns-in_err-bits : goal.list_extensible-returns-in_err-bits
+list_extensible-returns-in_err-bits t c =
+    let many = c.optional.ensures.is in
+    let fs = c.args.fields.now in
+    let xs = c.args.additions.now in
+    let h = c.requires.is in
+    let is = as_extensible c.args.shape.now h.0 (Some h.1) h.1 fs xs h.2 refl h.3 h.4 in
+    rw (at_stop c.from_residual.result c.in_err-bits.field-0.0 c.from_residual.ensures.1)
+    (type_arm _ _ c.args.spot.now (Err c.in_err-bits.field-0.0) _ _ _ is (bits_stop (fields_of fs) (additions_of xs) c.args.spot.now (c.optional.result + 1) _ _ c.args.cursor _ (omega arith) c.preamble-answer.ensures c.in_err-bits.field-0.0 c.in_err-bits.ensures))
+
+pub list_extensible-returns-in_err-end : goal.list_extensible-returns-in_err-end
+list_extensible-returns-in_err-end t c =
+    let many = c.optional.ensures.is in
+    let fs = c.args.fields.now in
+    let xs = c.args.additions.now in
+    let h = c.requires.is in
+    let is = as_extensible c.args.shape.now h.0 (Some h.1) h.1 fs xs h.2 refl h.3 h.4 in
+    rw (at_stop c.from_residual-in_err-end.result c.in_err-end.field-0.0 c.from_residual-in_err-end.ensures.1)
+    (type_arm _ _ c.args.spot.now (Err c.in_err-end.field-0.0) _ _ _ is (root_stop (fields_of fs) (additions_of xs) c.args.spot.now (c.optional.result + 1) _ _ c.args.cursor _ (omega arith) c.preamble-answer.ensures _ c.in_ok-bits.ensures (bits_in c.later.result) c.later.ensures c.in_err-end.field-0.0 _ c.in_err-end.ensures))
+
+pub list_extensible-returns : goal.list_extensible-returns
+list_extensible-returns t c =
+    let many = c.optional.ensures.is in
+    let fs = c.args.fields.now in
+    let xs = c.args.additions.now in
+    let h = c.requires.is in
+    let is = as_extensible c.args.shape.now h.0 (Some h.1) h.1 fs xs h.2 refl h.3 h.4 in
+    type_arm _ _ c.args.spot.now c.list_extension.result _ _ _ is
+    (root_then (fields_of fs) (additions_of xs) c.args.spot.now (c.optional.result + 1) _ _ c.args.cursor _ (omega arith) c.preamble-answer.ensures _ c.in_ok-bits.ensures (bits_in c.later.result) c.later.ensures c.in_ok-end.end _ _ c.first.result c.list_extension.result c.in_ok-end.ensures c.first.ensures c.list_extension.ensures)
+
+pub list_extensible-list_fields-requires : goal.list_extensible-list_fields-requires
+list_extensible-list_fields-requires t c =
+    let h = c.requires.is in
+    (fields_fall c.args.shape.now h.0 h.1 c.args.fields.now _ _ t h.2 h.3 (omega arith) c.decreases, tt)
+
+pub list_extensible-list_extension-requires : goal.list_extensible-list_extension-requires
+list_extensible-list_extension-requires t c =
+    let h = c.requires.is in
+    (additions_fall c.args.shape.now h.0 h.1 c.args.additions.now _ _ t h.2 h.4 (omega arith) c.decreases, tt)
+
+-- ---- a CHOICE
+
+pub list_choice-returns-in_err-tag : goal.list_choice-returns-in_err-tag
+list_choice-returns-in_err-tag t c =
+    let h = c.requires.is in
+    let xs = c.args.alternatives.now in
+    let o = as_choice c.args.shape.now h.0 c.args.additions.now xs h.1 h.2 in
+    rw (at_stop c.from_residual.result c.in_err-tag.field-0.0 c.from_residual.ensures.1)
+    (type_arm _ _ c.args.spot.now (Err c.in_err-tag.field-0.0) _ _ _ o.is (tag_stop o.extensible (root_of xs o.after) c.args.spot.now _ _ c.args.cursor _ c.tag_at-answer.ensures c.in_err-tag.field-0.0 c.in_err-tag.ensures))
+
+pub list_choice-returns-in_err-inner : goal.list_choice-returns-in_err-inner
+list_choice-returns-in_err-inner t c = rw (at_stop c.from_residual-in_err-inner.result c.in_err-inner.field-0.0 c.from_residual-in_err-inner.ensures.1) (no_inner c.args.spot.now to_chosen _ _ _ c.in_err-inner.ensures)
+
+pub list_choice-returns-then-contains_tag : goal.list_choice-returns-then-contains_tag
+list_choice-returns-then-contains_tag t c =
+    let h = c.requires.is in
+    let xs = c.args.alternatives.now in
+    let o = as_choice c.args.shape.now h.0 c.args.additions.now xs h.1 h.2 in
+    type_arm _ _ c.args.spot.now c.list_alternative.result _ _ _ o.is
+    (tag_then o.extensible (root_of xs o.after) c.args.spot.now _ _ c.args.cursor _ c.tag_at-answer.ensures _ c.in_ok-inner.inner (λ total path. walk_alternative (root_of xs no_alternatives) total path c.in_ok-tag.tag) c.list_alternative.result _ c.in_ok-tag.ensures c.in_ok-inner.ensures
+    (choice_root o.extensible xs o.after c.args.spot.now.total _ c.in_ok-tag.tag (sym c.if-contains_tag.true ∙ c.contains_tag.ensures)) c.list_alternative.ensures)
+
+pub list_choice-returns-in-None : goal.list_choice-returns-in-None
+list_choice-returns-in-None t c =
+    let h = c.requires.is in
+    let xs = c.args.alternatives.now in
+    type_arm _ _ c.args.spot.now (Err Refused) _ _ _ (as_closed c.args.shape.now h.0 c.args.additions.now xs h.1 c.in-None.is h.2)
+    (tag_then false (root_of xs no_alternatives) c.args.spot.now _ _ c.args.cursor _ c.tag_at-answer.ensures _ c.in_ok-inner.inner (λ total path. stuck) (Err Refused) _ c.in_ok-tag.ensures c.in_ok-inner.ensures
+    (choice_none xs c.args.spot.now.total _ c.in_ok-tag.tag (sym c.if-contains_tag.false ∙ c.contains_tag.ensures)) (sticks _ _))
+
+pub list_choice-returns : goal.list_choice-returns
+list_choice-returns t c =
+    let h = c.requires.is in
+    let xs = c.args.alternatives.now in
+    let ys = c.deref.result.now in
+    let is = as_open c.args.shape.now h.0 c.args.additions.now c.in-Some.additions xs ys h.1 c.in-Some.is h.2 c.deref.ensures.value in
+    type_arm _ _ c.args.spot.now c.list_later.result _ _ _ is
+    (tag_then true (root_of xs (later_of ys)) c.args.spot.now _ _ c.args.cursor _ c.tag_at-answer.ensures _ c.in_ok-inner.inner (λ total path. walk_later (later_of ys) total path c.in_ok-tag.tag) c.list_later.result _ c.in_ok-tag.ensures c.in_ok-inner.ensures
+    (choice_later xs ys c.args.spot.now.total _ c.in_ok-tag.tag (sym c.if-contains_tag.false ∙ c.contains_tag.ensures)) c.list_later.ensures)
+
+pub list_choice-list_alternative-requires : goal.list_choice-list_alternative-requires
+list_choice-list_alternative-requires t c =
+    let h = c.requires.is in
+    (alternatives_fall c.args.shape.now h.0 c.args.additions.now c.args.alternatives.now _ _ t h.1 h.2 (omega arith) c.decreases, tt)
+
+pub list_choice-list_later-requires : goal.list_choice-list_later-requires
+list_choice-list_later-requires t c =
+    let h = c.requires.is in
+    (later_fall c.args.shape.now h.0 c.args.additions.now c.in-Some.additions c.deref.result.now _ _ t h.1 c.in-Some.is c.deref.ensures.value (omega arith) c.decreases, tt)
+
+-- ---- alternatives
+
+pub list_alternative-returns-then-is_same_tag : goal.list_alternative-returns-then-is_same_tag
+list_alternative-returns-then-is_same_tag t c =
+    let at_it = root_here c.args.alternatives.now c.loop-alternative.alternative-index c.alternative-item.result c.args.spot.now.total (path_in c.args.spot.now) c.args.tag _ c.loop-alternative-test.true c.alternative-item.is (sym c.if-is_same_tag.true ∙ c.is_same_tag.ensures) c.loop-alternative.invariant.1 in
+    by_walk c.list_shape.result _ _ _ (ap₂ (λ (w : Walker) (ls : List Line). w ls (place_of c.args.cursor)) at_it c.loop-alternative.invariant.0) c.list_shape.ensures
+
+pub list_alternative-loop-alternative-preserved : goal.list_alternative-loop-alternative-preserved
+list_alternative-loop-alternative-preserved t c = (
+  c.loop-alternative.invariant.0,
+  root_next c.args.alternatives.now c.loop-alternative.alternative-index c.alternative-item.result c.args.spot.now.total (path_in c.args.spot.now) c.args.tag _ c.loop-alternative-test.true c.alternative-item.is (sym c.if-is_same_tag.false ∙ c.is_same_tag.ensures) c.loop-alternative.invariant.1,
+)
+
+pub list_alternative-returns : goal.list_alternative-returns
+list_alternative-returns t c =
+    let stopped = root_end c.args.alternatives.now c.loop-alternative.alternative-index c.args.spot.now.total (path_in c.args.spot.now) c.args.tag _ (lines_of c.args.rows.now.items) (place_of c.args.cursor) c.loop-alternative-test.false c.loop-alternative.invariant.1 in
+    stopped ∙ ap (λ (ls : List Line). halted ls) (sym c.loop-alternative.invariant.0)
+
+pub list_later-returns-then-is_same_tag : goal.list_later-returns-then-is_same_tag
+list_later-returns-then-is_same_tag t c =
+    let at_it = later_here c.args.alternatives.now c.loop-alternative.alternative-index c.alternative-item.result c.args.spot.now.total (path_in c.args.spot.now) c.args.tag _ c.loop-alternative-test.true c.alternative-item.is (sym c.if-is_same_tag.true ∙ c.is_same_tag.ensures) c.loop-alternative.invariant.1 in
+    by_walk c.list_open.result _ _ _ (ap₂ (λ (w : Walker) (ls : List Line). w ls (place_of c.args.cursor)) at_it c.loop-alternative.invariant.0) c.list_open.ensures
+
+pub list_later-loop-alternative-preserved : goal.list_later-loop-alternative-preserved
+list_later-loop-alternative-preserved t c = (
+  c.loop-alternative.invariant.0,
+  later_next c.args.alternatives.now c.loop-alternative.alternative-index c.alternative-item.result c.args.spot.now.total (path_in c.args.spot.now) c.args.tag _ c.loop-alternative-test.true c.alternative-item.is (sym c.if-is_same_tag.false ∙ c.is_same_tag.ensures) c.loop-alternative.invariant.1,
+)
+
+pub list_later-returns : goal.list_later-returns
+list_later-returns t c =
+    let at_it = later_end c.args.alternatives.now c.loop-alternative.alternative-index c.args.spot.now.total (path_in c.args.spot.now) c.args.tag _ c.loop-alternative-test.false c.loop-alternative.invariant.1 in
+    by_walk c.list_unknown.result _ _ _ (ap₂ (λ (w : Walker) (ls : List Line). w ls (place_of c.args.cursor)) at_it c.loop-alternative.invariant.0) c.list_unknown.ensures
+
+-- ---- by what the shape is
+
+pub list_shape-list_extensible-requires : goal.list_shape-list_extensible-requires
+list_shape-list_extensible-requires t c =
+    let s = c.in-Sequence in
+    let d = c.decreases in
+    (omega arith, (s.root, c.in-Some.additions, s.is ∙ ap (λ (m : Option (Vec Addition Global)). Sequence s.root m) c.in-Some.is, c.deref-in-Some.ensures.value, c.deref-in-Some-2.ensures.value))
+
+pub list_shape-list_leaf-requires : goal.list_shape-list_leaf-requires
+list_shape-list_leaf-requires t c = is_leaf c.args.shape.now c.in_default.not-Sequence c.in_default.not-SequenceOf c.in_default.not-Choice

@@ -1,0 +1,12 @@
+//! What each octet of an encoding (X.696, Basic-OER) is, row by row: its role, and the part that it
+//! belongs to. The octets are read as `oer_checker` checks them.
+#![tactic(auto)]
+
+pub mod laws;
+mod listing;
+mod row;
+mod spot;
+mod trace;
+
+pub use listing::rows;
+pub use row::{Listing, Role, Row};

@@ -1,0 +1,357 @@
+//! How the rows of an encoding are made.
+ghost use Rattle.oer_types.specs.AsnType.{no_alternatives, sequence, sequence_of};
+ghost use Rattle.oer_types.specs.ShapeView.{additions_of, fields_of, later_of, root_of, type_of};
+ghost use Rattle.oer_checker.specs.BitView.{IsWhole, bits_in};
+ghost use Rattle.oer_checker.specs.Facts.{IsChoice, IsExtensible, IsLeaf};
+ghost use Rattle.oer_checker.specs.Places.{place_of};
+ghost use Rattle.oer_rows.specs.Rows.{Walks, lines_of, path_in, walk_additions, walk_alternative, walk_extension, walk_fields, walk_if, walk_later, walk_open, walk_rest, walk_times, walk_unknown, walk_value};
+ghost use Rattle.oer_types.specs.Parts.{to_addition, to_component, to_item};
+ghost use Rattle.std.specs.Prelude.{◌++◌, ◌∷◌, [], drop};
+
+use crate::row::{Halt, Role, Row};
+use crate::spot::Spot;
+use oer_checker::Step;
+use oer_checker::readers::{
+    Bits, Cursor, addition_map, check_leaf, group_at, preamble, presence, sized_length_at,
+    sized_quantity_at, tag_at,
+};
+use oer_types::{Addition, Alt, Field, Shape, Size, contains_tag, is_same_tag, optional};
+use oer_units::Tag;
+
+/// A value of a type without parts.
+fn list_leaf<'a>(
+    spot: &Spot,
+    shape: &Shape,
+    cursor: Cursor<'a>,
+    rows: &mut Vec<Row<'a>>,
+) -> Result<Cursor<'a>, Halt>
+    requires { IsLeaf (type_of shape.now) }
+    ensures { Walks result (lines_of rows.new.items) (walk_value (type_of shape.now) spot.now.total (path_in spot.now) (lines_of rows.old.items) (place_of cursor.entry)) }
+{
+    let answer = check_leaf(shape, cursor);
+    let (_, end) = spot.taken(Role::Contents, rows, cursor, answer)?;
+    Ok(end)
+}
+
+/// An open type (X.696, 30) of which the type isn't known.
+fn list_unknown<'a>(
+    spot: &Spot,
+    cursor: Cursor<'a>,
+    rows: &mut Vec<Row<'a>>,
+) -> Result<Cursor<'a>, Halt>
+    ensures { Walks result (lines_of rows.new.items) (walk_unknown spot.now.total (path_in spot.now) (lines_of rows.old.items) (place_of cursor.entry)) }
+{
+    let answer = sized_length_at(cursor);
+    let ((count, _), next) = spot.taken(Role::Length, rows, cursor, answer)?;
+    let answer = group_at(next, count);
+    let (_, end) = spot.taken(Role::Unknown, rows, next, answer)?;
+    Ok(end)
+}
+
+/// The additions that the type doesn't know, of which there are `known`.
+fn list_rest<'a>(
+    spot: &Spot,
+    bits: Bits<'a>,
+    known: usize,
+    cursor: Cursor<'a>,
+    rows: &mut Vec<Row<'a>>,
+) -> Result<Cursor<'a>, Halt>
+    requires { IsWhole bits }
+    ensures { Walks result (lines_of rows.new.items) (walk_rest spot.now.total (path_in spot.now) known (drop known (bits_in bits.entry)) (lines_of rows.old.items) (place_of cursor.entry)) }
+{
+    let mut at = cursor;
+    for index in known as u64..bits.to {
+        if !bits.bit(index) {
+            continue;
+        }
+        let inner = spot.inner(Step::Addition(index as usize))?;
+        at = list_unknown(&inner, at, rows)?;
+    }
+    Ok(at)
+}
+
+/// The encoding of a value of the type.
+#[cycle(list)]
+#[tactic(auto, using(oer_types::proofs::Shapes::shapes))]
+pub(crate) fn list_shape<'a>(
+    spot: &Spot,
+    shape: &Shape,
+    cursor: Cursor<'a>,
+    rows: &mut Vec<Row<'a>>,
+) -> Result<Cursor<'a>, Halt>
+    ensures { Walks result (lines_of rows.new.items) (walk_value (type_of shape.now) spot.now.total (path_in spot.now) (lines_of rows.old.items) (place_of cursor.entry)) }
+{
+    match shape {
+        Shape::SequenceOf { size, item } => list_items(spot, *size, item, cursor, rows),
+        Shape::Sequence { root, additions } => match additions {
+            None => list_sequence(spot, root, cursor, rows),
+            Some(additions) => list_extensible(spot, shape, root, additions, cursor, rows),
+        },
+        Shape::Choice { root, additions } => {
+            list_choice(spot, shape, root, additions, cursor, rows)
+        }
+        _ => list_leaf(spot, shape, cursor, rows),
+    }
+}
+
+/// A SEQUENCE OF.
+#[cycle(list)]
+fn list_items<'a>(
+    spot: &Spot,
+    size: Size,
+    item: &Shape,
+    cursor: Cursor<'a>,
+    rows: &mut Vec<Row<'a>>,
+) -> Result<Cursor<'a>, Halt>
+    ensures { Walks result (lines_of rows.new.items) (walk_value (sequence_of size (type_of item.now)) spot.now.total (path_in spot.now) (lines_of rows.old.items) (place_of cursor.entry)) }
+{
+    let answer = sized_quantity_at(size, cursor);
+    let ((count, _), next) = spot.taken(Role::Quantity, rows, cursor, answer)?;
+    list_elements(spot, item, count, next, rows)
+}
+
+/// A SEQUENCE without an extension marker.
+#[cycle(list)]
+fn list_sequence<'a>(
+    spot: &Spot,
+    fields: &[Field],
+    cursor: Cursor<'a>,
+    rows: &mut Vec<Row<'a>>,
+) -> Result<Cursor<'a>, Halt>
+    ensures { Walks result (lines_of rows.new.items) (walk_value (sequence (fields_of fields.now)) spot.now.total (path_in spot.now) (lines_of rows.old.items) (place_of cursor.entry)) }
+{
+    let answer = preamble(optional(fields) as u64, cursor);
+    let (bits, next) = spot.taken(Role::Preamble, rows, cursor, answer)?;
+    list_fields(spot, fields, bits, next, rows)
+}
+
+/// A SEQUENCE with an extension marker.
+#[cycle(list)]
+fn list_extensible<'a>(
+    spot: &Spot,
+    shape: &Shape,
+    fields: &[Field],
+    additions: &[Addition],
+    cursor: Cursor<'a>,
+    rows: &mut Vec<Row<'a>>,
+) -> Result<Cursor<'a>, Halt>
+    requires is { IsExtensible shape.now fields.now additions.now }
+    ensures { Walks result (lines_of rows.new.items) (walk_value (type_of shape.now) spot.now.total (path_in spot.now) (lines_of rows.old.items) (place_of cursor.entry)) }
+{
+    let answer = preamble(optional(fields) as u64 + 1, cursor);
+    let (bits, next) = spot.taken(Role::Preamble, rows, cursor, answer)?;
+    let end = list_fields(spot, fields, bits.later(), next, rows)?;
+    list_extension(spot, additions, bits.first(), end, rows)
+}
+
+/// A CHOICE.
+#[cycle(list)]
+fn list_choice<'a>(
+    spot: &Spot,
+    shape: &Shape,
+    alternatives: &[Alt],
+    additions: &Option<Vec<Alt>>,
+    cursor: Cursor<'a>,
+    rows: &mut Vec<Row<'a>>,
+) -> Result<Cursor<'a>, Halt>
+    requires is { IsChoice shape.now alternatives.now additions.now }
+    ensures { Walks result (lines_of rows.new.items) (walk_value (type_of shape.now) spot.now.total (path_in spot.now) (lines_of rows.old.items) (place_of cursor.entry)) }
+{
+    let answer = tag_at(cursor);
+    let (tag, next) = spot.taken(Role::Tag, rows, cursor, answer)?;
+    let inner = spot.inner(Step::Chosen)?;
+    if contains_tag(alternatives, tag) {
+        return list_alternative(&inner, alternatives, tag, next, rows);
+    }
+    match additions {
+        None => Err(Halt::Refused),
+        Some(additions) => list_later(&inner, additions, tag, next, rows),
+    }
+}
+
+/// So many elements.
+#[cycle(list)]
+fn list_elements<'a>(
+    spot: &Spot,
+    item: &Shape,
+    count: u64,
+    cursor: Cursor<'a>,
+    rows: &mut Vec<Row<'a>>,
+) -> Result<Cursor<'a>, Halt>
+    ensures { Walks result (lines_of rows.new.items) (walk_times (λ i. walk_value (type_of item.now) spot.now.total (path_in spot.now ++ (to_item i ∷ []))) 0 count (lines_of rows.old.items) (place_of cursor.entry)) }
+{
+    let mut at = cursor;
+    for turn in 0..count {
+        let inner = spot.inner(Step::Item(turn as usize))?;
+        at = list_shape(&inner, item, at, rows)?;
+    }
+    Ok(at)
+}
+
+/// An open type (X.696, 30) that holds a value of the type.
+#[cycle(list)]
+fn list_open<'a>(
+    spot: &Spot,
+    shape: &Shape,
+    cursor: Cursor<'a>,
+    rows: &mut Vec<Row<'a>>,
+) -> Result<Cursor<'a>, Halt>
+    ensures { Walks result (lines_of rows.new.items) (walk_open spot.now.total (path_in spot.now) (walk_value (type_of shape.now) spot.now.total (path_in spot.now)) (lines_of rows.old.items) (place_of cursor.entry)) }
+{
+    let answer = sized_length_at(cursor);
+    let ((count, _), next) = spot.taken(Role::Length, rows, cursor, answer)?;
+    let content = Cursor {
+        rest: next.rest,
+        left: count,
+    };
+    let end = list_shape(spot, shape, content, rows)?;
+    if end.left > 0 {
+        return Err(Halt::Refused);
+    }
+    Ok(Cursor {
+        rest: end.rest,
+        left: next.left.saturating_sub(count),
+    })
+}
+
+/// A component of a root, if it is there.
+#[cycle(list)]
+fn list_field<'a>(
+    spot: &Spot,
+    field: &Field,
+    index: usize,
+    is_present: bool,
+    cursor: Cursor<'a>,
+    rows: &mut Vec<Row<'a>>,
+) -> Result<Cursor<'a>, Halt>
+    ensures { Walks result (lines_of rows.new.items) (walk_if is_present (walk_value (type_of field.now.shape) spot.now.total (path_in spot.now ++ (to_component index ∷ []))) (lines_of rows.old.items) (place_of cursor.entry)) }
+{
+    if !is_present {
+        return Ok(cursor);
+    }
+    let inner = spot.inner(Step::Component(index))?;
+    list_shape(&inner, &field.shape, cursor, rows)
+}
+
+/// The components of a root, by their presence bits.
+#[cycle(list)]
+fn list_fields<'a>(
+    spot: &Spot,
+    fields: &[Field],
+    bits: Bits<'a>,
+    cursor: Cursor<'a>,
+    rows: &mut Vec<Row<'a>>,
+) -> Result<Cursor<'a>, Halt>
+    ensures { Walks result (lines_of rows.new.items) (walk_fields (fields_of fields.now) spot.now.total (path_in spot.now) 0 (bits_in bits.entry) (lines_of rows.old.items) (place_of cursor.entry)) }
+{
+    let mut left = bits;
+    let mut at = cursor;
+    let mut index: usize = 0;
+    for field in fields {
+        let (is_present, rest) = presence(&field.need, left);
+        left = rest;
+        at = list_field(spot, field, index, is_present, at, rows)?;
+        index += 1;
+    }
+    Ok(at)
+}
+
+/// The additions, of which there are none where the extension bit isn't set.
+#[cycle(list)]
+fn list_extension<'a>(
+    spot: &Spot,
+    additions: &[Addition],
+    is_extended: bool,
+    cursor: Cursor<'a>,
+    rows: &mut Vec<Row<'a>>,
+) -> Result<Cursor<'a>, Halt>
+    ensures { Walks result (lines_of rows.new.items) (walk_extension is_extended (additions_of additions.now) spot.now.total (path_in spot.now) (walk_additions (additions_of additions.now) spot.now.total (path_in spot.now) 0) (lines_of rows.old.items) (place_of cursor.entry)) }
+{
+    if !is_extended {
+        return Ok(cursor);
+    }
+    let answer = addition_map(additions.len(), cursor);
+    let ((bits, _), next) = spot.taken(Role::Bitmap, rows, cursor, answer)?;
+    let end = list_additions(spot, additions, bits, next, rows)?;
+    list_rest(spot, bits, additions.len(), end, rows)
+}
+
+/// An addition, if it is there.
+#[cycle(list)]
+fn list_addition<'a>(
+    spot: &Spot,
+    addition: &Addition,
+    index: usize,
+    is_present: bool,
+    cursor: Cursor<'a>,
+    rows: &mut Vec<Row<'a>>,
+) -> Result<Cursor<'a>, Halt>
+    ensures { Walks result (lines_of rows.new.items) (walk_if is_present (walk_open spot.now.total (path_in spot.now ++ (to_addition index ∷ [])) (walk_value (type_of addition.now.shape) spot.now.total (path_in spot.now ++ (to_addition index ∷ [])))) (lines_of rows.old.items) (place_of cursor.entry)) }
+{
+    if !is_present {
+        return Ok(cursor);
+    }
+    let inner = spot.inner(Step::Addition(index))?;
+    list_open(&inner, &addition.shape, cursor, rows)
+}
+
+/// The additions that the type knows, by their presence bits.
+#[cycle(list)]
+fn list_additions<'a>(
+    spot: &Spot,
+    additions: &[Addition],
+    bits: Bits<'a>,
+    cursor: Cursor<'a>,
+    rows: &mut Vec<Row<'a>>,
+) -> Result<Cursor<'a>, Halt>
+    ensures { Walks result (lines_of rows.new.items) (walk_additions (additions_of additions.now) spot.now.total (path_in spot.now) 0 (bits_in bits.entry) (lines_of rows.old.items) (place_of cursor.entry)) }
+{
+    let mut left = bits;
+    let mut at = cursor;
+    let mut index: usize = 0;
+    for addition in additions {
+        let is_present = left.first();
+        left = left.later();
+        at = list_addition(spot, addition, index, is_present, at, rows)?;
+        index += 1;
+    }
+    Ok(at)
+}
+
+/// The value of the alternative of the root that has the tag.
+#[cycle(list)]
+fn list_alternative<'a>(
+    spot: &Spot,
+    alternatives: &[Alt],
+    tag: Tag,
+    cursor: Cursor<'a>,
+    rows: &mut Vec<Row<'a>>,
+) -> Result<Cursor<'a>, Halt>
+    ensures { Walks result (lines_of rows.new.items) (walk_alternative (root_of alternatives.now no_alternatives) spot.now.total (path_in spot.now) tag (lines_of rows.old.items) (place_of cursor.entry)) }
+{
+    for alternative in alternatives {
+        if is_same_tag(alternative.tag, tag) {
+            return list_shape(spot, &alternative.shape, cursor, rows);
+        }
+    }
+    Err(Halt::Refused)
+}
+
+/// What follows a tag that no alternative of the root has (X.696, 20).
+#[cycle(list)]
+fn list_later<'a>(
+    spot: &Spot,
+    alternatives: &[Alt],
+    tag: Tag,
+    cursor: Cursor<'a>,
+    rows: &mut Vec<Row<'a>>,
+) -> Result<Cursor<'a>, Halt>
+    ensures { Walks result (lines_of rows.new.items) (walk_later (later_of alternatives.now) spot.now.total (path_in spot.now) tag (lines_of rows.old.items) (place_of cursor.entry)) }
+{
+    for alternative in alternatives {
+        if is_same_tag(alternative.tag, tag) {
+            return list_open(spot, &alternative.shape, cursor, rows);
+        }
+    }
+    list_unknown(spot, cursor, rows)
+}

@@ -1,0 +1,14 @@
+use Rattle.std.proofs.Common.{subst}
+use Rattle.oer_types.specs.ShapeView.{type_of}
+use Rattle.oer_types.specs.ValueView.{values_of}
+use Rattle.oer_writer.specs.TypeBounds.{HasMost}
+use Rattle.oer_writer.proofs.TypeBounds.{elements_given, elements_most}
+use Rattle.oer_writer.proofs.typed_bound.bound_elements.Goals as goal
+
+pub returns-in_ok-times-in-Some : goal.returns-in_ok-times-in-Some
+returns-in_ok-times-in-Some c =
+    let m = c.in-Some.most in
+    elements_most (type_of c.args.item.now) c.args.done m c.in_ok-times-in-Some.field-0 c.args.values.now c.plus.result (subst (λ o. HasMost (type_of c.args.item.now) o) c.in-Some.is c.most.ensures) c.in_ok-times-in-Some.ensures c.plus.ensures
+
+pub returns-in-None : goal.returns-in-None
+returns-in-None c = elements_given (type_of c.args.item.now) c.args.done (values_of c.args.values.now) c.bound_values.result c.bound_values.ensures
