@@ -155,16 +155,16 @@ fn are_least_bits(count: u64, octets: &[u8]) -> bool
 
 /// A BIT STRING (X.696, 13). Bits past the last one may have any values; canonically they are 0.
 pub(crate) fn check_bit_string<'a>(
-    size: Size,
+    size: &Size,
     cursor: Cursor<'a>,
 ) -> Result<(bool, Cursor<'a>), Stop<'a>>
-    ensures { outcome same result ≡ check_value (bit_string size) (place_of cursor.entry) }
+    ensures { outcome same result ≡ check_value (bit_string size.now) (place_of cursor.entry) }
 {
     if let Some(count) = size.fixed() {
         let (octets, end) = group_at(cursor, octets_needed(count))?;
         return Ok((ends_in_zeros(octets, spare(count)), end));
     }
-    let (bits, end) = counted_bits(size, cursor)?;
+    let (bits, end) = counted_bits(*size, cursor)?;
     Ok((are_least_bits(bits.to, octets_between(cursor, end)), end))
 }
 

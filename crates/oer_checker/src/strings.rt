@@ -39,10 +39,10 @@ fn counted_at<'a>(cursor: Cursor<'a>) -> Result<((&'a [u8], bool), Cursor<'a>), 
 // As many octets as the one size says, or else as a length says that the size allows; whether the
 // length is in its least form.
 fn sized_octets<'a>(
-    size: Size,
+    size: &Size,
     cursor: Cursor<'a>,
 ) -> Result<((&'a [u8], bool), Cursor<'a>), Stop<'a>>
-    ensures { outcome (λ y. (y.0.now, y.1)) result ≡ judged (is_least (string_octets (fixed_size size))) (read_octets (fixed_size size) size) (place_of cursor.entry) }
+    ensures { outcome (λ y. (y.0.now, y.1)) result ≡ judged (is_least (string_octets (fixed_size size.now))) (read_octets (fixed_size size.now) size.now) (place_of cursor.entry) }
 {
     if let Some(count) = size.fixed() {
         let (octets, end) = group_at(cursor, count)?;
@@ -61,10 +61,10 @@ fn sized_octets<'a>(
 
 /// An OCTET STRING (X.696, 14).
 pub(crate) fn check_octet_string<'a>(
-    size: Size,
+    size: &Size,
     cursor: Cursor<'a>,
 ) -> Result<(bool, Cursor<'a>), Stop<'a>>
-    ensures { outcome same result ≡ check_value (octet_string size) (place_of cursor.entry) }
+    ensures { outcome same result ≡ check_value (octet_string size.now) (place_of cursor.entry) }
 {
     let ((_, is_canonical), end) = sized_octets(size, cursor)?;
     Ok((is_canonical, end))
@@ -73,10 +73,10 @@ pub(crate) fn check_octet_string<'a>(
 /// A character string with one octet for each character (X.696, 27).
 pub(crate) fn check_text<'a>(
     kind: Alphabet,
-    size: Size,
+    size: &Size,
     cursor: Cursor<'a>,
 ) -> Result<(bool, Cursor<'a>), Stop<'a>>
-    ensures { outcome same result ≡ check_value (restricted_string (alphabet_of kind) size) (place_of cursor.entry) }
+    ensures { outcome same result ≡ check_value (restricted_string (alphabet_of kind) size.now) (place_of cursor.entry) }
 {
     let ((octets, is_canonical), end) = sized_octets(size, cursor)?;
     if !are_characters(kind, octets) {
@@ -89,8 +89,11 @@ pub(crate) fn check_text<'a>(
 }
 
 /// A UTF8String (X.696, 27). Its size counts characters.
-pub(crate) fn check_utf8<'a>(size: Size, cursor: Cursor<'a>) -> Result<(bool, Cursor<'a>), Stop<'a>>
-    ensures { outcome same result ≡ check_value (utf8_string size) (place_of cursor.entry) }
+pub(crate) fn check_utf8<'a>(
+    size: &Size,
+    cursor: Cursor<'a>,
+) -> Result<(bool, Cursor<'a>), Stop<'a>>
+    ensures { outcome same result ≡ check_value (utf8_string size.now) (place_of cursor.entry) }
 {
     let ((octets, is_canonical), end) = counted_at(cursor)?;
     let Some(count) = characters_in(octets) else {

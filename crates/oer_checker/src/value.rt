@@ -144,6 +144,7 @@ pub(crate) fn check_elements<'a>(
 
 /// An open type (X.696, 30) that holds a value of the type.
 #[cycle(check)]
+#[inline(always)]
 fn check_open<'a>(shape: &Shape, cursor: Cursor<'a>) -> Result<(bool, Cursor<'a>), Stop<'a>>
     requires limits { KeepsLimits (type_of shape.now) }
     requires defaults { DefaultsFit (type_of shape.now) }
@@ -192,6 +193,7 @@ fn check_place<'a>(
 
 /// The components of a root, by their presence bits.
 #[cycle(check)]
+#[inline(always)]
 pub(crate) fn check_fields<'a>(
     fields: &[Field],
     bits: Bits<'a>,
@@ -217,6 +219,7 @@ pub(crate) fn check_fields<'a>(
 
 /// The additions, of which there are none where the extension bit isn't set.
 #[cycle(check)]
+#[inline(always)]
 fn check_extension<'a>(
     additions: &[Addition],
     is_extended: bool,
@@ -280,6 +283,7 @@ pub(crate) fn check_additions<'a>(
 
 /// What follows a tag that no alternative of the root has (X.696, 20).
 #[cycle(check)]
+#[inline(always)]
 fn check_later<'a>(
     alternatives: &[Alt],
     tag: Tag,
