@@ -67,7 +67,7 @@ pub(crate) fn leave(
     answer: Result<bool, Stop>,
     at: &mut Cursor,
 ) -> Result<bool, Stop>
-    ensures { outcome same result at.new ≡ left_open (place_of start.entry) counted.count counted.is_least (outcome same answer.entry at.old) }
+    ensures { outcome same result at.new ≡ left_open (place_of start.entry) counted.count counted.is_least (outcome same answer at.old) }
 {
     match answer {
         Ok(is_canonical) => {
