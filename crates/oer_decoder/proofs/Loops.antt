@@ -1,8 +1,9 @@
 -- Parts one after another.
-use Rattle.std.proofs.Common.{◌≡◌, ℕ, ℤ, pos, suc, ◌+◌, ◌-◌, ◌^◌, ◌<◌, ◌≤◌, Bool, true, false, ltb, leb, List, [], ◌∷◌, ◌++◌, length, map, drop, get_or, Option, Some, None, option_map, Result, Ok, Err, arith, refl, sym, ap, ◌∙◌, subst, append_assoc, append-nil, drop-cons, add-one, string_bytes, inl, inr}
+use Rattle.std.proofs.Common.{◌≡◌, ℕ, ℤ, pos, suc, ◌+◌, ◌-◌, ◌^◌, ◌<◌, ◌≤◌, Bool, true, false, ltb, leb, List, [], ◌∷◌, ◌++◌, length, map, drop, get_or, Option, Some, None, option_map, Result, Ok, Err, arith, refl, sym, ap, ◌∙◌, subst, set, append_assoc, append-nil, drop-cons, add-one, string_bytes, inl, inr}
 use Rattle.std.specs.Prelude.{unsigned_abs}
 use Rattle.std.proofs.lemmas.Bool.{cases_lt, le-leb, le-ltb, lt-leb, lt-ltb}
 use Rattle.std.proofs.lemmas.List.{drop_all}
+use Rattle.std.proofs.Math.Seq.{set-append_seam}
 use Rattle.oer_units.specs.declared.fault.Why.TheVariants as reason
 use Rattle.oer_units.specs.declared.fault.Why.TheVariants.{EmptyNumber, IntegerRange, Memory}
 use Rattle.oer_units.specs.declared.fault.ReadFault.{ReadFault}
@@ -49,6 +50,10 @@ leads_same r f s same (Err e) then h = h
 
 pub leads_end : {B D : Type 0} (b : B) (f : B → D) (d : D) (whole : Reader D) (s old : State) → f b ≡ d → Leads (give b) s f whole old → Reads whole old (Ok d) s
 leads_end {B} {D} b f d whole s old same p = subst (λ (y : D). Reads whole old (Ok y) s) same (p (Ok b) s (Reads-give b s))
+
+-- what stands last in a list, after another value was stored there
+pub stored_last : {A : Type 0} (xs ys : List A) (a b : A) {n : ℕ} → n ≡ length xs → ys ≡ xs ++ a ∷ [] → set ys n b ≡ xs ++ b ∷ []
+stored_last {A} xs ys a b {n} last is = ap (λ (l : List A). set l n b) is ∙ ap (λ (k : ℕ). set (xs ++ a ∷ []) k b) last ∙ set-append_seam xs a [] b
 
 -- ---- components
 

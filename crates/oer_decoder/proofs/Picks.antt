@@ -1,13 +1,13 @@
 -- Alternatives of a CHOICE, one after another.
 use Rattle.std.proofs.Common.{◌≡◌, ℕ, suc, ◌+◌, ◌<◌, ◌≤◌, Bool, true, false, ◌||◌, List, [], ◌∷◌, length, drop, get_or, Option, Some, None, Result, Ok, Err, refl, sym, ap, ◌∙◌, subst, drop-cons, add-one, Vec, Global}
 use Rattle.std.proofs.lemmas.List.{drop_all}
-use Rattle.oer_units.specs.declared.fault.Why.TheVariants.{UnknownAlternative}
+use Rattle.oer_units.specs.declared.fault.Why.TheVariants.{Memory, UnknownAlternative}
 use Rattle.oer_units.specs.declared.fault.ReadFault.{ReadFault}
 use Rattle.oer_units.specs.declared.tagging.Tag.{Tag}
 use Rattle.oer_units.specs.Reader.{bind, choose, give, got, guard, Outcome, Place, Reader, refused, then_read}
 use Rattle.oer_units.specs.Reading.{open_type, tag}
 use Rattle.oer_units.specs.Reads.{place, Reads, State}
-use Rattle.oer_units.proofs.ReadSteps.{Reads-give, Reads-same, Reads-stop, Reads-then}
+use Rattle.oer_units.proofs.ReadSteps.{Reads-give, Reads-map, Reads-memory, Reads-same, Reads-stop, Reads-then}
 use Rattle.oer_types.specs.AsnType.{Alternatives, choice, no_alternatives}
 use Rattle.oer_types.specs.AsnValue.{AsnValue, chosen}
 use Rattle.oer_types.specs.Constraints.{has_tag, same_tag}
@@ -147,8 +147,12 @@ later_end xs i t whole s old still le e =
 pub chosen_stop : (t : Tag) (r : Reader AsnValue) (whole : Reader (Option AsnValue)) (s old s' : State) (e : ReadFault) → s ≡ old → chosen_by t r ≡ whole → Reads r s (Err e) s' → Reads whole old (Err e) s'
 chosen_stop t r whole s old s' e still is h = subst (λ (o : State). Reads whole o (Err e) s') still (subst (λ (m : Reader (Option AsnValue)). Reads m s (Err e) s') is (Reads-stop r (λ v. give (Some (chosen t v))) s s' e h))
 
-pub chosen_then : (t : Tag) (r : Reader AsnValue) (whole : Reader (Option AsnValue)) (s old s' s'' : State) (v : AsnValue) (result : Result (Option AsnValue) ReadFault) → s ≡ old → chosen_by t r ≡ whole → Reads r s (Ok v) s' → Reads (give (Some (chosen t v))) s' result s'' → Reads whole old result s''
-chosen_then t r whole s old s' s'' v result still is h k = subst (λ (o : State). Reads whole o result s'') still (subst (λ (m : Reader (Option AsnValue)). Reads m s result s'') is (Reads-then r (λ v. give (Some (chosen t v))) s s' s'' v result h k))
+pub chosen_then : (t : Tag) (r : Reader AsnValue) (whole : Reader (Option AsnValue)) (s old s' : State) (v : AsnValue) → s ≡ old → chosen_by t r ≡ whole → Reads r s (Ok v) s' → Reads whole old (Ok (Some (chosen t v))) s'
+chosen_then t r whole s old s' v still is h = subst (λ (o : State). Reads whole o (Ok (Some (chosen t v))) s') still (subst (λ (m : Reader (Option AsnValue)). Reads m s (Ok (Some (chosen t v))) s') is (Reads-map r (λ x. Some (chosen t x)) s s' (Ok v) h))
+
+-- no memory for the value of the alternative
+pub chosen_memory : (whole : Reader (Option AsnValue)) (s old : State) (e : ReadFault) → s ≡ old → e.why ≡ Memory → e.taken ≡ s.bound.taken → Reads whole old (Err e) s
+chosen_memory whole s old e still is taken = subst (λ (o : State). Reads whole o (Err e) s) still (Reads-memory whole e s is taken)
 
 -- ---- whether there is an extension marker, and what is after it
 

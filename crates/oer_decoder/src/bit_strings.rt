@@ -10,6 +10,7 @@ ghost use Rattle.oer_types.specs.ValueView.{value_of};
 ghost use Rattle.oer_types.specs.SharedSteps.{unused_fits};
 ghost use Rattle.oer_decoder.specs.BitReading.{addition_map_at, fixed_bits_at, initial_octet_at, sized_octet_at, used};
 
+use crate::parts::set;
 use oer_types::{Bits, Size, Value};
 use oer_units::{ReadFault, Source, Why, Window, length, octet, octets};
 use std::alloc::{AllocError, Global};
@@ -17,26 +18,26 @@ use std::alloc::{AllocError, Global};
 /// Reads a BIT STRING (X.696, 13) into `value`. Bits past the last one may have any values.
 pub(crate) fn read_bit_string<R: Source>(
     alloc: Global,
-    size: Size,
+    size: &Size,
     value: &mut Value,
     w: &mut Window<R>,
 ) -> Result<(), ReadFault>
-    ensures { Reads (read_value (bit_string_type size)) (state R.remaining R.failed w.old) (seen (λ _. value_of value.new) result)
+    ensures { Reads (read_value (bit_string_type size.now)) (state R.remaining R.failed w.old) (seen (λ _. value_of value.new) result)
         (state R.remaining R.failed w.new) }
 {
     let bits = sized_bits(alloc, size, w)?;
-    *value = Value::Bits(bits);
+    set(value, Value::Bits(bits));
     Ok(())
 }
 
 // As many bits as the one size says, or else as a length says that the size allows.
-fn sized_bits<R: Source>(alloc: Global, size: Size, w: &mut Window<R>) -> Result<Bits, ReadFault>
-    ensures { Reads (read_bits (fixed_size size) size) (state R.remaining R.failed w.old) result
+fn sized_bits<R: Source>(alloc: Global, size: &Size, w: &mut Window<R>) -> Result<Bits, ReadFault>
+    ensures { Reads (read_bits (fixed_size size.now) size.now) (state R.remaining R.failed w.old) result
         (state R.remaining R.failed w.new) }
 {
     match size.fixed() {
         Some(count) => fixed_bits(alloc, count, w),
-        None => counted_bits(alloc, size, w),
+        None => counted_bits(alloc, *size, w),
     }
 }
 

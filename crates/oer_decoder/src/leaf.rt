@@ -9,6 +9,7 @@ ghost use Rattle.oer_decoder.specs.Parts.{HasNoParts};
 
 use crate::bit_strings::read_bit_string;
 use crate::numbers::{read_boolean, read_enumerated, read_integer};
+use crate::parts::set;
 use crate::strings::{read_object_id, read_octet_string, read_text, read_utf8};
 use oer_types::{Alphabet, Shape, Value};
 use oer_units::{ReadFault, Source, Window};
@@ -29,19 +30,19 @@ pub(crate) fn read_leaf<R: Source>(
     match shape {
         Shape::Boolean => read_boolean(value, w),
         Shape::Null => {
-            *value = Value::Null;
+            set(value, Value::Null);
             Ok(())
         }
         Shape::Integer { low, high } => read_integer(*low, *high, value, w),
         Shape::Enumerated { items, extensible } => read_enumerated(items, *extensible, value, w),
-        Shape::BitString(size) => read_bit_string(alloc, *size, value, w),
-        Shape::OctetString(size) => read_octet_string(alloc, *size, value, w),
+        Shape::BitString(size) => read_bit_string(alloc, size, value, w),
+        Shape::OctetString(size) => read_octet_string(alloc, size, value, w),
         Shape::ObjectId => read_object_id(alloc, value, w),
-        Shape::Ia5(size) => read_text(alloc, Alphabet::Ia5, *size, value, w),
-        Shape::Visible(size) => read_text(alloc, Alphabet::Visible, *size, value, w),
-        Shape::Numeric(size) => read_text(alloc, Alphabet::Numeric, *size, value, w),
-        Shape::Printable(size) => read_text(alloc, Alphabet::Printable, *size, value, w),
-        Shape::Utf8(size) => read_utf8(alloc, *size, value, w),
+        Shape::Ia5(size) => read_text(alloc, Alphabet::Ia5, size, value, w),
+        Shape::Visible(size) => read_text(alloc, Alphabet::Visible, size, value, w),
+        Shape::Numeric(size) => read_text(alloc, Alphabet::Numeric, size, value, w),
+        Shape::Printable(size) => read_text(alloc, Alphabet::Printable, size, value, w),
+        Shape::Utf8(size) => read_utf8(alloc, size, value, w),
         _ => unreachable!(),
     }
 }

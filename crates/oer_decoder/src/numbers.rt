@@ -10,6 +10,7 @@ ghost use Rattle.oer_types.specs.ValueView.{value_of};
 ghost use Rattle.oer_types.specs.SharedSteps.{number_in};
 ghost use Rattle.oer_types.specs.FormView.{form_seen};
 
+use crate::parts::set;
 use oer_types::{Form, Item, Value, contains_number, is_in_range};
 use oer_units::{
     ReadFault, Source, Why, Window, enumerated, octet, signed_counted, signed_fixed,
@@ -33,7 +34,7 @@ pub(crate) fn read_boolean<R: Source>(value: &mut Value, w: &mut Window<R>) -> R
         (state R.remaining R.failed w.new) }
 {
     let is_true = truth(w)?;
-    *value = Value::Bool(is_true);
+    set(value, Value::Bool(is_true));
     Ok(())
 }
 
@@ -52,7 +53,7 @@ pub(crate) fn read_integer<R: Source>(
     if !is_in_range(low, high, number) {
         return Err(w.fault(Why::IntegerRange));
     }
-    *value = Value::Int(number);
+    set(value, Value::Int(number));
     Ok(())
 }
 
@@ -92,7 +93,7 @@ pub(crate) fn read_enumerated<R: Source>(
     if !is_known(items, extensible, number) {
         return Err(w.fault(Why::UnknownEnum));
     }
-    *value = Value::Enum(number);
+    set(value, Value::Enum(number));
     Ok(())
 }
 

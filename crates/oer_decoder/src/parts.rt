@@ -1,15 +1,14 @@
 //! What surrounds the parts of a value: presence, tags, numbers of elements, and parts that the
 //! type doesn't know.
-ghost use Rattle.std.specs.Prelude.{◌≡◌, ◌≤◌, ◌+◌, Bool, IfOk, Some, drop, length, map};
-ghost use Rattle.oer_units.specs.Reader.{give};
-ghost use Rattle.oer_units.specs.Reads.{Reads, seen, state};
-ghost use Rattle.oer_types.specs.AsnValue.{chosen as chosen_value};
+ghost use Rattle.std.specs.Prelude.{◌≡◌, ◌≤◌, ◌+◌, Bool, IfErr, IfOk, drop, length, map};
+ghost use Rattle.oer_units.specs.declared.fault.Why.TheVariants.{Memory};
+ghost use Rattle.oer_units.specs.Reads.{Reads, bound_of, seen, state};
 ghost use Rattle.oer_types.specs.Bits.{first_bit, later_bits};
 ghost use Rattle.oer_types.specs.Fits.{all_absent};
 ghost use Rattle.oer_types.specs.Reading.{read_unknown as unknown_read};
 ghost use Rattle.oer_types.specs.ShapeView.{additions_of, need_of};
 ghost use Rattle.oer_types.specs.ValueView.{places_of, unknown_of, value_of};
-ghost use Rattle.oer_decoder.specs.Choices.{foreign_at, found_as};
+ghost use Rattle.oer_decoder.specs.Choices.{foreign_at};
 ghost use Rattle.oer_types.specs.SharedSteps.{bits_left, is_there};
 ghost use Rattle.oer_decoder.specs.Places.{count_at};
 
@@ -17,6 +16,7 @@ use crate::strings::counted_octets;
 use oer_types::{Addition, Need, Size, Unknown, Value};
 use oer_units::{ReadFault, Source, Tag, Why, Window, unsigned_counted};
 use std::alloc::{AllocError, Global};
+use std::mem;
 
 /// The first bit, false where there is none.
 pub(crate) fn first(bits: &[bool]) -> bool
@@ -65,15 +65,16 @@ pub(crate) fn count<R: Source>(size: Size, w: &mut Window<R>) -> Result<u64, Rea
 }
 
 /// A place without a value for each addition.
+#[inline(always)]
 pub(crate) fn absent_places(
     alloc: Global,
     additions: &[Addition],
 ) -> Result<Vec<Option<Value>>, AllocError>
     ensures { IfOk result (λ v. places_of v.items ≡ all_absent (additions_of additions.now)) }
 {
-    let mut places = Vec::new(alloc);
+    let mut places = Vec::with_capacity(alloc, additions.len())?;
     for addition in additions {
-        places.push(None)?;
+        places.push_reserved(None);
     }
     Ok(places)
 }
@@ -107,22 +108,24 @@ pub(crate) fn read_unknown<R: Source>(
     Ok(unknown)
 }
 
-/// Makes the alternative with the tag of its value, in memory of its own. It returns true.
-pub(crate) fn set_chosen<R: Source>(
-    alloc: Global,
-    tag: Tag,
-    inner: Value,
-    value: &mut Value,
-    w: &Window<R>,
-) -> Result<bool, ReadFault>
-    ensures { Reads (give (Some (chosen_value tag (value_of inner)))) (state R.remaining R.failed w.now)
-        (seen (λ found. found_as found (value_of value.new)) result) (state R.remaining R.failed w.now) }
+/// Puts a value into a place that holds NULL. What was there is not dropped: NULL owns no memory, and
+/// to find out what to drop costs as much as to read a short value.
+#[inline(always)]
+pub(crate) fn set(place: &mut Value, value: Value)
+    ensures { place.new ≡ value }
 {
-    let Ok(inner) = Box::new(alloc, inner) else {
-        return Err(w.fault(Why::Memory));
-    };
-    *value = Value::Chosen { tag, value: inner };
-    Ok(true)
+    mem::forget(mem::replace(place, value));
+}
+
+/// A place for a value in memory of its own, which holds NULL.
+pub(crate) fn own_place<R: Source>(alloc: Global, w: &Window<R>) -> Result<Box<Value>, ReadFault>
+    ensures why { IfErr result (λ e. e.why ≡ Memory) }
+    ensures taken { IfErr result (λ e. e.taken ≡ (bound_of w.now).taken) }
+{
+    match Box::new(alloc, Value::Null) {
+        Ok(place) => Ok(place),
+        Err(_) => Err(w.fault(Why::Memory)),
+    }
 }
 
 /// Reads an alternative that the type doesn't know into `value`, as the octets of its open type (X.696,
@@ -137,6 +140,6 @@ pub(crate) fn set_foreign<R: Source>(
         (state R.remaining R.failed w.new) }
 {
     let octets = counted_octets(alloc, w)?;
-    *value = Value::Foreign { tag, octets };
+    set(value, Value::Foreign { tag, octets });
     Ok(())
 }

@@ -17,6 +17,7 @@ pub(crate) enum Marks {
 
 impl Marks {
     /// The bits.
+    #[inline(always)]
     pub(crate) fn as_slice(&self) -> &[bool]
         ensures { result.now ≡ bits_in self.now }
     {
@@ -29,6 +30,7 @@ impl Marks {
 
 /// The preamble of a SEQUENCE (X.696, 16.2): so many bits, and zeros to the octet's end. Up to
 /// eight bits take no memory.
+#[inline(always)]
 pub(crate) fn preamble<R: Source>(
     alloc: Global,
     count: u64,
@@ -47,6 +49,7 @@ pub(crate) fn preamble<R: Source>(
 }
 
 // A preamble of one octet.
+#[inline(always)]
 fn short_preamble<R: Source>(count: usize, w: &mut Window<R>) -> Result<Marks, ReadFault>
     requires some { 1 ≤ count }
     requires most { count ≤ 8 }
@@ -63,6 +66,7 @@ fn short_preamble<R: Source>(count: usize, w: &mut Window<R>) -> Result<Marks, R
 }
 
 // A preamble of any number of octets.
+#[inline(always)]
 fn long_preamble<R: Source>(
     alloc: Global,
     count: u64,

@@ -9,6 +9,7 @@ ghost use Rattle.oer_types.specs.Reading.{read_octets, read_value};
 ghost use Rattle.oer_types.specs.ValueView.{value_of};
 ghost use Rattle.oer_types.specs.AlphabetView.{alphabet_of};
 
+use crate::parts::set;
 use oer_types::{Alphabet, Size, Value, are_characters};
 use oer_units::{ReadFault, Source, Why, Window, length, octets, subidentifier};
 use std::alloc::{AllocError, Global};
@@ -28,10 +29,10 @@ pub(crate) fn counted_octets<R: Source>(
 // As many octets as the one size says, or else as a length says that the size allows.
 fn sized_octets<R: Source>(
     alloc: Global,
-    size: Size,
+    size: &Size,
     w: &mut Window<R>,
 ) -> Result<Vec<u8>, ReadFault>
-    ensures { Reads (read_octets (fixed_size size) size) (state R.remaining R.failed w.old) (seen (λ v. v.items) result)
+    ensures { Reads (read_octets (fixed_size size.now) size.now) (state R.remaining R.failed w.old) (seen (λ v. v.items) result)
         (state R.remaining R.failed w.new) }
 {
     if let Some(count) = size.fixed() {
@@ -47,15 +48,15 @@ fn sized_octets<R: Source>(
 /// Reads an OCTET STRING (X.696, 14) into `value`.
 pub(crate) fn read_octet_string<R: Source>(
     alloc: Global,
-    size: Size,
+    size: &Size,
     value: &mut Value,
     w: &mut Window<R>,
 ) -> Result<(), ReadFault>
-    ensures { Reads (read_value (octet_string_type size)) (state R.remaining R.failed w.old) (seen (λ _. value_of value.new) result)
+    ensures { Reads (read_value (octet_string_type size.now)) (state R.remaining R.failed w.old) (seen (λ _. value_of value.new) result)
         (state R.remaining R.failed w.new) }
 {
     let octets = sized_octets(alloc, size, w)?;
-    *value = Value::Octets(octets);
+    set(value, Value::Octets(octets));
     Ok(())
 }
 
@@ -63,11 +64,11 @@ pub(crate) fn read_octet_string<R: Source>(
 pub(crate) fn read_text<R: Source>(
     alloc: Global,
     kind: Alphabet,
-    size: Size,
+    size: &Size,
     value: &mut Value,
     w: &mut Window<R>,
 ) -> Result<(), ReadFault>
-    ensures { Reads (read_value (restricted_string (alphabet_of kind) size)) (state R.remaining R.failed w.old)
+    ensures { Reads (read_value (restricted_string (alphabet_of kind) size.now)) (state R.remaining R.failed w.old)
         (seen (λ _. value_of value.new) result) (state R.remaining R.failed w.new) }
 {
     let octets = sized_octets(alloc, size, w)?;
@@ -77,18 +78,18 @@ pub(crate) fn read_text<R: Source>(
     let Some(text) = decoded(octets) else {
         return Err(w.fault(Why::Character));
     };
-    *value = Value::Text(text);
+    set(value, Value::Text(text));
     Ok(())
 }
 
 /// Reads a UTF8String (X.696, 27) into `value`. Its size counts characters.
 pub(crate) fn read_utf8<R: Source>(
     alloc: Global,
-    size: Size,
+    size: &Size,
     value: &mut Value,
     w: &mut Window<R>,
 ) -> Result<(), ReadFault>
-    ensures { Reads (read_value (utf8_string size)) (state R.remaining R.failed w.old) (seen (λ _. value_of value.new) result)
+    ensures { Reads (read_value (utf8_string size.now)) (state R.remaining R.failed w.old) (seen (λ _. value_of value.new) result)
         (state R.remaining R.failed w.new) }
 {
     let octets = counted_octets(alloc, w)?;
@@ -98,7 +99,7 @@ pub(crate) fn read_utf8<R: Source>(
     if !size.allows(u128::from(characters_in(text.as_str()))) {
         return Err(w.fault(Why::Size));
     }
-    *value = Value::Text(text);
+    set(value, Value::Text(text));
     Ok(())
 }
 
@@ -136,7 +137,7 @@ pub(crate) fn read_object_id<R: Source>(
     let Ok(arcs) = arcs_of(alloc, &numbers) else {
         return Err(w.fault(Why::Memory));
     };
-    *value = Value::Oid(arcs);
+    set(value, Value::Oid(arcs));
     Ok(())
 }
 

@@ -17,7 +17,7 @@ use crate::bit_strings::addition_map;
 use crate::booleans::read_booleans;
 use crate::leaf::read_leaf;
 use crate::parts::{
-    absent_places, after, count, first, presence, read_unknown, set_chosen, set_foreign,
+    absent_places, after, count, first, own_place, presence, read_unknown, set, set_foreign,
 };
 use crate::preamble::preamble;
 use oer_types::{Addition, Alt, Field, Shape, Size, Unknown, Value, is_same_tag, optional};
@@ -118,7 +118,7 @@ fn read_items<R: Source>(
 {
     let count = count(size, w)?;
     let values = read_elements(item, alloc, count, w)?;
-    *value = Value::List(values);
+    set(value, Value::List(values));
     Ok(())
 }
 
@@ -138,11 +138,13 @@ fn read_elements<R: Source>(
     }
     let mut values = Vec::new(alloc);
     for i in 0..count {
-        let mut value = Value::Null;
-        read_shape(item, alloc, &mut value, w)?;
-        if values.push(value).is_err() {
+        if values.push(Value::Null).is_err() {
             return Err(w.fault(Why::Memory));
         }
+        let Some(value) = values.last_mut() else {
+            unreachable!();
+        };
+        read_shape(item, alloc, value, w)?;
     }
     Ok(values)
 }
@@ -167,6 +169,7 @@ fn read_open<R: Source>(
 
 /// The components of a root, by their presence bits.
 #[cycle(read)]
+#[inline(always)]
 fn read_fields<R: Source>(
     fields: &[Field],
     alloc: Global,
@@ -183,13 +186,14 @@ fn read_fields<R: Source>(
     for field in fields {
         let (is_present, rest) = presence(&field.need, left);
         left = rest;
+        places.push_reserved(None);
         if !is_present {
-            places.push_reserved(None);
             continue;
         }
-        let mut value = Value::Null;
-        read_shape(&field.shape, alloc, &mut value, w)?;
-        places.push_reserved(Some(value));
+        let Some(place) = places.last_mut() else {
+            unreachable!();
+        };
+        read_shape(&field.shape, alloc, place.insert(Value::Null), w)?;
     }
     Ok(places)
 }
@@ -213,13 +217,14 @@ fn read_additions<R: Source>(
         let is_present = first(left);
         let rest = after(left);
         left = rest;
+        places.push_reserved(None);
         if !is_present {
-            places.push_reserved(None);
             continue;
         }
-        let mut value = Value::Null;
-        read_open(&addition.shape, alloc, &mut value, w)?;
-        places.push_reserved(Some(value));
+        let Some(place) = places.last_mut() else {
+            unreachable!();
+        };
+        read_open(&addition.shape, alloc, place.insert(Value::Null), w)?;
     }
     Ok(places)
 }
@@ -237,11 +242,14 @@ fn read_sequence<R: Source>(
 {
     let bits = preamble(alloc, optional(root) as u64, w)?;
     let root = read_fields(root, alloc, bits.as_slice(), w)?;
-    *value = Value::Seq {
-        root,
-        added: Vec::new(alloc),
-        unknown: Vec::new(alloc),
-    };
+    set(
+        value,
+        Value::Seq {
+            root,
+            added: Vec::new(alloc),
+            unknown: Vec::new(alloc),
+        },
+    );
     Ok(())
 }
 
@@ -267,6 +275,7 @@ fn read_root<R: Source>(
 
 /// What follows the root of a SEQUENCE with an extension marker.
 #[cycle(read)]
+#[inline(always)]
 fn read_rest<R: Source>(
     additions: &[Addition],
     alloc: Global,
@@ -278,16 +287,20 @@ fn read_rest<R: Source>(
         (seen (λ _. value_of value.new) result) (state R.remaining R.failed w.new) }
 {
     let added = read_extension(additions, alloc, start.is_extended, w)?;
-    *value = Value::Seq {
-        root: start.places,
-        added: added.known,
-        unknown: added.unknown,
-    };
+    set(
+        value,
+        Value::Seq {
+            root: start.places,
+            added: added.known,
+            unknown: added.unknown,
+        },
+    );
     Ok(())
 }
 
 /// The additions, of which there are none where the extension bit isn't set.
 #[cycle(read)]
+#[inline(always)]
 fn read_extension<R: Source>(
     additions: &[Addition],
     alloc: Global,
@@ -326,9 +339,10 @@ fn read_alternative<R: Source>(
 {
     for alternative in alternatives {
         if is_same_tag(alternative.tag, tag) {
-            let mut inner = Value::Null;
+            let mut inner = own_place(alloc, w)?;
             read_shape(&alternative.shape, alloc, &mut inner, w)?;
-            return set_chosen(alloc, tag, inner, value, w);
+            set(value, Value::Chosen { tag, value: inner });
+            return Ok(true);
         }
     }
     Ok(false)
@@ -348,9 +362,10 @@ fn read_open_alternative<R: Source>(
 {
     for alternative in alternatives {
         if is_same_tag(alternative.tag, tag) {
-            let mut inner = Value::Null;
+            let mut inner = own_place(alloc, w)?;
             read_open(&alternative.shape, alloc, &mut inner, w)?;
-            return set_chosen(alloc, tag, inner, value, w);
+            set(value, Value::Chosen { tag, value: inner });
+            return Ok(true);
         }
     }
     Ok(false)

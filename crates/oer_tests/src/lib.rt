@@ -8,6 +8,8 @@ mod drawing;
 #[cfg(test)]
 mod encodings;
 #[cfg(test)]
+mod helpers;
+#[cfg(test)]
 mod refusals;
 #[cfg(test)]
 mod rows;

@@ -6,7 +6,7 @@ use Rattle.oer_decoder.proofs.Values.{value_of-Null}
 use Rattle.oer_decoder.proofs.leaf.read_leaf.Goals as goal
 
 pub returns-in-Null-clause-reads : goal.returns-in-Null-clause-reads
-returns-in-Null-clause-reads g c = rw (c.in-Null.is, type_of-Null, value_of-Null) (Reads-give nothing _)
+returns-in-Null-clause-reads g c = rw (c.set.ensures, c.in-Null.is, type_of-Null, value_of-Null) (Reads-give nothing _)
 
 pub returns-in-Ia5-clause-reads : goal.returns-in-Ia5-clause-reads
 returns-in-Ia5-clause-reads g c = rw (c.in-Ia5.is, type_of-Ia5) c.read_text.ensures

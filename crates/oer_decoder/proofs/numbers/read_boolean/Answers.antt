@@ -6,4 +6,4 @@ pub returns-in_err-is_true-clause-reads : goal.returns-in_err-is_true-clause-rea
 returns-in_err-is_true-clause-reads g c = rw (at_exit c.from_residual.result c.in_err-is_true.field-0.0 c.from_residual.ensures.1) c.in_err-is_true.ensures.reads
 
 pub returns-clause-reads : goal.returns-clause-reads
-returns-clause-reads g c = rw value_of-Bool c.in_ok-is_true.ensures.reads
+returns-clause-reads g c = rw (c.set.ensures, value_of-Bool) c.in_ok-is_true.ensures.reads

@@ -22,5 +22,5 @@ pub returns-clause-reads : goal.returns-clause-reads
 returns-clause-reads g c =
     let number = c.in_ok-number.number in
     let fits : SFits w64 number = record { sfits = (rw c.in_ok-number.was at c.enumerated.type_inv).1.1.1.1.0.1 } in
-    rw (to_z-of_z w64 number fits, value_of-Enum)
+    rw (c.set.ensures, to_z-of_z w64 number fits, value_of-Enum)
     (enumerated_got (map named_number c.args.items.now) c.args.extensible _ _ number c.in_ok-number.ensures.reads (sym (rw (to_z-of_z w64 number fits) at c.if-not-is_known.ensures)))

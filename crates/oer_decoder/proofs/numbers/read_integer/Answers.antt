@@ -21,6 +21,6 @@ returns-then-not-is_in_range-clause-reads g c =
 pub returns-clause-reads : goal.returns-clause-reads
 returns-clause-reads g c =
     let fits : SFits w128 c.in_ok-number.number = record { sfits = (rw c.in_ok-number.was at c.number.type_inv).1.1.1.1.0.1 } in
-    rw (to_z-of_z w128 c.in_ok-number.number fits, value_of-Int)
+    rw (c.set.ensures, to_z-of_z w128 c.in_ok-number.number fits, value_of-Int)
     (integer_got c.args.low c.args.high (form_seen c.of_bounds.result) _ _ c.in_ok-number.number c.of_bounds.ensures c.in_ok-number.ensures.reads
     (sym (rw (to_z-of_z w128 c.in_ok-number.number fits) at c.if-not-is_in_range.ensures)))

@@ -11,4 +11,4 @@ pub returns-in_err-octets : goal.returns-in_err-octets
 returns-in_err-octets g c = rw (at_exit c.from_residual.result c.in_err-octets.field-0.0 c.from_residual.ensures.1) (Reads-stop counted_octets (λ w. give (foreign c.args.tag w)) _ _ _ c.in_err-octets.ensures)
 
 pub returns : goal.returns
-returns g c = rw value_of-Foreign (Reads-map counted_octets (λ w. foreign c.args.tag w) _ _ (Ok c.in_ok-octets.octets.items) c.in_ok-octets.ensures)
+returns g c = rw (c.set.ensures, value_of-Foreign) (Reads-map counted_octets (λ w. foreign c.args.tag w) _ _ (Ok c.in_ok-octets.octets.items) c.in_ok-octets.ensures)

@@ -20,5 +20,5 @@ returns-in_default g c = object_memory _ _ _ c.in_ok-content.content c.in_ok-num
 
 pub returns : goal.returns
 returns g c =
-    rw (value_of-Oid, c.in-Ok.ensures, c.deref.ensures.value)
+    rw (c.set.ensures, value_of-Oid, c.in-Ok.ensures, c.deref.ensures.value)
     (object_then _ _ _ c.in_ok-content.content (Ok c.in_ok-numbers.numbers.items) c.in_ok-content.ensures.reads c.if-content-eq0.false c.in_ok-numbers.ensures)

@@ -9,7 +9,7 @@ use Rattle.oer_types.proofs.Values.{value_of-Octets}
 use Rattle.oer_decoder.proofs.strings.read_octet_string.Goals as goal
 
 pub returns-in_err-octets : goal.returns-in_err-octets
-returns-in_err-octets g c = rw (at_exit c.from_residual.result c.in_err-octets.field-0.0 c.from_residual.ensures.1) (Reads-stop (read_octets (fixed c.args.size) c.args.size) (λ w. give (octets w)) _ _ _ c.in_err-octets.ensures)
+returns-in_err-octets g c = rw (at_exit c.from_residual.result c.in_err-octets.field-0.0 c.from_residual.ensures.1) (Reads-stop (read_octets (fixed c.args.size.now) c.args.size.now) (λ w. give (octets w)) _ _ _ c.in_err-octets.ensures)
 
 pub returns : goal.returns
-returns g c = rw value_of-Octets (Reads-map (read_octets (fixed c.args.size) c.args.size) octets _ _ (Ok c.in_ok-octets.octets.items) c.in_ok-octets.ensures)
+returns g c = rw (c.set.ensures, value_of-Octets) (Reads-map (read_octets (fixed c.args.size.now) c.args.size.now) octets _ _ (Ok c.in_ok-octets.octets.items) c.in_ok-octets.ensures)

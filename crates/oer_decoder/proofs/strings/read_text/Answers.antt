@@ -7,11 +7,11 @@ use Rattle.oer_decoder.proofs.Values.{value_of-Text}
 use Rattle.oer_decoder.proofs.strings.read_text.Goals as goal
 
 pub returns-in_err-octets : goal.returns-in_err-octets
-returns-in_err-octets g c = rw (at_exit c.from_residual.result c.in_err-octets.field-0.0 c.from_residual.ensures.1) (text_stop (alphabet_of c.args.kind) c.args.size _ _ _ c.in_err-octets.ensures)
+returns-in_err-octets g c = rw (at_exit c.from_residual.result c.in_err-octets.field-0.0 c.from_residual.ensures.1) (text_stop (alphabet_of c.args.kind) c.args.size.now _ _ _ c.in_err-octets.ensures)
 
 pub returns-then-not-are_characters : goal.returns-then-not-are_characters
 returns-then-not-are_characters g c =
-    text_out (alphabet_of c.args.kind) c.args.size _ _ c.in_ok-octets.octets.items _ c.in_ok-octets.ensures (sym (rw c.deref.ensures.value at c.if-not-are_characters.ensures)) c.fault.ensures.why c.fault.ensures.taken
+    text_out (alphabet_of c.args.kind) c.args.size.now _ _ c.in_ok-octets.octets.items _ c.in_ok-octets.ensures (sym (rw c.deref.ensures.value at c.if-not-are_characters.ensures)) c.fault.ensures.why c.fault.ensures.taken
 
 pub returns-in_default : goal.returns-in_default
 returns-in_default g c =
@@ -20,5 +20,5 @@ returns-in_default g c =
 
 pub returns : goal.returns
 returns g c =
-    rw (value_of-Text, c.in-Some.ensures.1)
-    (text_got (alphabet_of c.args.kind) c.args.size _ _ c.in_ok-octets.octets.items c.in_ok-octets.ensures (sym (rw c.deref.ensures.value at c.if-not-are_characters.ensures)))
+    rw (c.set.ensures, value_of-Text, c.in-Some.ensures.1)
+    (text_got (alphabet_of c.args.kind) c.args.size.now _ _ c.in_ok-octets.octets.items c.in_ok-octets.ensures (sym (rw c.deref.ensures.value at c.if-not-are_characters.ensures)))

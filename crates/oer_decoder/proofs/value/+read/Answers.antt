@@ -1,4 +1,4 @@
-use Rattle.std.proofs.Common.{◌∙◌, Option, Some, None, Vec, Global, map, length, ◌-◌, ◌+◌, Ok, Err, arith, refl, rules, sym, ap, add-one}
+use Rattle.std.proofs.Common.{◌≡◌, ◌∙◌, ◌++◌, ◌∷◌, [], vec_len, Option, Some, None, Vec, Global, map, length, ◌-◌, ◌+◌, Ok, Err, arith, refl, rules, sym, ap, add-one}
 use Rattle.std.proofs.lemmas.Grind.{common_steps}
 use Rattle.oer_units.specs.Reading.{open_type}
 use Rattle.oer_units.proofs.ReadExits.{at_exit}
@@ -8,15 +8,16 @@ use Rattle.oer_types.specs.Reading.{read_value}
 use Rattle.oer_types.specs.ShapeView.{additions_of, fields_of, later_of, type_of}
 use Rattle.oer_types.specs.ValueView.{places_of, unknown_of, value_of}
 use Rattle.oer_types.proofs.Shapes.{type_of-Choice, type_of-Sequence}
-use Rattle.oer_types.proofs.Values.{value_of-List, value_of-Seq}
+use Rattle.oer_types.proofs.Values.{value_of-Chosen, value_of-List, value_of-Seq}
 use Rattle.oer_writer.proofs.Sizes.{additions_fall, fields_fall, later_fall}
 use Rattle.oer_types.specs.declared.shape.Addition.{Addition}
 use Rattle.oer_types.specs.declared.shape.Shape.{Sequence}
+use Rattle.oer_types.specs.declared.value.Value.TheVariants as Value
 use Rattle.oer_decoder.specs.MarksView.{bits_in}
 use Rattle.oer_decoder.specs.Starts.{added_of, start_of}
 use Rattle.oer_decoder.proofs.Extensions.{extensible_stop, extensible_then, extension_known, extension_none, extension_stop, extension_then, rest_then}
-use Rattle.oer_decoder.proofs.Loops.{addition_count_is, adds_end, adds_next, adds_none, adds_stop, elements_end, elements_next, elements_none, elements_stop, fields_end, fields_next, fields_none, fields_stop, items_stop, items_then, leads_memory, listed_is, place_none, place_then, root_stop, root_then, sequence_stop, sequence_then}
-use Rattle.oer_decoder.proofs.Picks.{choice_found, choice_later, choice_none, choice_with-is, has_marker, more_of, choice_refused, choice_stop, chosen_stop, chosen_then, later_end, later_foreign, later_found, later_here, later_next, later_stop, root_end, root_here, root_next}
+use Rattle.oer_decoder.proofs.Loops.{addition_count_is, stored_last, adds_end, adds_next, adds_none, adds_stop, elements_end, elements_next, elements_none, elements_stop, fields_end, fields_next, fields_none, fields_stop, items_stop, items_then, leads_memory, listed_is, place_none, place_then, root_stop, root_then, sequence_stop, sequence_then}
+use Rattle.oer_decoder.proofs.Picks.{choice_found, choice_later, choice_none, choice_with-is, has_marker, more_of, choice_refused, choice_stop, chosen_memory, chosen_stop, chosen_then, later_end, later_foreign, later_found, later_here, later_next, later_stop, root_end, root_here, root_next}
 use Rattle.oer_decoder.proofs.Shapes.{type_of-Boolean}
 use Rattle.oer_decoder.proofs.value.+read.Goals as goal
 
@@ -57,12 +58,12 @@ read_elements-returns-in_err-read_shape g t c =
 
 pub read_elements-loop-i-preserved : goal.read_elements-loop-i-preserved
 read_elements-loop-i-preserved g t c =
-    elements_next (c.args.count - c.loop-i.i) (c.args.count - (c.loop-i.i + 1)) (read_value (type_of c.args.item.now)) c.loop-i.values.items _ c.read_shape.new.value _ _ _ _ (omega arith) (grind (arith, common_steps)) c.loop-i.invariant c.in_ok-read_shape.ensures.reads
+    let pushed : c.push.new.self.items ≡ c.loop-i.values.items ++ Value.Null ∷ [] = grind (arith, common_steps) in
+    let len : vec_len c.push.new.self ≡ vec_len c.loop-i.values + 1 = grind (arith, common_steps) in
+    elements_next (c.args.count - c.loop-i.i) (c.args.count - (c.loop-i.i + 1)) (read_value (type_of c.args.item.now)) c.loop-i.values.items _ c.read_shape.new.value _ _ _ _ (omega arith) (stored_last c.loop-i.values.items c.push.new.self.items Value.Null _ (omega (arith, len, c.loop-i.values.ok.0)) pushed) c.loop-i.invariant c.in_ok-read_shape.ensures.reads
 
 pub read_elements-returns-then-is_err : goal.read_elements-returns-then-is_err
-read_elements-returns-then-is_err g t c =
-    leads_memory _ _ _ _ _ _ c.fault.ensures.why c.fault.ensures.taken
-    (elements_next (c.args.count - c.loop-i.i) (c.args.count - (c.loop-i.i + 1)) (read_value (type_of c.args.item.now)) c.loop-i.values.items _ c.read_shape.new.value _ _ _ _ (omega arith) refl c.loop-i.invariant c.in_ok-read_shape.ensures.reads)
+read_elements-returns-then-is_err g t c = leads_memory _ _ _ _ _ _ c.fault.ensures.why c.fault.ensures.taken c.loop-i.invariant
 
 pub read_elements-returns : goal.read_elements-returns
 read_elements-returns g t c = elements_end (c.args.count - c.loop-i.i) (read_value (type_of c.args.item.now)) c.loop-i.values.items _ _ _ (omega arith) c.loop-i.invariant
@@ -81,9 +82,6 @@ read_fields-loop-field-init g t c = record {
 pub read_fields-push_reserved-requires : goal.read_fields-push_reserved-requires
 read_fields-push_reserved-requires g t c = omega (arith, c.loop-field-test.true, c.loop-field.invariant.room)
 
-pub read_fields-push_reserved-requires-in-loop-field : goal.read_fields-push_reserved-requires-in-loop-field
-read_fields-push_reserved-requires-in-loop-field g t c = omega (arith, c.loop-field-test.true, c.loop-field.invariant.room)
-
 pub read_fields-loop-field-preserved-then-not-is_present : goal.read_fields-loop-field-preserved-then-not-is_present
 read_fields-loop-field-preserved-then-not-is_present g t c = record {
   leads = fields_next c.args.fields.now c.loop-field.field-index c.field-item.result c.loop-field.left.now c.presence-is_present.result.1.now c.presence-is_present.result.0 c.loop-field.places.items _ None _ _ _ _ c.loop-field-test.true c.field-item.is c.presence-is_present.ensures.there c.presence-is_present.ensures.left c.push_reserved.ensures.items c.loop-field.invariant.leads (place_none c.presence-is_present.result.0 (read_value (type_of c.field-item.result.shape)) _ (search rules));
@@ -97,8 +95,8 @@ read_fields-returns-in_err-read_shape g t c =
 
 pub read_fields-loop-field-preserved : goal.read_fields-loop-field-preserved
 read_fields-loop-field-preserved g t c = record {
-  leads = fields_next c.args.fields.now c.loop-field.field-index c.field-item.result c.loop-field.left.now c.presence-is_present.result.1.now c.presence-is_present.result.0 c.loop-field.places.items _ (Some c.read_shape.new.value) _ _ _ _ c.loop-field-test.true c.field-item.is c.presence-is_present.ensures.there c.presence-is_present.ensures.left c.push_reserved-in-loop-field.ensures.items c.loop-field.invariant.leads (place_then c.presence-is_present.result.0 (read_value (type_of c.field-item.result.shape)) _ _ (Ok (value_of c.read_shape.new.value)) (search rules) c.in_ok-read_shape.ensures.reads);
-  room = omega (arith, c.loop-field-test.true, c.loop-field.invariant.room, c.push_reserved-in-loop-field.ensures.len, c.push_reserved-in-loop-field.ensures.capacity);
+  leads = fields_next c.args.fields.now c.loop-field.field-index c.field-item.result c.loop-field.left.now c.presence-is_present.result.1.now c.presence-is_present.result.0 c.loop-field.places.items _ (Some c.read_shape.new.value) _ _ _ _ c.loop-field-test.true c.field-item.is c.presence-is_present.ensures.there c.presence-is_present.ensures.left (stored_last c.loop-field.places.items c.push_reserved.new.self.items None _ (omega (arith, c.push_reserved.ensures.len, c.loop-field.places.ok.0)) c.push_reserved.ensures.items) c.loop-field.invariant.leads (place_then c.presence-is_present.result.0 (read_value (type_of c.field-item.result.shape)) _ _ (Ok (value_of c.read_shape.new.value)) (search rules) c.in_ok-read_shape.ensures.reads);
+  room = omega (arith, c.loop-field-test.true, c.loop-field.invariant.room, c.push_reserved.ensures.len, c.push_reserved.ensures.capacity);
 }
 
 pub read_fields-returns : goal.read_fields-returns
@@ -118,9 +116,6 @@ read_additions-loop-addition-init g t c = record {
 pub read_additions-push_reserved-requires : goal.read_additions-push_reserved-requires
 read_additions-push_reserved-requires g t c = omega (arith, c.loop-addition-test.true, c.loop-addition.invariant.room)
 
-pub read_additions-push_reserved-requires-in-loop-addition : goal.read_additions-push_reserved-requires-in-loop-addition
-read_additions-push_reserved-requires-in-loop-addition g t c = omega (arith, c.loop-addition-test.true, c.loop-addition.invariant.room)
-
 pub read_additions-loop-addition-preserved-then-not-is_present : goal.read_additions-loop-addition-preserved-then-not-is_present
 read_additions-loop-addition-preserved-then-not-is_present g t c = record {
   leads = adds_next c.args.additions.now c.loop-addition.addition-index c.addition-item.result c.loop-addition.left.now c.after-rest.result.now c.first-is_present.result c.loop-addition.places.items _ None _ _ _ _ c.loop-addition-test.true c.addition-item.is c.first-is_present.ensures c.after-rest.ensures c.push_reserved.ensures.items c.loop-addition.invariant.leads (place_none c.first-is_present.result (open_type (read_value (type_of c.addition-item.result.shape))) _ (search rules));
@@ -134,8 +129,8 @@ read_additions-returns-in_err-read_open g t c =
 
 pub read_additions-loop-addition-preserved : goal.read_additions-loop-addition-preserved
 read_additions-loop-addition-preserved g t c = record {
-  leads = adds_next c.args.additions.now c.loop-addition.addition-index c.addition-item.result c.loop-addition.left.now c.after-rest.result.now c.first-is_present.result c.loop-addition.places.items _ (Some c.read_open.new.value) _ _ _ _ c.loop-addition-test.true c.addition-item.is c.first-is_present.ensures c.after-rest.ensures c.push_reserved-in-loop-addition.ensures.items c.loop-addition.invariant.leads (place_then c.first-is_present.result (open_type (read_value (type_of c.addition-item.result.shape))) _ _ (Ok (value_of c.read_open.new.value)) (search rules) c.in_ok-read_open.ensures);
-  room = omega (arith, c.loop-addition-test.true, c.loop-addition.invariant.room, c.push_reserved-in-loop-addition.ensures.len, c.push_reserved-in-loop-addition.ensures.capacity);
+  leads = adds_next c.args.additions.now c.loop-addition.addition-index c.addition-item.result c.loop-addition.left.now c.after-rest.result.now c.first-is_present.result c.loop-addition.places.items _ (Some c.read_open.new.value) _ _ _ _ c.loop-addition-test.true c.addition-item.is c.first-is_present.ensures c.after-rest.ensures (stored_last c.loop-addition.places.items c.push_reserved.new.self.items None _ (omega (arith, c.push_reserved.ensures.len, c.loop-addition.places.ok.0)) c.push_reserved.ensures.items) c.loop-addition.invariant.leads (place_then c.first-is_present.result (open_type (read_value (type_of c.addition-item.result.shape))) _ _ (Ok (value_of c.read_open.new.value)) (search rules) c.in_ok-read_open.ensures);
+  room = omega (arith, c.loop-addition-test.true, c.loop-addition.invariant.room, c.push_reserved.ensures.len, c.push_reserved.ensures.capacity);
 }
 
 pub read_additions-returns : goal.read_additions-returns
@@ -155,7 +150,7 @@ read_items-returns-in_err-values g t c =
 
 pub read_items-returns : goal.read_items-returns
 read_items-returns g t c =
-    rw (value_of-List c.in_ok-values.values, sym (listed_is c.in_ok-values.values.items))
+    rw (c.set.ensures, value_of-List c.in_ok-values.values, sym (listed_is c.in_ok-values.values.items))
     (items_then c.args.size (read_value (type_of c.args.item.now)) _ _ _ c.in_ok-count.count (Ok (map value_of c.in_ok-values.values.items)) c.in_ok-count.ensures c.in_ok-values.ensures)
 
 -- ---- sequences
@@ -172,7 +167,7 @@ read_sequence-returns-in_err-root g t c =
 
 pub read_sequence-returns : goal.read_sequence-returns
 read_sequence-returns g t c =
-    rw (value_of-Seq c.in_ok-root.root c.new.result c.new-2.result, c.new.ensures.items, c.new-2.ensures.items)
+    rw (c.set.ensures, value_of-Seq c.in_ok-root.root c.new.result c.new-2.result, c.new.ensures.items, c.new-2.ensures.items)
     (sequence_then (fields_of c.args.root.now) _ _ _ (bits_in c.in_ok-bits.bits) (Ok (places_of c.in_ok-root.root.items)) (rw c.optional.ensures.is at c.in_ok-bits.ensures) (rw c.as_slice.ensures at c.in_ok-root.ensures))
 
 pub read_root-returns-in_err-bits : goal.read_root-returns-in_err-bits
@@ -224,21 +219,27 @@ read_rest-returns-in_err-added g t c =
 
 pub read_rest-returns : goal.read_rest-returns
 read_rest-returns g t c =
-    rw (value_of-Seq c.args.start.places c.in_ok-added.added.known c.in_ok-added.added.unknown)
+    rw (c.set.ensures, value_of-Seq c.args.start.places c.in_ok-added.added.known c.in_ok-added.added.unknown)
     (rest_then (additions_of c.args.additions.now) (start_of c.args.start) _ _ (Ok (added_of c.in_ok-added.added)) c.in_ok-added.ensures)
 
 -- ---- alternatives
 
+pub read_alternative-returns-in_err-inner : goal.read_alternative-returns-in_err-inner
+read_alternative-returns-in_err-inner g t c =
+    rw (at_exit c.from_residual.result c.in_err-inner.field-0.0 c.from_residual.ensures.1)
+    (chosen_memory _ _ _ _ c.loop-alternative.invariant.still c.in_err-inner.ensures.why c.in_err-inner.ensures.taken)
+
 pub read_alternative-returns-in_err-read_shape : goal.read_alternative-returns-in_err-read_shape
 read_alternative-returns-in_err-read_shape g t c =
-    rw (at_exit c.from_residual.result c.in_err-read_shape.field-0.0 c.from_residual.ensures.1)
+    rw (at_exit c.from_residual-in_err-read_shape.result c.in_err-read_shape.field-0.0 c.from_residual-in_err-read_shape.ensures.1)
     (chosen_stop c.args.tag (read_value (type_of c.alternative-item.result.shape)) _ _ _ _ _ c.loop-alternative.invariant.still
     (root_here c.args.alternatives.now c.loop-alternative.alternative-index c.alternative-item.result c.args.tag _ c.loop-alternative-test.true c.alternative-item.is c.if-is_same_tag.ensures c.loop-alternative.invariant.same) c.in_err-read_shape.ensures.reads)
 
 pub read_alternative-returns-then-is_same_tag : goal.read_alternative-returns-then-is_same_tag
 read_alternative-returns-then-is_same_tag g t c =
-    chosen_then c.args.tag (read_value (type_of c.alternative-item.result.shape)) _ _ _ _ _ (value_of c.read_shape.new.value) _ c.loop-alternative.invariant.still
-    (root_here c.args.alternatives.now c.loop-alternative.alternative-index c.alternative-item.result c.args.tag _ c.loop-alternative-test.true c.alternative-item.is c.if-is_same_tag.ensures c.loop-alternative.invariant.same) c.in_ok-read_shape.ensures.reads c.set_chosen.ensures
+    rw (c.set.ensures, value_of-Chosen)
+    (chosen_then c.args.tag (read_value (type_of c.alternative-item.result.shape)) _ _ _ _ (value_of c.read_shape.new.value) c.loop-alternative.invariant.still
+    (root_here c.args.alternatives.now c.loop-alternative.alternative-index c.alternative-item.result c.args.tag _ c.loop-alternative-test.true c.alternative-item.is c.if-is_same_tag.ensures c.loop-alternative.invariant.same) c.in_ok-read_shape.ensures.reads)
 
 pub read_alternative-loop-alternative-preserved : goal.read_alternative-loop-alternative-preserved
 read_alternative-loop-alternative-preserved g t c =
@@ -250,16 +251,22 @@ read_alternative-loop-alternative-preserved g t c =
 pub read_alternative-returns : goal.read_alternative-returns
 read_alternative-returns g t c = root_end c.args.alternatives.now c.loop-alternative.alternative-index c.args.tag _ _ _ c.loop-alternative.invariant.still c.loop-alternative-test.false c.loop-alternative.invariant.same
 
+pub read_open_alternative-returns-in_err-inner : goal.read_open_alternative-returns-in_err-inner
+read_open_alternative-returns-in_err-inner g t c =
+    rw (at_exit c.from_residual.result c.in_err-inner.field-0.0 c.from_residual.ensures.1)
+    (chosen_memory _ _ _ _ c.loop-alternative.invariant.still c.in_err-inner.ensures.why c.in_err-inner.ensures.taken)
+
 pub read_open_alternative-returns-in_err-read_open : goal.read_open_alternative-returns-in_err-read_open
 read_open_alternative-returns-in_err-read_open g t c =
-    rw (at_exit c.from_residual.result c.in_err-read_open.field-0.0 c.from_residual.ensures.1)
+    rw (at_exit c.from_residual-in_err-read_open.result c.in_err-read_open.field-0.0 c.from_residual-in_err-read_open.ensures.1)
     (chosen_stop c.args.tag (open_type (read_value (type_of c.alternative-item.result.shape))) _ _ _ _ _ c.loop-alternative.invariant.still
     (later_here c.args.alternatives.now c.loop-alternative.alternative-index c.alternative-item.result c.args.tag _ c.loop-alternative-test.true c.alternative-item.is c.if-is_same_tag.ensures c.loop-alternative.invariant.same) c.in_err-read_open.ensures)
 
 pub read_open_alternative-returns-then-is_same_tag : goal.read_open_alternative-returns-then-is_same_tag
 read_open_alternative-returns-then-is_same_tag g t c =
-    chosen_then c.args.tag (open_type (read_value (type_of c.alternative-item.result.shape))) _ _ _ _ _ (value_of c.read_open.new.value) _ c.loop-alternative.invariant.still
-    (later_here c.args.alternatives.now c.loop-alternative.alternative-index c.alternative-item.result c.args.tag _ c.loop-alternative-test.true c.alternative-item.is c.if-is_same_tag.ensures c.loop-alternative.invariant.same) c.in_ok-read_open.ensures c.set_chosen.ensures
+    rw (c.set.ensures, value_of-Chosen)
+    (chosen_then c.args.tag (open_type (read_value (type_of c.alternative-item.result.shape))) _ _ _ _ (value_of c.read_open.new.value) c.loop-alternative.invariant.still
+    (later_here c.args.alternatives.now c.loop-alternative.alternative-index c.alternative-item.result c.args.tag _ c.loop-alternative-test.true c.alternative-item.is c.if-is_same_tag.ensures c.loop-alternative.invariant.same) c.in_ok-read_open.ensures)
 
 pub read_open_alternative-loop-alternative-preserved : goal.read_open_alternative-loop-alternative-preserved
 read_open_alternative-loop-alternative-preserved g t c =
