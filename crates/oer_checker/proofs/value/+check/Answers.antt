@@ -9,7 +9,7 @@ use Rattle.oer_types.specs.declared.shape.Addition.{Addition}
 use Rattle.oer_types.specs.declared.shape.Shape.{Sequence, Shape}
 use Rattle.oer_checker.specs.BitView.{bits_in}
 use Rattle.oer_checker.specs.Places.{place_of}
-use Rattle.oer_checker.specs.Steps.{and_after, check_there, is_default, left_open}
+use Rattle.oer_checker.specs.Steps.{and_after, check_later, check_there, is_default, left_open}
 use Rattle.oer_checker.proofs.Exits.{at_stop}
 use Rattle.oer_checker.proofs.FieldSteps.{additions_end, additions_next, additions_stop, count_is, extensible_stop, fields_end, fields_next, fields_stop, if_absent, items_stop, items_then, known_stop, later_got, later_stop, map_stop, no_extension, root_stop, sequence_stop, sequence_then, there_got, there_stop, times_end, times_next, times_start, times_stop, unknown_got, unknown_stop}
 use Rattle.oer_checker.proofs.LengthSteps.{open_stop, open_then}
@@ -45,13 +45,16 @@ pub check_fields-returns : goal.check_fields-returns
 check_fields-returns t c = fields_end c.args.fields.now c.loop-field.field-index (bits_in c.loop-field.left) c.loop-field.is_canonical _ _ c.loop-field-test.false c.loop-field.invariant
 
 pub check_later-returns-then-is_same_tag : goal.check_later-returns-then-is_same_tag
-check_later-returns-then-is_same_tag t c = c.check_open.ensures ∙ ap (λ (r : Reader Bool). r (place_of c.args.at.now)) (later_here c.args.alternatives.now c.loop-alternative.alternative-index c.alternative-item.result c.args.tag _ c.loop-alternative-test.true c.alternative-item.is (sym c.if-is_same_tag.true ∙ c.is_same_tag.ensures) c.loop-alternative.invariant)
+check_later-returns-then-is_same_tag t c = c.check_open.ensures ∙ ap (λ (r : Reader Bool). r (place_of c.loop-alternative.at)) (later_here c.args.alternatives.now c.loop-alternative.alternative-index c.alternative-item.result c.args.tag _ c.loop-alternative-test.true c.alternative-item.is (sym c.if-is_same_tag.true ∙ c.is_same_tag.ensures) c.loop-alternative.invariant.same) ∙ ap (check_later (later_of c.args.alternatives.now) c.args.tag) c.loop-alternative.invariant.still
 
 pub check_later-loop-alternative-preserved : goal.check_later-loop-alternative-preserved
-check_later-loop-alternative-preserved t c = later_next c.args.alternatives.now c.loop-alternative.alternative-index c.alternative-item.result c.args.tag _ c.loop-alternative-test.true c.alternative-item.is (sym c.if-is_same_tag.false ∙ c.is_same_tag.ensures) c.loop-alternative.invariant
+check_later-loop-alternative-preserved t c = record {
+  same = later_next c.args.alternatives.now c.loop-alternative.alternative-index c.alternative-item.result c.args.tag _ c.loop-alternative-test.true c.alternative-item.is (sym c.if-is_same_tag.false ∙ c.is_same_tag.ensures) c.loop-alternative.invariant.same;
+  still = c.loop-alternative.invariant.still;
+}
 
 pub check_later-returns : goal.check_later-returns
-check_later-returns t c = c.check_octets.ensures ∙ ap (λ (r : Reader Bool). r (place_of c.args.at.now)) (later_end c.args.alternatives.now c.loop-alternative.alternative-index c.args.tag _ c.loop-alternative-test.false c.loop-alternative.invariant)
+check_later-returns t c = c.check_octets.ensures ∙ ap (λ (r : Reader Bool). r (place_of c.loop-alternative.at)) (later_end c.args.alternatives.now c.loop-alternative.alternative-index c.args.tag _ c.loop-alternative-test.false c.loop-alternative.invariant.same) ∙ ap (check_later (later_of c.args.alternatives.now) c.args.tag) c.loop-alternative.invariant.still
 
 pub check_elements-returns-in-Boolean : goal.check_elements-returns-in-Boolean
 check_elements-returns-in-Boolean t c = rw (c.in-Boolean.is, type_of-Boolean) c.check_booleans.ensures

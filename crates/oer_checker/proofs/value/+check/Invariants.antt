@@ -16,4 +16,7 @@ abbrev pub invariant-check_fields-loop-field : goal.invariant-check_fields-loop-
 invariant-check_fields-loop-field l = and_after l.is_canonical (check_fields (fields_of (drop l.field-index l.fields)) (bits_in l.left) (place_of l.at)) ≡ check_fields (fields_of l.fields) (bits_in l.bits) (place_of l.fn.at)
 
 abbrev pub invariant-check_later-loop-alternative : goal.invariant-check_later-loop-alternative
-invariant-check_later-loop-alternative l = check_later (later_of (drop l.alternative-index l.alternatives)) l.tag ≡ check_later (later_of l.alternatives) l.tag
+invariant-check_later-loop-alternative l = record {
+  same : check_later (later_of (drop l.alternative-index l.alternatives)) l.tag ≡ check_later (later_of l.alternatives) l.tag;
+  still : place_of l.at ≡ place_of l.fn.at;
+}
