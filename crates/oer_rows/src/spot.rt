@@ -75,7 +75,7 @@ impl Spot {
         to: Cursor<'a>,
         answer: Result<T, Stop>,
     ) -> Result<T, Halt>
-        ensures { ReadsRow self.now role (lines_of rows.old.items) from.entry to.entry answer.entry (lines_of rows.new.items) result }
+        ensures { ReadsRow self.now role (lines_of rows.old.items) from.entry to.entry answer (lines_of rows.new.items) result }
     {
         let Ok(value) = answer else {
             return Err(Halt::Refused);
