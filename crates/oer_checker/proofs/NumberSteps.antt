@@ -162,9 +162,9 @@ from_zero n = int_le-true (pos 0) (pos n) (le-leb 0 n (omega arith))
 pub natural_from : (p q : Place) (z : ℤ) → got z q ≡ counted_number natural is_int128 p → pos 0 ≤ℤ z
 natural_from p q z e = subst (λ (y : ℤ). pos 0 ≤ℤ y) (sym (quantity_got p q z e).is) (from_zero (unsigned_abs z))
 
-pub natural_result : (r : Result (ℤ × Cursor) Stop) (p : Place) → outcome same r ≡ counted_number natural is_int128 p → IfOk r (λ y. pos 0 ≤ℤ y.0)
-natural_result (Ok y) p e = natural_from p (place_of y.1) y.0 e
-natural_result (Err s) p e = tt
+pub natural_result : (r : Result ℤ Stop) (after : Cursor) (p : Place) → outcome same r after ≡ counted_number natural is_int128 p → IfOk r (λ y. pos 0 ≤ℤ y)
+natural_result (Ok y) after p e = natural_from p (place_of after) y e
+natural_result (Err s) after p e = tt
 
 -- a least natural number
 pub least_natural : (p q : Place) (z : ℤ) → got z q ≡ counted_number natural is_int128 p → length (counted (unsigned_octets (unsigned_abs z))) ≡ length (integer_octets unsigned_counted z)

@@ -110,9 +110,9 @@ sub_err k name xs n s s' e m is none memory h =
 
 -- ---- what was read is in its range
 
-pub range_ok : (P : ℤ → Type 0) (z : ℤ) (r : Result (ℤ × Cursor) Stop) (p : Place) (taken : ℕ) → outcome same r ≡ ended p (Ok z) taken → P z → IfOk r (λ y. P y.0)
-range_ok P z (Ok y) p taken e fits = subst P (sym (got_value y.0 z (place_of y.1) (at (drop taken p.input) (p.left - taken)) e)) fits
-range_ok P z (Err s) p taken e fits = tt
+pub range_ok : (P : ℤ → Type 0) (z : ℤ) (r : Result ℤ Stop) (after : Cursor) (p : Place) (taken : ℕ) → outcome same r after ≡ ended p (Ok z) taken → P z → IfOk r (λ y. P y)
+range_ok P z (Ok y) after p taken e fits = subst P (sym (got_value y z (place_of after) (at (drop taken p.input) (p.left - taken)) e)) fits
+range_ok P z (Err s) after p taken e fits = tt
 
 -- ---- a number of fixed size
 

@@ -154,68 +154,60 @@ fn are_least_bits(count: u64, octets: &[u8]) -> bool
 }
 
 /// A BIT STRING (X.696, 13). Bits past the last one may have any values; canonically they are 0.
-pub(crate) fn check_bit_string<'a>(
-    size: &Size,
-    cursor: Cursor<'a>,
-) -> Result<(bool, Cursor<'a>), Stop<'a>>
-    ensures { outcome same result ≡ check_value (bit_string size.now) (place_of cursor.entry) }
+pub(crate) fn check_bit_string(size: &Size, at: &mut Cursor) -> Result<bool, Stop>
+    ensures { outcome same result at.new ≡ check_value (bit_string size.now) (place_of at.old) }
 {
     if let Some(count) = size.fixed() {
-        let (octets, end) = group_at(cursor, octets_needed(count))?;
-        return Ok((ends_in_zeros(octets, spare(count)), end));
+        let octets = group_at(at, octets_needed(count))?;
+        return Ok(ends_in_zeros(octets, spare(count)));
     }
-    let (bits, end) = counted_bits(*size, cursor)?;
-    Ok((are_least_bits(bits.to, octets_between(cursor, end)), end))
+    let start = *at;
+    let bits = counted_bits(size, at)?;
+    Ok(are_least_bits(bits.to, octets_between(start, *at)))
 }
 
 // A length, the initial octet, and the bits.
-fn counted_bits<'a>(size: Size, cursor: Cursor<'a>) -> Result<(Bits<'a>, Cursor<'a>), Stop<'a>>
-    ensures whole { IfOk result (λ y. IsWhole y.0) }
-    ensures bits { outcome bits_in result ≡ read_bits None size (place_of cursor.entry) }
+fn counted_bits<'a>(size: &Size, at: &mut Cursor<'a>) -> Result<Bits<'a>, Stop>
+    ensures whole { IfOk result (λ y. IsWhole y) }
+    ensures bits { outcome bits_in result at.new ≡ read_bits None size.now (place_of at.old) }
 {
-    let (length, next) = length_at(cursor)?;
+    let length = length_at(at)?;
     if length == 0 {
         return Err(Stop {
             why: Why::BitUnused,
-            rest: next.rest,
         });
     }
-    let (unused, next) = octet_at(next)?;
+    let unused = octet_at(at)?;
     if !may_be_unused(unused, length) {
         return Err(Stop {
             why: Why::BitUnused,
-            rest: next.rest,
         });
     }
-    sized_bits(size, length - 1, unused, next)
+    sized_bits(size, length - 1, unused, at)
 }
 
 // So many octets without the last bits, where the size allows as many bits.
 fn sized_bits<'a>(
-    size: Size,
+    size: &Size,
     count: u64,
     unused: u8,
-    cursor: Cursor<'a>,
-) -> Result<(Bits<'a>, Cursor<'a>), Stop<'a>>
+    at: &mut Cursor<'a>,
+) -> Result<Bits<'a>, Stop>
     requires { unused ≤ 8 * count }
-    ensures whole { IfOk result (λ y. IsWhole y.0) }
-    ensures bits { outcome bits_in result ≡ guard (size_fits size (8 * count - unused)) reason.Size
-        (bind (group count) (λ d. give (take (length (the_bits d) - unused) (the_bits d)))) (place_of cursor.entry) }
+    ensures whole { IfOk result (λ y. IsWhole y) }
+    ensures bits { outcome bits_in result at.new ≡ guard (size_fits size.now (8 * count - unused)) reason.Size
+        (bind (group count) (λ d. give (take (length (the_bits d) - unused) (the_bits d)))) (place_of at.old) }
 {
     let bits = 8 * u128::from(count) - u128::from(unused);
     if !size.allows(bits) {
-        return Err(Stop {
-            why: Why::Size,
-            rest: cursor.rest,
-        });
+        return Err(Stop { why: Why::Size });
     }
-    let (octets, end) = group_at(cursor, count)?;
-    let bits = Bits {
+    let octets = group_at(at, count)?;
+    Ok(Bits {
         octets,
         from: 0,
         to: bits as u64,
-    };
-    Ok((bits, end))
+    })
 }
 
 // Whether so many bits may be unused where a length counts the initial octet.
@@ -226,22 +218,20 @@ fn may_be_unused(unused: u8, length: u64) -> bool
 }
 
 /// The preamble of a SEQUENCE (X.696, 16.2): so many bits, and zeros to the octet's end.
-pub fn preamble<'a>(count: u64, cursor: Cursor<'a>) -> Result<(Bits<'a>, Cursor<'a>), Stop<'a>>
-    ensures { outcome bits_in result ≡ preamble_read count (place_of cursor.entry) }
+pub fn preamble<'a>(count: u64, at: &mut Cursor<'a>) -> Result<Bits<'a>, Stop>
+    ensures { outcome bits_in result at.new ≡ preamble_read count (place_of at.old) }
 {
-    let (octets, end) = group_at(cursor, octets_needed(count))?;
+    let octets = group_at(at, octets_needed(count))?;
     if !ends_in_zeros(octets, spare(count)) {
         return Err(Stop {
             why: Why::PreamblePadding,
-            rest: end.rest,
         });
     }
-    let bits = Bits {
+    Ok(Bits {
         octets,
         from: 0,
         to: count,
-    };
-    Ok((bits, end))
+    })
 }
 
 // Whether a bit is set, each of the known additions has one, and the last one beyond them is set.
@@ -254,23 +244,27 @@ fn marks_all(bits: Bits, known: u64) -> bool
     both(!bits.are_clear_from(0), is_marked)
 }
 
+/// The presence bitmap of additions.
+#[derive(Clone, Copy)]
+pub struct Map<'a> {
+    pub bits: Bits<'a>,
+    pub is_canonical: bool,
+}
+
 /// The presence bitmap of additions (X.696, 16.4), of which `known` are known, and whether it is
 /// canonical. A set bit past place 65,535 is rejected with `UnknownAddition`.
-pub fn addition_map<'a>(
-    known: usize,
-    cursor: Cursor<'a>,
-) -> Result<((Bits<'a>, bool), Cursor<'a>), Stop<'a>>
-    ensures whole { IfOk result (λ y. IsWhole y.0.0) }
-    ensures bits { outcome (λ y. (bits_in y.0, y.1)) result ≡ addition_map_read known (place_of cursor.entry) }
+pub fn addition_map<'a>(known: usize, at: &mut Cursor<'a>) -> Result<Map<'a>, Stop>
+    ensures whole { IfOk result (λ y. IsWhole y.bits) }
+    ensures bits { outcome (λ y. (bits_in y.bits, y.is_canonical)) result at.new ≡ addition_map_read known (place_of at.old) }
 {
-    let (bits, end) = counted_bits(Size::any(), cursor)?;
+    let start = *at;
+    let bits = counted_bits(&Size::any(), at)?;
     if !bits.are_clear_from(65536) {
         return Err(Stop {
             why: Why::UnknownAddition,
-            rest: end.rest,
         });
     }
-    let is_shortest = are_least_bits(bits.to, octets_between(cursor, end));
+    let is_shortest = are_least_bits(bits.to, octets_between(start, *at));
     let is_canonical = both(is_shortest, marks_all(bits, known as u64));
-    Ok(((bits, is_canonical), end))
+    Ok(Map { bits, is_canonical })
 }

@@ -9,18 +9,13 @@ use crate::numbers::check_boolean;
 use crate::stop::Stop;
 
 /// So many BOOLEANs.
-pub(crate) fn check_booleans<'a>(
-    count: u64,
-    cursor: Cursor<'a>,
-) -> Result<(bool, Cursor<'a>), Stop<'a>>
-    ensures { outcome same result ≡ check_times count (check_value boolean) (place_of cursor.entry) }
+pub(crate) fn check_booleans(count: u64, at: &mut Cursor) -> Result<bool, Stop>
+    ensures { outcome same result at.new ≡ check_times count (check_value boolean) (place_of at.old) }
 {
     let mut is_canonical = true;
-    let mut at = cursor;
     for turn in 0..count {
-        let (is_element, next) = check_boolean(at)?;
+        let is_element = check_boolean(at)?;
         is_canonical = both(is_canonical, is_element);
-        at = next;
     }
-    Ok((is_canonical, at))
+    Ok(is_canonical)
 }

@@ -14,31 +14,19 @@ pub struct Cursor<'a> {
 }
 
 impl<'a> Cursor<'a> {
-    /// The cursor after `taken` octets with what was read from them, or the error there.
-    pub(crate) fn after<T>(
-        self,
-        answer: Result<T, ReadFault>,
-        taken: u64,
-    ) -> Result<(T, Cursor<'a>), Stop<'a>>
-        requires came { taken ≤ length self.rest.now }
-        requires room { taken ≤ self.left }
+    /// Goes on by `taken` octets, from which the answer was read.
+    pub(crate) fn after<T>(&mut self, answer: Result<T, ReadFault>, taken: u64) -> Result<T, Stop>
+        requires came { taken ≤ length self.old.rest.now }
+        requires room { taken ≤ self.old.left }
         requires fault { IfErr answer (λ e. e.taken ≡ taken) }
         requires plain { IfErr answer (λ e. is_plain e.why ≡ true) }
-        ensures { outcome same result ≡ ended (place_of self.entry) answer taken }
+        ensures { outcome same result self.new ≡ ended (place_of self.old) answer taken }
     {
-        let rest = &self.rest[taken as usize..];
+        self.rest = &self.rest[taken as usize..];
+        self.left -= taken;
         match answer {
-            Ok(value) => Ok((
-                value,
-                Cursor {
-                    rest,
-                    left: self.left - taken,
-                },
-            )),
-            Err(fault) => Err(Stop {
-                why: fault.why,
-                rest,
-            }),
+            Ok(value) => Ok(value),
+            Err(fault) => Err(Stop { why: fault.why }),
         }
     }
 }

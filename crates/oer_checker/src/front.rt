@@ -26,17 +26,17 @@ pub fn check(schema: &Schema, octets: &[u8]) -> Result<Verdict, ReadFault>
     ensures exact { Answers (the_type schema.now) octets.now result }
     ensures plain { IsOfOctets result }
 {
-    let cursor = Cursor {
+    let mut at = Cursor {
         rest: octets,
         left: u64::MAX,
     };
-    match check_shape(schema.shape(), cursor) {
-        Ok((canonical, end)) => Ok(Verdict {
-            octets: octets.len().saturating_sub(end.rest.len()),
+    match check_shape(schema.shape(), &mut at) {
+        Ok(canonical) => Ok(Verdict {
+            octets: octets.len().saturating_sub(at.rest.len()),
             canonical,
         }),
         Err(stop) => Err(ReadFault {
-            taken: octets.len().saturating_sub(stop.rest.len()) as u64,
+            taken: octets.len().saturating_sub(at.rest.len()) as u64,
             why: stop.why,
         }),
     }

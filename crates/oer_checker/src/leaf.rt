@@ -15,23 +15,23 @@ use oer_types::{Alphabet, Shape};
 /// The encoding of a value of a type without parts, and whether it is canonical.
 #[tactic(auto, using(crate::proofs::Shapes::shapes))]
 #[inline(always)]
-pub fn check_leaf<'a>(shape: &Shape, cursor: Cursor<'a>) -> Result<(bool, Cursor<'a>), Stop<'a>>
+pub fn check_leaf(shape: &Shape, at: &mut Cursor) -> Result<bool, Stop>
     requires { IsLeaf (type_of shape.now) }
-    ensures { outcome same result ≡ check_value (type_of shape.now) (place_of cursor.entry) }
+    ensures { outcome same result at.new ≡ check_value (type_of shape.now) (place_of at.old) }
 {
     match shape {
-        Shape::Boolean => check_boolean(cursor),
-        Shape::Null => Ok((true, cursor)),
-        Shape::Integer { low, high } => check_integer(*low, *high, cursor),
-        Shape::Enumerated { items, extensible } => check_enumerated(items, *extensible, cursor),
-        Shape::BitString(size) => check_bit_string(size, cursor),
-        Shape::OctetString(size) => check_octet_string(size, cursor),
-        Shape::ObjectId => check_object_id(cursor),
-        Shape::Ia5(size) => check_text(Alphabet::Ia5, size, cursor),
-        Shape::Visible(size) => check_text(Alphabet::Visible, size, cursor),
-        Shape::Numeric(size) => check_text(Alphabet::Numeric, size, cursor),
-        Shape::Printable(size) => check_text(Alphabet::Printable, size, cursor),
-        Shape::Utf8(size) => check_utf8(size, cursor),
+        Shape::Boolean => check_boolean(at),
+        Shape::Null => Ok(true),
+        Shape::Integer { low, high } => check_integer(*low, *high, at),
+        Shape::Enumerated { items, extensible } => check_enumerated(items, *extensible, at),
+        Shape::BitString(size) => check_bit_string(size, at),
+        Shape::OctetString(size) => check_octet_string(size, at),
+        Shape::ObjectId => check_object_id(at),
+        Shape::Ia5(size) => check_text(Alphabet::Ia5, size, at),
+        Shape::Visible(size) => check_text(Alphabet::Visible, size, at),
+        Shape::Numeric(size) => check_text(Alphabet::Numeric, size, at),
+        Shape::Printable(size) => check_text(Alphabet::Printable, size, at),
+        Shape::Utf8(size) => check_utf8(size, at),
         Shape::SequenceOf { .. } => unreachable!(),
         Shape::Sequence { .. } => unreachable!(),
         Shape::Choice { .. } => unreachable!(),

@@ -2,7 +2,7 @@
 ghost use Rattle.std.specs.Prelude.{◌≡◌, ◌+◌, eqb, length};
 ghost use Rattle.oer_units.specs.Least.{length_octets};
 ghost use Rattle.oer_types.specs.Checking.{check_octets as octets_checked};
-ghost use Rattle.oer_checker.specs.Places.{outcome, place_of, same};
+ghost use Rattle.oer_checker.specs.Places.{counted_as, outcome, place_of, same};
 ghost use Rattle.oer_checker.specs.Steps.{between, left_open, sized_length};
 
 use crate::cursor::Cursor;
@@ -31,48 +31,51 @@ pub(crate) fn counted_len(count: u64) -> u128
     u128::from(length_len(count)) + u128::from(count)
 }
 
+/// A number of octets or of elements that stands before them.
+#[derive(Clone, Copy)]
+pub struct Counted {
+    pub count: u64,
+    /// Whether it is in its least form.
+    pub is_least: bool,
+}
+
 /// A length determinant (X.696, 8.6) that is not above what is left after it, and whether it is in
 /// its least form.
-pub fn sized_length_at<'a>(cursor: Cursor<'a>) -> Result<((u64, bool), Cursor<'a>), Stop<'a>>
-    ensures { outcome same result ≡ sized_length (place_of cursor.entry) }
+pub fn sized_length_at(at: &mut Cursor) -> Result<Counted, Stop>
+    ensures { outcome counted_as result at.new ≡ sized_length (place_of at.old) }
 {
-    let (count, next) = length_at(cursor)?;
-    let is_least = is_of_length(cursor, next, length_len(count));
-    Ok(((count, is_least), next))
+    let start = *at;
+    let count = length_at(at)?;
+    let is_least = is_of_length(start, *at, length_len(count));
+    Ok(Counted { count, is_least })
 }
 
 /// A length, and so many octets; whether the length is in its least form.
-pub(crate) fn check_octets<'a>(cursor: Cursor<'a>) -> Result<(bool, Cursor<'a>), Stop<'a>>
-    ensures { outcome same result ≡ octets_checked (place_of cursor.entry) }
+pub(crate) fn check_octets(at: &mut Cursor) -> Result<bool, Stop>
+    ensures { outcome same result at.new ≡ octets_checked (place_of at.old) }
 {
-    let ((count, is_least), next) = sized_length_at(cursor)?;
-    let (_, end) = group_at(next, count)?;
-    Ok((is_least, end))
+    let counted = sized_length_at(at)?;
+    group_at(at, counted.count)?;
+    Ok(counted.is_least)
 }
 
 /// What an open type of `count` octets (X.696, 30) answers, whose content began at `start` and answers
 /// so. Where octets are left in it, or it would be passed, it fails with `Window`.
-pub(crate) fn leave<'a>(
-    start: Cursor<'a>,
-    count: u64,
-    is_least: bool,
-    answer: Result<(bool, Cursor<'a>), Stop<'a>>,
-) -> Result<(bool, Cursor<'a>), Stop<'a>>
-    ensures { outcome same result ≡ left_open (place_of start.entry) count is_least (outcome same answer.entry) }
+pub(crate) fn leave(
+    start: Cursor,
+    counted: Counted,
+    answer: Result<bool, Stop>,
+    at: &mut Cursor,
+) -> Result<bool, Stop>
+    ensures { outcome same result at.new ≡ left_open (place_of start.entry) counted.count counted.is_least (outcome same answer at.old) }
 {
     match answer {
-        Ok((is_canonical, end)) => {
-            if end.left > 0 {
-                return Err(Stop {
-                    why: Why::Window,
-                    rest: end.rest,
-                });
+        Ok(is_canonical) => {
+            if at.left > 0 {
+                return Err(Stop { why: Why::Window });
             }
-            let after = Cursor {
-                rest: end.rest,
-                left: start.left.saturating_sub(count),
-            };
-            Ok((is_least && is_canonical, after))
+            at.left = start.left.saturating_sub(counted.count);
+            Ok(counted.is_least && is_canonical)
         }
         Err(stop) => Err(stop.inside()),
     }

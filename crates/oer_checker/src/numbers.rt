@@ -6,11 +6,11 @@ ghost use Rattle.oer_types.specs.AsnType.{boolean, enumerated as enumerated_type
 ghost use Rattle.oer_types.specs.Checking.{check_value};
 ghost use Rattle.oer_types.specs.Constraints.{has_number, in_range};
 ghost use Rattle.oer_types.specs.ShapeView.{named_number};
-ghost use Rattle.oer_checker.specs.Places.{outcome, place_of, same};
+ghost use Rattle.oer_checker.specs.Places.{counted_as, outcome, place_of, same};
 ghost use Rattle.oer_checker.specs.Steps.{sized_quantity};
 
 use crate::cursor::Cursor;
-use crate::lengths::is_of_length;
+use crate::lengths::{Counted, is_of_length};
 use crate::stop::Stop;
 use crate::units::{
     enumerated_at, octet_at, signed_counted_at, signed_fixed_at, unsigned_counted_at,
@@ -20,11 +20,11 @@ use oer_types::{Form, Item, Size, contains_number, is_in_range};
 use oer_units::{Why, enumerated_len, signed_counted_len, unsigned_counted_len};
 
 /// A BOOLEAN (X.696, 9): `00`, or canonically `ff`.
-pub(crate) fn check_boolean<'a>(cursor: Cursor<'a>) -> Result<(bool, Cursor<'a>), Stop<'a>>
-    ensures { outcome same result ≡ check_value boolean (place_of cursor.entry) }
+pub(crate) fn check_boolean(at: &mut Cursor) -> Result<bool, Stop>
+    ensures { outcome same result at.new ≡ check_value boolean (place_of at.old) }
 {
-    let (octet, next) = octet_at(cursor)?;
-    Ok((is_least_boolean(octet), next))
+    let octet = octet_at(at)?;
+    Ok(is_least_boolean(octet))
 }
 
 // Whether an octet is that of a canonical BOOLEAN.
@@ -35,70 +35,71 @@ fn is_least_boolean(octet: u8) -> bool
 }
 
 /// An INTEGER within the bounds (X.696, 10), in the form that they choose.
-pub(crate) fn check_integer<'a>(
+pub(crate) fn check_integer(
     low: Option<i128>,
     high: Option<i128>,
-    cursor: Cursor<'a>,
-) -> Result<(bool, Cursor<'a>), Stop<'a>>
-    ensures { outcome same result ≡ check_value (integer_type low high) (place_of cursor.entry) }
+    at: &mut Cursor,
+) -> Result<bool, Stop>
+    ensures { outcome same result at.new ≡ check_value (integer_type low high) (place_of at.old) }
 {
     match Form::of_bounds(low, high) {
         Form::UnsignedFixed(width) => {
-            let (number, next) = unsigned_fixed_at(cursor, width)?;
-            in_bounds(low, high, i128::from(number), true, next)
+            let number = unsigned_fixed_at(at, width)?;
+            in_bounds(low, high, i128::from(number), true, at)
         }
         Form::SignedFixed(width) => {
-            let (number, next) = signed_fixed_at(cursor, width)?;
-            in_bounds(low, high, i128::from(number), true, next)
+            let number = signed_fixed_at(at, width)?;
+            in_bounds(low, high, i128::from(number), true, at)
         }
         Form::UnsignedCounted => {
-            let (number, next) = unsigned_counted_at(cursor)?;
-            let is_least = is_of_length(cursor, next, unsigned_counted_len(number));
-            in_bounds(low, high, number, is_least, next)
+            let start = *at;
+            let number = unsigned_counted_at(at)?;
+            let is_least = is_of_length(start, *at, unsigned_counted_len(number));
+            in_bounds(low, high, number, is_least, at)
         }
         Form::SignedCounted => {
-            let (number, next) = signed_counted_at(cursor)?;
-            let is_least = is_of_length(cursor, next, signed_counted_len(number));
-            in_bounds(low, high, number, is_least, next)
+            let start = *at;
+            let number = signed_counted_at(at)?;
+            let is_least = is_of_length(start, *at, signed_counted_len(number));
+            in_bounds(low, high, number, is_least, at)
         }
     }
 }
 
 // What a number that was read answers, which has to be within the bounds.
-fn in_bounds<'a>(
+fn in_bounds(
     low: Option<i128>,
     high: Option<i128>,
     number: i128,
     is_least: bool,
-    next: Cursor<'a>,
-) -> Result<(bool, Cursor<'a>), Stop<'a>>
-    ensures { outcome same result ≡ guard (in_range low high number) IntegerRange (give is_least) (place_of next.entry) }
+    at: &Cursor,
+) -> Result<bool, Stop>
+    ensures { outcome same result at.now ≡ guard (in_range low high number) IntegerRange (give is_least) (place_of at.now) }
 {
     if !is_in_range(low, high, number) {
         return Err(Stop {
             why: Why::IntegerRange,
-            rest: next.rest,
         });
     }
-    Ok((is_least, next))
+    Ok(is_least)
 }
 
 /// An ENUMERATED (X.696, 11): the number of an item, or any where the type is extensible.
-pub(crate) fn check_enumerated<'a>(
+pub(crate) fn check_enumerated(
     items: &[Item],
     extensible: bool,
-    cursor: Cursor<'a>,
-) -> Result<(bool, Cursor<'a>), Stop<'a>>
-    ensures { outcome same result ≡ check_value (enumerated_type (map named_number items.now) extensible) (place_of cursor.entry) }
+    at: &mut Cursor,
+) -> Result<bool, Stop>
+    ensures { outcome same result at.new ≡ check_value (enumerated_type (map named_number items.now) extensible) (place_of at.old) }
 {
-    let (number, next) = enumerated_at(cursor)?;
+    let start = *at;
+    let number = enumerated_at(at)?;
     if !is_known(items, extensible, number) {
         return Err(Stop {
             why: Why::UnknownEnum,
-            rest: next.rest,
         });
     }
-    Ok((is_of_length(cursor, next, enumerated_len(number)), next))
+    Ok(is_of_length(start, *at, enumerated_len(number)))
 }
 
 fn is_known(items: &[Item], extensible: bool, number: i64) -> bool
@@ -109,26 +110,21 @@ fn is_known(items: &[Item], extensible: bool, number: i64) -> bool
 
 /// How many elements follow (X.696, 17): a quantity that is not above what is left, and that the
 /// size allows; and whether it is in its least form.
-pub fn sized_quantity_at<'a>(
-    size: Size,
-    cursor: Cursor<'a>,
-) -> Result<((u64, bool), Cursor<'a>), Stop<'a>>
-    ensures { outcome same result ≡ sized_quantity size (place_of cursor.entry) }
+pub fn sized_quantity_at(size: Size, at: &mut Cursor) -> Result<Counted, Stop>
+    ensures { outcome counted_as result at.new ≡ sized_quantity size (place_of at.old) }
 {
-    let (quantity, next) = unsigned_counted_at(cursor)?;
-    let is_least = is_of_length(cursor, next, unsigned_counted_len(quantity));
+    let start = *at;
+    let quantity = unsigned_counted_at(at)?;
+    let is_least = is_of_length(start, *at, unsigned_counted_len(quantity));
     let count = quantity.unsigned_abs();
-    if count > u128::from(next.left) {
-        return Err(Stop {
-            why: Why::Limit,
-            rest: next.rest,
-        });
+    if count > u128::from(at.left) {
+        return Err(Stop { why: Why::Limit });
     }
     if !size.allows(count) {
-        return Err(Stop {
-            why: Why::Size,
-            rest: next.rest,
-        });
+        return Err(Stop { why: Why::Size });
     }
-    Ok(((count as u64, is_least), next))
+    Ok(Counted {
+        count: count as u64,
+        is_least,
+    })
 }

@@ -58,23 +58,17 @@ pub(crate) fn with_tag<'s>(alternatives: &'s [Alt], tag: Tag) -> Option<&'s Alt>
 
 /// The additions that the type doesn't know, of which there are `known`: each as the octets of its
 /// open type (X.696, 30).
-pub(crate) fn check_unknown<'a>(
-    bits: Bits<'a>,
-    known: usize,
-    cursor: Cursor<'a>,
-) -> Result<(bool, Cursor<'a>), Stop<'a>>
+pub(crate) fn check_unknown<'a>(bits: Bits<'a>, known: usize, at: &mut Cursor) -> Result<bool, Stop>
     requires { IsWhole bits }
-    ensures { outcome same result ≡ unknown_checked (drop known (bits_in bits.entry)) (place_of cursor.entry) }
+    ensures { outcome same result at.new ≡ unknown_checked (drop known (bits_in bits.entry)) (place_of at.old) }
 {
     let mut is_canonical = true;
-    let mut at = cursor;
     for index in known as u64..bits.to {
         if !bits.bit(index) {
             continue;
         }
-        let (is_addition, next) = check_octets(at)?;
+        let is_addition = check_octets(at)?;
         is_canonical = both(is_canonical, is_addition);
-        at = next;
     }
-    Ok((is_canonical, at))
+    Ok(is_canonical)
 }

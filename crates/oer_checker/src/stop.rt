@@ -4,27 +4,22 @@ ghost use Rattle.oer_checker.specs.Plain.{is_plain};
 
 use oer_units::Why;
 
-/// Why octets are rejected, and those that were not taken.
+/// Why octets are rejected. Those that were not taken are left at the cursor.
 #[derive(Clone, Copy)]
-pub struct Stop<'a> {
+pub struct Stop {
     pub why: Why,
-    pub rest: &'a [u8],
     ghost plain: { is_plain why ≡ true },
 }
 
 ghost use Rattle.oer_units.specs.Reader.{named_inside};
 
-impl<'a> Stop<'a> {
+impl Stop {
     /// The same in an open type, where a limit is the open type's end.
-    pub(crate) fn inside(self) -> Stop<'a>
-        ensures why { result.why ≡ named_inside self.entry.why }
-        ensures rest { result.rest.now ≡ self.entry.rest.now }
+    pub(crate) fn inside(self) -> Stop
+        ensures { result.why ≡ named_inside self.why }
     {
         match self.why {
-            Why::Limit => Stop {
-                why: Why::Window,
-                rest: self.rest,
-            },
+            Why::Limit => Stop { why: Why::Window },
             _ => self,
         }
     }

@@ -27,88 +27,81 @@ fn is_counted<'a>(from: Cursor<'a>, to: Cursor<'a>, octets: &[u8]) -> bool
     octets_between(from, to).len() as u128 == counted_len(octets.len() as u64)
 }
 
+// Octets, and whether the length before them is in its least form.
+#[derive(Clone, Copy)]
+struct Group<'a> {
+    octets: &'a [u8],
+    is_least: bool,
+}
+
 // A length, and so many octets; whether the length is in its least form.
-fn counted_at<'a>(cursor: Cursor<'a>) -> Result<((&'a [u8], bool), Cursor<'a>), Stop<'a>>
-    ensures { outcome (λ y. (y.0.now, y.1)) result ≡ judged (is_least counted) counted_octets (place_of cursor.entry) }
+fn counted_at<'a>(at: &mut Cursor<'a>) -> Result<Group<'a>, Stop>
+    ensures { outcome (λ y. (y.octets.now, y.is_least)) result at.new ≡ judged (is_least counted) counted_octets (place_of at.old) }
 {
-    let (count, next) = length_at(cursor)?;
-    let (octets, end) = group_at(next, count)?;
-    Ok(((octets, is_counted(cursor, end, octets)), end))
+    let start = *at;
+    let count = length_at(at)?;
+    let octets = group_at(at, count)?;
+    let is_least = is_counted(start, *at, octets);
+    Ok(Group { octets, is_least })
 }
 
 // As many octets as the one size says, or else as a length says that the size allows; whether the
 // length is in its least form.
-fn sized_octets<'a>(
-    size: &Size,
-    cursor: Cursor<'a>,
-) -> Result<((&'a [u8], bool), Cursor<'a>), Stop<'a>>
-    ensures { outcome (λ y. (y.0.now, y.1)) result ≡ judged (is_least (string_octets (fixed_size size.now))) (read_octets (fixed_size size.now) size.now) (place_of cursor.entry) }
+fn sized_octets<'a>(size: &Size, at: &mut Cursor<'a>) -> Result<Group<'a>, Stop>
+    ensures { outcome (λ y. (y.octets.now, y.is_least)) result at.new ≡ judged (is_least (string_octets (fixed_size size.now))) (read_octets (fixed_size size.now) size.now) (place_of at.old) }
 {
     if let Some(count) = size.fixed() {
-        let (octets, end) = group_at(cursor, count)?;
-        return Ok(((octets, true), end));
-    }
-    let (count, next) = length_at(cursor)?;
-    if !size.allows(u128::from(count)) {
-        return Err(Stop {
-            why: Why::Size,
-            rest: next.rest,
+        let octets = group_at(at, count)?;
+        return Ok(Group {
+            octets,
+            is_least: true,
         });
     }
-    let (octets, end) = group_at(next, count)?;
-    Ok(((octets, is_counted(cursor, end, octets)), end))
+    let start = *at;
+    let count = length_at(at)?;
+    if !size.allows(u128::from(count)) {
+        return Err(Stop { why: Why::Size });
+    }
+    let octets = group_at(at, count)?;
+    let is_least = is_counted(start, *at, octets);
+    Ok(Group { octets, is_least })
 }
 
 /// An OCTET STRING (X.696, 14).
-pub(crate) fn check_octet_string<'a>(
-    size: &Size,
-    cursor: Cursor<'a>,
-) -> Result<(bool, Cursor<'a>), Stop<'a>>
-    ensures { outcome same result ≡ check_value (octet_string size.now) (place_of cursor.entry) }
+pub(crate) fn check_octet_string(size: &Size, at: &mut Cursor) -> Result<bool, Stop>
+    ensures { outcome same result at.new ≡ check_value (octet_string size.now) (place_of at.old) }
 {
-    let ((_, is_canonical), end) = sized_octets(size, cursor)?;
-    Ok((is_canonical, end))
+    let group = sized_octets(size, at)?;
+    Ok(group.is_least)
 }
 
 /// A character string with one octet for each character (X.696, 27).
-pub(crate) fn check_text<'a>(
-    kind: Alphabet,
-    size: &Size,
-    cursor: Cursor<'a>,
-) -> Result<(bool, Cursor<'a>), Stop<'a>>
-    ensures { outcome same result ≡ check_value (restricted_string (alphabet_of kind) size.now) (place_of cursor.entry) }
+pub(crate) fn check_text(kind: Alphabet, size: &Size, at: &mut Cursor) -> Result<bool, Stop>
+    ensures { outcome same result at.new ≡ check_value (restricted_string (alphabet_of kind) size.now) (place_of at.old) }
 {
-    let ((octets, is_canonical), end) = sized_octets(size, cursor)?;
-    if !are_characters(kind, octets) {
+    let group = sized_octets(size, at)?;
+    if !are_characters(kind, group.octets) {
         return Err(Stop {
             why: Why::Character,
-            rest: end.rest,
         });
     }
-    Ok((is_canonical, end))
+    Ok(group.is_least)
 }
 
 /// A UTF8String (X.696, 27). Its size counts characters.
-pub(crate) fn check_utf8<'a>(
-    size: &Size,
-    cursor: Cursor<'a>,
-) -> Result<(bool, Cursor<'a>), Stop<'a>>
-    ensures { outcome same result ≡ check_value (utf8_string size.now) (place_of cursor.entry) }
+pub(crate) fn check_utf8(size: &Size, at: &mut Cursor) -> Result<bool, Stop>
+    ensures { outcome same result at.new ≡ check_value (utf8_string size.now) (place_of at.old) }
 {
-    let ((octets, is_canonical), end) = counted_at(cursor)?;
-    let Some(count) = characters_in(octets) else {
+    let group = counted_at(at)?;
+    let Some(count) = characters_in(group.octets) else {
         return Err(Stop {
             why: Why::Character,
-            rest: end.rest,
         });
     };
     if !size.allows(u128::from(count)) {
-        return Err(Stop {
-            why: Why::Size,
-            rest: end.rest,
-        });
+        return Err(Stop { why: Why::Size });
     }
-    Ok((is_canonical, end))
+    Ok(group.is_least)
 }
 
 // How many characters the octets are, where they are UTF-8.
@@ -130,37 +123,29 @@ fn characters_of(text: &str) -> u64
 }
 
 /// An OBJECT IDENTIFIER (X.696, 21; X.690, 8.19).
-pub(crate) fn check_object_id<'a>(cursor: Cursor<'a>) -> Result<(bool, Cursor<'a>), Stop<'a>>
-    ensures { outcome same result ≡ check_value object_id (place_of cursor.entry) }
+pub(crate) fn check_object_id(at: &mut Cursor) -> Result<bool, Stop>
+    ensures { outcome same result at.new ≡ check_value object_id (place_of at.old) }
 {
-    let ((content, is_least), next) = sized_length_at(cursor)?;
-    if content == 0 {
-        return Err(Stop {
-            why: Why::ObjectId,
-            rest: next.rest,
-        });
+    let counted = sized_length_at(at)?;
+    if counted.count == 0 {
+        return Err(Stop { why: Why::ObjectId });
     }
-    let (are_canonical, end) = check_subidentifiers(content, next)?;
-    Ok((both(is_least, are_canonical), end))
+    let are_canonical = check_subidentifiers(counted.count, at)?;
+    Ok(both(counted.is_least, are_canonical))
 }
 
 // The subidentifiers in so many octets.
-fn check_subidentifiers<'a>(
-    content: u64,
-    cursor: Cursor<'a>,
-) -> Result<(bool, Cursor<'a>), Stop<'a>>
-    requires { content ≤ cursor.left }
-    ensures { outcome same result ≡ subidentifiers_checked content content (place_of cursor.entry) }
+fn check_subidentifiers(content: u64, at: &mut Cursor) -> Result<bool, Stop>
+    requires { content ≤ at.old.left }
+    ensures { outcome same result at.new ≡ subidentifiers_checked content content (place_of at.old) }
 {
     let mut left = content;
-    let mut at = cursor;
     for turn in 0..content {
         if left == 0 {
-            return Ok((true, at));
+            return Ok(true);
         }
-        let (taken, next) = subidentifier_at(at, left)?;
+        let taken = subidentifier_at(at, left)?;
         left = left.saturating_sub(taken);
-        at = next;
     }
-    Ok((true, at))
+    Ok(true)
 }

@@ -46,176 +46,168 @@ impl<'a> Source for Octets<'a> {
 }
 
 /// The next octets.
-pub fn group_at<'a>(cursor: Cursor<'a>, count: u64) -> Result<(&'a [u8], Cursor<'a>), Stop<'a>>
-    ensures { outcome (λ s. s.now) result ≡ group count (place_of cursor.entry) }
+pub fn group_at<'a>(at: &mut Cursor<'a>, count: u64) -> Result<&'a [u8], Stop>
+    ensures { outcome (λ s. s.now) result at.new ≡ group count (place_of at.old) }
 {
-    let rest = cursor.rest;
-    if count > cursor.left {
-        return Err(Stop {
-            why: Why::Limit,
-            rest,
-        });
+    let rest = at.rest;
+    if count > at.left {
+        return Err(Stop { why: Why::Limit });
     }
     if count > rest.len() as u64 {
-        return Err(Stop {
-            why: Why::End,
-            rest: &rest[rest.len()..],
-        });
+        at.rest = &rest[rest.len()..];
+        return Err(Stop { why: Why::End });
     }
+    at.left -= count;
     let count = count as usize;
-    let after = Cursor {
-        rest: &rest[count..],
-        left: cursor.left - count as u64,
-    };
-    Ok((&rest[..count], after))
+    at.rest = &rest[count..];
+    Ok(&rest[..count])
 }
 
 /// The next octet.
-pub(crate) fn octet_at<'a>(cursor: Cursor<'a>) -> Result<(u8, Cursor<'a>), Stop<'a>>
-    ensures { outcome same result ≡ octet_read (place_of cursor.entry) }
+pub(crate) fn octet_at(at: &mut Cursor) -> Result<u8, Stop>
+    ensures { outcome same result at.new ≡ octet_read (place_of at.old) }
 {
-    let (octets, next) = group_at(cursor, 1)?;
-    Ok((octets[0], next))
+    let octets = group_at(at, 1)?;
+    Ok(octets[0])
 }
 
 /// A length determinant (X.696, 8.6) that is not above what is left after it.
-pub(crate) fn length_at<'a>(cursor: Cursor<'a>) -> Result<(u64, Cursor<'a>), Stop<'a>>
-    ensures { outcome same result ≡ counted_length (place_of cursor.entry) }
+pub(crate) fn length_at(at: &mut Cursor) -> Result<u64, Stop>
+    ensures { outcome same result at.new ≡ counted_length (place_of at.old) }
 {
-    let (first, next) = octet_at(cursor)?;
+    let start = *at;
+    let first = octet_at(at)?;
     if first >= 128 {
-        return long_length_at(cursor);
+        *at = start;
+        return long_length_at(at);
     }
     let count = first as u64;
-    if count > next.left {
-        return Err(Stop {
-            why: Why::Limit,
-            rest: next.rest,
-        });
+    if count > at.left {
+        return Err(Stop { why: Why::Limit });
     }
-    Ok((count, next))
+    Ok(count)
 }
 
 // A length of any form.
-fn long_length_at<'a>(cursor: Cursor<'a>) -> Result<(u64, Cursor<'a>), Stop<'a>>
-    ensures { outcome same result ≡ counted_length (place_of cursor.entry) }
+fn long_length_at(at: &mut Cursor) -> Result<u64, Stop>
+    ensures { outcome same result at.new ≡ counted_length (place_of at.old) }
 {
-    let mut source = Octets { rest: cursor.rest };
-    let mut w = Window::new(&mut source, cursor.left);
+    let mut source = Octets { rest: at.rest };
+    let mut w = Window::new(&mut source, at.left);
     let answer = length(&mut w);
-    cursor.after(answer, w.taken())
+    at.after(answer, w.taken())
 }
 
 /// An unsigned number of fixed size (X.696, 10.3).
-pub(crate) fn unsigned_fixed_at<'a>(
-    cursor: Cursor<'a>,
-    width: Width,
-) -> Result<(u64, Cursor<'a>), Stop<'a>>
-    ensures { outcome same result ≡ unsigned_fixed_read width (place_of cursor.entry) }
+pub(crate) fn unsigned_fixed_at(at: &mut Cursor, width: Width) -> Result<u64, Stop>
+    ensures { outcome same result at.new ≡ unsigned_fixed_read width (place_of at.old) }
 {
-    let (octets, next) = group_at(cursor, width.octets() as u64)?;
-    Ok((unsigned_of(octets), next))
+    let octets = group_at(at, width.octets() as u64)?;
+    Ok(unsigned_of(octets))
 }
 
 /// A number of fixed size in two's complement (X.696, 10.4).
-pub(crate) fn signed_fixed_at<'a>(
-    cursor: Cursor<'a>,
-    width: Width,
-) -> Result<(i64, Cursor<'a>), Stop<'a>>
-    ensures number { outcome same result ≡ signed_fixed_read width (place_of cursor.entry) }
-    ensures range { IfOk result (λ y. FitsSigned w64 y.0) }
+pub(crate) fn signed_fixed_at(at: &mut Cursor, width: Width) -> Result<i64, Stop>
+    ensures number { outcome same result at.new ≡ signed_fixed_read width (place_of at.old) }
+    ensures range { IfOk result (λ y. FitsSigned w64 y) }
 {
-    let (octets, next) = group_at(cursor, width.octets() as u64)?;
-    Ok((signed_of(octets), next))
+    let octets = group_at(at, width.octets() as u64)?;
+    Ok(signed_of(octets))
 }
 
 /// An unsigned number after its count of octets (X.696, 10.3).
-pub(crate) fn unsigned_counted_at<'a>(cursor: Cursor<'a>) -> Result<(i128, Cursor<'a>), Stop<'a>>
-    ensures number { outcome same result ≡ counted_number natural is_int128 (place_of cursor.entry) }
-    ensures range { IfOk result (λ y. FitsSigned w128 y.0) }
-    ensures natural { IfOk result (λ y. pos 0 ≤ℤ y.0) }
+pub(crate) fn unsigned_counted_at(at: &mut Cursor) -> Result<i128, Stop>
+    ensures number { outcome same result at.new ≡ counted_number natural is_int128 (place_of at.old) }
+    ensures range { IfOk result (λ y. FitsSigned w128 y) }
+    ensures natural { IfOk result (λ y. pos 0 ≤ℤ y) }
 {
-    natural_at(cursor)
+    natural_at(at)
 }
 
-fn natural_at<'a>(cursor: Cursor<'a>) -> Result<(i128, Cursor<'a>), Stop<'a>>
-    ensures number { outcome same result ≡ counted_number natural is_int128 (place_of cursor.entry) }
-    ensures range { IfOk result (λ y. FitsSigned w128 y.0) }
+fn natural_at(at: &mut Cursor) -> Result<i128, Stop>
+    ensures number { outcome same result at.new ≡ counted_number natural is_int128 (place_of at.old) }
+    ensures range { IfOk result (λ y. FitsSigned w128 y) }
 {
-    let (count, next) = length_at(cursor)?;
+    let start = *at;
+    let count = length_at(at)?;
     if count == 0 || count > 8 {
-        return long_natural_at(cursor);
+        *at = start;
+        return long_natural_at(at);
     }
-    let (octets, end) = group_at(next, count)?;
-    Ok((unsigned_of(octets) as i128, end))
+    let octets = group_at(at, count)?;
+    Ok(unsigned_of(octets) as i128)
 }
 
 // An unsigned number of any number of octets.
-fn long_natural_at<'a>(cursor: Cursor<'a>) -> Result<(i128, Cursor<'a>), Stop<'a>>
-    ensures number { outcome same result ≡ counted_number natural is_int128 (place_of cursor.entry) }
-    ensures range { IfOk result (λ y. FitsSigned w128 y.0) }
+fn long_natural_at(at: &mut Cursor) -> Result<i128, Stop>
+    ensures number { outcome same result at.new ≡ counted_number natural is_int128 (place_of at.old) }
+    ensures range { IfOk result (λ y. FitsSigned w128 y) }
 {
-    let mut source = Octets { rest: cursor.rest };
-    let mut w = Window::new(&mut source, cursor.left);
+    let mut source = Octets { rest: at.rest };
+    let mut w = Window::new(&mut source, at.left);
     let answer = unsigned_counted(&mut w);
     let taken = w.taken();
     match answer {
-        Ok(number) => cursor.after(Ok(number), taken),
-        Err(fault) => cursor.after(Err(fault), taken),
+        Ok(number) => at.after(Ok(number), taken),
+        Err(fault) => at.after(Err(fault), taken),
     }
 }
 
 /// A number in two's complement after its count of octets (X.696, 10.4).
-pub(crate) fn signed_counted_at<'a>(cursor: Cursor<'a>) -> Result<(i128, Cursor<'a>), Stop<'a>>
-    ensures number { outcome same result ≡ counted_number signed is_int128 (place_of cursor.entry) }
-    ensures range { IfOk result (λ y. FitsSigned w128 y.0) }
+pub(crate) fn signed_counted_at(at: &mut Cursor) -> Result<i128, Stop>
+    ensures number { outcome same result at.new ≡ counted_number signed is_int128 (place_of at.old) }
+    ensures range { IfOk result (λ y. FitsSigned w128 y) }
 {
-    let mut source = Octets { rest: cursor.rest };
-    let mut w = Window::new(&mut source, cursor.left);
+    let mut source = Octets { rest: at.rest };
+    let mut w = Window::new(&mut source, at.left);
     let answer = signed_counted(&mut w);
     let taken = w.taken();
     match answer {
-        Ok(number) => cursor.after(Ok(number), taken),
-        Err(fault) => cursor.after(Err(fault), taken),
+        Ok(number) => at.after(Ok(number), taken),
+        Err(fault) => at.after(Err(fault), taken),
     }
 }
 
 /// The number of an ENUMERATED (X.696, 11).
-pub(crate) fn enumerated_at<'a>(cursor: Cursor<'a>) -> Result<(i64, Cursor<'a>), Stop<'a>>
-    ensures number { outcome same result ≡ enumerated_read (place_of cursor.entry) }
-    ensures range { IfOk result (λ y. FitsSigned w64 y.0) }
+pub(crate) fn enumerated_at(at: &mut Cursor) -> Result<i64, Stop>
+    ensures number { outcome same result at.new ≡ enumerated_read (place_of at.old) }
+    ensures range { IfOk result (λ y. FitsSigned w64 y) }
 {
-    let (first, next) = octet_at(cursor)?;
+    let start = *at;
+    let first = octet_at(at)?;
     if first >= 128 {
-        return long_enumerated_at(cursor);
+        *at = start;
+        return long_enumerated_at(at);
     }
-    Ok((first as i64, next))
+    Ok(first as i64)
 }
 
 // The number of an ENUMERATED in either form.
-fn long_enumerated_at<'a>(cursor: Cursor<'a>) -> Result<(i64, Cursor<'a>), Stop<'a>>
-    ensures number { outcome same result ≡ enumerated_read (place_of cursor.entry) }
-    ensures range { IfOk result (λ y. FitsSigned w64 y.0) }
+fn long_enumerated_at(at: &mut Cursor) -> Result<i64, Stop>
+    ensures number { outcome same result at.new ≡ enumerated_read (place_of at.old) }
+    ensures range { IfOk result (λ y. FitsSigned w64 y) }
 {
-    let mut source = Octets { rest: cursor.rest };
-    let mut w = Window::new(&mut source, cursor.left);
+    let mut source = Octets { rest: at.rest };
+    let mut w = Window::new(&mut source, at.left);
     let answer = enumerated(&mut w);
     let taken = w.taken();
     match answer {
-        Ok(number) => cursor.after(Ok(number), taken),
-        Err(fault) => cursor.after(Err(fault), taken),
+        Ok(number) => at.after(Ok(number), taken),
+        Err(fault) => at.after(Err(fault), taken),
     }
 }
 
 /// A tag (X.696, 8.7).
-pub fn tag_at<'a>(cursor: Cursor<'a>) -> Result<(Tag, Cursor<'a>), Stop<'a>>
-    ensures { outcome same result ≡ tag_read (place_of cursor.entry) }
+pub fn tag_at(at: &mut Cursor) -> Result<Tag, Stop>
+    ensures { outcome same result at.new ≡ tag_read (place_of at.old) }
 {
-    let (first, next) = octet_at(cursor)?;
+    let start = *at;
+    let first = octet_at(at)?;
     if first % 64 == 63 {
-        return long_tag_at(cursor);
+        *at = start;
+        return long_tag_at(at);
     }
-    Ok((short_tag(first), next))
+    Ok(short_tag(first))
 }
 
 // The tag that stands in one octet, whose number is below 63.
@@ -231,31 +223,28 @@ fn short_tag(first: u8) -> Tag
 }
 
 // A tag of any form.
-fn long_tag_at<'a>(cursor: Cursor<'a>) -> Result<(Tag, Cursor<'a>), Stop<'a>>
-    ensures { outcome same result ≡ tag_read (place_of cursor.entry) }
+fn long_tag_at(at: &mut Cursor) -> Result<Tag, Stop>
+    ensures { outcome same result at.new ≡ tag_read (place_of at.old) }
 {
-    let mut source = Octets { rest: cursor.rest };
-    let mut w = Window::new(&mut source, cursor.left);
+    let mut source = Octets { rest: at.rest };
+    let mut w = Window::new(&mut source, at.left);
     let answer = tag(&mut w);
-    cursor.after(answer, w.taken())
+    at.after(answer, w.taken())
 }
 
 /// How many octets the next subidentifier has (X.690, 8.19.2), at most `content`.
-pub(crate) fn subidentifier_at<'a>(
-    cursor: Cursor<'a>,
-    content: u64,
-) -> Result<(u64, Cursor<'a>), Stop<'a>>
+pub(crate) fn subidentifier_at(at: &mut Cursor, content: u64) -> Result<u64, Stop>
     requires some { 1 ≤ content }
-    requires room { content ≤ cursor.left }
-    ensures size { outcome same result ≡ subidentifier_size content (place_of cursor.entry) }
-    ensures room { IfOk result (λ y. y.0 + y.1.left ≡ cursor.entry.left) }
+    requires room { content ≤ at.old.left }
+    ensures size { outcome same result at.new ≡ subidentifier_size content (place_of at.old) }
+    ensures room { IfOk result (λ y. y + at.new.left ≡ at.old.left) }
 {
-    let mut source = Octets { rest: cursor.rest };
-    let mut w = Window::new(&mut source, cursor.left);
+    let mut source = Octets { rest: at.rest };
+    let mut w = Window::new(&mut source, at.left);
     let answer = subidentifier(&mut w, content);
     let taken = w.taken();
     match answer {
-        Ok(_) => cursor.after(Ok(taken), taken),
-        Err(fault) => cursor.after(Err(fault), taken),
+        Ok(_) => at.after(Ok(taken), taken),
+        Err(fault) => at.after(Err(fault), taken),
     }
 }

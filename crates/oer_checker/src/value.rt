@@ -27,167 +27,148 @@ use oer_units::{Tag, Why};
 /// The encoding of a value of the type, and whether it is canonical.
 #[cycle(check)]
 #[tactic(auto, using(crate::proofs::Shapes::shapes))]
-pub(crate) fn check_shape<'a>(
-    shape: &Shape,
-    cursor: Cursor<'a>,
-) -> Result<(bool, Cursor<'a>), Stop<'a>>
+pub(crate) fn check_shape(shape: &Shape, at: &mut Cursor) -> Result<bool, Stop>
     requires limits { KeepsLimits (type_of shape.now) }
     requires defaults { DefaultsFit (type_of shape.now) }
-    ensures { outcome same result ≡ check_value (type_of shape.now) (place_of cursor.entry) }
+    ensures { outcome same result at.new ≡ check_value (type_of shape.now) (place_of at.old) }
 {
     match shape {
-        Shape::SequenceOf { size, item } => check_items(*size, item, cursor),
+        Shape::SequenceOf { size, item } => check_items(size, item, at),
         Shape::Sequence { root, additions } => match additions {
-            None => check_sequence(root, cursor),
-            Some(additions) => check_extensible(shape, root, additions, cursor),
+            None => check_sequence(root, at),
+            Some(additions) => check_extensible(shape, root, additions, at),
         },
-        Shape::Choice { root, additions } => check_choice(shape, root, additions, cursor),
-        _ => check_leaf(shape, cursor),
+        Shape::Choice { root, additions } => check_choice(shape, root, additions, at),
+        _ => check_leaf(shape, at),
     }
 }
 
 /// A SEQUENCE OF.
 #[cycle(check)]
-fn check_items<'a>(
-    size: Size,
-    item: &Shape,
-    cursor: Cursor<'a>,
-) -> Result<(bool, Cursor<'a>), Stop<'a>>
+fn check_items(size: &Size, item: &Shape, at: &mut Cursor) -> Result<bool, Stop>
     requires limits { KeepsLimits (type_of item.now) }
     requires defaults { DefaultsFit (type_of item.now) }
-    ensures { outcome same result ≡ check_value (sequence_of size (type_of item.now)) (place_of cursor.entry) }
+    ensures { outcome same result at.new ≡ check_value (sequence_of size.now (type_of item.now)) (place_of at.old) }
 {
-    let ((count, is_least), next) = sized_quantity_at(size, cursor)?;
-    let (is_canonical, end) = check_elements(item, count, next)?;
-    Ok((both(is_least, is_canonical), end))
+    let counted = sized_quantity_at(*size, at)?;
+    let is_canonical = check_elements(item, counted.count, at)?;
+    Ok(both(counted.is_least, is_canonical))
 }
 
 /// A SEQUENCE without an extension marker.
 #[cycle(check)]
-fn check_sequence<'a>(fields: &[Field], cursor: Cursor<'a>) -> Result<(bool, Cursor<'a>), Stop<'a>>
+fn check_sequence(fields: &[Field], at: &mut Cursor) -> Result<bool, Stop>
     requires limits { FieldsKeepLimits (fields_of fields.now) }
     requires defaults { FieldDefaultsFit (fields_of fields.now) }
-    ensures { outcome same result ≡ check_value (sequence (fields_of fields.now)) (place_of cursor.entry) }
+    ensures { outcome same result at.new ≡ check_value (sequence (fields_of fields.now)) (place_of at.old) }
 {
-    let (bits, next) = preamble(optional(fields) as u64, cursor)?;
-    check_fields(fields, bits, next)
+    let bits = preamble(optional(fields) as u64, at)?;
+    check_fields(fields, bits, at)
 }
 
 /// A SEQUENCE with an extension marker.
 #[cycle(check)]
-fn check_extensible<'a>(
+fn check_extensible(
     shape: &Shape,
     fields: &[Field],
     additions: &[Addition],
-    cursor: Cursor<'a>,
-) -> Result<(bool, Cursor<'a>), Stop<'a>>
+    at: &mut Cursor,
+) -> Result<bool, Stop>
     requires is { IsExtensible shape.now fields.now additions.now }
     requires limits { KeepsLimits (type_of shape.now) }
     requires defaults { DefaultsFit (type_of shape.now) }
-    ensures { outcome same result ≡ check_value (type_of shape.now) (place_of cursor.entry) }
+    ensures { outcome same result at.new ≡ check_value (type_of shape.now) (place_of at.old) }
 {
-    let (bits, next) = preamble(optional(fields) as u64 + 1, cursor)?;
-    let (is_canonical, next) = check_fields(fields, bits.later(), next)?;
-    let (is_extension, end) = check_extension(additions, bits.first(), next)?;
-    Ok((both(is_canonical, is_extension), end))
+    let bits = preamble(optional(fields) as u64 + 1, at)?;
+    let is_canonical = check_fields(fields, bits.later(), at)?;
+    let is_extension = check_extension(additions, bits.first(), at)?;
+    Ok(both(is_canonical, is_extension))
 }
 
 /// A CHOICE.
 #[cycle(check)]
-fn check_choice<'a>(
+fn check_choice(
     shape: &Shape,
     alternatives: &[Alt],
     additions: &Option<Vec<Alt>>,
-    cursor: Cursor<'a>,
-) -> Result<(bool, Cursor<'a>), Stop<'a>>
+    at: &mut Cursor,
+) -> Result<bool, Stop>
     requires is { IsChoice shape.now alternatives.now additions.now }
     requires limits { KeepsLimits (type_of shape.now) }
     requires defaults { DefaultsFit (type_of shape.now) }
-    ensures { outcome same result ≡ check_value (type_of shape.now) (place_of cursor.entry) }
+    ensures { outcome same result at.new ≡ check_value (type_of shape.now) (place_of at.old) }
 {
-    let (tag, next) = tag_at(cursor)?;
+    let tag = tag_at(at)?;
     if let Some(alternative) = with_tag(alternatives, tag) {
-        return check_shape(&alternative.shape, next);
+        return check_shape(&alternative.shape, at);
     }
     match additions {
         None => Err(Stop {
             why: Why::UnknownAlternative,
-            rest: next.rest,
         }),
-        Some(additions) => check_later(additions, tag, next),
+        Some(additions) => check_later(additions, tag, at),
     }
 }
 
 /// So many elements.
 #[cycle(check)]
-pub(crate) fn check_elements<'a>(
-    item: &Shape,
-    count: u64,
-    cursor: Cursor<'a>,
-) -> Result<(bool, Cursor<'a>), Stop<'a>>
+pub(crate) fn check_elements(item: &Shape, count: u64, at: &mut Cursor) -> Result<bool, Stop>
     requires limits { KeepsLimits (type_of item.now) }
     requires defaults { DefaultsFit (type_of item.now) }
-    ensures { outcome same result ≡ check_times count (check_value (type_of item.now)) (place_of cursor.entry) }
+    ensures { outcome same result at.new ≡ check_times count (check_value (type_of item.now)) (place_of at.old) }
 {
     if let Shape::Boolean = item {
-        return check_booleans(count, cursor);
+        return check_booleans(count, at);
     }
     let mut is_canonical = true;
-    let mut at = cursor;
     for turn in 0..count {
-        let (is_element, next) = check_shape(item, at)?;
+        let is_element = check_shape(item, at)?;
         is_canonical = both(is_canonical, is_element);
-        at = next;
     }
-    Ok((is_canonical, at))
+    Ok(is_canonical)
 }
 
 /// An open type (X.696, 30) that holds a value of the type.
 #[cycle(check)]
 #[inline(always)]
-fn check_open<'a>(shape: &Shape, cursor: Cursor<'a>) -> Result<(bool, Cursor<'a>), Stop<'a>>
+fn check_open(shape: &Shape, at: &mut Cursor) -> Result<bool, Stop>
     requires limits { KeepsLimits (type_of shape.now) }
     requires defaults { DefaultsFit (type_of shape.now) }
-    ensures { outcome same result ≡ open_checked (check_value (type_of shape.now)) (place_of cursor.entry) }
+    ensures { outcome same result at.new ≡ open_checked (check_value (type_of shape.now)) (place_of at.old) }
 {
-    let ((count, is_least), next) = sized_length_at(cursor)?;
-    let content = Cursor {
-        rest: next.rest,
-        left: count,
-    };
-    let answer = check_shape(shape, content);
-    leave(next, count, is_least, answer)
+    let counted = sized_length_at(at)?;
+    let start = *at;
+    at.left = counted.count;
+    let answer = check_shape(shape, at);
+    leave(start, counted, answer, at)
 }
 
 /// A component that is there: canonical octets are not those of its default.
 #[cycle(check)]
-fn check_field<'a>(field: &Field, cursor: Cursor<'a>) -> Result<(bool, Cursor<'a>), Stop<'a>>
+fn check_field(field: &Field, at: &mut Cursor) -> Result<bool, Stop>
     requires limits { KeepsLimits (type_of field.now.shape) }
     requires defaults { DefaultsFit (type_of field.now.shape) }
     requires fits { DefaultFits (need_of field.now.need) (Fits (type_of field.now.shape)) }
-    ensures { outcome same result ≡ check_there (need_of field.now.need) (type_of field.now.shape) (place_of cursor.entry) }
+    ensures { outcome same result at.new ≡ check_there (need_of field.now.need) (type_of field.now.shape) (place_of at.old) }
 {
-    let (is_canonical, end) = check_shape(&field.shape, cursor)?;
-    let is_its_default = is_default(field, octets_between(cursor, end));
-    Ok((both(is_canonical, !is_its_default), end))
+    let start = *at;
+    let is_canonical = check_shape(&field.shape, at)?;
+    let is_its_default = is_default(field, octets_between(start, *at));
+    Ok(both(is_canonical, !is_its_default))
 }
 
 /// A component of a root, if it is there.
 #[cycle(check)]
-fn check_place<'a>(
-    field: &Field,
-    is_present: bool,
-    cursor: Cursor<'a>,
-) -> Result<(bool, Cursor<'a>), Stop<'a>>
+fn check_place(field: &Field, is_present: bool, at: &mut Cursor) -> Result<bool, Stop>
     requires limits { KeepsLimits (type_of field.now.shape) }
     requires defaults { DefaultsFit (type_of field.now.shape) }
     requires fits { DefaultFits (need_of field.now.need) (Fits (type_of field.now.shape)) }
-    ensures { outcome same result ≡ check_if is_present (check_there (need_of field.now.need) (type_of field.now.shape)) (place_of cursor.entry) }
+    ensures { outcome same result at.new ≡ check_if is_present (check_there (need_of field.now.need) (type_of field.now.shape)) (place_of at.old) }
 {
     if is_present {
-        check_field(field, cursor)
+        check_field(field, at)
     } else {
-        Ok((true, cursor))
+        Ok(true)
     }
 }
 
@@ -197,62 +178,52 @@ fn check_place<'a>(
 pub(crate) fn check_fields<'a>(
     fields: &[Field],
     bits: Bits<'a>,
-    cursor: Cursor<'a>,
-) -> Result<(bool, Cursor<'a>), Stop<'a>>
+    at: &mut Cursor,
+) -> Result<bool, Stop>
     requires limits { FieldsKeepLimits (fields_of fields.now) }
     requires defaults { FieldDefaultsFit (fields_of fields.now) }
-    ensures { outcome same result ≡ fields_checked (fields_of fields.now) (bits_in bits.entry) (place_of cursor.entry) }
+    ensures { outcome same result at.new ≡ fields_checked (fields_of fields.now) (bits_in bits.entry) (place_of at.old) }
 {
     let mut is_canonical = true;
     let mut left = bits;
-    let mut at = cursor;
     for field in fields {
         field_fits(fields, field);
         let (is_present, rest) = presence(&field.need, left);
         left = rest;
-        let (is_field, next) = check_place(field, is_present, at)?;
+        let is_field = check_place(field, is_present, at)?;
         is_canonical = both(is_canonical, is_field);
-        at = next;
     }
-    Ok((is_canonical, at))
+    Ok(is_canonical)
 }
 
 /// The additions, of which there are none where the extension bit isn't set.
 #[cycle(check)]
 #[inline(always)]
-fn check_extension<'a>(
-    additions: &[Addition],
-    is_extended: bool,
-    cursor: Cursor<'a>,
-) -> Result<(bool, Cursor<'a>), Stop<'a>>
+fn check_extension(additions: &[Addition], is_extended: bool, at: &mut Cursor) -> Result<bool, Stop>
     requires limits { AdditionsKeepLimits (additions_of additions.now) }
     requires defaults { AdditionDefaultsFit (additions_of additions.now) }
-    ensures { outcome same result ≡ extension_checked is_extended (additions_of additions.now) (additions_checked (additions_of additions.now)) (place_of cursor.entry) }
+    ensures { outcome same result at.new ≡ extension_checked is_extended (additions_of additions.now) (additions_checked (additions_of additions.now)) (place_of at.old) }
 {
     if !is_extended {
-        return Ok((true, cursor));
+        return Ok(true);
     }
-    let ((bits, is_least), next) = addition_map(additions.len(), cursor)?;
-    let (is_known, next) = check_additions(additions, bits, next)?;
-    let (is_unknown, end) = check_unknown(bits, additions.len(), next)?;
-    Ok((both(is_least, both(is_known, is_unknown)), end))
+    let map = addition_map(additions.len(), at)?;
+    let is_known = check_additions(additions, map.bits, at)?;
+    let is_unknown = check_unknown(map.bits, additions.len(), at)?;
+    Ok(both(map.is_canonical, both(is_known, is_unknown)))
 }
 
 /// An addition, if it is there.
 #[cycle(check)]
-fn check_addition<'a>(
-    addition: &Addition,
-    is_present: bool,
-    cursor: Cursor<'a>,
-) -> Result<(bool, Cursor<'a>), Stop<'a>>
+fn check_addition(addition: &Addition, is_present: bool, at: &mut Cursor) -> Result<bool, Stop>
     requires limits { KeepsLimits (type_of addition.now.shape) }
     requires defaults { DefaultsFit (type_of addition.now.shape) }
-    ensures { outcome same result ≡ check_if is_present (open_checked (check_value (type_of addition.now.shape))) (place_of cursor.entry) }
+    ensures { outcome same result at.new ≡ check_if is_present (open_checked (check_value (type_of addition.now.shape))) (place_of at.old) }
 {
     if is_present {
-        check_open(&addition.shape, cursor)
+        check_open(&addition.shape, at)
     } else {
-        Ok((true, cursor))
+        Ok(true)
     }
 }
 
@@ -261,43 +232,37 @@ fn check_addition<'a>(
 pub(crate) fn check_additions<'a>(
     additions: &[Addition],
     bits: Bits<'a>,
-    cursor: Cursor<'a>,
-) -> Result<(bool, Cursor<'a>), Stop<'a>>
+    at: &mut Cursor,
+) -> Result<bool, Stop>
     requires limits { AdditionsKeepLimits (additions_of additions.now) }
     requires defaults { AdditionDefaultsFit (additions_of additions.now) }
-    ensures { outcome same result ≡ additions_checked (additions_of additions.now) (bits_in bits.entry) (place_of cursor.entry) }
+    ensures { outcome same result at.new ≡ additions_checked (additions_of additions.now) (bits_in bits.entry) (place_of at.old) }
 {
     let mut is_canonical = true;
     let mut left = bits;
-    let mut at = cursor;
     for addition in additions {
         addition_fits(additions, addition);
         let is_present = left.first();
         left = left.later();
-        let (is_addition, next) = check_addition(addition, is_present, at)?;
+        let is_addition = check_addition(addition, is_present, at)?;
         is_canonical = both(is_canonical, is_addition);
-        at = next;
     }
-    Ok((is_canonical, at))
+    Ok(is_canonical)
 }
 
 /// What follows a tag that no alternative of the root has (X.696, 20).
 #[cycle(check)]
 #[inline(always)]
-fn check_later<'a>(
-    alternatives: &[Alt],
-    tag: Tag,
-    cursor: Cursor<'a>,
-) -> Result<(bool, Cursor<'a>), Stop<'a>>
+fn check_later(alternatives: &[Alt], tag: Tag, at: &mut Cursor) -> Result<bool, Stop>
     requires limits { AlternativesKeepLimits (later_of alternatives.now) }
     requires defaults { AlternativeDefaultsFit (later_of alternatives.now) }
-    ensures { outcome same result ≡ later_checked (later_of alternatives.now) tag (place_of cursor.entry) }
+    ensures { outcome same result at.new ≡ later_checked (later_of alternatives.now) tag (place_of at.old) }
 {
     for alternative in alternatives {
         if is_same_tag(alternative.tag, tag) {
             later_fits(alternatives, alternative);
-            return check_open(&alternative.shape, cursor);
+            return check_open(&alternative.shape, at);
         }
     }
-    check_octets(cursor)
+    check_octets(at)
 }

@@ -50,7 +50,8 @@ fn encoding_at<'a>(shape: &Shape, cursor: Cursor<'a>) -> Option<&'a [u8]>
     requires defaults { DefaultsFit (type_of shape.now) }
     ensures { option_map (λ s. s.now) result ≡ read_in (octets_of (check_value (type_of shape.now)) (place_of cursor.entry)) }
 {
-    let Ok((_, end)) = check_shape(shape, cursor) else {
+    let mut end = cursor;
+    let Ok(_) = check_shape(shape, &mut end) else {
         return None;
     };
     Some(octets_between(cursor, end))
@@ -63,14 +64,16 @@ fn content_at<'a>(shape: &Shape, cursor: Cursor<'a>) -> Option<Content<'a>>
     ensures read { option_map (λ s. s.octets.now) result ≡ read_in (open_type (octets_of (check_value (type_of shape.now))) (place_of cursor.entry)) }
     ensures stands { IfSome result (λ s. IsAfter (λ n l. IsLength n l) (place_of cursor.entry) s.octets.now s.rest) }
 {
-    let Ok(((count, _), next)) = sized_length_at(cursor) else {
+    let mut next = cursor;
+    let Ok(counted) = sized_length_at(&mut next) else {
         return None;
     };
     let content = Cursor {
         rest: next.rest,
-        left: count,
+        left: counted.count,
     };
-    let Ok((_, end)) = check_shape(shape, content) else {
+    let mut end = content;
+    let Ok(_) = check_shape(shape, &mut end) else {
         return None;
     };
     if end.left > 0 {
@@ -87,10 +90,12 @@ fn counted_at<'a>(cursor: Cursor<'a>) -> Option<Content<'a>>
     ensures read { option_map (λ s. s.octets.now) result ≡ read_in (counted_octets (place_of cursor.entry)) }
     ensures stands { IfSome result (λ s. IsAfter (λ n l. IsLength n l) (place_of cursor.entry) s.octets.now s.rest) }
 {
-    let Ok(((count, _), next)) = sized_length_at(cursor) else {
+    let mut next = cursor;
+    let Ok(counted) = sized_length_at(&mut next) else {
         return None;
     };
-    let Ok((octets, _)) = group_at(next, count) else {
+    let mut end = next;
+    let Ok(octets) = group_at(&mut end, counted.count) else {
         return None;
     };
     Some(Content {
@@ -121,7 +126,8 @@ fn field_in<'s, 'a>(
     if !is_present {
         return None;
     }
-    let Ok((_, start)) = check_fields(before, bits, cursor) else {
+    let mut start = cursor;
+    let Ok(_) = check_fields(before, bits, &mut start) else {
         return None;
     };
     let Some(octets) = encoding_at(&field.shape, start) else {
@@ -148,13 +154,15 @@ fn component_of<'s, 'a>(shape: &'s Shape, index: usize, cursor: Cursor<'a>) -> O
     let fields: &[Field] = root;
     match additions {
         None => {
-            let Ok((bits, next)) = preamble(optional(fields) as u64, cursor) else {
+            let mut next = cursor;
+            let Ok(bits) = preamble(optional(fields) as u64, &mut next) else {
                 return None;
             };
             field_in(fields, index, bits, next)
         }
         Some(_) => {
-            let Ok((bits, next)) = preamble(optional(fields) as u64 + 1, cursor) else {
+            let mut next = cursor;
+            let Ok(bits) = preamble(optional(fields) as u64 + 1, &mut next) else {
                 return None;
             };
             field_in(fields, index, bits.later(), next)
@@ -180,12 +188,14 @@ fn addition_in<'s, 'a>(
         return None;
     }
     if index >= additions.len() {
-        let Ok((_, next)) = check_additions(additions, bits, cursor) else {
+        let mut next = cursor;
+        let Ok(_) = check_additions(additions, bits, &mut next) else {
             return None;
         };
         return unknown_in(bits, additions.len(), index, next);
     }
-    let Ok((_, start)) = check_additions(&additions[..index], bits, cursor) else {
+    let mut start = cursor;
+    let Ok(_) = check_additions(&additions[..index], bits, &mut start) else {
         return None;
     };
     let addition = &additions[index];
@@ -213,7 +223,8 @@ fn unknown_in<'s, 'a>(
     ensures found { LooksUp (parts_in (unknown_parts known (drop known (bits_in bits.entry)) (place_of cursor.entry))) (to_addition index) result }
     ensures stands { Stands (AreUnknown known index (bits_in bits.entry)) (place_of cursor.entry) result }
 {
-    let Ok((_, start)) = check_unknown(bits.until(index as u64), known, cursor) else {
+    let mut start = cursor;
+    let Ok(_) = check_unknown(bits.until(index as u64), known, &mut start) else {
         return None;
     };
     let Some(content) = counted_at(start) else {
@@ -242,19 +253,20 @@ fn addition_of<'s, 'a>(shape: &'s Shape, index: usize, cursor: Cursor<'a>) -> Op
     };
     let fields: &[Field] = root;
     let additions: &[Addition] = additions;
-    let Ok((bits, next)) = preamble(optional(fields) as u64 + 1, cursor) else {
+    let mut next = cursor;
+    let Ok(bits) = preamble(optional(fields) as u64 + 1, &mut next) else {
         return None;
     };
     if !bits.first() {
         return None;
     }
-    let Ok((_, next)) = check_fields(fields, bits.later(), next) else {
+    let Ok(_) = check_fields(fields, bits.later(), &mut next) else {
         return None;
     };
-    let Ok(((bits, _), next)) = addition_map(additions.len(), next) else {
+    let Ok(map) = addition_map(additions.len(), &mut next) else {
         return None;
     };
-    addition_in(additions, index, bits, next)
+    addition_in(additions, index, map.bits, next)
 }
 
 /// The element of a SEQUENCE OF with this number, if there are as many.
@@ -269,13 +281,15 @@ fn element_of<'s, 'a>(shape: &'s Shape, index: usize, cursor: Cursor<'a>) -> Opt
         return None;
     };
     let item: &Shape = item;
-    let Ok(((count, _), next)) = sized_quantity_at(*size, cursor) else {
+    let mut next = cursor;
+    let Ok(counted) = sized_quantity_at(*size, &mut next) else {
         return None;
     };
-    if index as u64 >= count {
+    if index as u64 >= counted.count {
         return None;
     }
-    let Ok((_, start)) = check_elements(item, index as u64, next) else {
+    let mut start = next;
+    let Ok(_) = check_elements(item, index as u64, &mut start) else {
         return None;
     };
     let Some(octets) = encoding_at(item, start) else {
@@ -299,7 +313,8 @@ fn alternative_of<'s, 'a>(shape: &'s Shape, cursor: Cursor<'a>) -> Option<Piece<
     let Shape::Choice { root, additions } = shape else {
         return None;
     };
-    let Ok((tag, next)) = tag_at(cursor) else {
+    let mut next = cursor;
+    let Ok(tag) = tag_at(&mut next) else {
         return None;
     };
     if let Some(alternative) = with_tag(root, tag) {

@@ -22,6 +22,7 @@ use Rattle.oer_checker.specs.Facts.{IsLeaf}
 use Rattle.oer_types.specs.SharedSteps.{bits_left, is_there}
 use Rattle.oer_checker.specs.Steps.{addition_map}
 use Rattle.oer_checker.specs.declared.bits.Bits.{Bits}
+use Rattle.oer_checker.specs.declared.bit_strings.Map.{Map}
 use Rattle.oer_checker.proofs.FieldSteps.{count_is}
 use Rattle.oer_checker.specs.declared.cursor.Cursor.{Cursor}
 use Rattle.oer_rows.specs.declared.row.Halt.{Halt}
@@ -37,27 +38,27 @@ by_walk result new w v e h = subst (λ (x : Walk). Walks result new x) e h
 
 -- ---- a unit and its line
 
-pub line_then : {A B : Type 0} (f : A → B) (spot : Spot) (role : Role) (ls new : List Line) (p : Cursor) (answer : Result (A × Cursor) Stop) (y : A × Cursor) (k : B → Walker)
-    → ReadsRow spot role ls p answer new (Ok y) → k (f y.0) new (place_of y.1) ≡ add_line spot.total (path_in spot) role k ls (place_of p) (outcome f answer)
-line_then f spot role ls new p answer y k h =
-    ap (λ (l : List Line). k (f y.0) l (place_of y.1)) h.1 ∙ ap (add_line spot.total (path_in spot) role k ls (place_of p)) (sym (ap (outcome f) h.0))
+pub line_then : {A B : Type 0} (f : A → B) (spot : Spot) (role : Role) (ls new : List Line) (p : Cursor) (q : Cursor) (answer : Result A Stop) (y : A) (k : B → Walker)
+    → ReadsRow spot role ls p q answer new (Ok y) → k (f y) new (place_of q) ≡ add_line spot.total (path_in spot) role k ls (place_of p) (outcome f answer q)
+line_then {A} {B} f spot role ls new p q answer y k h =
+    ap (λ (l : List Line). k (f y) l (place_of q)) h.1 ∙ ap (add_line spot.total (path_in spot) role k ls (place_of p)) (sym (ap (λ (x : Result A Stop). outcome f x q) h.0))
 
-pub line_stop : {A B : Type 0} (f : A → B) (spot : Spot) (role : Role) (ls new : List Line) (p : Cursor) (answer : Result (A × Cursor) Stop) (h : Halt) (k : B → Walker)
-    → ReadsRow spot role ls p answer new (Err h) → Walks (Err h) new (add_line spot.total (path_in spot) role k ls (place_of p) (outcome f answer))
-line_stop f spot role ls new p answer Refused k h =
-    ap (add_line spot.total (path_in spot) role k ls (place_of p)) (ap (outcome f) h.0.1) ∙ ap (λ (l : List Line). halted l) (sym h.1)
-line_stop f spot role ls new p answer Memory k h = tt
+pub line_stop : {A B : Type 0} (f : A → B) (spot : Spot) (role : Role) (ls new : List Line) (p : Cursor) (q : Cursor) (answer : Result A Stop) (h : Halt) (k : B → Walker)
+    → ReadsRow spot role ls p q answer new (Err h) → Walks (Err h) new (add_line spot.total (path_in spot) role k ls (place_of p) (outcome f answer q))
+line_stop {A} {B} f spot role ls new p q answer Refused k h =
+    ap (add_line spot.total (path_in spot) role k ls (place_of p)) (ap (λ (x : Result A Stop). outcome f x q) h.0.1) ∙ ap (λ (l : List Line). halted l) (sym h.1)
+line_stop {A} {B} f spot role ls new p q answer Memory k h = tt
 
-pub taken_then : {A B : Type 0} (f : A → B) (spot : Spot) (role : Role) (ls new : List Line) (p : Cursor) (answer : Result (A × Cursor) Stop) (y : A × Cursor) (r : Reader B) (k : B → Walker)
-    → outcome f answer ≡ r (place_of p) → ReadsRow spot role ls p answer new (Ok y) → k (f y.0) new (place_of y.1) ≡ row spot.total (path_in spot) role r k ls (place_of p)
+pub taken_then : {A B : Type 0} (f : A → B) (spot : Spot) (role : Role) (ls new : List Line) (p : Cursor) (q : Cursor) (answer : Result A Stop) (y : A) (r : Reader B) (k : B → Walker)
+    → outcome f answer q ≡ r (place_of p) → ReadsRow spot role ls p q answer new (Ok y) → k (f y) new (place_of q) ≡ row spot.total (path_in spot) role r k ls (place_of p)
 unfolding row
-taken_then f spot role ls new p answer y r k e h = line_then f spot role ls new p answer y k h ∙ ap (add_line spot.total (path_in spot) role k ls (place_of p)) e
+taken_then f spot role ls new p q answer y r k e h = line_then f spot role ls new p q answer y k h ∙ ap (add_line spot.total (path_in spot) role k ls (place_of p)) e
 
-pub taken_stop : {A B : Type 0} (f : A → B) (spot : Spot) (role : Role) (ls new : List Line) (p : Cursor) (answer : Result (A × Cursor) Stop) (h : Halt) (r : Reader B) (k : B → Walker)
-    → outcome f answer ≡ r (place_of p) → ReadsRow spot role ls p answer new (Err h) → Walks (Err h) new (row spot.total (path_in spot) role r k ls (place_of p))
+pub taken_stop : {A B : Type 0} (f : A → B) (spot : Spot) (role : Role) (ls new : List Line) (p : Cursor) (q : Cursor) (answer : Result A Stop) (h : Halt) (r : Reader B) (k : B → Walker)
+    → outcome f answer q ≡ r (place_of p) → ReadsRow spot role ls p q answer new (Err h) → Walks (Err h) new (row spot.total (path_in spot) role r k ls (place_of p))
 unfolding row
-taken_stop f spot role ls new p answer h r k e t =
-    by_walk (Err h) new _ _ (ap (add_line spot.total (path_in spot) role k ls (place_of p)) e) (line_stop f spot role ls new p answer h k t)
+taken_stop f spot role ls new p q answer h r k e t =
+    by_walk (Err h) new _ _ (ap (add_line spot.total (path_in spot) role k ls (place_of p)) e) (line_stop f spot role ls new p q answer h k t)
 
 -- a value of a type without parts
 pub leaf_row : (T : AsnType) (total : ℕ) (path : List Step) → IsLeaf T → walk_value T total path ≡ row total path Contents (check_value T) (λ f. stay)
@@ -305,23 +306,23 @@ extension_none more x total path c ls q is = by_walk (Ok q) ls _ _ (ap (λ (b : 
 abbrev extended : List Addition → Spot → (List Bool → Walker) → List Bool → Walker
 extended xs spot c s = walk_both (c s) (walk_rest spot.total (path_in spot) (length xs) (drop (length xs) s))
 
-abbrev seen : Bits × Bool → List Bool × Bool
-seen y = (bits_in y.0, y.1)
+abbrev seen : Map → List Bool × Bool
+seen y = (bits_in y.bits, y.is_canonical)
 
 extension_is : (xs : List Addition) (x : Bool) (spot : Spot) (c : List Bool → Walker) (ls : List Line) (p : Place) → x ≡ true → row spot.total (path_in spot) Bitmap (addition_map (length xs)) (λ y. extended xs spot c y.0) ls p ≡ walk_extension x (additions_of xs) spot.total (path_in spot) c ls p
 extension_is xs x spot c ls p is =
     ap (λ (n : ℕ). row spot.total (path_in spot) Bitmap (addition_map n) (λ y. walk_both (c y.0) (walk_rest spot.total (path_in spot) n (drop n y.0))) ls p) (sym (count_is xs))
     ∙ ap (λ (b : Bool). walk_extension b (additions_of xs) spot.total (path_in spot) c ls p) (sym is)
 
-pub extension_then : (xs : List Addition) (x : Bool) (spot : Spot) (c : List Bool → Walker) (ls new : List Line) (p : Cursor) (answer : Result ((Bits × Bool) × Cursor) Stop) (y : (Bits × Bool) × Cursor) → x ≡ true
-    → outcome seen answer ≡ addition_map (length xs) (place_of p) → ReadsRow spot Bitmap ls p answer new (Ok y) → extended xs spot c (bits_in y.0.0) new (place_of y.1) ≡ walk_extension x (additions_of xs) spot.total (path_in spot) c ls (place_of p)
-extension_then xs x spot c ls new p answer y is e h =
-    taken_then seen spot Bitmap ls new p answer y (addition_map (length xs)) (λ z. extended xs spot c z.0) e h ∙ extension_is xs x spot c ls (place_of p) is
+pub extension_then : (xs : List Addition) (x : Bool) (spot : Spot) (c : List Bool → Walker) (ls new : List Line) (p : Cursor) (q : Cursor) (answer : Result Map Stop) (y : Map) → x ≡ true
+    → outcome seen answer q ≡ addition_map (length xs) (place_of p) → ReadsRow spot Bitmap ls p q answer new (Ok y) → extended xs spot c (bits_in y.bits) new (place_of q) ≡ walk_extension x (additions_of xs) spot.total (path_in spot) c ls (place_of p)
+extension_then xs x spot c ls new p q answer y is e h =
+    taken_then seen spot Bitmap ls new p q answer y (addition_map (length xs)) (λ z. extended xs spot c z.0) e h ∙ extension_is xs x spot c ls (place_of p) is
 
-pub extension_stop : (xs : List Addition) (x : Bool) (spot : Spot) (c : List Bool → Walker) (ls new : List Line) (p : Cursor) (answer : Result ((Bits × Bool) × Cursor) Stop) (h : Halt) → x ≡ true
-    → outcome seen answer ≡ addition_map (length xs) (place_of p) → ReadsRow spot Bitmap ls p answer new (Err h) → Walks (Err h) new (walk_extension x (additions_of xs) spot.total (path_in spot) c ls (place_of p))
-extension_stop xs x spot c ls new p answer h is e k =
-    by_walk (Err h) new _ _ (extension_is xs x spot c ls (place_of p) is) (taken_stop seen spot Bitmap ls new p answer h (addition_map (length xs)) (λ z. extended xs spot c z.0) e k)
+pub extension_stop : (xs : List Addition) (x : Bool) (spot : Spot) (c : List Bool → Walker) (ls new : List Line) (p : Cursor) (q : Cursor) (answer : Result Map Stop) (h : Halt) → x ≡ true
+    → outcome seen answer q ≡ addition_map (length xs) (place_of p) → ReadsRow spot Bitmap ls p q answer new (Err h) → Walks (Err h) new (walk_extension x (additions_of xs) spot.total (path_in spot) c ls (place_of p))
+extension_stop xs x spot c ls new p q answer h is e k =
+    by_walk (Err h) new _ _ (extension_is xs x spot c ls (place_of p) is) (taken_stop seen spot Bitmap ls new p q answer h (addition_map (length xs)) (λ z. extended xs spot c z.0) e k)
 
 pub times_start : (c : ℕ → Walker) (n : ℕ) (ls : List Line) (p : Place) → walk_times c 0 (n - 0) ls p ≡ walk_times c 0 n ls p
 times_start c n ls p = let e : n - 0 ≡ n = omega arith in ap (λ (k : ℕ). walk_times c 0 k ls p) e
@@ -331,41 +332,41 @@ times_start c n ls p = let e : n - 0 ≡ n = omega arith in ap (λ (k : ℕ). wa
 abbrev after_bits : Fields → Additions → Spot → List Bool → Walker
 after_bits fs more spot s = walk_both (walk_fields fs spot.total (path_in spot) 0 (later_bits s)) (walk_extension (first_bit s) more spot.total (path_in spot) (walk_additions more spot.total (path_in spot) 0))
 
-module _ (fs : Fields) (more : Additions) (spot : Spot) (k : ℕ) (ls mid : List Line) (p : Cursor) (answer : Result (Bits × Cursor) Stop) (many : k ≡ suc (optional fs)) (e : outcome bits_in answer ≡ preamble k (place_of p)) where
-  read : outcome bits_in answer ≡ preamble (suc (optional fs)) (place_of p)
+module _ (fs : Fields) (more : Additions) (spot : Spot) (k : ℕ) (ls mid : List Line) (p : Cursor) (q : Cursor) (answer : Result Bits Stop) (many : k ≡ suc (optional fs)) (e : outcome bits_in answer q ≡ preamble k (place_of p)) where
+  read : outcome bits_in answer q ≡ preamble (suc (optional fs)) (place_of p)
   read = e ∙ ap (λ (i : ℕ). preamble i (place_of p)) many
 
-  pub bits_stop : (h : Halt) → ReadsRow spot Preamble ls p answer mid (Err h) → Walks (Err h) mid (walk_value (extensible_sequence fs more) spot.total (path_in spot) ls (place_of p))
-  bits_stop h t = taken_stop bits_in spot Preamble ls mid p answer h (preamble (suc (optional fs))) (after_bits fs more spot) read t
+  pub bits_stop : (h : Halt) → ReadsRow spot Preamble ls p q answer mid (Err h) → Walks (Err h) mid (walk_value (extensible_sequence fs more) spot.total (path_in spot) ls (place_of p))
+  bits_stop h t = taken_stop bits_in spot Preamble ls mid p q answer h (preamble (suc (optional fs))) (after_bits fs more spot) read t
 
-  module _ (y : Bits × Cursor) (t : ReadsRow spot Preamble ls p answer mid (Ok y)) (s : List Bool) (later : s ≡ later_bits (bits_in y.0)) where
-    run : after_bits fs more spot (bits_in y.0) mid (place_of y.1) ≡ walk_value (extensible_sequence fs more) spot.total (path_in spot) ls (place_of p)
-    run = taken_then bits_in spot Preamble ls mid p answer y (preamble (suc (optional fs))) (after_bits fs more spot) read t
+  module _ (y : Bits) (t : ReadsRow spot Preamble ls p q answer mid (Ok y)) (s : List Bool) (later : s ≡ later_bits (bits_in y)) where
+    run : after_bits fs more spot (bits_in y) mid (place_of q) ≡ walk_value (extensible_sequence fs more) spot.total (path_in spot) ls (place_of p)
+    run = taken_then bits_in spot Preamble ls mid p q answer y (preamble (suc (optional fs))) (after_bits fs more spot) read t
 
-    pub root_stop : (h : Halt) (new : List Line) → Walks (Err h) new (walk_fields fs spot.total (path_in spot) 0 s mid (place_of y.1)) → Walks (Err h) new (walk_value (extensible_sequence fs more) spot.total (path_in spot) ls (place_of p))
+    pub root_stop : (h : Halt) (new : List Line) → Walks (Err h) new (walk_fields fs spot.total (path_in spot) 0 s mid (place_of q)) → Walks (Err h) new (walk_value (extensible_sequence fs more) spot.total (path_in spot) ls (place_of p))
     root_stop h new w =
         by_walk (Err h) new _ _ run
-        (both_stop (walk_fields fs spot.total (path_in spot) 0 (later_bits (bits_in y.0))) _ mid new (place_of y.1) h (by_walk (Err h) new _ _ (ap (λ (l : List Bool). walk_fields fs spot.total (path_in spot) 0 l mid (place_of y.1)) later) w))
+        (both_stop (walk_fields fs spot.total (path_in spot) 0 (later_bits (bits_in y))) _ mid new (place_of q) h (by_walk (Err h) new _ _ (ap (λ (l : List Bool). walk_fields fs spot.total (path_in spot) 0 l mid (place_of q)) later) w))
 
-    pub root_then : (q : Cursor) (new last : List Line) (x : Bool) (result : Result Cursor Halt) → Walks (Ok q) new (walk_fields fs spot.total (path_in spot) 0 s mid (place_of y.1)) → x ≡ first_bit (bits_in y.0)
-        → Walks result last (walk_extension x more spot.total (path_in spot) (walk_additions more spot.total (path_in spot) 0) new (place_of q)) → Walks result last (walk_value (extensible_sequence fs more) spot.total (path_in spot) ls (place_of p))
-    root_then q new last x result w first v =
+    pub root_then : (end : Cursor) (new last : List Line) (x : Bool) (result : Result Cursor Halt) → Walks (Ok end) new (walk_fields fs spot.total (path_in spot) 0 s mid (place_of q)) → x ≡ first_bit (bits_in y)
+        → Walks result last (walk_extension x more spot.total (path_in spot) (walk_additions more spot.total (path_in spot) 0) new (place_of end)) → Walks result last (walk_value (extensible_sequence fs more) spot.total (path_in spot) ls (place_of p))
+    root_then end new last x result w first v =
         by_walk result last _ _
-        (ap (λ (b : Bool). walk_extension b more spot.total (path_in spot) (walk_additions more spot.total (path_in spot) 0) new (place_of q)) first
-        ∙ both_then (walk_fields fs spot.total (path_in spot) 0 (later_bits (bits_in y.0))) _ mid new (place_of y.1) q (by_walk (Ok q) new _ _ (ap (λ (l : List Bool). walk_fields fs spot.total (path_in spot) 0 l mid (place_of y.1)) later) w)
+        (ap (λ (b : Bool). walk_extension b more spot.total (path_in spot) (walk_additions more spot.total (path_in spot) 0) new (place_of end)) first
+        ∙ both_then (walk_fields fs spot.total (path_in spot) 0 (later_bits (bits_in y))) _ mid new (place_of q) end (by_walk (Ok end) new _ _ (ap (λ (l : List Bool). walk_fields fs spot.total (path_in spot) 0 l mid (place_of q)) later) w)
         ∙ run)
         v
 
 -- ---- a CHOICE
 
-module _ (extensible : Bool) (more : Alternatives) (spot : Spot) (ls mid : List Line) (p : Cursor) (answer : Result (Tag × Cursor) Stop) (e : outcome (λ x. x) answer ≡ tag (place_of p)) where
-  pub tag_stop : (h : Halt) → ReadsRow spot TagRole ls p answer mid (Err h) → Walks (Err h) mid (walk_value (choice extensible more) spot.total (path_in spot) ls (place_of p))
-  tag_stop h t = taken_stop (λ x. x) spot TagRole ls mid p answer h tag (after_tag extensible more spot.total (path_in spot ++ (to_chosen ∷ []))) e t
+module _ (extensible : Bool) (more : Alternatives) (spot : Spot) (ls mid : List Line) (p : Cursor) (q : Cursor) (answer : Result Tag Stop) (e : outcome (λ x. x) answer q ≡ tag (place_of p)) where
+  pub tag_stop : (h : Halt) → ReadsRow spot TagRole ls p q answer mid (Err h) → Walks (Err h) mid (walk_value (choice extensible more) spot.total (path_in spot) ls (place_of p))
+  tag_stop h t = taken_stop (λ x. x) spot TagRole ls mid p q answer h tag (after_tag extensible more spot.total (path_in spot ++ (to_chosen ∷ []))) e t
 
   -- c: what follows the tag, of an alternative
-  pub tag_then : (y : Tag × Cursor) (inner : Spot) (c : ℕ → List Step → Walker) (result : Result Cursor Halt) (new : List Line) → ReadsRow spot TagRole ls p answer mid (Ok y) → Reaches spot to_chosen (Ok inner)
-      → c spot.total (path_in spot ++ (to_chosen ∷ [])) ≡ after_tag extensible more spot.total (path_in spot ++ (to_chosen ∷ [])) y.0 → Walks result new (c inner.total (path_in inner) mid (place_of y.1)) → Walks result new (walk_value (choice extensible more) spot.total (path_in spot) ls (place_of p))
+  pub tag_then : (y : Tag) (inner : Spot) (c : ℕ → List Step → Walker) (result : Result Cursor Halt) (new : List Line) → ReadsRow spot TagRole ls p q answer mid (Ok y) → Reaches spot to_chosen (Ok inner)
+      → c spot.total (path_in spot ++ (to_chosen ∷ [])) ≡ after_tag extensible more spot.total (path_in spot ++ (to_chosen ∷ [])) y → Walks result new (c inner.total (path_in inner) mid (place_of q)) → Walks result new (walk_value (choice extensible more) spot.total (path_in spot) ls (place_of p))
   tag_then y inner c result new t at_it is w =
       by_walk result new _ _
-      (ap (λ (d : Walker). d mid (place_of y.1)) is ∙ taken_then (λ x. x) spot TagRole ls mid p answer y tag (after_tag extensible more spot.total (path_in spot ++ (to_chosen ∷ []))) e t)
-      (at_inner c spot inner to_chosen result mid new (place_of y.1) at_it w)
+      (ap (λ (d : Walker). d mid (place_of q)) is ∙ taken_then (λ x. x) spot TagRole ls mid p q answer y tag (after_tag extensible more spot.total (path_in spot ++ (to_chosen ∷ []))) e t)
+      (at_inner c spot inner to_chosen result mid new (place_of q) at_it w)

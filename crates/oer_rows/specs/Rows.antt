@@ -191,9 +191,9 @@ Adds spot role ls p q new (Err Refused) = ⊥
 Adds spot role ls p q new (Err Memory) = Unit {0}
 
 -- what was read, after a line of its octets was added
-abbrev pub ReadsRow : {A : Type 0} → Spot → Role → List Line → Cursor → Result (A × Cursor) Stop → List Line
-    → Result (A × Cursor) Halt → Type 0
-ReadsRow spot role ls p answer new (Ok y) = (answer ≡ Ok y)
-    × (new ≡ ls ++ (line_at spot.total (path_in spot) role (place_of p) (place_of y.1) ∷ []))
-ReadsRow spot role ls p answer new (Err Refused) = ((stop : Stop) × (answer ≡ Err stop)) × (new ≡ ls)
-ReadsRow spot role ls p answer new (Err Memory) = Unit {0}
+abbrev pub ReadsRow : {A : Type 0} → Spot → Role → List Line → Cursor → Cursor → Result A Stop → List Line
+    → Result A Halt → Type 0
+ReadsRow spot role ls p q answer new (Ok y) = (answer ≡ Ok y)
+    × (new ≡ ls ++ (line_at spot.total (path_in spot) role (place_of p) (place_of q) ∷ []))
+ReadsRow spot role ls p q answer new (Err Refused) = ((stop : Stop) × (answer ≡ Err stop)) × (new ≡ ls)
+ReadsRow spot role ls p q answer new (Err Memory) = Unit {0}

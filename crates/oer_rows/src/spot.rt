@@ -66,20 +66,21 @@ impl Spot {
         }
     }
 
-    /// What was read at a cursor, and a row of the octets that it took.
+    /// What was read from one cursor to another, and a row of the octets between them.
     pub(crate) fn taken<'a, T: Copy>(
         &self,
         role: Role,
         rows: &mut Vec<Row<'a>>,
         from: Cursor<'a>,
-        answer: Result<(T, Cursor<'a>), Stop<'a>>,
-    ) -> Result<(T, Cursor<'a>), Halt>
-        ensures { ReadsRow self.now role (lines_of rows.old.items) from.entry answer.entry (lines_of rows.new.items) result }
+        to: Cursor<'a>,
+        answer: Result<T, Stop>,
+    ) -> Result<T, Halt>
+        ensures { ReadsRow self.now role (lines_of rows.old.items) from.entry to.entry answer (lines_of rows.new.items) result }
     {
-        let Ok((value, next)) = answer else {
+        let Ok(value) = answer else {
             return Err(Halt::Refused);
         };
-        self.add(role, rows, from, next)?;
-        Ok((value, next))
+        self.add(role, rows, from, to)?;
+        Ok(value)
     }
 }

@@ -28,8 +28,9 @@ fn list_leaf<'a>(
     requires { IsLeaf (type_of shape.now) }
     ensures { Walks result (lines_of rows.new.items) (walk_value (type_of shape.now) spot.now.total (path_in spot.now) (lines_of rows.old.items) (place_of cursor.entry)) }
 {
-    let answer = check_leaf(shape, cursor);
-    let (_, end) = spot.taken(Role::Contents, rows, cursor, answer)?;
+    let mut end = cursor;
+    let answer = check_leaf(shape, &mut end);
+    spot.taken(Role::Contents, rows, cursor, end, answer)?;
     Ok(end)
 }
 
@@ -41,10 +42,12 @@ fn list_unknown<'a>(
 ) -> Result<Cursor<'a>, Halt>
     ensures { Walks result (lines_of rows.new.items) (walk_unknown spot.now.total (path_in spot.now) (lines_of rows.old.items) (place_of cursor.entry)) }
 {
-    let answer = sized_length_at(cursor);
-    let ((count, _), next) = spot.taken(Role::Length, rows, cursor, answer)?;
-    let answer = group_at(next, count);
-    let (_, end) = spot.taken(Role::Unknown, rows, next, answer)?;
+    let mut next = cursor;
+    let answer = sized_length_at(&mut next);
+    let counted = spot.taken(Role::Length, rows, cursor, next, answer)?;
+    let mut end = next;
+    let answer = group_at(&mut end, counted.count);
+    spot.taken(Role::Unknown, rows, next, end, answer)?;
     Ok(end)
 }
 
@@ -105,9 +108,10 @@ fn list_items<'a>(
 ) -> Result<Cursor<'a>, Halt>
     ensures { Walks result (lines_of rows.new.items) (walk_value (sequence_of size (type_of item.now)) spot.now.total (path_in spot.now) (lines_of rows.old.items) (place_of cursor.entry)) }
 {
-    let answer = sized_quantity_at(size, cursor);
-    let ((count, _), next) = spot.taken(Role::Quantity, rows, cursor, answer)?;
-    list_elements(spot, item, count, next, rows)
+    let mut next = cursor;
+    let answer = sized_quantity_at(size, &mut next);
+    let counted = spot.taken(Role::Quantity, rows, cursor, next, answer)?;
+    list_elements(spot, item, counted.count, next, rows)
 }
 
 /// A SEQUENCE without an extension marker.
@@ -120,8 +124,9 @@ fn list_sequence<'a>(
 ) -> Result<Cursor<'a>, Halt>
     ensures { Walks result (lines_of rows.new.items) (walk_value (sequence (fields_of fields.now)) spot.now.total (path_in spot.now) (lines_of rows.old.items) (place_of cursor.entry)) }
 {
-    let answer = preamble(optional(fields) as u64, cursor);
-    let (bits, next) = spot.taken(Role::Preamble, rows, cursor, answer)?;
+    let mut next = cursor;
+    let answer = preamble(optional(fields) as u64, &mut next);
+    let bits = spot.taken(Role::Preamble, rows, cursor, next, answer)?;
     list_fields(spot, fields, bits, next, rows)
 }
 
@@ -138,8 +143,9 @@ fn list_extensible<'a>(
     requires is { IsExtensible shape.now fields.now additions.now }
     ensures { Walks result (lines_of rows.new.items) (walk_value (type_of shape.now) spot.now.total (path_in spot.now) (lines_of rows.old.items) (place_of cursor.entry)) }
 {
-    let answer = preamble(optional(fields) as u64 + 1, cursor);
-    let (bits, next) = spot.taken(Role::Preamble, rows, cursor, answer)?;
+    let mut next = cursor;
+    let answer = preamble(optional(fields) as u64 + 1, &mut next);
+    let bits = spot.taken(Role::Preamble, rows, cursor, next, answer)?;
     let end = list_fields(spot, fields, bits.later(), next, rows)?;
     list_extension(spot, additions, bits.first(), end, rows)
 }
@@ -157,8 +163,9 @@ fn list_choice<'a>(
     requires is { IsChoice shape.now alternatives.now additions.now }
     ensures { Walks result (lines_of rows.new.items) (walk_value (type_of shape.now) spot.now.total (path_in spot.now) (lines_of rows.old.items) (place_of cursor.entry)) }
 {
-    let answer = tag_at(cursor);
-    let (tag, next) = spot.taken(Role::Tag, rows, cursor, answer)?;
+    let mut next = cursor;
+    let answer = tag_at(&mut next);
+    let tag = spot.taken(Role::Tag, rows, cursor, next, answer)?;
     let inner = spot.inner(Step::Chosen)?;
     if contains_tag(alternatives, tag) {
         return list_alternative(&inner, alternatives, tag, next, rows);
@@ -198,11 +205,12 @@ fn list_open<'a>(
 ) -> Result<Cursor<'a>, Halt>
     ensures { Walks result (lines_of rows.new.items) (walk_open spot.now.total (path_in spot.now) (walk_value (type_of shape.now) spot.now.total (path_in spot.now)) (lines_of rows.old.items) (place_of cursor.entry)) }
 {
-    let answer = sized_length_at(cursor);
-    let ((count, _), next) = spot.taken(Role::Length, rows, cursor, answer)?;
+    let mut next = cursor;
+    let answer = sized_length_at(&mut next);
+    let counted = spot.taken(Role::Length, rows, cursor, next, answer)?;
     let content = Cursor {
         rest: next.rest,
-        left: count,
+        left: counted.count,
     };
     let end = list_shape(spot, shape, content, rows)?;
     if end.left > 0 {
@@ -210,7 +218,7 @@ fn list_open<'a>(
     }
     Ok(Cursor {
         rest: end.rest,
-        left: next.left.saturating_sub(count),
+        left: next.left.saturating_sub(counted.count),
     })
 }
 
@@ -270,10 +278,11 @@ fn list_extension<'a>(
     if !is_extended {
         return Ok(cursor);
     }
-    let answer = addition_map(additions.len(), cursor);
-    let ((bits, _), next) = spot.taken(Role::Bitmap, rows, cursor, answer)?;
-    let end = list_additions(spot, additions, bits, next, rows)?;
-    list_rest(spot, bits, additions.len(), end, rows)
+    let mut next = cursor;
+    let answer = addition_map(additions.len(), &mut next);
+    let map = spot.taken(Role::Bitmap, rows, cursor, next, answer)?;
+    let end = list_additions(spot, additions, map.bits, next, rows)?;
+    list_rest(spot, map.bits, additions.len(), end, rows)
 }
 
 /// An addition, if it is there.

@@ -6,4 +6,4 @@ use Rattle.oer_checker.specs.Steps.{and_after}
 use Rattle.oer_checker.proofs.booleans.check_booleans.Given as goal
 
 abbrev pub invariant-loop-turn : goal.invariant-loop-turn
-invariant-loop-turn l = and_after l.is_canonical (check_times (l.count - l.turn) (check_value boolean) (place_of l.at)) ≡ check_times l.count (check_value boolean) (place_of l.cursor)
+invariant-loop-turn l = and_after l.is_canonical (check_times (l.count - l.turn) (check_value boolean) (place_of l.at)) ≡ check_times l.count (check_value boolean) (place_of l.fn.at)

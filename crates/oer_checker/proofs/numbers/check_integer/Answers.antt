@@ -36,14 +36,14 @@ pub returns-in_ok-number-in-UnsignedCounted : goal.returns-in_ok-number-in-Unsig
 returns-in_ok-number-in-UnsignedCounted c =
     let z = c.in_ok-number-in-UnsignedCounted.number in
     let fits : SFits w128 z = c.in_ok-number-in-UnsignedCounted.ensures.range in
-    let sized = eqb (length (between (place_of c.args.cursor) (place_of c.in_ok-number-in-UnsignedCounted.next))) in
-    let least = c.is_of_length-is_least.ensures ∙ ap sized (c.unsigned_counted_len.ensures ∙ ap (λ (y : ℤ). length (counted (unsigned_octets (unsigned_abs y)))) (to_z-of_z w128 z fits)) ∙ ap (eqb (length (between (place_of c.args.cursor) (place_of c.in_ok-number-in-UnsignedCounted.next)))) (least_natural _ _ z c.in_ok-number-in-UnsignedCounted.ensures.number) in
+    let sized = eqb (length (between (place_of c.args.at.now) (place_of c.unsigned_counted_at.new.at))) in
+    let least = c.is_of_length-is_least.ensures ∙ ap sized (c.unsigned_counted_len.ensures ∙ ap (λ (y : ℤ). length (counted (unsigned_octets (unsigned_abs y)))) (to_z-of_z w128 z fits)) ∙ ap (eqb (length (between (place_of c.args.at.now) (place_of c.unsigned_counted_at.new.at)))) (least_natural _ _ z c.in_ok-number-in-UnsignedCounted.ensures.number) in
     (rw (to_z-of_z w128 z fits, least) at c.in_bounds-in-UnsignedCounted.ensures) ∙ integer_then c.args.low c.args.high unsigned_counted _ _ z (sym (ap form_seen c.in-UnsignedCounted.is) ∙ c.of_bounds.ensures) c.in_ok-number-in-UnsignedCounted.ensures.number
 
 pub returns-in_ok-number-in-SignedCounted : goal.returns-in_ok-number-in-SignedCounted
 returns-in_ok-number-in-SignedCounted c =
     let z = c.in_ok-number-in-SignedCounted.number in
     let fits : SFits w128 z = c.in_ok-number-in-SignedCounted.ensures.range in
-    let sized = eqb (length (between (place_of c.args.cursor) (place_of c.in_ok-number-in-SignedCounted.next))) in
+    let sized = eqb (length (between (place_of c.args.at.now) (place_of c.signed_counted_at.new.at))) in
     let least = c.is_of_length-is_least-in-SignedCounted.ensures ∙ ap sized (c.signed_counted_len.ensures ∙ ap (λ (y : ℤ). length (counted (signed_octets y))) (to_z-of_z w128 z fits)) in
     (rw (to_z-of_z w128 z fits, least) at c.in_bounds-in-SignedCounted.ensures) ∙ integer_then c.args.low c.args.high signed_counted _ _ z (sym (ap form_seen c.in-SignedCounted.is) ∙ c.of_bounds.ensures) c.in_ok-number-in-SignedCounted.ensures.number

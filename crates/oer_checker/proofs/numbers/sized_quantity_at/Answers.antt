@@ -17,19 +17,19 @@ returns-then-count-from c =
     let z = c.in_ok-quantity.quantity in
     let fits : SFits w128 z = c.in_ok-quantity.ensures.range in
     let many : c.unsigned_abs-count.result ≡ unsigned_abs z = c.unsigned_abs-count.ensures.value ∙ ap unsigned_abs (to_z-of_z w128 z fits) in
-    sized_over c.args.size _ _ z c.in_ok-quantity.ensures.number (lt-leb (unsigned_abs z) c.in_ok-quantity.next.left (rw (c.from.ensures, many) at c.if-count-from.true))
+    sized_over c.args.size _ _ z c.in_ok-quantity.ensures.number (lt-leb (unsigned_abs z) c.unsigned_counted_at.new.at.left (rw (c.from.ensures, many) at c.if-count-from.true))
 
 pub returns-then-not-allows : goal.returns-then-not-allows
 returns-then-not-allows c =
     let z = c.in_ok-quantity.quantity in
     let fits : SFits w128 z = c.in_ok-quantity.ensures.range in
     let many : c.unsigned_abs-count.result ≡ unsigned_abs z = c.unsigned_abs-count.ensures.value ∙ ap unsigned_abs (to_z-of_z w128 z fits) in
-    sized_misfit c.args.size _ _ z c.in_ok-quantity.ensures.number (le-leb (unsigned_abs z) c.in_ok-quantity.next.left (rw (c.from.ensures, many) at c.if-count-from.false)) (sym (rw many at c.if-not-allows.ensures))
+    sized_misfit c.args.size _ _ z c.in_ok-quantity.ensures.number (le-leb (unsigned_abs z) c.unsigned_counted_at.new.at.left (rw (c.from.ensures, many) at c.if-count-from.false)) (sym (rw many at c.if-not-allows.ensures))
 
 pub returns : goal.returns
 returns c =
     let z = c.in_ok-quantity.quantity in
     let fits : SFits w128 z = c.in_ok-quantity.ensures.range in
     let many : c.unsigned_abs-count.result ≡ unsigned_abs z = c.unsigned_abs-count.ensures.value ∙ ap unsigned_abs (to_z-of_z w128 z fits) in
-    let least : c.is_of_length-is_least.result ≡ eqb (length (between (place_of c.args.cursor) (place_of c.in_ok-quantity.next))) (length (counted (unsigned_octets (unsigned_abs z)))) = c.is_of_length-is_least.ensures ∙ ap (eqb (length (between (place_of c.args.cursor) (place_of c.in_ok-quantity.next)))) (c.unsigned_counted_len.ensures ∙ ap (λ (y : ℤ). length (counted (unsigned_octets (unsigned_abs y)))) (to_z-of_z w128 z fits)) in
-    rw many (sized_got c.args.size _ _ z c.is_of_length-is_least.result c.in_ok-quantity.ensures.number least (le-leb (unsigned_abs z) c.in_ok-quantity.next.left (rw (c.from.ensures, many) at c.if-count-from.false)) (sym (rw many at c.if-not-allows.ensures)))
+    let least : c.is_of_length-is_least.result ≡ eqb (length (between (place_of c.args.at.now) (place_of c.unsigned_counted_at.new.at))) (length (counted (unsigned_octets (unsigned_abs z)))) = c.is_of_length-is_least.ensures ∙ ap (eqb (length (between (place_of c.args.at.now) (place_of c.unsigned_counted_at.new.at)))) (c.unsigned_counted_len.ensures ∙ ap (λ (y : ℤ). length (counted (unsigned_octets (unsigned_abs y)))) (to_z-of_z w128 z fits)) in
+    rw many (sized_got c.args.size _ _ z c.is_of_length-is_least.result c.in_ok-quantity.ensures.number least (le-leb (unsigned_abs z) c.unsigned_counted_at.new.at.left (rw (c.from.ensures, many) at c.if-count-from.false)) (sym (rw many at c.if-not-allows.ensures)))

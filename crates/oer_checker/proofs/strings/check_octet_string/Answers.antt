@@ -3,8 +3,8 @@ use Rattle.oer_types.specs.Constraints.{fixed}
 use Rattle.oer_checker.proofs.StringSteps.{string_got, string_stop}
 use Rattle.oer_checker.proofs.strings.check_octet_string.Goals as goal
 
-pub returns-in_err-is_canonical : goal.returns-in_err-is_canonical
-returns-in_err-is_canonical c = rw (at_stop c.from_residual.result c.in_err-is_canonical.field-0.0 c.from_residual.ensures.1) (string_stop (fixed c.args.size.now) c.args.size.now _ _ _ c.in_err-is_canonical.ensures)
+pub returns-in_err-group : goal.returns-in_err-group
+returns-in_err-group c = rw (at_stop c.from_residual.result c.in_err-group.field-0.0 c.from_residual.ensures.1) (string_stop (fixed c.args.size.now) c.args.size.now _ _ _ c.in_err-group.ensures)
 
 pub returns : goal.returns
-returns c = string_got (fixed c.args.size.now) c.args.size.now _ _ _ c.in_ok-is_canonical.is_canonical c.in_ok-is_canonical.ensures
+returns c = string_got (fixed c.args.size.now) c.args.size.now _ _ _ c.in_ok-group.group.is_least c.in_ok-group.ensures

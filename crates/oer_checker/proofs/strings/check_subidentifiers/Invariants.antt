@@ -6,5 +6,5 @@ use Rattle.oer_checker.proofs.strings.check_subidentifiers.Given as goal
 abbrev pub invariant-loop-turn : goal.invariant-loop-turn
 invariant-loop-turn l = record {
   room : l.left ≤ l.at.left;
-  rest : check_subidentifiers (l.content - l.turn) l.left (place_of l.at) ≡ check_subidentifiers l.content l.content (place_of l.cursor);
+  rest : check_subidentifiers (l.content - l.turn) l.left (place_of l.at) ≡ check_subidentifiers l.content l.content (place_of l.fn.at);
 }

@@ -9,4 +9,4 @@ pub returns-in_err-octets : goal.returns-in_err-octets
 returns-in_err-octets c = rw (at_stop c.from_residual-in_err-octets.result c.in_err-octets.field-0.0 c.from_residual-in_err-octets.ensures.1) (counted_cut _ _ c.in_ok-count.count _ _ c.in_ok-count.ensures c.in_err-octets.ensures)
 
 pub returns : goal.returns
-returns c = counted_got _ _ _ c.in_ok-count.count c.in_ok-octets.octets.now _ c.in_ok-count.ensures c.in_ok-octets.ensures c.is_counted.ensures
+returns c = counted_got _ _ _ c.in_ok-count.count c.in_ok-octets.octets.now _ c.in_ok-count.ensures c.in_ok-octets.ensures c.is_counted-is_least.ensures

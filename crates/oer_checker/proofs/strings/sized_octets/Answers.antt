@@ -20,4 +20,4 @@ pub returns-in_err-octets-2 : goal.returns-in_err-octets-2
 returns-in_err-octets-2 c = rw (at_stop c.from_residual-in_err-octets-2.result c.in_err-octets-2.field-0.0 c.from_residual-in_err-octets-2.ensures.1) (sized_cut (fixed c.args.size.now) c.args.size.now _ _ c.in_ok-count.count _ _ c.in_default.ensures c.in_ok-count.ensures (sym (rw c.from.ensures at c.if-not-allows.ensures)) c.in_err-octets-2.ensures)
 
 pub returns : goal.returns
-returns c = sized_got (fixed c.args.size.now) c.args.size.now _ _ _ c.in_ok-count.count c.in_ok-octets-2.octets.now _ c.in_default.ensures c.in_ok-count.ensures (sym (rw c.from.ensures at c.if-not-allows.ensures)) c.in_ok-octets-2.ensures c.is_counted.ensures
+returns c = sized_got (fixed c.args.size.now) c.args.size.now _ _ _ c.in_ok-count.count c.in_ok-octets-2.octets.now _ c.in_default.ensures c.in_ok-count.ensures (sym (rw c.from.ensures at c.if-not-allows.ensures)) c.in_ok-octets-2.ensures c.is_counted-is_least.ensures

@@ -8,4 +8,4 @@ use Rattle.oer_checker.proofs.units.long_enumerated_at.Goals as goal
 pub returns-in-Ok-clause-range : goal.returns-in-Ok-clause-range
 returns-in-Ok-clause-range c =
     let fits : SFits w64 c.in-Ok.number = record { sfits = (rw c.in-Ok.is at c.enumerated-answer.type_inv).1.1.1.1.0.1 } in
-    range_ok (λ (x : ℤ). FitsSigned w64 x) c.in-Ok.number c.after.result _ c.taken-taken.result (rw (to_z-of_z w64 c.in-Ok.number fits) at c.after.ensures) fits
+    range_ok (λ (x : ℤ). FitsSigned w64 x) c.in-Ok.number c.after.result c.after.new.self _ c.taken-taken.result (rw (to_z-of_z w64 c.in-Ok.number fits) at c.after.ensures) fits

@@ -9,7 +9,7 @@ use Rattle.oer_types.specs.declared.shape.Addition.{Addition}
 use Rattle.oer_types.specs.declared.shape.Shape.{Sequence, Shape}
 use Rattle.oer_checker.specs.BitView.{bits_in}
 use Rattle.oer_checker.specs.Places.{place_of}
-use Rattle.oer_checker.specs.Steps.{and_after, check_there, is_default, left_open}
+use Rattle.oer_checker.specs.Steps.{and_after, check_later, check_there, is_default, left_open}
 use Rattle.oer_checker.proofs.Exits.{at_stop}
 use Rattle.oer_checker.proofs.FieldSteps.{additions_end, additions_next, additions_stop, count_is, extensible_stop, fields_end, fields_next, fields_stop, if_absent, items_stop, items_then, known_stop, later_got, later_stop, map_stop, no_extension, root_stop, sequence_stop, sequence_then, there_got, there_stop, times_end, times_next, times_start, times_stop, unknown_got, unknown_stop}
 use Rattle.oer_checker.proofs.LengthSteps.{open_stop, open_then}
@@ -45,13 +45,16 @@ pub check_fields-returns : goal.check_fields-returns
 check_fields-returns t c = fields_end c.args.fields.now c.loop-field.field-index (bits_in c.loop-field.left) c.loop-field.is_canonical _ _ c.loop-field-test.false c.loop-field.invariant
 
 pub check_later-returns-then-is_same_tag : goal.check_later-returns-then-is_same_tag
-check_later-returns-then-is_same_tag t c = c.check_open.ensures ∙ ap (λ (r : Reader Bool). r (place_of c.args.cursor)) (later_here c.args.alternatives.now c.loop-alternative.alternative-index c.alternative-item.result c.args.tag _ c.loop-alternative-test.true c.alternative-item.is (sym c.if-is_same_tag.true ∙ c.is_same_tag.ensures) c.loop-alternative.invariant)
+check_later-returns-then-is_same_tag t c = c.check_open.ensures ∙ ap (λ (r : Reader Bool). r (place_of c.loop-alternative.at)) (later_here c.args.alternatives.now c.loop-alternative.alternative-index c.alternative-item.result c.args.tag _ c.loop-alternative-test.true c.alternative-item.is (sym c.if-is_same_tag.true ∙ c.is_same_tag.ensures) c.loop-alternative.invariant.same) ∙ ap (check_later (later_of c.args.alternatives.now) c.args.tag) c.loop-alternative.invariant.still
 
 pub check_later-loop-alternative-preserved : goal.check_later-loop-alternative-preserved
-check_later-loop-alternative-preserved t c = later_next c.args.alternatives.now c.loop-alternative.alternative-index c.alternative-item.result c.args.tag _ c.loop-alternative-test.true c.alternative-item.is (sym c.if-is_same_tag.false ∙ c.is_same_tag.ensures) c.loop-alternative.invariant
+check_later-loop-alternative-preserved t c = record {
+  same = later_next c.args.alternatives.now c.loop-alternative.alternative-index c.alternative-item.result c.args.tag _ c.loop-alternative-test.true c.alternative-item.is (sym c.if-is_same_tag.false ∙ c.is_same_tag.ensures) c.loop-alternative.invariant.same;
+  still = c.loop-alternative.invariant.still;
+}
 
 pub check_later-returns : goal.check_later-returns
-check_later-returns t c = c.check_octets.ensures ∙ ap (λ (r : Reader Bool). r (place_of c.args.cursor)) (later_end c.args.alternatives.now c.loop-alternative.alternative-index c.args.tag _ c.loop-alternative-test.false c.loop-alternative.invariant)
+check_later-returns t c = c.check_octets.ensures ∙ ap (λ (r : Reader Bool). r (place_of c.loop-alternative.at)) (later_end c.args.alternatives.now c.loop-alternative.alternative-index c.args.tag _ c.loop-alternative-test.false c.loop-alternative.invariant.same) ∙ ap (check_later (later_of c.args.alternatives.now) c.args.tag) c.loop-alternative.invariant.still
 
 pub check_elements-returns-in-Boolean : goal.check_elements-returns-in-Boolean
 check_elements-returns-in-Boolean t c = rw (c.in-Boolean.is, type_of-Boolean) c.check_booleans.ensures
@@ -71,17 +74,17 @@ check_elements-returns t c = times_end (c.args.count - c.loop-turn.turn) (check_
 pub check_extension-returns-then-not-is_extended : goal.check_extension-returns-then-not-is_extended
 check_extension-returns-then-not-is_extended t c = no_extension (additions_of c.args.additions.now) c.args.is_extended _ (search rules)
 
-pub check_extension-returns-in_err-bits : goal.check_extension-returns-in_err-bits
-check_extension-returns-in_err-bits t c = rw (at_stop c.from_residual.result c.in_err-bits.field-0.0 c.from_residual.ensures.1) (map_stop (additions_of c.args.additions.now) (length c.args.additions.now) c.args.is_extended _ _ _ (search rules) (sym (count_is c.args.additions.now)) c.in_err-bits.ensures.bits)
+pub check_extension-returns-in_err-map : goal.check_extension-returns-in_err-map
+check_extension-returns-in_err-map t c = rw (at_stop c.from_residual.result c.in_err-map.field-0.0 c.from_residual.ensures.1) (map_stop (additions_of c.args.additions.now) (length c.args.additions.now) c.args.is_extended _ _ _ (search rules) (sym (count_is c.args.additions.now)) c.in_err-map.ensures.bits)
 
 pub check_extension-returns-in_err-is_known : goal.check_extension-returns-in_err-is_known
-check_extension-returns-in_err-is_known t c = rw (at_stop c.from_residual-in_err-is_known.result c.in_err-is_known.field-0.0 c.from_residual-in_err-is_known.ensures.1) (known_stop (additions_of c.args.additions.now) (length c.args.additions.now) c.args.is_extended _ _ (bits_in c.in_ok-bits.bits) c.in_ok-bits.is_least _ _ (search rules) (sym (count_is c.args.additions.now)) c.in_ok-bits.ensures.bits c.in_err-is_known.ensures)
+check_extension-returns-in_err-is_known t c = rw (at_stop c.from_residual-in_err-is_known.result c.in_err-is_known.field-0.0 c.from_residual-in_err-is_known.ensures.1) (known_stop (additions_of c.args.additions.now) (length c.args.additions.now) c.args.is_extended _ _ (bits_in c.in_ok-map.map.bits) c.in_ok-map.map.is_canonical _ _ (search rules) (sym (count_is c.args.additions.now)) c.in_ok-map.ensures.bits c.in_err-is_known.ensures)
 
 pub check_extension-returns-in_err-is_unknown : goal.check_extension-returns-in_err-is_unknown
-check_extension-returns-in_err-is_unknown t c = rw (at_stop c.from_residual-in_err-is_unknown.result c.in_err-is_unknown.field-0.0 c.from_residual-in_err-is_unknown.ensures.1) (unknown_stop (additions_of c.args.additions.now) (length c.args.additions.now) c.args.is_extended _ _ _ (bits_in c.in_ok-bits.bits) c.in_ok-bits.is_least c.in_ok-is_known.is_known _ _ (search rules) (sym (count_is c.args.additions.now)) c.in_ok-bits.ensures.bits c.in_ok-is_known.ensures c.in_err-is_unknown.ensures)
+check_extension-returns-in_err-is_unknown t c = rw (at_stop c.from_residual-in_err-is_unknown.result c.in_err-is_unknown.field-0.0 c.from_residual-in_err-is_unknown.ensures.1) (unknown_stop (additions_of c.args.additions.now) (length c.args.additions.now) c.args.is_extended _ _ _ (bits_in c.in_ok-map.map.bits) c.in_ok-map.map.is_canonical c.in_ok-is_known.is_known _ _ (search rules) (sym (count_is c.args.additions.now)) c.in_ok-map.ensures.bits c.in_ok-is_known.ensures c.in_err-is_unknown.ensures)
 
 pub check_extension-returns : goal.check_extension-returns
-check_extension-returns t c = rw (c.both-2.ensures, c.both.ensures) (unknown_got (additions_of c.args.additions.now) (length c.args.additions.now) c.args.is_extended _ _ _ _ (bits_in c.in_ok-bits.bits) c.in_ok-bits.is_least c.in_ok-is_known.is_known c.in_ok-is_unknown.is_unknown (search rules) (sym (count_is c.args.additions.now)) c.in_ok-bits.ensures.bits c.in_ok-is_known.ensures c.in_ok-is_unknown.ensures)
+check_extension-returns t c = rw (c.both-2.ensures, c.both.ensures) (unknown_got (additions_of c.args.additions.now) (length c.args.additions.now) c.args.is_extended _ _ _ _ (bits_in c.in_ok-map.map.bits) c.in_ok-map.map.is_canonical c.in_ok-is_known.is_known c.in_ok-is_unknown.is_unknown (search rules) (sym (count_is c.args.additions.now)) c.in_ok-map.ensures.bits c.in_ok-is_known.ensures c.in_ok-is_unknown.ensures)
 
 pub check_field-returns-in_err-is_canonical : goal.check_field-returns-in_err-is_canonical
 check_field-returns-in_err-is_canonical t c = rw (at_stop c.from_residual.result c.in_err-is_canonical.field-0.0 c.from_residual.ensures.1) (there_stop (need_of c.args.field.now.need) (type_of c.args.field.now.shape) _ _ _ c.in_err-is_canonical.ensures)
@@ -89,20 +92,20 @@ check_field-returns-in_err-is_canonical t c = rw (at_stop c.from_residual.result
 pub check_field-returns : goal.check_field-returns
 check_field-returns t c = rw c.both.ensures (there_got (need_of c.args.field.now.need) (type_of c.args.field.now.shape) _ _ c.in_ok-is_canonical.is_canonical c.is_default-is_its_default.result c.in_ok-is_canonical.ensures (c.is_default-is_its_default.ensures ∙ ap (is_default (need_of c.args.field.now.need) (type_of c.args.field.now.shape)) c.octets_between.ensures))
 
-pub check_open-returns-in_err-count : goal.check_open-returns-in_err-count
-check_open-returns-in_err-count t c = rw (at_stop c.from_residual.result c.in_err-count.field-0.0 c.from_residual.ensures.1) (open_stop (check_value (type_of c.args.shape.now)) _ _ _ c.in_err-count.ensures)
+pub check_open-returns-in_err-counted : goal.check_open-returns-in_err-counted
+check_open-returns-in_err-counted t c = rw (at_stop c.from_residual.result c.in_err-counted.field-0.0 c.from_residual.ensures.1) (open_stop (check_value (type_of c.args.shape.now)) _ _ _ c.in_err-counted.ensures)
 
 pub check_open-returns : goal.check_open-returns
-check_open-returns t c = c.leave.ensures ∙ ap (left_open (place_of c.in_ok-count.next) c.in_ok-count.count c.in_ok-count.is_least) c.check_shape-answer.ensures ∙ open_then (check_value (type_of c.args.shape.now)) _ _ c.in_ok-count.count c.in_ok-count.is_least c.in_ok-count.ensures
+check_open-returns t c = c.leave.ensures ∙ ap (left_open (place_of c.sized_length_at.new.at) c.in_ok-counted.counted.count c.in_ok-counted.counted.is_least) c.check_shape-answer.ensures ∙ open_then (check_value (type_of c.args.shape.now)) _ _ c.in_ok-counted.counted.count c.in_ok-counted.counted.is_least c.in_ok-counted.ensures
 
-pub check_items-returns-in_err-count : goal.check_items-returns-in_err-count
-check_items-returns-in_err-count t c = rw (at_stop c.from_residual.result c.in_err-count.field-0.0 c.from_residual.ensures.1) (items_stop c.args.size (type_of c.args.item.now) _ _ _ c.in_err-count.ensures)
+pub check_items-returns-in_err-counted : goal.check_items-returns-in_err-counted
+check_items-returns-in_err-counted t c = rw (at_stop c.from_residual.result c.in_err-counted.field-0.0 c.from_residual.ensures.1) (items_stop c.args.size.now (type_of c.args.item.now) _ _ _ c.in_err-counted.ensures)
 
 pub check_items-returns-in_err-is_canonical : goal.check_items-returns-in_err-is_canonical
-check_items-returns-in_err-is_canonical t c = rw (at_stop c.from_residual-in_err-is_canonical.result c.in_err-is_canonical.field-0.0 c.from_residual-in_err-is_canonical.ensures.1) (ap (and_after c.in_ok-count.is_least) c.in_err-is_canonical.ensures ∙ items_then c.args.size (type_of c.args.item.now) _ _ c.in_ok-count.count c.in_ok-count.is_least c.in_ok-count.ensures)
+check_items-returns-in_err-is_canonical t c = rw (at_stop c.from_residual-in_err-is_canonical.result c.in_err-is_canonical.field-0.0 c.from_residual-in_err-is_canonical.ensures.1) (ap (and_after c.in_ok-counted.counted.is_least) c.in_err-is_canonical.ensures ∙ items_then c.args.size.now (type_of c.args.item.now) _ _ c.in_ok-counted.counted.count c.in_ok-counted.counted.is_least c.in_ok-counted.ensures)
 
 pub check_items-returns : goal.check_items-returns
-check_items-returns t c = rw c.both.ensures (ap (and_after c.in_ok-count.is_least) c.in_ok-is_canonical.ensures ∙ items_then c.args.size (type_of c.args.item.now) _ _ c.in_ok-count.count c.in_ok-count.is_least c.in_ok-count.ensures)
+check_items-returns t c = rw c.both.ensures (ap (and_after c.in_ok-counted.counted.is_least) c.in_ok-is_canonical.ensures ∙ items_then c.args.size.now (type_of c.args.item.now) _ _ c.in_ok-counted.counted.count c.in_ok-counted.counted.is_least c.in_ok-counted.ensures)
 
 pub check_sequence-returns-in_err-bits : goal.check_sequence-returns-in_err-bits
 check_sequence-returns-in_err-bits t c = rw (at_stop c.from_residual.result c.in_err-bits.field-0.0 c.from_residual.ensures.1) (sequence_stop (fields_of c.args.fields.now) _ _ _ (rw c.optional.ensures.is at c.in_err-bits.ensures))
@@ -172,7 +175,7 @@ check_choice-returns-in-Some t c =
     let o = as_choice c.args.shape.now h.0 c.args.additions.now xs h.1 h.2 in
     let first = c.in-Some.ensures in
     let found = first_value xs first.0 c.in-Some.alternative.now c.in_ok-tag.tag first.1 first.2 first.3 first.4 in
-    by_type (type_of c.args.shape.now) (choice o.extensible (root_of xs o.after)) _ _ o.is (choice_root o.extensible xs o.after _ _ c.in_ok-tag.tag _ c.in_ok-tag.ensures found.0 (c.check_shape.ensures ∙ ap (λ (r : Reader Bool). r (place_of c.in_ok-tag.next)) found.1))
+    by_type (type_of c.args.shape.now) (choice o.extensible (root_of xs o.after)) _ _ o.is (choice_root o.extensible xs o.after _ _ c.in_ok-tag.tag _ c.in_ok-tag.ensures found.0 (c.check_shape.ensures ∙ ap (λ (r : Reader Bool). r (place_of c.tag_at.new.at)) found.1))
 
 pub check_choice-returns-in-None : goal.check_choice-returns-in-None
 check_choice-returns-in-None t c =

@@ -7,13 +7,16 @@ use Rattle.oer_checker.specs.Steps.{and_after, check_later}
 use Rattle.oer_checker.proofs.value.+check.Given as goal
 
 abbrev pub invariant-check_additions-loop-addition : goal.invariant-check_additions-loop-addition
-invariant-check_additions-loop-addition l = and_after l.is_canonical (check_additions (additions_of (drop l.addition-index l.additions)) (bits_in l.left) (place_of l.at)) ≡ check_additions (additions_of l.additions) (bits_in l.bits) (place_of l.cursor)
+invariant-check_additions-loop-addition l = and_after l.is_canonical (check_additions (additions_of (drop l.addition-index l.additions)) (bits_in l.left) (place_of l.at)) ≡ check_additions (additions_of l.additions) (bits_in l.bits) (place_of l.fn.at)
 
 abbrev pub invariant-check_elements-loop-turn : goal.invariant-check_elements-loop-turn
-invariant-check_elements-loop-turn l = and_after l.is_canonical (check_times (l.count - l.turn) (check_value (type_of l.item)) (place_of l.at)) ≡ check_times l.count (check_value (type_of l.item)) (place_of l.cursor)
+invariant-check_elements-loop-turn l = and_after l.is_canonical (check_times (l.count - l.turn) (check_value (type_of l.item)) (place_of l.at)) ≡ check_times l.count (check_value (type_of l.item)) (place_of l.fn.at)
 
 abbrev pub invariant-check_fields-loop-field : goal.invariant-check_fields-loop-field
-invariant-check_fields-loop-field l = and_after l.is_canonical (check_fields (fields_of (drop l.field-index l.fields)) (bits_in l.left) (place_of l.at)) ≡ check_fields (fields_of l.fields) (bits_in l.bits) (place_of l.cursor)
+invariant-check_fields-loop-field l = and_after l.is_canonical (check_fields (fields_of (drop l.field-index l.fields)) (bits_in l.left) (place_of l.at)) ≡ check_fields (fields_of l.fields) (bits_in l.bits) (place_of l.fn.at)
 
 abbrev pub invariant-check_later-loop-alternative : goal.invariant-check_later-loop-alternative
-invariant-check_later-loop-alternative l = check_later (later_of (drop l.alternative-index l.alternatives)) l.tag ≡ check_later (later_of l.alternatives) l.tag
+invariant-check_later-loop-alternative l = record {
+  same : check_later (later_of (drop l.alternative-index l.alternatives)) l.tag ≡ check_later (later_of l.alternatives) l.tag;
+  still : place_of l.at ≡ place_of l.fn.at;
+}

@@ -30,7 +30,7 @@ unknown_in-requires-clause-checked c =
     let xs = c.args.additions.now in
     let s = bits_in c.args.bits in
     let p = parted xs (length xs) refl s (place_of c.args.cursor) e.1 e.0 e.2 in
-    let ends = same_end (check_additions (additions_of xs) s (place_of c.args.cursor)) p.1 (place_of c.in-Ok.next) _ (p.0, p.3) c.in-Ok.ensures in
+    let ends = same_end (check_additions (additions_of xs) s (place_of c.args.cursor)) p.1 (place_of c.check_additions.new.at) _ (p.0, p.3) c.in-Ok.ensures in
     (p.2, e.1, p.4 ∙ ap (λ q. check_unknown (drop (length xs) s) q) (sym ends))
 
 pub returns-then-index-additions-clause-found : goal.returns-then-index-additions-clause-found
@@ -39,7 +39,7 @@ returns-then-index-additions-clause-found c =
     let xs = c.args.additions.now in
     let s = bits_in c.args.bits in
     let p = parted xs (length xs) refl s (place_of c.args.cursor) e.1 e.0 e.2 in
-    let ends = same_end (check_additions (additions_of xs) s (place_of c.args.cursor)) p.1 (place_of c.in-Ok.next) _ (p.0, p.3) c.in-Ok.ensures in
+    let ends = same_end (check_additions (additions_of xs) s (place_of c.args.cursor)) p.1 (place_of c.check_additions.new.at) _ (p.0, p.3) c.in-Ok.ensures in
     λ o. c.unknown_in.ensures.found o
     ∙ ap (λ q. lookup o (to_addition c.args.index) (parts_in (unknown_parts (length xs) (drop (length xs) s) q))) ends
     ∙ unknown_look xs (length xs) refl s (place_of c.args.cursor) e.1 e.0 e.2 c.args.index c.if-index-additions.true o
@@ -72,8 +72,8 @@ returns-in_default-content_at-clause-found c =
     let x = c.index-additions-index.result in
     let o = addition_found xs (length xs) refl s (place_of c.args.cursor) e.1 e.0 e.2 c.args.index x c.if-index-additions.false c.index-additions-index.is in
     let there = sym c.if-not-first.false ∙ c.first.ensures ∙ ap first_bit c.skip.ensures in
-    let ends = same_end _ o.0 (place_of c.in-Ok-check_additions.start) _ o.1 c.in-Ok-check_additions.ensures in
-    absurd (is_unread _ (addition_entry x c.args.index (first_bit (drop c.args.index s))) o.0 (place_of c.in-Ok-check_additions.start) _ there o.2 ends c.in_default-content_at.ensures.read)
+    let ends = same_end _ o.0 (place_of c.check_additions-2.new.at) _ o.1 c.in-Ok-check_additions.ensures in
+    absurd (is_unread _ (addition_entry x c.args.index (first_bit (drop c.args.index s))) o.0 (place_of c.check_additions-2.new.at) _ there o.2 ends c.in_default-content_at.ensures.read)
 
 pub returns-clause-found : goal.returns-clause-found
 returns-clause-found c =
@@ -83,13 +83,13 @@ returns-clause-found c =
     let x = c.index-additions-index.result in
     let o = addition_found xs (length xs) refl s (place_of c.args.cursor) e.1 e.0 e.2 c.args.index x c.if-index-additions.false c.index-additions-index.is in
     let there = sym c.if-not-first.false ∙ c.first.ensures ∙ ap first_bit c.skip.ensures in
-    let ends = same_end _ o.0 (place_of c.in-Ok-check_additions.start) _ o.1 c.in-Ok-check_additions.ensures in
-    is_read _ (addition_entry x c.args.index (first_bit (drop c.args.index s))) o.0 (place_of c.in-Ok-check_additions.start) _ _ there o.2 ends c.in-Some.ensures.read
+    let ends = same_end _ o.0 (place_of c.check_additions-2.new.at) _ o.1 c.in-Ok-check_additions.ensures in
+    is_read _ (addition_entry x c.args.index (first_bit (drop c.args.index s))) o.0 (place_of c.check_additions-2.new.at) _ _ there o.2 ends c.in-Some.ensures.read
 
 pub returns-then-index-additions-clause-stands : goal.returns-then-index-additions-clause-stands
 returns-then-index-additions-clause-stands c =
-    beyond_stands c.args.additions.now c.args.index (bits_in c.args.bits) (place_of c.args.cursor) (place_of c.in-Ok.next) _ c.unknown_in.result c.requires.limits c.requires.defaults c.if-index-additions.true c.in-Ok.ensures c.unknown_in.ensures.stands
+    beyond_stands c.args.additions.now c.args.index (bits_in c.args.bits) (place_of c.args.cursor) (place_of c.check_additions.new.at) _ c.unknown_in.result c.requires.limits c.requires.defaults c.if-index-additions.true c.in-Ok.ensures c.unknown_in.ensures.stands
 
 pub returns-clause-stands : goal.returns-clause-stands
 returns-clause-stands c =
-    addition_stands c.args.additions.now c.args.index (bits_in c.args.bits) (place_of c.args.cursor) (place_of c.in-Ok-check_additions.start) _ _ _ c.requires.limits c.requires.defaults c.if-index-additions.false c.in-Ok-check_additions.ensures c.in-Some.ensures.stands
+    addition_stands c.args.additions.now c.args.index (bits_in c.args.bits) (place_of c.args.cursor) (place_of c.check_additions-2.new.at) _ _ _ c.requires.limits c.requires.defaults c.if-index-additions.false c.in-Ok-check_additions.ensures c.in-Some.ensures.stands

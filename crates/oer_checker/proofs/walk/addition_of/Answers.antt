@@ -44,7 +44,7 @@ returns-then-not-first-clause-found c =
     let xs = c.deref-additions.result.now in
     let is = as_extensible c.args.shape.now s.root s.additions c.in-Some.additions fs xs s.is c.in-Some.is c.deref-fields.ensures.value c.deref-additions.ensures.value in
     let many = ap (λ k. k + 1) c.optional.ensures.is ∙ add-one (optional (fields_of fs)) in
-    no_extension_look T fs xs is (c.optional.result + 1) (place_of c.args.cursor) (place_of c.in-Ok.next) (bits_in c.in-Ok.bits) _ many c.requires.checked c.in-Ok.ensures refl c.args.index (sym c.first.ensures ∙ c.if-not-first.true)
+    no_extension_look T fs xs is (c.optional.result + 1) (place_of c.args.cursor) (place_of c.preamble.new.at) (bits_in c.in-Ok.bits) _ many c.requires.checked c.in-Ok.ensures refl c.args.index (sym c.first.ensures ∙ c.if-not-first.true)
 
 pub returns-in_default-check_fields-clause-found : goal.returns-in_default-check_fields-clause-found
 returns-in_default-check_fields-clause-found c =
@@ -54,7 +54,7 @@ returns-in_default-check_fields-clause-found c =
     let xs = c.deref-additions.result.now in
     let is = as_extensible c.args.shape.now s.root s.additions c.in-Some.additions fs xs s.is c.in-Some.is c.deref-fields.ensures.value c.deref-additions.ensures.value in
     let many = ap (λ k. k + 1) c.optional.ensures.is ∙ add-one (optional (fields_of fs)) in
-    absurd (not_got _ _ _ (root_checked T fs xs is (c.optional.result + 1) (place_of c.args.cursor) (place_of c.in-Ok.next) (bits_in c.in-Ok.bits) (bits_in c.later.result) many c.requires.checked c.in-Ok.ensures c.later.ensures) c.in_default-check_fields.ensures)
+    absurd (not_got _ _ _ (root_checked T fs xs is (c.optional.result + 1) (place_of c.args.cursor) (place_of c.preamble.new.at) (bits_in c.in-Ok.bits) (bits_in c.later.result) many c.requires.checked c.in-Ok.ensures c.later.ensures) c.in_default-check_fields.ensures)
 
 pub returns-in_default-addition_map-clause-found : goal.returns-in_default-addition_map-clause-found
 returns-in_default-addition_map-clause-found c =
@@ -64,9 +64,9 @@ returns-in_default-addition_map-clause-found c =
     let xs = c.deref-additions.result.now in
     let is = as_extensible c.args.shape.now s.root s.additions c.in-Some.additions fs xs s.is c.in-Some.is c.deref-fields.ensures.value c.deref-additions.ensures.value in
     let many = ap (λ k. k + 1) c.optional.ensures.is ∙ add-one (optional (fields_of fs)) in
-    let ok = extension_checked T fs xs is (c.optional.result + 1) (place_of c.args.cursor) (place_of c.in-Ok.next) (bits_in c.in-Ok.bits) (bits_in c.later.result) many c.requires.checked c.in-Ok.ensures c.later.ensures (place_of c.in-Ok-check_fields.next) c.in-Ok-check_fields.field-0-0 c.in-Ok-check_fields.ensures in
+    let ok = extension_checked T fs xs is (c.optional.result + 1) (place_of c.args.cursor) (place_of c.preamble.new.at) (bits_in c.in-Ok.bits) (bits_in c.later.result) many c.requires.checked c.in-Ok.ensures c.later.ensures (place_of c.check_fields.new.at) c.in-Ok-check_fields.field-0 c.in-Ok-check_fields.ensures in
     let set = sym c.first.ensures ∙ c.if-not-first.false in
-    absurd (not_got _ _ _ ok (map_stop (additions_of xs) (length xs) (first_bit (bits_in c.in-Ok.bits)) (place_of c.in-Ok-check_fields.next) _ _ (sym set) (sym (count_is xs)) c.in_default-addition_map.ensures.bits))
+    absurd (not_got _ _ _ ok (map_stop (additions_of xs) (length xs) (first_bit (bits_in c.in-Ok.bits)) (place_of c.check_fields.new.at) _ _ (sym set) (sym (count_is xs)) c.in_default-addition_map.ensures.bits))
 
 pub addition_in-requires-clause-checked : goal.addition_in-requires-clause-checked
 addition_in-requires-clause-checked c =
@@ -76,9 +76,9 @@ addition_in-requires-clause-checked c =
     let xs = c.deref-additions.result.now in
     let is = as_extensible c.args.shape.now s.root s.additions c.in-Some.additions fs xs s.is c.in-Some.is c.deref-fields.ensures.value c.deref-additions.ensures.value in
     let many = ap (λ k. k + 1) c.optional.ensures.is ∙ add-one (optional (fields_of fs)) in
-    let ok = extension_checked T fs xs is (c.optional.result + 1) (place_of c.args.cursor) (place_of c.in-Ok.next) (bits_in c.in-Ok.bits) (bits_in c.later.result) many c.requires.checked c.in-Ok.ensures c.later.ensures (place_of c.in-Ok-check_fields.next) c.in-Ok-check_fields.field-0-0 c.in-Ok-check_fields.ensures in
+    let ok = extension_checked T fs xs is (c.optional.result + 1) (place_of c.args.cursor) (place_of c.preamble.new.at) (bits_in c.in-Ok.bits) (bits_in c.later.result) many c.requires.checked c.in-Ok.ensures c.later.ensures (place_of c.check_fields.new.at) c.in-Ok-check_fields.field-0 c.in-Ok-check_fields.ensures in
     let set = sym c.first.ensures ∙ c.if-not-first.false in
-    marks_checked xs (first_bit (bits_in c.in-Ok.bits)) (place_of c.in-Ok-check_fields.next) (place_of c.in-Ok-addition_map.next) (bits_in c.in-Ok-addition_map.bits) c.in-Ok-addition_map.field-0-0-1 set ok c.in-Ok-addition_map.ensures.bits
+    marks_checked xs (first_bit (bits_in c.in-Ok.bits)) (place_of c.check_fields.new.at) (place_of c.addition_map.new.at) (bits_in c.in-Ok-addition_map.map.bits) c.in-Ok-addition_map.map.is_canonical set ok c.in-Ok-addition_map.ensures.bits
 
 pub returns-clause-found : goal.returns-clause-found
 returns-clause-found c =
@@ -88,10 +88,10 @@ returns-clause-found c =
     let xs = c.deref-additions.result.now in
     let is = as_extensible c.args.shape.now s.root s.additions c.in-Some.additions fs xs s.is c.in-Some.is c.deref-fields.ensures.value c.deref-additions.ensures.value in
     let many = ap (λ k. k + 1) c.optional.ensures.is ∙ add-one (optional (fields_of fs)) in
-    let look = extension_look T fs xs is (c.optional.result + 1) (place_of c.args.cursor) (place_of c.in-Ok.next) (bits_in c.in-Ok.bits) (bits_in c.later.result) many c.requires.checked c.in-Ok.ensures c.later.ensures (place_of c.in-Ok-check_fields.next) c.in-Ok-check_fields.field-0-0 c.in-Ok-check_fields.ensures in
+    let look = extension_look T fs xs is (c.optional.result + 1) (place_of c.args.cursor) (place_of c.preamble.new.at) (bits_in c.in-Ok.bits) (bits_in c.later.result) many c.requires.checked c.in-Ok.ensures c.later.ensures (place_of c.check_fields.new.at) c.in-Ok-check_fields.field-0 c.in-Ok-check_fields.ensures in
     let set = sym c.first.ensures ∙ c.if-not-first.false in
     λ o. c.addition_in.ensures.found o
-    ∙ marks_look xs (first_bit (bits_in c.in-Ok.bits)) (place_of c.in-Ok-check_fields.next) (place_of c.in-Ok-addition_map.next) (bits_in c.in-Ok-addition_map.bits) c.in-Ok-addition_map.field-0-0-1 set c.in-Ok-addition_map.ensures.bits (to_addition c.args.index) o
+    ∙ marks_look xs (first_bit (bits_in c.in-Ok.bits)) (place_of c.check_fields.new.at) (place_of c.addition_map.new.at) (bits_in c.in-Ok-addition_map.map.bits) c.in-Ok-addition_map.map.is_canonical set c.in-Ok-addition_map.ensures.bits (to_addition c.args.index) o
     ∙ look c.args.index o
 
 pub returns-clause-stands : goal.returns-clause-stands
@@ -105,5 +105,5 @@ returns-clause-stands c =
     let set = sym c.first.ensures ∙ c.if-not-first.false in
     let w = (subst KeepsLimits is c.requires.limits).0 in
     let d = (subst DefaultsFit is c.requires.defaults).0 in
-    added_stands T fs xs is c.args.index (c.optional.result + 1) (length xs) (place_of c.args.cursor) (place_of c.in-Ok.next) (place_of c.in-Ok-check_fields.next) (place_of c.in-Ok-addition_map.next) (bits_in c.in-Ok.bits) (bits_in c.later.result) (bits_in c.in-Ok-addition_map.bits) c.in-Ok-check_fields.field-0-0 c.in-Ok-addition_map.field-0-0-1 c.addition_in.result w d
+    added_stands T fs xs is c.args.index (c.optional.result + 1) (length xs) (place_of c.args.cursor) (place_of c.preamble.new.at) (place_of c.check_fields.new.at) (place_of c.addition_map.new.at) (bits_in c.in-Ok.bits) (bits_in c.later.result) (bits_in c.in-Ok-addition_map.map.bits) c.in-Ok-check_fields.field-0 c.in-Ok-addition_map.map.is_canonical c.addition_in.result w d
     many c.in-Ok.ensures set c.later.ensures c.in-Ok-check_fields.ensures c.in-Ok-addition_map.ensures.bits c.addition_in.ensures.stands

@@ -45,7 +45,7 @@ field_in-requires-in-Some-clause-checked c =
     let fs = c.deref-fields.result.now in
     let more = c.in-Some.field-0 in
     let is = as_extensible c.args.shape.now s.root s.additions more fs more.items s.is c.in-Some.is c.deref-fields.ensures.value refl in
-    root_checked (type_of c.args.shape.now) fs more.items is (c.optional-in-Some.result + 1) (place_of c.args.cursor) (place_of c.in-Ok-preamble.next) (bits_in c.in-Ok-preamble.bits) (bits_in c.later.result) (ap (λ k. k + 1) c.optional-in-Some.ensures.is ∙ add-one (optional (fields_of fs))) c.requires.checked c.in-Ok-preamble.ensures c.later.ensures
+    root_checked (type_of c.args.shape.now) fs more.items is (c.optional-in-Some.result + 1) (place_of c.args.cursor) (place_of c.preamble-in-Some.new.at) (bits_in c.in-Ok-preamble.bits) (bits_in c.later.result) (ap (λ k. k + 1) c.optional-in-Some.ensures.is ∙ add-one (optional (fields_of fs))) c.requires.checked c.in-Ok-preamble.ensures c.later.ensures
 
 pub returns-in-Ok-clause-found : goal.returns-in-Ok-clause-found
 returns-in-Ok-clause-found c =
@@ -60,14 +60,14 @@ returns-in-Ok-preamble-clause-found c =
     let fs = c.deref-fields.result.now in
     let more = c.in-Some.field-0 in
     let is = as_extensible c.args.shape.now s.root s.additions more fs more.items s.is c.in-Some.is c.deref-fields.ensures.value refl in
-    λ o. c.field_in-in-Some.ensures.found o ∙ root_look (type_of c.args.shape.now) fs more.items is (c.optional-in-Some.result + 1) (place_of c.args.cursor) (place_of c.in-Ok-preamble.next) (bits_in c.in-Ok-preamble.bits) (bits_in c.later.result) (ap (λ k. k + 1) c.optional-in-Some.ensures.is ∙ add-one (optional (fields_of fs))) c.requires.checked c.in-Ok-preamble.ensures c.later.ensures c.args.index o
+    λ o. c.field_in-in-Some.ensures.found o ∙ root_look (type_of c.args.shape.now) fs more.items is (c.optional-in-Some.result + 1) (place_of c.args.cursor) (place_of c.preamble-in-Some.new.at) (bits_in c.in-Ok-preamble.bits) (bits_in c.later.result) (ap (λ k. k + 1) c.optional-in-Some.ensures.is ∙ add-one (optional (fields_of fs))) c.requires.checked c.in-Ok-preamble.ensures c.later.ensures c.args.index o
 
 pub returns-in-Ok-clause-stands : goal.returns-in-Ok-clause-stands
 returns-in-Ok-clause-stands c =
     let s = c.in-Sequence in
     let fs = c.deref-fields.result.now in
     let is = as_sequence c.args.shape.now s.root s.additions fs s.is c.in-None.is c.deref-fields.ensures.value in
-    closed_stands (type_of c.args.shape.now) (fields_of fs) is c.args.index (place_of c.args.cursor) (place_of c.in-Ok.next) (bits_in c.in-Ok.bits) c.field_in.result (rw c.optional.ensures.is at c.in-Ok.ensures) c.field_in.ensures.stands
+    closed_stands (type_of c.args.shape.now) (fields_of fs) is c.args.index (place_of c.args.cursor) (place_of c.preamble.new.at) (bits_in c.in-Ok.bits) c.field_in.result (rw c.optional.ensures.is at c.in-Ok.ensures) c.field_in.ensures.stands
 
 pub returns-in-Ok-preamble-clause-stands : goal.returns-in-Ok-preamble-clause-stands
 returns-in-Ok-preamble-clause-stands c =
@@ -76,4 +76,4 @@ returns-in-Ok-preamble-clause-stands c =
     let more = c.in-Some.field-0 in
     let is = as_extensible c.args.shape.now s.root s.additions more fs more.items s.is c.in-Some.is c.deref-fields.ensures.value refl in
     let many = ap (λ k. k + 1) c.optional-in-Some.ensures.is ∙ add-one (optional (fields_of fs)) in
-    root_stands (type_of c.args.shape.now) (fields_of fs) (additions_of more.items) is c.args.index (c.optional-in-Some.result + 1) (place_of c.args.cursor) (place_of c.in-Ok-preamble.next) (bits_in c.in-Ok-preamble.bits) (bits_in c.later.result) c.field_in-in-Some.result many c.in-Ok-preamble.ensures c.later.ensures c.field_in-in-Some.ensures.stands
+    root_stands (type_of c.args.shape.now) (fields_of fs) (additions_of more.items) is c.args.index (c.optional-in-Some.result + 1) (place_of c.args.cursor) (place_of c.preamble-in-Some.new.at) (bits_in c.in-Ok-preamble.bits) (bits_in c.later.result) c.field_in-in-Some.result many c.in-Ok-preamble.ensures c.later.ensures c.field_in-in-Some.ensures.stands

@@ -8,10 +8,10 @@ pub returns-in_default-clause-read : goal.returns-in_default-clause-read
 returns-in_default-clause-read c = counted_unread _ _ _ c.in_default.ensures
 
 pub returns-in_default-group_at-clause-read : goal.returns-in_default-group_at-clause-read
-returns-in_default-group_at-clause-read c = counted_cut _ _ c.in-Ok.count c.in-Ok.field-0-0-1 _ _ c.in-Ok.ensures c.in_default-group_at.ensures
+returns-in_default-group_at-clause-read c = counted_cut _ _ c.in-Ok.counted.count c.in-Ok.counted.is_least _ _ c.in-Ok.ensures c.in_default-group_at.ensures
 
 pub returns-clause-read : goal.returns-clause-read
-returns-clause-read c = counted_read _ _ _ c.in-Ok.count c.in-Ok.field-0-0-1 _ c.in-Ok.ensures c.in-Ok-group_at.ensures
+returns-clause-read c = counted_read _ _ _ c.in-Ok.counted.count c.in-Ok.counted.is_least _ c.in-Ok.ensures c.in-Ok-group_at.ensures
 
 pub returns-clause-stands : goal.returns-clause-stands
-returns-clause-stands c = counted_stands (place_of c.args.cursor) (place_of c.in-Ok.next) _ c.in-Ok.count c.in-Ok.field-0-0-1 _ _ c.in-Ok.ensures c.in-Ok-group_at.ensures refl
+returns-clause-stands c = counted_stands (place_of c.args.cursor) (place_of c.sized_length_at.new.at) _ c.in-Ok.counted.count c.in-Ok.counted.is_least _ _ c.in-Ok.ensures c.in-Ok-group_at.ensures refl

@@ -57,7 +57,7 @@ returns-in_default-encoding_at-clause-found c =
     let less : c.args.index < length xs = search rules in
     let o = field_found xs c.args.index s x (place_of c.args.cursor) e.1 e.0 e.2 less c.index-fields-index.is in
     let there = c.presence-is_present.ensures.there ∙ ap (is_there (need_of x.need)) (c.skip.ensures ∙ ap (λ k. drop k s) c.optional.ensures.is) in
-    absurd (is_unread _ (field_entry x c.args.index (drop (optional (fields_of (take c.args.index xs))) s)) o.0 (place_of c.in-Ok.start) _ (sym c.if-not-is_present.false ∙ there) o.2 (same_end _ o.0 _ _ o.1 c.in-Ok.ensures) c.in_default-encoding_at.ensures)
+    absurd (is_unread _ (field_entry x c.args.index (drop (optional (fields_of (take c.args.index xs))) s)) o.0 (place_of c.check_fields.new.at) _ (sym c.if-not-is_present.false ∙ there) o.2 (same_end _ o.0 _ _ o.1 c.in-Ok.ensures) c.in_default-encoding_at.ensures)
 
 pub returns-clause-found : goal.returns-clause-found
 returns-clause-found c =
@@ -68,7 +68,7 @@ returns-clause-found c =
     let less : c.args.index < length xs = search rules in
     let o = field_found xs c.args.index s x (place_of c.args.cursor) e.1 e.0 e.2 less c.index-fields-index.is in
     let there = c.presence-is_present.ensures.there ∙ ap (is_there (need_of x.need)) (c.skip.ensures ∙ ap (λ k. drop k s) c.optional.ensures.is) in
-    is_read _ (field_entry x c.args.index (drop (optional (fields_of (take c.args.index xs))) s)) o.0 (place_of c.in-Ok.start) _ _ (sym c.if-not-is_present.false ∙ there) o.2 (same_end _ o.0 _ _ o.1 c.in-Ok.ensures) c.in-Some.ensures
+    is_read _ (field_entry x c.args.index (drop (optional (fields_of (take c.args.index xs))) s)) o.0 (place_of c.check_fields.new.at) _ _ (sym c.if-not-is_present.false ∙ there) o.2 (same_end _ o.0 _ _ o.1 c.in-Ok.ensures) c.in-Some.ensures
 
 pub returns-clause-stands : goal.returns-clause-stands
 returns-clause-stands c =
@@ -78,5 +78,5 @@ returns-clause-stands c =
     let less : i < length xs = search rules in
     let w = field_limits xs i x less c.index-fields-index.is c.requires.limits in
     let d = field_defaults xs i x less c.index-fields-index.is c.requires.defaults in
-    let o = fields_stand xs i (bits_in c.args.bits) (place_of c.args.cursor) (place_of c.in-Ok.start) _ c.requires.limits c.requires.defaults c.in-Ok.ensures in
-    value_stands (type_of x.shape) w d (λ n a. AreFields (fields_of xs) i (bits_in c.args.bits) a) o.0 (place_of c.args.cursor) (place_of c.in-Ok.start) _ _ o.2 (λ n. o.1) c.in-Some.ensures refl
+    let o = fields_stand xs i (bits_in c.args.bits) (place_of c.args.cursor) (place_of c.check_fields.new.at) _ c.requires.limits c.requires.defaults c.in-Ok.ensures in
+    value_stands (type_of x.shape) w d (λ n a. AreFields (fields_of xs) i (bits_in c.args.bits) a) o.0 (place_of c.args.cursor) (place_of c.check_fields.new.at) _ _ o.2 (λ n. o.1) c.in-Some.ensures refl

@@ -5,7 +5,7 @@ use Rattle.oer_types.specs.ShapeView.{additions_of, fields_of, later_of, root_of
 use Rattle.oer_types.specs.declared.shape.Addition.{Addition}
 use Rattle.oer_types.specs.declared.shape.Shape.{Sequence}
 use Rattle.oer_checker.specs.BitView.{bits_in}
-use Rattle.oer_checker.specs.Places.{place_of}
+use Rattle.oer_checker.specs.Places.{counted_as, place_of}
 use Rattle.oer_rows.specs.Rows.{Line, Walker, halted, lines_of, path_in, stuck, walk_alternative, walk_later, walk_open, walk_value}
 use Rattle.oer_rows.specs.declared.row.Halt.TheVariants.{Refused}
 use Rattle.oer_checker.proofs.Exits.{at_stop}
@@ -17,17 +17,17 @@ use Rattle.oer_rows.proofs.trace.+list.Goals as goal
 
 -- ---- one unit, and what follows it
 
-pub list_items-returns-in_err-count : goal.list_items-returns-in_err-count
-list_items-returns-in_err-count t c = rw (at_stop c.from_residual.result c.in_err-count.field-0.0 c.from_residual.ensures.1) (taken_stop (λ x. x) c.args.spot.now _ _ _ c.args.cursor _ _ _ _ c.sized_quantity_at-answer.ensures c.in_err-count.ensures)
+pub list_items-returns-in_err-counted : goal.list_items-returns-in_err-counted
+list_items-returns-in_err-counted t c = rw (at_stop c.from_residual.result c.in_err-counted.field-0.0 c.from_residual.ensures.1) (taken_stop counted_as c.args.spot.now _ _ _ c.args.cursor _ _ _ _ _ c.sized_quantity_at-answer.ensures c.in_err-counted.ensures)
 
 pub list_items-returns : goal.list_items-returns
-list_items-returns t c = by_walk c.list_elements.result _ _ _ (taken_then (λ x. x) c.args.spot.now _ _ _ c.args.cursor _ _ _ _ c.sized_quantity_at-answer.ensures c.in_ok-count.ensures) c.list_elements.ensures
+list_items-returns t c = by_walk c.list_elements.result _ _ _ (taken_then counted_as c.args.spot.now _ _ _ c.args.cursor _ _ _ _ _ c.sized_quantity_at-answer.ensures c.in_ok-counted.ensures) c.list_elements.ensures
 
 pub list_sequence-returns-in_err-bits : goal.list_sequence-returns-in_err-bits
-list_sequence-returns-in_err-bits t c = rw (at_stop c.from_residual.result c.in_err-bits.field-0.0 c.from_residual.ensures.1) (taken_stop bits_in c.args.spot.now _ _ _ c.args.cursor _ _ _ _ (rw c.optional.ensures.is at c.preamble-answer.ensures) c.in_err-bits.ensures)
+list_sequence-returns-in_err-bits t c = rw (at_stop c.from_residual.result c.in_err-bits.field-0.0 c.from_residual.ensures.1) (taken_stop bits_in c.args.spot.now _ _ _ c.args.cursor _ _ _ _ _ (rw c.optional.ensures.is at c.preamble-answer.ensures) c.in_err-bits.ensures)
 
 pub list_sequence-returns : goal.list_sequence-returns
-list_sequence-returns t c = by_walk c.list_fields.result _ _ _ (taken_then bits_in c.args.spot.now _ _ _ c.args.cursor _ _ _ _ (rw c.optional.ensures.is at c.preamble-answer.ensures) c.in_ok-bits.ensures) c.list_fields.ensures
+list_sequence-returns t c = by_walk c.list_fields.result _ _ _ (taken_then bits_in c.args.spot.now _ _ _ c.args.cursor _ _ _ _ _ (rw c.optional.ensures.is at c.preamble-answer.ensures) c.in_ok-bits.ensures) c.list_fields.ensures
 
 -- ---- components
 
@@ -84,18 +84,18 @@ list_additions-returns t c = additions_end c.args.additions.now c.loop-addition.
 pub list_extension-returns-then-not-is_extended : goal.list_extension-returns-then-not-is_extended
 list_extension-returns-then-not-is_extended t c = extension_none (additions_of c.args.additions.now) c.args.is_extended _ _ _ _ c.args.cursor (search rules)
 
-pub list_extension-returns-in_err-bits : goal.list_extension-returns-in_err-bits
-list_extension-returns-in_err-bits t c = rw (at_stop c.from_residual.result c.in_err-bits.field-0.0 c.from_residual.ensures.1)
-    (extension_stop c.args.additions.now c.args.is_extended c.args.spot.now _ _ _ c.args.cursor _ c.in_err-bits.field-0.0 (search rules) c.addition_map-answer.ensures.bits c.in_err-bits.ensures)
+pub list_extension-returns-in_err-map : goal.list_extension-returns-in_err-map
+list_extension-returns-in_err-map t c = rw (at_stop c.from_residual.result c.in_err-map.field-0.0 c.from_residual.ensures.1)
+    (extension_stop c.args.additions.now c.args.is_extended c.args.spot.now _ _ _ c.args.cursor _ _ c.in_err-map.field-0.0 (search rules) c.addition_map-answer.ensures.bits c.in_err-map.ensures)
 
 pub list_extension-returns-in_err-end : goal.list_extension-returns-in_err-end
 list_extension-returns-in_err-end t c = rw (at_stop c.from_residual-in_err-end.result c.in_err-end.field-0.0 c.from_residual-in_err-end.ensures.1)
-    (by_walk (Err c.in_err-end.field-0.0) _ _ _ (extension_then c.args.additions.now c.args.is_extended c.args.spot.now _ _ _ c.args.cursor _ _ (search rules) c.addition_map-answer.ensures.bits c.in_ok-bits.ensures) (both_stop _ _ _ _ _ c.in_err-end.field-0.0 c.in_err-end.ensures))
+    (by_walk (Err c.in_err-end.field-0.0) _ _ _ (extension_then c.args.additions.now c.args.is_extended c.args.spot.now _ _ _ c.args.cursor _ _ _ (search rules) c.addition_map-answer.ensures.bits c.in_ok-map.ensures) (both_stop _ _ _ _ _ c.in_err-end.field-0.0 c.in_err-end.ensures))
 
 pub list_extension-returns : goal.list_extension-returns
 list_extension-returns t c =
     by_walk c.list_rest.result _ _ _
-    (both_then _ _ _ _ _ c.in_ok-end.end c.in_ok-end.ensures ∙ extension_then c.args.additions.now c.args.is_extended c.args.spot.now _ _ _ c.args.cursor _ _ (search rules) c.addition_map-answer.ensures.bits c.in_ok-bits.ensures)
+    (both_then _ _ _ _ _ c.in_ok-end.end c.in_ok-end.ensures ∙ extension_then c.args.additions.now c.args.is_extended c.args.spot.now _ _ _ c.args.cursor _ _ _ (search rules) c.addition_map-answer.ensures.bits c.in_ok-map.ensures)
     c.list_rest.ensures
 
 -- ---- elements
@@ -121,23 +121,23 @@ list_elements-returns t c = times_end (λ i. walk_value (type_of c.args.item.now
 
 -- ---- open types
 
-pub list_open-returns-in_err-count : goal.list_open-returns-in_err-count
-list_open-returns-in_err-count t c = rw (at_stop c.from_residual.result c.in_err-count.field-0.0 c.from_residual.ensures.1) (taken_stop (λ x. x) c.args.spot.now _ _ _ c.args.cursor _ _ _ _ c.sized_length_at-answer.ensures c.in_err-count.ensures)
+pub list_open-returns-in_err-counted : goal.list_open-returns-in_err-counted
+list_open-returns-in_err-counted t c = rw (at_stop c.from_residual.result c.in_err-counted.field-0.0 c.from_residual.ensures.1) (taken_stop counted_as c.args.spot.now _ _ _ c.args.cursor _ _ _ _ _ c.sized_length_at-answer.ensures c.in_err-counted.ensures)
 
 pub list_open-returns-in_err-end : goal.list_open-returns-in_err-end
 list_open-returns-in_err-end t c = rw (at_stop c.from_residual-in_err-end.result c.in_err-end.field-0.0 c.from_residual-in_err-end.ensures.1)
-    (by_walk (Err c.in_err-end.field-0.0) _ _ _ (taken_then (λ x. x) c.args.spot.now _ _ _ c.args.cursor _ _ _ _ c.sized_length_at-answer.ensures c.in_ok-count.ensures) (inside_stop c.in_ok-count.count _ _ _ (place_of c.in_ok-count.next) c.in_err-end.field-0.0 c.in_err-end.ensures))
+    (by_walk (Err c.in_err-end.field-0.0) _ _ _ (taken_then counted_as c.args.spot.now _ _ _ c.args.cursor _ _ _ _ _ c.sized_length_at-answer.ensures c.in_ok-counted.ensures) (inside_stop c.in_ok-counted.counted.count _ _ _ (place_of c.sized_length_at-answer.new.at) c.in_err-end.field-0.0 c.in_err-end.ensures))
 
 pub list_open-returns-then-end-gt0 : goal.list_open-returns-then-end-gt0
 list_open-returns-then-end-gt0 t c =
-    sym (taken_then (λ x. x) c.args.spot.now _ _ _ c.args.cursor _ _ _ _ c.sized_length_at-answer.ensures c.in_ok-count.ensures)
-    ∙ inside_left c.in_ok-count.count _ _ _ (place_of c.in_ok-count.next) c.in_ok-end.end c.in_ok-end.ensures (omega arith)
+    sym (taken_then counted_as c.args.spot.now _ _ _ c.args.cursor _ _ _ _ _ c.sized_length_at-answer.ensures c.in_ok-counted.ensures)
+    ∙ inside_left c.in_ok-counted.counted.count _ _ _ (place_of c.sized_length_at-answer.new.at) c.in_ok-end.end c.in_ok-end.ensures (omega arith)
 
 pub list_open-returns : goal.list_open-returns
 list_open-returns t c =
     rw c.saturating_sub.ensures
-    (sym (taken_then (λ x. x) c.args.spot.now _ _ _ c.args.cursor _ _ _ _ c.sized_length_at-answer.ensures c.in_ok-count.ensures)
-    ∙ inside_ends c.in_ok-count.count _ _ _ (place_of c.in_ok-count.next) c.in_ok-end.end c.in_ok-end.ensures (omega arith))
+    (sym (taken_then counted_as c.args.spot.now _ _ _ c.args.cursor _ _ _ _ _ c.sized_length_at-answer.ensures c.in_ok-counted.ensures)
+    ∙ inside_ends c.in_ok-counted.counted.count _ _ _ (place_of c.sized_length_at-answer.new.at) c.in_ok-end.end c.in_ok-end.ensures (omega arith))
 
 -- ---- a SEQUENCE with an extension marker
 
@@ -149,7 +149,7 @@ list_extensible-returns-in_err-bits t c =
     let h = c.requires.is in
     let is = as_extensible c.args.shape.now h.0 (Some h.1) h.1 fs xs h.2 refl h.3 h.4 in
     rw (at_stop c.from_residual.result c.in_err-bits.field-0.0 c.from_residual.ensures.1)
-    (type_arm _ _ c.args.spot.now (Err c.in_err-bits.field-0.0) _ _ _ is (bits_stop (fields_of fs) (additions_of xs) c.args.spot.now (c.optional.result + 1) _ _ c.args.cursor _ (omega arith) c.preamble-answer.ensures c.in_err-bits.field-0.0 c.in_err-bits.ensures))
+    (type_arm _ _ c.args.spot.now (Err c.in_err-bits.field-0.0) _ _ _ is (bits_stop (fields_of fs) (additions_of xs) c.args.spot.now (c.optional.result + 1) _ _ c.args.cursor _ _ (omega arith) c.preamble-answer.ensures c.in_err-bits.field-0.0 c.in_err-bits.ensures))
 
 pub list_extensible-returns-in_err-end : goal.list_extensible-returns-in_err-end
 list_extensible-returns-in_err-end t c =
@@ -159,7 +159,7 @@ list_extensible-returns-in_err-end t c =
     let h = c.requires.is in
     let is = as_extensible c.args.shape.now h.0 (Some h.1) h.1 fs xs h.2 refl h.3 h.4 in
     rw (at_stop c.from_residual-in_err-end.result c.in_err-end.field-0.0 c.from_residual-in_err-end.ensures.1)
-    (type_arm _ _ c.args.spot.now (Err c.in_err-end.field-0.0) _ _ _ is (root_stop (fields_of fs) (additions_of xs) c.args.spot.now (c.optional.result + 1) _ _ c.args.cursor _ (omega arith) c.preamble-answer.ensures _ c.in_ok-bits.ensures (bits_in c.later.result) c.later.ensures c.in_err-end.field-0.0 _ c.in_err-end.ensures))
+    (type_arm _ _ c.args.spot.now (Err c.in_err-end.field-0.0) _ _ _ is (root_stop (fields_of fs) (additions_of xs) c.args.spot.now (c.optional.result + 1) _ _ c.args.cursor _ _ (omega arith) c.preamble-answer.ensures _ c.in_ok-bits.ensures (bits_in c.later.result) c.later.ensures c.in_err-end.field-0.0 _ c.in_err-end.ensures))
 
 pub list_extensible-returns : goal.list_extensible-returns
 list_extensible-returns t c =
@@ -169,7 +169,7 @@ list_extensible-returns t c =
     let h = c.requires.is in
     let is = as_extensible c.args.shape.now h.0 (Some h.1) h.1 fs xs h.2 refl h.3 h.4 in
     type_arm _ _ c.args.spot.now c.list_extension.result _ _ _ is
-    (root_then (fields_of fs) (additions_of xs) c.args.spot.now (c.optional.result + 1) _ _ c.args.cursor _ (omega arith) c.preamble-answer.ensures _ c.in_ok-bits.ensures (bits_in c.later.result) c.later.ensures c.in_ok-end.end _ _ c.first.result c.list_extension.result c.in_ok-end.ensures c.first.ensures c.list_extension.ensures)
+    (root_then (fields_of fs) (additions_of xs) c.args.spot.now (c.optional.result + 1) _ _ c.args.cursor _ _ (omega arith) c.preamble-answer.ensures _ c.in_ok-bits.ensures (bits_in c.later.result) c.later.ensures c.in_ok-end.end _ _ c.first.result c.list_extension.result c.in_ok-end.ensures c.first.ensures c.list_extension.ensures)
 
 pub list_extensible-list_fields-requires : goal.list_extensible-list_fields-requires
 list_extensible-list_fields-requires t c =
@@ -189,7 +189,7 @@ list_choice-returns-in_err-tag t c =
     let xs = c.args.alternatives.now in
     let o = as_choice c.args.shape.now h.0 c.args.additions.now xs h.1 h.2 in
     rw (at_stop c.from_residual.result c.in_err-tag.field-0.0 c.from_residual.ensures.1)
-    (type_arm _ _ c.args.spot.now (Err c.in_err-tag.field-0.0) _ _ _ o.is (tag_stop o.extensible (root_of xs o.after) c.args.spot.now _ _ c.args.cursor _ c.tag_at-answer.ensures c.in_err-tag.field-0.0 c.in_err-tag.ensures))
+    (type_arm _ _ c.args.spot.now (Err c.in_err-tag.field-0.0) _ _ _ o.is (tag_stop o.extensible (root_of xs o.after) c.args.spot.now _ _ c.args.cursor _ _ c.tag_at-answer.ensures c.in_err-tag.field-0.0 c.in_err-tag.ensures))
 
 pub list_choice-returns-in_err-inner : goal.list_choice-returns-in_err-inner
 list_choice-returns-in_err-inner t c = rw (at_stop c.from_residual-in_err-inner.result c.in_err-inner.field-0.0 c.from_residual-in_err-inner.ensures.1) (no_inner c.args.spot.now to_chosen _ _ _ c.in_err-inner.ensures)
@@ -200,7 +200,7 @@ list_choice-returns-then-contains_tag t c =
     let xs = c.args.alternatives.now in
     let o = as_choice c.args.shape.now h.0 c.args.additions.now xs h.1 h.2 in
     type_arm _ _ c.args.spot.now c.list_alternative.result _ _ _ o.is
-    (tag_then o.extensible (root_of xs o.after) c.args.spot.now _ _ c.args.cursor _ c.tag_at-answer.ensures _ c.in_ok-inner.inner (λ total path. walk_alternative (root_of xs no_alternatives) total path c.in_ok-tag.tag) c.list_alternative.result _ c.in_ok-tag.ensures c.in_ok-inner.ensures
+    (tag_then o.extensible (root_of xs o.after) c.args.spot.now _ _ c.args.cursor _ _ c.tag_at-answer.ensures _ c.in_ok-inner.inner (λ total path. walk_alternative (root_of xs no_alternatives) total path c.in_ok-tag.tag) c.list_alternative.result _ c.in_ok-tag.ensures c.in_ok-inner.ensures
     (choice_root o.extensible xs o.after c.args.spot.now.total _ c.in_ok-tag.tag (sym c.if-contains_tag.true ∙ c.contains_tag.ensures)) c.list_alternative.ensures)
 
 pub list_choice-returns-in-None : goal.list_choice-returns-in-None
@@ -208,7 +208,7 @@ list_choice-returns-in-None t c =
     let h = c.requires.is in
     let xs = c.args.alternatives.now in
     type_arm _ _ c.args.spot.now (Err Refused) _ _ _ (as_closed c.args.shape.now h.0 c.args.additions.now xs h.1 c.in-None.is h.2)
-    (tag_then false (root_of xs no_alternatives) c.args.spot.now _ _ c.args.cursor _ c.tag_at-answer.ensures _ c.in_ok-inner.inner (λ total path. stuck) (Err Refused) _ c.in_ok-tag.ensures c.in_ok-inner.ensures
+    (tag_then false (root_of xs no_alternatives) c.args.spot.now _ _ c.args.cursor _ _ c.tag_at-answer.ensures _ c.in_ok-inner.inner (λ total path. stuck) (Err Refused) _ c.in_ok-tag.ensures c.in_ok-inner.ensures
     (choice_none xs c.args.spot.now.total _ c.in_ok-tag.tag (sym c.if-contains_tag.false ∙ c.contains_tag.ensures)) (sticks _ _))
 
 pub list_choice-returns : goal.list_choice-returns
@@ -218,7 +218,7 @@ list_choice-returns t c =
     let ys = c.deref.result.now in
     let is = as_open c.args.shape.now h.0 c.args.additions.now c.in-Some.additions xs ys h.1 c.in-Some.is h.2 c.deref.ensures.value in
     type_arm _ _ c.args.spot.now c.list_later.result _ _ _ is
-    (tag_then true (root_of xs (later_of ys)) c.args.spot.now _ _ c.args.cursor _ c.tag_at-answer.ensures _ c.in_ok-inner.inner (λ total path. walk_later (later_of ys) total path c.in_ok-tag.tag) c.list_later.result _ c.in_ok-tag.ensures c.in_ok-inner.ensures
+    (tag_then true (root_of xs (later_of ys)) c.args.spot.now _ _ c.args.cursor _ _ c.tag_at-answer.ensures _ c.in_ok-inner.inner (λ total path. walk_later (later_of ys) total path c.in_ok-tag.tag) c.list_later.result _ c.in_ok-tag.ensures c.in_ok-inner.ensures
     (choice_later xs ys c.args.spot.now.total _ c.in_ok-tag.tag (sym c.if-contains_tag.false ∙ c.contains_tag.ensures)) c.list_later.ensures)
 
 pub list_choice-list_alternative-requires : goal.list_choice-list_alternative-requires
