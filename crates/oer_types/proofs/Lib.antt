@@ -2,6 +2,7 @@ pub mod Values
 pub mod Leaves
 pub mod Shapes
 pub mod Packing
+pub mod LowBits
 pub mod Parts
 pub mod Strings
 pub mod Tests

@@ -4,6 +4,7 @@ ghost use Rattle.std.specs.List.{slice_get};
 ghost use Rattle.oer_units.specs.Octets.{IsOctets};
 ghost use Rattle.oer_types.specs.Bits.{bits_of, all_false, octets_for, padded};
 
+use crate::octet_bits::{bit_of, octets_needed};
 use std::alloc::{AllocError, Global};
 use std::marker::Model;
 
@@ -101,17 +102,6 @@ fn same_octets(one: &[u8], other: &[u8]) -> bool
     one == other
 }
 
-/// How many octets hold so many bits.
-fn octets_needed(count: u64) -> u64
-    ensures { result ≡ octets_for count }
-{
-    if count % 8 == 0 {
-        count / 8
-    } else {
-        count / 8 + 1
-    }
-}
-
 /// Sets the bits from `count` on to zero.
 fn clear_unused(octets: &mut [u8], count: u64)
     requires { length octets.old ≡ octets_for count }
@@ -139,6 +129,5 @@ fn bit_at(octets: &[u8], index: u64) -> bool
     requires { index < 8 * length octets.now }
     ensures { Some result ≡ slice_get (bits_of octets.now) index }
 {
-    let octet = octets[(index / 8) as usize];
-    (octet >> (7 - index % 8)) % 2 == 1
+    bit_of(octets[(index / 8) as usize], (7 - index % 8) as u8)
 }

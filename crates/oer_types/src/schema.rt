@@ -16,6 +16,9 @@ pub const MAX_DEPTH: u8 = 32;
 /// ENUMERATED.
 pub const MAX_PARTS: u16 = 4096;
 
+/// How many places the additions of a SEQUENCE may have: from 0 to 65,535.
+pub const ADDITION_PLACES: usize = 65_536;
+
 /// A well-formed type: a shape of which no fault holds.
 #[derive(Drop)]
 pub struct Schema {
