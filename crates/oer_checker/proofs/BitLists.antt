@@ -1,5 +1,5 @@
 -- Lists of the bits of octets.
-use Rattle.std.proofs.Common.{◌≡◌, ◌^◌, eqb, drop-cons, ℕ, zero, suc, ◌+◌, ◌-◌, ◌*◌, ◌/◌, ◌%◌, ◌<◌, ◌≤◌, Bool, true, false, not, ◌&&◌, List, [], ◌∷◌, length, take, drop, get_or, refl, sym, ap, ◌∙◌, arith, length-drop, length-take}
+use Rattle.std.proofs.Common.{◌≡◌, drop-cons, ℕ, zero, suc, ◌+◌, ◌-◌, ◌*◌, ◌/◌, ◌%◌, ◌<◌, ◌≤◌, Bool, true, false, not, ◌&&◌, List, [], ◌∷◌, length, take, drop, get_or, refl, sym, ap, ◌∙◌, arith, length-drop, length-take}
 use Rattle.oer_types.specs.Bits.{all_false, bit, bits_of, first_bit, later_bits, octets_for, spare_bits}
 use Rattle.oer_types.specs.Checking.{ends_set}
 use Rattle.oer_types.proofs.Parts.{length-bits_of}
@@ -76,10 +76,6 @@ octet_bit x rest (suc (suc (suc (suc (suc (suc (suc (suc r)))))))) l = absurd (o
 
 split_at : (i : ℕ) (xs : List ℕ) → drop i (bits_of xs) ≡ drop (i % 8) (bits_of (drop (i / 8) xs))
 split_at i xs = drop_sum (8 * (i / 8)) (i % 8) i (bits_of xs) (omega arith) ∙ ap (drop (i % 8)) (drop_bits (i / 8) (8 * (i / 8)) xs refl)
-
-pub bit_is : (x i : ℕ) → eqb ((x / 2 ^ i) % 2) 1 ≡ bit x i
-unfolding bit
-bit_is x i = refl
 
 pub bit_there : (i : ℕ) (xs : List ℕ) (x : ℕ) (rest : List ℕ) → drop (i / 8) xs ≡ x ∷ rest → bit x (7 - i % 8) ≡ first_bit (drop i (bits_of xs))
 bit_there i xs x rest e = sym (octet_bit x rest (i % 8) (omega arith)) ∙ ap (λ (l : List ℕ). first_bit (drop (i % 8) (bits_of l))) (sym e) ∙ ap first_bit (sym (split_at i xs))

@@ -6,7 +6,7 @@ mod NumberSteps
 pub mod Exits
 mod StringSteps
 pub mod BitLists
-mod LowBits
+mod LastBits
 mod BitSteps
 pub mod TagSteps
 pub mod FieldSteps

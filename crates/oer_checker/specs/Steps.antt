@@ -11,6 +11,7 @@ use Rattle.oer_types.specs.Bits.{all_false, bits_of}
 use Rattle.oer_types.specs.Canonical.{canonical_octets, same_list}
 use Rattle.oer_types.specs.Checking.{check_alternative, check_octets, check_value, is_bitmap, is_least, judged, quantity_octets, unlike}
 use Rattle.oer_types.specs.Constraints.{has_tag, size_fits}
+use Rattle.oer_types.specs.Limits.{addition_places}
 use Rattle.oer_types.specs.Reading.{bitmap, quantity}
 use Rattle.oer_types.specs.declared.size.Size.{Size}
 
@@ -45,7 +46,7 @@ subidentifier_size k = bind (subidentifier k) (λ x. give x.1)
 
 -- the presence bitmap of additions, n of which are known, and whether it is canonical
 unfoldable pub addition_map : ℕ → Reader (List Bool × Bool)
-addition_map n = bind (judged (is_bitmap n) bitmap) (λ y. guard (all_false (drop 65536 y.0)) UnknownAddition (give y))
+addition_map n = bind (judged (is_bitmap n) bitmap) (λ y. guard (all_false (drop addition_places y.0)) UnknownAddition (give y))
 
 -- the last u bits of the octets are 0
 abbrev pub last_are_zero : ℕ → List ℕ → Bool

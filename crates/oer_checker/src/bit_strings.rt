@@ -1,16 +1,15 @@
 //! BIT STRING, and the presence bits of a SEQUENCE.
-ghost use Rattle.std.specs.Prelude.{◌≡◌, ◌≤◌, ◌<◌, ◌-◌, ◌*◌, ◌%◌, ◌^◌, List, Bool, None, IfOk, drop, eqb, leb, length, not, take, ◌&&◌};
+ghost use Rattle.std.specs.Prelude.{◌≡◌, ◌≤◌, ◌<◌, ◌-◌, ◌*◌, ◌%◌, List, Bool, None, IfOk, drop, leb, length, not, take, ◌&&◌};
 ghost use Rattle.oer_units.specs.Reader.{bind, give, group, guard};
 ghost use Rattle.oer_units.specs.declared.fault.Why.TheVariants as reason;
 ghost use Rattle.oer_types.specs.AsnType.{bit_string};
-ghost use Rattle.oer_types.specs.Bits.{all_false, bit as the_bit, bits_of as the_bits, first_bit, later_bits, octets_for, spare_bits};
+ghost use Rattle.oer_types.specs.Bits.{all_false, bits_of as the_bits, first_bit, later_bits, spare_bits};
 ghost use Rattle.oer_types.specs.Canonical.{bitmap_octets};
 ghost use Rattle.oer_types.specs.Checking.{are_least_bits as are_least, check_value, ends_set};
 ghost use Rattle.oer_types.specs.Constraints.{size_fits};
 ghost use Rattle.oer_types.specs.Reading.{preamble as preamble_read, read_bits};
 ghost use Rattle.oer_checker.specs.BitView.{IsWhole, bits_in};
 ghost use Rattle.oer_checker.specs.Places.{outcome, place_of, same};
-ghost use Rattle.oer_types.specs.SharedSteps.{unused_fits};
 ghost use Rattle.oer_checker.specs.Steps.{addition_map as addition_map_read, last_are_zero};
 
 use crate::bits::Bits;
@@ -18,7 +17,9 @@ use crate::cursor::{Cursor, both};
 use crate::lengths::{counted_len, octets_between};
 use crate::stop::Stop;
 use crate::units::{group_at, length_at, octet_at};
-use oer_types::Size;
+use oer_types::{
+    ADDITION_PLACES, Size, are_last_zero, bit_of, may_be_unused, octets_needed, spare_bits,
+};
 use oer_units::Why;
 
 impl<'a> Bits<'a> {
@@ -98,42 +99,6 @@ impl<'a> Bits<'a> {
     }
 }
 
-// The bit of the octet; bit 7 is the most significant.
-fn bit_of(octet: u8, index: u8) -> bool
-    requires { index < 8 }
-    ensures { result ≡ the_bit octet index }
-{
-    (octet >> index) % 2 == 1
-}
-
-// How many octets hold so many bits.
-fn octets_needed(count: u64) -> u64
-    ensures value { result ≡ octets_for count }
-    ensures most { result ≤ 2305843009213693952 }
-{
-    if count % 8 == 0 {
-        count / 8
-    } else {
-        count / 8 + 1
-    }
-}
-
-// How many bits are missing to whole octets.
-fn spare(count: u64) -> u8
-    ensures value { result ≡ spare_bits count }
-    ensures most { result ≤ 7 }
-{
-    ((8 - count % 8) % 8) as u8
-}
-
-// Whether the last so many bits of the octet are zero.
-fn is_clear_below(octet: u8, count: u8) -> bool
-    requires { count ≤ 7 }
-    ensures { result ≡ eqb (octet % 2 ^ count) 0 }
-{
-    octet % (1 << count) == 0
-}
-
 // Whether the last so many bits are zero.
 fn ends_in_zeros(octets: &[u8], unused: u8) -> bool
     requires { unused ≤ 7 }
@@ -142,7 +107,7 @@ fn ends_in_zeros(octets: &[u8], unused: u8) -> bool
     if octets.is_empty() {
         return true;
     }
-    is_clear_below(octets[octets.len() - 1], unused)
+    are_last_zero(octets[octets.len() - 1], unused)
 }
 
 // Whether octets are as short as a bit string of so many bits can be, and its unused bits are 0.
@@ -150,7 +115,7 @@ fn are_least_bits(count: u64, octets: &[u8]) -> bool
     ensures { (s : List Bool) → length s ≡ count → result ≡ are_least bitmap_octets s octets.now }
 {
     octets.len() as u128 == counted_len(1 + octets_needed(count))
-        && ends_in_zeros(octets, spare(count))
+        && ends_in_zeros(octets, spare_bits(count))
 }
 
 /// A BIT STRING (X.696, 13). Bits past the last one may have any values; canonically they are 0.
@@ -159,7 +124,7 @@ pub(crate) fn check_bit_string(size: &Size, at: &mut Cursor) -> Result<bool, Sto
 {
     if let Some(count) = size.fixed() {
         let octets = group_at(at, octets_needed(count))?;
-        return Ok(ends_in_zeros(octets, spare(count)));
+        return Ok(ends_in_zeros(octets, spare_bits(count)));
     }
     let start = *at;
     let bits = counted_bits(size, at)?;
@@ -210,19 +175,12 @@ fn sized_bits<'a>(
     })
 }
 
-// Whether so many bits may be unused where a length counts the initial octet.
-fn may_be_unused(unused: u8, length: u64) -> bool
-    ensures { result ≡ unused_fits length unused }
-{
-    unused <= 7 && (length >= 2 || unused == 0)
-}
-
 /// The preamble of a SEQUENCE (X.696, 16.2): so many bits, and zeros to the octet's end.
 pub fn preamble<'a>(count: u64, at: &mut Cursor<'a>) -> Result<Bits<'a>, Stop>
     ensures { outcome bits_in result at.new ≡ preamble_read count (place_of at.old) }
 {
     let octets = group_at(at, octets_needed(count))?;
-    if !ends_in_zeros(octets, spare(count)) {
+    if !ends_in_zeros(octets, spare_bits(count)) {
         return Err(Stop {
             why: Why::PreamblePadding,
         });
@@ -259,7 +217,7 @@ pub fn addition_map<'a>(known: usize, at: &mut Cursor<'a>) -> Result<Map<'a>, St
 {
     let start = *at;
     let bits = counted_bits(&Size::any(), at)?;
-    if !bits.are_clear_from(65536) {
+    if !bits.are_clear_from(ADDITION_PLACES as u64) {
         return Err(Stop {
             why: Why::UnknownAddition,
         });

@@ -1,5 +1,5 @@
 -- Bits that are read after an initial octet.
-use Rattle.std.proofs.Common.{◌∙◌, ◌≡◌, ◌≢◌, ℕ, ◌-◌, ◌*◌, ◌≤◌, Bool, true, false, ◌&&◌, ◌||◌, leb, eqb, List, take, drop, Option, None, Result, Ok, Err, refl, ap₂, subst, arith, [], ◌∷◌, get_or, length}
+use Rattle.std.proofs.Common.{◌∙◌, ◌≡◌, ◌≢◌, ℕ, ◌-◌, ◌*◌, ◌≤◌, Bool, true, false, ◌&&◌, ◌||◌, leb, eqb, List, take, drop, Option, None, Result, Ok, Err, refl, sym, ap, ap₂, subst, arith, [], ◌∷◌, get_or, length}
 use Rattle.std.proofs.lemmas.Bool.{eqb-true, le-leb, lt-leb, leb-true}
 use Rattle.oer_units.specs.declared.fault.Why.TheVariants.{BitUnused, PreamblePadding, Size, UnknownAddition}
 use Rattle.oer_units.specs.declared.fault.ReadFault.{ReadFault}
@@ -202,6 +202,12 @@ one_is (x ∷ y ∷ p) d e = absurd (omega arith)
 one_octet : (k : ℕ) → 1 ≤ k → k ≤ 8 → 1 ≡ octets_for k
 unfolding octets_for
 one_octet k some most = omega arith
+
+-- the padding of one octet, by its last bits
+pub padding_is : (k : ℕ) (p : List ℕ) (b : Bool) → length p ≡ 1 → k ≤ 8 → b ≡ all_false (drop (8 - (8 - k)) (bits_of (get_or p 0 0 ∷ []))) → all_false (drop k (bits_of p)) ≡ b
+padding_is k p b one most h =
+    let same : 8 - (8 - k) ≡ k = omega arith in
+    sym (h ∙ ap (λ (n : ℕ). all_false (drop n (bits_of (get_or p 0 0 ∷ [])))) same ∙ ap (λ (xs : List ℕ). all_false (drop k (bits_of xs))) (sym (one_is p 0 one)))
 
 pub as_preamble : (k : ℕ) (s s' : State) (result : Result (List ℕ) ReadFault) → 1 ≤ k → k ≤ 8 → Reads (group 1) s result s' → Reads (group (octets_for k)) s result s'
 as_preamble k s s' result some most h = subst (λ (n : ℕ). Reads (group n) s result s') (one_octet k some most) h

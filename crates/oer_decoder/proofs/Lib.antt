@@ -1,4 +1,5 @@
 pub mod Joins
+mod Exits
 pub mod Values
 pub mod Bounds
 pub mod BitLists

@@ -5,6 +5,7 @@ use Rattle.oer_units.specs.Reading.{octet, with_length}
 use Rattle.oer_units.specs.declared.fault.Why.TheVariants.{BitUnused, Size, UnknownAddition}
 use Rattle.oer_types.specs.Bits.{all_false, bits_of, octets_for}
 use Rattle.oer_types.specs.Constraints.{any_size, size_fits}
+use Rattle.oer_types.specs.Limits.{addition_places}
 use Rattle.oer_types.specs.SharedSteps.{unused_fits}
 use Rattle.oer_types.specs.declared.size.Size as constraint
 
@@ -26,7 +27,7 @@ used u d = take (length (bits_of d) - u) (bits_of d)
 
 -- of the bits of d without the last u, those for the additions that are kept
 abbrev pub kept_map : ℕ → List ℕ → Reader (List Bool)
-kept_map u d = guard (all_false (drop 65536 (used u d))) UnknownAddition (give (take 65536 (used u d)))
+kept_map u d = guard (all_false (drop addition_places (used u d))) UnknownAddition (give (take addition_places (used u d)))
 
 -- the presence bitmap of additions, up to place 65,535
 unfoldable pub addition_map_at : Reader (List Bool)

@@ -9,3 +9,4 @@ pub mod Headline
 pub mod MarksView
 pub mod Relaying
 pub mod Parts
+pub mod Stops

@@ -1,19 +1,23 @@
 //! Bits: BIT STRING and the presence bitmap of a SEQUENCE.
-ghost use Rattle.std.specs.Prelude.{◌≡◌, ◌≤◌, ◌<◌, ◌-◌, ◌+◌, ◌*◌, ◌^◌, ◌∷◌, [], ℕ, Bool, List, IfOk, None, length, drop, take, zero};
-ghost use Rattle.oer_units.specs.Reader.{group};
-ghost use Rattle.oer_units.specs.Reads.{Reads, bound_of, seen, state};
+ghost use Rattle.std.specs.Prelude.{◌≡◌, ◌≤◌, ◌<◌, ◌-◌, ◌*◌, ◌^◌, ◌∷◌, [], IfOk, None, length, drop, take};
+ghost use Rattle.oer_units.specs.Reads.{state};
 ghost use Rattle.oer_types.specs.AsnType.{bit_string as bit_string_type};
-ghost use Rattle.oer_types.specs.Bits.{bit as the_bit, bits_of as the_bits, all_false, octets_for};
+ghost use Rattle.oer_types.specs.Bits.{bits_of as the_bits, all_false, octets_for};
 ghost use Rattle.oer_types.specs.Constraints.{fixed as fixed_size};
+ghost use Rattle.oer_types.specs.Limits.{addition_places};
 ghost use Rattle.oer_types.specs.Reading.{read_bits, read_value};
 ghost use Rattle.oer_types.specs.ValueView.{value_of};
-ghost use Rattle.oer_types.specs.SharedSteps.{unused_fits};
 ghost use Rattle.oer_decoder.specs.BitReading.{addition_map_at, fixed_bits_at, initial_octet_at, sized_octet_at, used};
+ghost use Rattle.oer_decoder.specs.Stops.{ReadsAs, same};
 
 use crate::parts::set;
-use oer_types::{Bits, Size, Value};
-use oer_units::{ReadFault, Source, Why, Window, length, octet, octets};
+use crate::stop::Stop;
+use oer_types::{ADDITION_PLACES, Bits, Size, Value, bit_of, may_be_unused, octets_needed};
+use oer_units::{Source, Why, Window, length, octet, octets};
 use std::alloc::{AllocError, Global};
+
+// How many octets hold the bits of the places of additions.
+const PLACES_OCTETS: usize = ADDITION_PLACES / 8;
 
 /// Reads a BIT STRING (X.696, 13) into `value`. Bits past the last one may have any values.
 pub(crate) fn read_bit_string<R: Source>(
@@ -21,8 +25,8 @@ pub(crate) fn read_bit_string<R: Source>(
     size: &Size,
     value: &mut Value,
     w: &mut Window<R>,
-) -> Result<(), ReadFault>
-    ensures { Reads (read_value (bit_string_type size.now)) (state R.remaining R.failed w.old) (seen (λ _. value_of value.new) result)
+) -> Result<(), Stop>
+    ensures { ReadsAs (read_value (bit_string_type size.now)) (state R.remaining R.failed w.old) (λ _. value_of value.new) result
         (state R.remaining R.failed w.new) }
 {
     let bits = sized_bits(alloc, size, w)?;
@@ -31,8 +35,8 @@ pub(crate) fn read_bit_string<R: Source>(
 }
 
 // As many bits as the one size says, or else as a length says that the size allows.
-fn sized_bits<R: Source>(alloc: Global, size: &Size, w: &mut Window<R>) -> Result<Bits, ReadFault>
-    ensures { Reads (read_bits (fixed_size size.now) size.now) (state R.remaining R.failed w.old) result
+fn sized_bits<R: Source>(alloc: Global, size: &Size, w: &mut Window<R>) -> Result<Bits, Stop>
+    ensures { ReadsAs (read_bits (fixed_size size.now) size.now) (state R.remaining R.failed w.old) same result
         (state R.remaining R.failed w.new) }
 {
     match size.fixed() {
@@ -42,8 +46,8 @@ fn sized_bits<R: Source>(alloc: Global, size: &Size, w: &mut Window<R>) -> Resul
 }
 
 // As many bits, and any bits to the octet's end.
-fn fixed_bits<R: Source>(alloc: Global, count: u64, w: &mut Window<R>) -> Result<Bits, ReadFault>
-    ensures { Reads (fixed_bits_at count) (state R.remaining R.failed w.old) result
+fn fixed_bits<R: Source>(alloc: Global, count: u64, w: &mut Window<R>) -> Result<Bits, Stop>
+    ensures { ReadsAs (fixed_bits_at count) (state R.remaining R.failed w.old) same result
         (state R.remaining R.failed w.new) }
 {
     let octets = octets(alloc, w, octets_needed(count))?;
@@ -51,8 +55,8 @@ fn fixed_bits<R: Source>(alloc: Global, count: u64, w: &mut Window<R>) -> Result
 }
 
 // A length, the initial octet, and the bits.
-fn counted_bits<R: Source>(alloc: Global, size: Size, w: &mut Window<R>) -> Result<Bits, ReadFault>
-    ensures { Reads (read_bits None size) (state R.remaining R.failed w.old) result
+fn counted_bits<R: Source>(alloc: Global, size: Size, w: &mut Window<R>) -> Result<Bits, Stop>
+    ensures { ReadsAs (read_bits None size) (state R.remaining R.failed w.old) same result
         (state R.remaining R.failed w.new) }
 {
     let length = length(w)?;
@@ -62,31 +66,31 @@ fn counted_bits<R: Source>(alloc: Global, size: Size, w: &mut Window<R>) -> Resu
 }
 
 // The number of unused bits in the last of `length - 1` octets (X.696, 13.3).
-fn initial_octet<R: Source>(length: u64, w: &mut Window<R>) -> Result<u8, ReadFault>
+fn initial_octet<R: Source>(length: u64, w: &mut Window<R>) -> Result<u8, Stop>
     ensures room { IfOk result (λ u. (1 ≤ length) × (u ≤ 7) × (u ≤ 8 * (length - 1))) }
-    ensures reads { Reads (initial_octet_at length) (state R.remaining R.failed w.old) result
+    ensures reads { ReadsAs (initial_octet_at length) (state R.remaining R.failed w.old) same result
         (state R.remaining R.failed w.new) }
 {
     if length == 0 {
-        return Err(w.fault(Why::BitUnused));
+        return Err(Stop { why: Why::BitUnused });
     }
     let unused = octet(w)?;
     if !may_be_unused(unused, length) {
-        return Err(w.fault(Why::BitUnused));
+        return Err(Stop { why: Why::BitUnused });
     }
     Ok(unused)
 }
 
 // The number of unused bits, where the size allows as many bits as are used.
-fn sized_octet<R: Source>(size: Size, length: u64, w: &mut Window<R>) -> Result<u8, ReadFault>
+fn sized_octet<R: Source>(size: Size, length: u64, w: &mut Window<R>) -> Result<u8, Stop>
     ensures room { IfOk result (λ u. (1 ≤ length) × (u ≤ 7) × (u ≤ 8 * (length - 1)) × (8 * (length - 1) - u < 2 ^ 64)) }
-    ensures reads { Reads (sized_octet_at size length) (state R.remaining R.failed w.old) result
+    ensures reads { ReadsAs (sized_octet_at size length) (state R.remaining R.failed w.old) same result
         (state R.remaining R.failed w.new) }
 {
     let unused = initial_octet(length, w)?;
     let count = bits_used(length, unused);
     if !size.allows(count) {
-        return Err(w.fault(Why::Size));
+        return Err(Stop { why: Why::Size });
     }
     Ok(unused)
 }
@@ -100,13 +104,6 @@ fn bits_used(length: u64, unused: u8) -> u128
     8 * u128::from(length - 1) - u128::from(unused)
 }
 
-// Whether so many bits may be unused where a length counts the initial octet.
-fn may_be_unused(unused: u8, length: u64) -> bool
-    ensures { result ≡ unused_fits length unused }
-{
-    unused <= 7 && (length >= 2 || unused == 0)
-}
-
 // The first `count` bits of the octets.
 fn packed(octets: Vec<u8>, count: u64) -> Bits
     requires { length octets.items ≡ octets_for count }
@@ -118,49 +115,38 @@ fn packed(octets: Vec<u8>, count: u64) -> Bits
     }
 }
 
-// How many octets hold so many bits.
-pub(crate) fn octets_needed(count: u64) -> u64
-    ensures { result ≡ octets_for count }
-{
-    if count % 8 == 0 {
-        count / 8
-    } else {
-        count / 8 + 1
-    }
-}
-
 /// The presence bitmap of the additions (X.696, 16.4), as far as additions are kept: up to place
 /// 65,535. It is a BIT STRING without size constraint, so more than 2^64 - 1 bits are rejected with
 /// `Size`. A set bit past place 65,535 is rejected with `UnknownAddition`.
 pub(crate) fn addition_map<R: Source>(
     alloc: Global,
     w: &mut Window<R>,
-) -> Result<Vec<bool>, ReadFault>
-    ensures few { IfOk result (λ v. length v.items ≤ 65536) }
-    ensures reads { Reads addition_map_at (state R.remaining R.failed w.old) (seen (λ v. v.items) result)
+) -> Result<Vec<bool>, Stop>
+    ensures few { IfOk result (λ v. length v.items ≤ addition_places) }
+    ensures reads { ReadsAs addition_map_at (state R.remaining R.failed w.old) (λ v. v.items) result
         (state R.remaining R.failed w.new) }
 {
     let length = length(w)?;
     let unused = sized_octet(Size::any(), length, w)?;
     let octets = octets(alloc, w, length - 1)?;
     if !is_clear_past(&octets, unused) {
-        return Err(w.fault(Why::UnknownAddition));
+        return Err(Stop { why: Why::UnknownAddition });
     }
     let Ok(bits) = kept_bits(alloc, &octets, unused) else {
-        return Err(w.fault(Why::Memory));
+        return Err(Stop { why: Why::Memory });
     };
     Ok(bits)
 }
 
-// Whether no bit but the last `unused` ones is set from bit 65,536 on.
+// Whether no bit but the last `unused` ones is set past the places of additions.
 fn is_clear_past(octets: &[u8], unused: u8) -> bool
     requires { unused ≤ 7 }
-    ensures { result ≡ all_false (drop 65536 (used unused octets.now)) }
+    ensures { result ≡ all_false (drop addition_places (used unused octets.now)) }
 {
-    if octets.len() <= 8192 {
+    if octets.len() <= PLACES_OCTETS {
         return true;
     }
-    is_clear(&octets[8192..], unused)
+    is_clear(&octets[PLACES_OCTETS..], unused)
 }
 
 // Whether no bit but the last `unused` ones is set.
@@ -188,13 +174,13 @@ fn are_zero(octets: &[u8]) -> bool
     true
 }
 
-// The bits before bit 65,536, without the last `unused` ones.
+// The bits of the places of additions, without the last `unused` ones.
 fn kept_bits(alloc: Global, octets: &[u8], unused: u8) -> Result<Vec<bool>, AllocError>
     requires { unused ≤ 7 }
-    ensures { IfOk result (λ v. v.items ≡ take 65536 (used unused octets.now)) }
+    ensures { IfOk result (λ v. v.items ≡ take addition_places (used unused octets.now)) }
 {
-    if octets.len() > 8192 {
-        return bits_of(alloc, &octets[..8192]);
+    if octets.len() > PLACES_OCTETS {
+        return bits_of(alloc, &octets[..PLACES_OCTETS]);
     }
     let mut bits = bits_of(alloc, octets)?;
     let count = bits.len().saturating_sub(usize::from(unused));
@@ -217,23 +203,15 @@ pub(crate) fn bits_of_octet(x: u8) -> [bool; 8]
     ensures { result ≡ the_bits (x ∷ []) }
 {
     [
-        bit(x, 7),
-        bit(x, 6),
-        bit(x, 5),
-        bit(x, 4),
-        bit(x, 3),
-        bit(x, 2),
-        bit(x, 1),
-        bit(x, 0),
+        bit_of(x, 7),
+        bit_of(x, 6),
+        bit_of(x, 5),
+        bit_of(x, 4),
+        bit_of(x, 3),
+        bit_of(x, 2),
+        bit_of(x, 1),
+        bit_of(x, 0),
     ]
-}
-
-// The bit of the octet; bit 7 is the most significant.
-fn bit(octet: u8, index: u8) -> bool
-    requires { index < 8 }
-    ensures { result ≡ the_bit octet index }
-{
-    (octet >> index) % 2 == 1
 }
 
 // Whether no bit from this one on is set.

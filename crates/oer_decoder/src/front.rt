@@ -83,6 +83,8 @@ pub(crate) fn read_counted<R: Source>(
 {
     let mut w = Window::new(reader, limit);
     let mut value = Value::Null;
-    read_shape(shape, alloc, &mut value, &mut w)?;
-    Ok((value, w.taken()))
+    match read_shape(shape, alloc, &mut value, &mut w) {
+        Ok(()) => Ok((value, w.taken())),
+        Err(stop) => Err(w.fault(stop.why)),
+    }
 }

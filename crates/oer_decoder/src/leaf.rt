@@ -1,18 +1,19 @@
 //! Values without parts.
-ghost use Rattle.std.specs.Prelude.{◌≡◌};
-ghost use Rattle.oer_units.specs.Reads.{Reads, TakesNoMemory, seen, state};
+ghost use Rattle.oer_units.specs.Reads.{state};
 ghost use Rattle.oer_types.specs.Reading.{read_value};
 ghost use Rattle.oer_types.specs.ShapeView.{type_of};
 ghost use Rattle.oer_types.specs.ValueView.{value_of};
 ghost use Rattle.oer_decoder.specs.Memory.{NeedsNoMemory};
 ghost use Rattle.oer_decoder.specs.Parts.{HasNoParts};
+ghost use Rattle.oer_decoder.specs.Stops.{ReadsAs, StopsNotForMemory};
 
 use crate::bit_strings::read_bit_string;
 use crate::numbers::{read_boolean, read_enumerated, read_integer};
 use crate::parts::set;
+use crate::stop::Stop;
 use crate::strings::{read_object_id, read_octet_string, read_text, read_utf8};
 use oer_types::{Alphabet, Shape, Value};
-use oer_units::{ReadFault, Source, Window};
+use oer_units::{Source, Window};
 use std::alloc::Global;
 
 /// Reads a value of a type without parts into `value`.
@@ -21,10 +22,10 @@ pub(crate) fn read_leaf<R: Source>(
     alloc: Global,
     value: &mut Value,
     w: &mut Window<R>,
-) -> Result<(), ReadFault>
+) -> Result<(), Stop>
     requires { HasNoParts (type_of shape.now) }
-    ensures memory { NeedsNoMemory (type_of shape.now) → TakesNoMemory result }
-    ensures reads { Reads (read_value (type_of shape.now)) (state R.remaining R.failed w.old) (seen (λ _. value_of value.new) result)
+    ensures memory { NeedsNoMemory (type_of shape.now) → StopsNotForMemory result }
+    ensures reads { ReadsAs (read_value (type_of shape.now)) (state R.remaining R.failed w.old) (λ _. value_of value.new) result
         (state R.remaining R.failed w.new) }
 {
     match shape {

@@ -11,6 +11,7 @@ mod numbers;
 mod parts;
 mod preamble;
 mod rewriting;
+mod stop;
 mod strings;
 mod value;
 

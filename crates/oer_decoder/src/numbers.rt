@@ -1,6 +1,6 @@
 //! BOOLEAN, INTEGER and ENUMERATED, which don't allocate.
 ghost use Rattle.std.specs.Prelude.{◌≡◌, ◌||◌, map};
-ghost use Rattle.oer_units.specs.Reads.{Reads, TakesNoMemory, seen, state};
+ghost use Rattle.oer_units.specs.Reads.{state};
 ghost use Rattle.oer_types.specs.AsnValue.{bool as truth_value};
 ghost use Rattle.oer_types.specs.AsnType.{boolean, enumerated as enumerated_type, integer as integer_type};
 ghost use Rattle.oer_types.specs.Constraints.{has_number};
@@ -9,18 +9,20 @@ ghost use Rattle.oer_types.specs.ShapeView.{named_number};
 ghost use Rattle.oer_types.specs.ValueView.{value_of};
 ghost use Rattle.oer_types.specs.SharedSteps.{number_in};
 ghost use Rattle.oer_types.specs.FormView.{form_seen};
+ghost use Rattle.oer_decoder.specs.Stops.{ReadsAs, StopsNotForMemory, same};
 
 use crate::parts::set;
+use crate::stop::Stop;
 use oer_types::{Form, Item, Value, contains_number, is_in_range};
 use oer_units::{
-    ReadFault, Source, Why, Window, enumerated, octet, signed_counted, signed_fixed,
+    Source, Why, Window, enumerated, octet, signed_counted, signed_fixed,
     unsigned_counted, unsigned_fixed,
 };
 
 /// A BOOLEAN (X.696, 9): every octet but `00` is TRUE.
-pub(crate) fn truth<R: Source>(w: &mut Window<R>) -> Result<bool, ReadFault>
-    ensures memory { TakesNoMemory result }
-    ensures reads { Reads (read_value boolean) (state R.remaining R.failed w.old) (seen truth_value result)
+pub(crate) fn truth<R: Source>(w: &mut Window<R>) -> Result<bool, Stop>
+    ensures memory { StopsNotForMemory result }
+    ensures reads { ReadsAs (read_value boolean) (state R.remaining R.failed w.old) truth_value result
         (state R.remaining R.failed w.new) }
 {
     let octet = octet(w)?;
@@ -28,9 +30,9 @@ pub(crate) fn truth<R: Source>(w: &mut Window<R>) -> Result<bool, ReadFault>
 }
 
 /// Reads a BOOLEAN into `value`.
-pub(crate) fn read_boolean<R: Source>(value: &mut Value, w: &mut Window<R>) -> Result<(), ReadFault>
-    ensures memory { TakesNoMemory result }
-    ensures reads { Reads (read_value boolean) (state R.remaining R.failed w.old) (seen (λ _. value_of value.new) result)
+pub(crate) fn read_boolean<R: Source>(value: &mut Value, w: &mut Window<R>) -> Result<(), Stop>
+    ensures memory { StopsNotForMemory result }
+    ensures reads { ReadsAs (read_value boolean) (state R.remaining R.failed w.old) (λ _. value_of value.new) result
         (state R.remaining R.failed w.new) }
 {
     let is_true = truth(w)?;
@@ -44,23 +46,23 @@ pub(crate) fn read_integer<R: Source>(
     high: Option<i128>,
     value: &mut Value,
     w: &mut Window<R>,
-) -> Result<(), ReadFault>
-    ensures memory { TakesNoMemory result }
-    ensures reads { Reads (read_value (integer_type low high)) (state R.remaining R.failed w.old)
-        (seen (λ _. value_of value.new) result) (state R.remaining R.failed w.new) }
+) -> Result<(), Stop>
+    ensures memory { StopsNotForMemory result }
+    ensures reads { ReadsAs (read_value (integer_type low high)) (state R.remaining R.failed w.old)
+        (λ _. value_of value.new) result (state R.remaining R.failed w.new) }
 {
     let number = number(Form::of_bounds(low, high), w)?;
     if !is_in_range(low, high, number) {
-        return Err(w.fault(Why::IntegerRange));
+        return Err(Stop { why: Why::IntegerRange });
     }
     set(value, Value::Int(number));
     Ok(())
 }
 
 // A number of this form.
-fn number<R: Source>(form: Form, w: &mut Window<R>) -> Result<i128, ReadFault>
-    ensures memory { TakesNoMemory result }
-    ensures reads { Reads (number_in (form_seen form)) (state R.remaining R.failed w.old) result
+fn number<R: Source>(form: Form, w: &mut Window<R>) -> Result<i128, Stop>
+    ensures memory { StopsNotForMemory result }
+    ensures reads { ReadsAs (number_in (form_seen form)) (state R.remaining R.failed w.old) same result
         (state R.remaining R.failed w.new) }
 {
     match form {
@@ -72,8 +74,8 @@ fn number<R: Source>(form: Form, w: &mut Window<R>) -> Result<i128, ReadFault>
             let number = signed_fixed(w, width)?;
             Ok(i128::from(number))
         }
-        Form::UnsignedCounted => unsigned_counted(w),
-        Form::SignedCounted => signed_counted(w),
+        Form::UnsignedCounted => Ok(unsigned_counted(w)?),
+        Form::SignedCounted => Ok(signed_counted(w)?),
     }
 }
 
@@ -84,14 +86,14 @@ pub(crate) fn read_enumerated<R: Source>(
     extensible: bool,
     value: &mut Value,
     w: &mut Window<R>,
-) -> Result<(), ReadFault>
-    ensures memory { TakesNoMemory result }
-    ensures reads { Reads (read_value (enumerated_type (map named_number items.now) extensible))
-        (state R.remaining R.failed w.old) (seen (λ _. value_of value.new) result) (state R.remaining R.failed w.new) }
+) -> Result<(), Stop>
+    ensures memory { StopsNotForMemory result }
+    ensures reads { ReadsAs (read_value (enumerated_type (map named_number items.now) extensible))
+        (state R.remaining R.failed w.old) (λ _. value_of value.new) result (state R.remaining R.failed w.new) }
 {
     let number = enumerated(w)?;
     if !is_known(items, extensible, number) {
-        return Err(w.fault(Why::UnknownEnum));
+        return Err(Stop { why: Why::UnknownEnum });
     }
     set(value, Value::Enum(number));
     Ok(())

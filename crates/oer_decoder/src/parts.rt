@@ -1,20 +1,23 @@
 //! What surrounds the parts of a value: presence, tags, numbers of elements, and parts that the
 //! type doesn't know.
-ghost use Rattle.std.specs.Prelude.{◌≡◌, ◌≤◌, ◌+◌, Bool, IfErr, IfOk, drop, length, map};
+ghost use Rattle.std.specs.Prelude.{◌≡◌, ◌≤◌, IfErr, IfOk, drop, length, map};
 ghost use Rattle.oer_units.specs.declared.fault.Why.TheVariants.{Memory};
-ghost use Rattle.oer_units.specs.Reads.{Reads, bound_of, seen, state};
+ghost use Rattle.oer_units.specs.Reads.{state};
 ghost use Rattle.oer_types.specs.Bits.{first_bit, later_bits};
 ghost use Rattle.oer_types.specs.Fits.{all_absent};
+ghost use Rattle.oer_types.specs.Limits.{addition_places};
 ghost use Rattle.oer_types.specs.Reading.{read_unknown as unknown_read};
 ghost use Rattle.oer_types.specs.ShapeView.{additions_of, need_of};
 ghost use Rattle.oer_types.specs.ValueView.{places_of, unknown_of, value_of};
 ghost use Rattle.oer_decoder.specs.Choices.{foreign_at};
 ghost use Rattle.oer_types.specs.SharedSteps.{bits_left, is_there};
 ghost use Rattle.oer_decoder.specs.Places.{count_at};
+ghost use Rattle.oer_decoder.specs.Stops.{ReadsAs, same};
 
+use crate::stop::Stop;
 use crate::strings::counted_octets;
 use oer_types::{Addition, Need, Size, Unknown, Value};
-use oer_units::{ReadFault, Source, Tag, Why, Window, unsigned_counted};
+use oer_units::{Source, Tag, Why, Window, unsigned_counted};
 use std::alloc::{AllocError, Global};
 use std::mem;
 
@@ -52,14 +55,14 @@ pub(crate) fn presence<'a>(need: &Need, bits: &'a [bool]) -> (bool, &'a [bool])
 
 /// How many elements follow (X.696, 17): a quantity that is not above what is left, and that the
 /// size allows.
-pub(crate) fn count<R: Source>(size: Size, w: &mut Window<R>) -> Result<u64, ReadFault>
-    ensures { Reads (count_at size) (state R.remaining R.failed w.old) result
+pub(crate) fn count<R: Source>(size: Size, w: &mut Window<R>) -> Result<u64, Stop>
+    ensures { ReadsAs (count_at size) (state R.remaining R.failed w.old) same result
         (state R.remaining R.failed w.new) }
 {
     let quantity = unsigned_counted(w)?;
     let count = w.allow(quantity.unsigned_abs())?;
     if !size.allows(u128::from(count)) {
-        return Err(w.fault(Why::Size));
+        return Err(Stop { why: Why::Size });
     }
     Ok(count)
 }
@@ -86,10 +89,10 @@ pub(crate) fn read_unknown<R: Source>(
     bits: &[bool],
     known: usize,
     w: &mut Window<R>,
-) -> Result<Vec<Unknown>, ReadFault>
-    requires { length bits.now ≤ 65536 }
-    ensures { Reads (unknown_read known (drop known bits.now)) (state R.remaining R.failed w.old)
-        (seen (λ v. map unknown_of v.items) result) (state R.remaining R.failed w.new) }
+) -> Result<Vec<Unknown>, Stop>
+    requires { length bits.now ≤ addition_places }
+    ensures { ReadsAs (unknown_read known (drop known bits.now)) (state R.remaining R.failed w.old)
+        (λ v. map unknown_of v.items) result (state R.remaining R.failed w.new) }
 {
     let mut unknown = Vec::new(alloc);
     for place in known..bits.len() {
@@ -102,7 +105,7 @@ pub(crate) fn read_unknown<R: Source>(
             octets,
         };
         if unknown.push(addition).is_err() {
-            return Err(w.fault(Why::Memory));
+            return Err(Stop { why: Why::Memory });
         }
     }
     Ok(unknown)
@@ -118,13 +121,12 @@ pub(crate) fn set(place: &mut Value, value: Value)
 }
 
 /// A place for a value in memory of its own, which holds NULL.
-pub(crate) fn own_place<R: Source>(alloc: Global, w: &Window<R>) -> Result<Box<Value>, ReadFault>
-    ensures why { IfErr result (λ e. e.why ≡ Memory) }
-    ensures taken { IfErr result (λ e. e.taken ≡ (bound_of w.now).taken) }
+pub(crate) fn own_place(alloc: Global) -> Result<Box<Value>, Stop>
+    ensures { IfErr result (λ e. e.why ≡ Memory) }
 {
     match Box::new(alloc, Value::Null) {
         Ok(place) => Ok(place),
-        Err(_) => Err(w.fault(Why::Memory)),
+        Err(_) => Err(Stop { why: Why::Memory }),
     }
 }
 
@@ -135,8 +137,8 @@ pub(crate) fn set_foreign<R: Source>(
     tag: Tag,
     value: &mut Value,
     w: &mut Window<R>,
-) -> Result<(), ReadFault>
-    ensures { Reads (foreign_at tag) (state R.remaining R.failed w.old) (seen (λ _. value_of value.new) result)
+) -> Result<(), Stop>
+    ensures { ReadsAs (foreign_at tag) (state R.remaining R.failed w.old) (λ _. value_of value.new) result
         (state R.remaining R.failed w.new) }
 {
     let octets = counted_octets(alloc, w)?;

@@ -1,11 +1,14 @@
 //! The preamble of a SEQUENCE.
 ghost use Rattle.std.specs.Prelude.{◌≡◌, ◌≤◌};
-ghost use Rattle.oer_units.specs.Reads.{Reads, seen, state};
+ghost use Rattle.oer_units.specs.Reads.{state};
 ghost use Rattle.oer_types.specs.Reading.{preamble as preamble_at};
 ghost use Rattle.oer_decoder.specs.MarksView.{bits_in};
+ghost use Rattle.oer_decoder.specs.Stops.{ReadsAs};
 
-use crate::bit_strings::{are_false_from, bits_of, bits_of_octet, octets_needed};
-use oer_units::{ReadFault, Source, Why, Window, octets, octets_into};
+use crate::bit_strings::{are_false_from, bits_of, bits_of_octet};
+use crate::stop::Stop;
+use oer_types::{are_last_zero, octets_needed};
+use oer_units::{Source, Why, Window, octets, octets_into};
 use std::alloc::Global;
 
 /// The bits of a preamble: the first so many of eight, without memory, or any number of them.
@@ -35,8 +38,8 @@ pub(crate) fn preamble<R: Source>(
     alloc: Global,
     count: u64,
     w: &mut Window<R>,
-) -> Result<Marks, ReadFault>
-    ensures { Reads (preamble_at count) (state R.remaining R.failed w.old) (seen bits_in result)
+) -> Result<Marks, Stop>
+    ensures { ReadsAs (preamble_at count) (state R.remaining R.failed w.old) bits_in result
         (state R.remaining R.failed w.new) }
 {
     if count == 0 {
@@ -50,19 +53,18 @@ pub(crate) fn preamble<R: Source>(
 
 // A preamble of one octet.
 #[inline(always)]
-fn short_preamble<R: Source>(count: usize, w: &mut Window<R>) -> Result<Marks, ReadFault>
+fn short_preamble<R: Source>(count: usize, w: &mut Window<R>) -> Result<Marks, Stop>
     requires some { 1 ≤ count }
     requires most { count ≤ 8 }
-    ensures { Reads (preamble_at count) (state R.remaining R.failed w.old) (seen bits_in result)
+    ensures { ReadsAs (preamble_at count) (state R.remaining R.failed w.old) bits_in result
         (state R.remaining R.failed w.new) }
 {
     let mut octet = [0u8; 1];
     octets_into(w, &mut octet)?;
-    let bits = bits_of_octet(octet[0]);
-    if !are_false_from(&bits, count) {
-        return Err(w.fault(Why::PreamblePadding));
+    if !are_last_zero(octet[0], 8 - count as u8) {
+        return Err(Stop { why: Why::PreamblePadding });
     }
-    Ok(Marks::Few(bits, count))
+    Ok(Marks::Few(bits_of_octet(octet[0]), count))
 }
 
 // A preamble of any number of octets.
@@ -71,17 +73,17 @@ fn long_preamble<R: Source>(
     alloc: Global,
     count: u64,
     w: &mut Window<R>,
-) -> Result<Marks, ReadFault>
-    ensures { Reads (preamble_at count) (state R.remaining R.failed w.old) (seen bits_in result)
+) -> Result<Marks, Stop>
+    ensures { ReadsAs (preamble_at count) (state R.remaining R.failed w.old) bits_in result
         (state R.remaining R.failed w.new) }
 {
     let octets = octets(alloc, w, octets_needed(count))?;
     let Ok(bits) = bits_of(alloc, &octets) else {
-        return Err(w.fault(Why::Memory));
+        return Err(Stop { why: Why::Memory });
     };
     let mut bits = bits;
     if !are_false_from(&bits, count as usize) {
-        return Err(w.fault(Why::PreamblePadding));
+        return Err(Stop { why: Why::PreamblePadding });
     }
     bits.truncate(count as usize);
     Ok(Marks::Many(bits))

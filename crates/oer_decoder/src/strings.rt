@@ -1,29 +1,31 @@
 //! OCTET STRING, character strings and OBJECT IDENTIFIER.
-ghost use Rattle.std.specs.Prelude.{◌≡◌, ◌≤◌, ◌<◌, ◌-◌, ◌+◌, ℕ, IfOk, MatchOption, false, true, length, string_bytes};
+ghost use Rattle.std.specs.Prelude.{◌≡◌, ◌≤◌, ◌-◌, ◌+◌, IfOk, MatchOption, false, true, length, string_bytes};
 ghost use Rattle.std.specs.Str.{chars, is_utf8};
 ghost use Rattle.oer_units.specs.Reading.{counted_octets as counted_octets_at, arcs_of as the_arcs, subidentifiers as subidentifiers_at};
-ghost use Rattle.oer_units.specs.Reads.{Reads, bound_of, left_of, seen, state};
+ghost use Rattle.oer_units.specs.Reads.{bound_of, left_of, state};
 ghost use Rattle.oer_types.specs.AsnType.{octet_string as octet_string_type, object_id as object_id_type, restricted_string, utf8_string};
 ghost use Rattle.oer_types.specs.Constraints.{fixed as fixed_size};
 ghost use Rattle.oer_types.specs.Reading.{read_octets, read_value};
 ghost use Rattle.oer_types.specs.ValueView.{value_of};
 ghost use Rattle.oer_types.specs.AlphabetView.{alphabet_of};
+ghost use Rattle.oer_decoder.specs.Stops.{ReadsAs};
 
 use crate::parts::set;
+use crate::stop::Stop;
 use oer_types::{Alphabet, Size, Value, are_characters};
-use oer_units::{ReadFault, Source, Why, Window, length, octets, subidentifier};
+use oer_units::{Source, Why, Window, length, octets, subidentifier};
 use std::alloc::{AllocError, Global};
 
 /// A length, and that many octets.
 pub(crate) fn counted_octets<R: Source>(
     alloc: Global,
     w: &mut Window<R>,
-) -> Result<Vec<u8>, ReadFault>
-    ensures { Reads counted_octets_at (state R.remaining R.failed w.old) (seen (λ v. v.items) result)
+) -> Result<Vec<u8>, Stop>
+    ensures { ReadsAs counted_octets_at (state R.remaining R.failed w.old) (λ v. v.items) result
         (state R.remaining R.failed w.new) }
 {
     let count = length(w)?;
-    octets(alloc, w, count)
+    Ok(octets(alloc, w, count)?)
 }
 
 // As many octets as the one size says, or else as a length says that the size allows.
@@ -31,18 +33,18 @@ fn sized_octets<R: Source>(
     alloc: Global,
     size: &Size,
     w: &mut Window<R>,
-) -> Result<Vec<u8>, ReadFault>
-    ensures { Reads (read_octets (fixed_size size.now) size.now) (state R.remaining R.failed w.old) (seen (λ v. v.items) result)
+) -> Result<Vec<u8>, Stop>
+    ensures { ReadsAs (read_octets (fixed_size size.now) size.now) (state R.remaining R.failed w.old) (λ v. v.items) result
         (state R.remaining R.failed w.new) }
 {
     if let Some(count) = size.fixed() {
-        return octets(alloc, w, count);
+        return Ok(octets(alloc, w, count)?);
     }
     let count = length(w)?;
     if !size.allows(u128::from(count)) {
-        return Err(w.fault(Why::Size));
+        return Err(Stop { why: Why::Size });
     }
-    octets(alloc, w, count)
+    Ok(octets(alloc, w, count)?)
 }
 
 /// Reads an OCTET STRING (X.696, 14) into `value`.
@@ -51,8 +53,8 @@ pub(crate) fn read_octet_string<R: Source>(
     size: &Size,
     value: &mut Value,
     w: &mut Window<R>,
-) -> Result<(), ReadFault>
-    ensures { Reads (read_value (octet_string_type size.now)) (state R.remaining R.failed w.old) (seen (λ _. value_of value.new) result)
+) -> Result<(), Stop>
+    ensures { ReadsAs (read_value (octet_string_type size.now)) (state R.remaining R.failed w.old) (λ _. value_of value.new) result
         (state R.remaining R.failed w.new) }
 {
     let octets = sized_octets(alloc, size, w)?;
@@ -67,16 +69,16 @@ pub(crate) fn read_text<R: Source>(
     size: &Size,
     value: &mut Value,
     w: &mut Window<R>,
-) -> Result<(), ReadFault>
-    ensures { Reads (read_value (restricted_string (alphabet_of kind) size.now)) (state R.remaining R.failed w.old)
-        (seen (λ _. value_of value.new) result) (state R.remaining R.failed w.new) }
+) -> Result<(), Stop>
+    ensures { ReadsAs (read_value (restricted_string (alphabet_of kind) size.now)) (state R.remaining R.failed w.old)
+        (λ _. value_of value.new) result (state R.remaining R.failed w.new) }
 {
     let octets = sized_octets(alloc, size, w)?;
     if !are_characters(kind, &octets) {
-        return Err(w.fault(Why::Character));
+        return Err(Stop { why: Why::Character });
     }
     let Some(text) = decoded(octets) else {
-        return Err(w.fault(Why::Character));
+        return Err(Stop { why: Why::Character });
     };
     set(value, Value::Text(text));
     Ok(())
@@ -88,16 +90,16 @@ pub(crate) fn read_utf8<R: Source>(
     size: &Size,
     value: &mut Value,
     w: &mut Window<R>,
-) -> Result<(), ReadFault>
-    ensures { Reads (read_value (utf8_string size.now)) (state R.remaining R.failed w.old) (seen (λ _. value_of value.new) result)
+) -> Result<(), Stop>
+    ensures { ReadsAs (read_value (utf8_string size.now)) (state R.remaining R.failed w.old) (λ _. value_of value.new) result
         (state R.remaining R.failed w.new) }
 {
     let octets = counted_octets(alloc, w)?;
     let Some(text) = decoded(octets) else {
-        return Err(w.fault(Why::Character));
+        return Err(Stop { why: Why::Character });
     };
     if !size.allows(u128::from(characters_in(text.as_str()))) {
-        return Err(w.fault(Why::Size));
+        return Err(Stop { why: Why::Size });
     }
     set(value, Value::Text(text));
     Ok(())
@@ -125,17 +127,17 @@ pub(crate) fn read_object_id<R: Source>(
     alloc: Global,
     value: &mut Value,
     w: &mut Window<R>,
-) -> Result<(), ReadFault>
-    ensures { Reads (read_value object_id_type) (state R.remaining R.failed w.old) (seen (λ _. value_of value.new) result)
+) -> Result<(), Stop>
+    ensures { ReadsAs (read_value object_id_type) (state R.remaining R.failed w.old) (λ _. value_of value.new) result
         (state R.remaining R.failed w.new) }
 {
     let content = length(w)?;
     if content == 0 {
-        return Err(w.fault(Why::ObjectId));
+        return Err(Stop { why: Why::ObjectId });
     }
     let numbers = subidentifiers(alloc, content, w)?;
     let Ok(arcs) = arcs_of(alloc, &numbers) else {
-        return Err(w.fault(Why::Memory));
+        return Err(Stop { why: Why::Memory });
     };
     set(value, Value::Oid(arcs));
     Ok(())
@@ -146,9 +148,9 @@ fn subidentifiers<R: Source>(
     alloc: Global,
     content: u64,
     w: &mut Window<R>,
-) -> Result<Vec<u128>, ReadFault>
+) -> Result<Vec<u128>, Stop>
     requires { content ≤ left_of (bound_of w.old) }
-    ensures { Reads (subidentifiers_at content content) (state R.remaining R.failed w.old) (seen (λ v. v.items) result)
+    ensures { ReadsAs (subidentifiers_at content content) (state R.remaining R.failed w.old) (λ v. v.items) result
         (state R.remaining R.failed w.new) }
 {
     let mut numbers = Vec::new(alloc);
@@ -159,7 +161,7 @@ fn subidentifiers<R: Source>(
         }
         let number = subidentifier(w, end - w.taken())?;
         if numbers.push(number).is_err() {
-            return Err(w.fault(Why::Memory));
+            return Err(Stop { why: Why::Memory });
         }
     }
     Ok(numbers)

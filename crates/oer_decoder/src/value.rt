@@ -1,8 +1,8 @@
 //! How a value is read.
-ghost use Rattle.std.specs.Prelude.{◌≡◌, ◌≤◌, map, option_map, length};
+ghost use Rattle.std.specs.Prelude.{map, length};
 ghost use Rattle.oer_units.specs.Reader.{times};
 ghost use Rattle.oer_units.specs.Reading.{open_type};
-ghost use Rattle.oer_units.specs.Reads.{Reads, TakesNoMemory, seen, state};
+ghost use Rattle.oer_units.specs.Reads.{state};
 ghost use Rattle.oer_types.specs.AsnType.{no_alternatives, sequence, sequence_of};
 ghost use Rattle.oer_types.specs.Reading.{read_additions as additions_read, read_extension as extension_read, read_fields as fields_read, read_value};
 ghost use Rattle.oer_types.specs.ShapeView.{additions_of, fields_of, later_of, root_of, type_of};
@@ -10,8 +10,9 @@ ghost use Rattle.oer_types.specs.ValueView.{places_of, value_of};
 ghost use Rattle.oer_decoder.specs.Choices.{found_as, found_in, later_at};
 ghost use Rattle.oer_decoder.specs.Memory.{NeedsNoMemory};
 ghost use Rattle.oer_decoder.specs.Parts.{IsChoice, IsExtensible};
-ghost use Rattle.oer_decoder.specs.Places.{place_by, rest_at, root_at};
+ghost use Rattle.oer_decoder.specs.Places.{rest_at, root_at};
 ghost use Rattle.oer_decoder.specs.Starts.{added_of, start_of};
+ghost use Rattle.oer_decoder.specs.Stops.{ReadsAs, StopsNotForMemory};
 
 use crate::bit_strings::addition_map;
 use crate::booleans::read_booleans;
@@ -20,8 +21,9 @@ use crate::parts::{
     absent_places, after, count, first, own_place, presence, read_unknown, set, set_foreign,
 };
 use crate::preamble::preamble;
+use crate::stop::Stop;
 use oer_types::{Addition, Alt, Field, Shape, Size, Unknown, Value, is_same_tag, optional};
-use oer_units::{ReadFault, Source, Tag, Why, Window, length, tag};
+use oer_units::{Source, Tag, Why, Window, length, tag};
 use std::alloc::Global;
 
 /// The root of a SEQUENCE with an extension marker, and the extension bit before it.
@@ -45,9 +47,9 @@ pub(crate) fn read_shape<R: Source>(
     alloc: Global,
     value: &mut Value,
     w: &mut Window<R>,
-) -> Result<(), ReadFault>
-    ensures memory { NeedsNoMemory (type_of shape.now) → TakesNoMemory result }
-    ensures reads { Reads (read_value (type_of shape.now)) (state R.remaining R.failed w.old) (seen (λ _. value_of value.new) result)
+) -> Result<(), Stop>
+    ensures memory { NeedsNoMemory (type_of shape.now) → StopsNotForMemory result }
+    ensures reads { ReadsAs (read_value (type_of shape.now)) (state R.remaining R.failed w.old) (λ _. value_of value.new) result
         (state R.remaining R.failed w.new) }
 {
     match shape {
@@ -70,9 +72,9 @@ fn read_extensible<R: Source>(
     alloc: Global,
     value: &mut Value,
     w: &mut Window<R>,
-) -> Result<(), ReadFault>
+) -> Result<(), Stop>
     requires is { IsExtensible shape.now root.now additions.now }
-    ensures { Reads (read_value (type_of shape.now)) (state R.remaining R.failed w.old) (seen (λ _. value_of value.new) result)
+    ensures { ReadsAs (read_value (type_of shape.now)) (state R.remaining R.failed w.old) (λ _. value_of value.new) result
         (state R.remaining R.failed w.new) }
 {
     let start = read_root(root, alloc, w)?;
@@ -88,9 +90,9 @@ fn read_choice<R: Source>(
     alloc: Global,
     value: &mut Value,
     w: &mut Window<R>,
-) -> Result<(), ReadFault>
+) -> Result<(), Stop>
     requires is { IsChoice shape.now root.now additions.now }
-    ensures { Reads (read_value (type_of shape.now)) (state R.remaining R.failed w.old) (seen (λ _. value_of value.new) result)
+    ensures { ReadsAs (read_value (type_of shape.now)) (state R.remaining R.failed w.old) (λ _. value_of value.new) result
         (state R.remaining R.failed w.new) }
 {
     let tag = tag(w)?;
@@ -100,7 +102,7 @@ fn read_choice<R: Source>(
     }
     match additions {
         Some(additions) => read_later_alternative(additions, alloc, tag, value, w),
-        None => Err(w.fault(Why::UnknownAlternative)),
+        None => Err(Stop { why: Why::UnknownAlternative }),
     }
 }
 
@@ -112,9 +114,9 @@ fn read_items<R: Source>(
     size: Size,
     value: &mut Value,
     w: &mut Window<R>,
-) -> Result<(), ReadFault>
-    ensures { Reads (read_value (sequence_of size (type_of item.now))) (state R.remaining R.failed w.old)
-        (seen (λ _. value_of value.new) result) (state R.remaining R.failed w.new) }
+) -> Result<(), Stop>
+    ensures { ReadsAs (read_value (sequence_of size (type_of item.now))) (state R.remaining R.failed w.old)
+        (λ _. value_of value.new) result (state R.remaining R.failed w.new) }
 {
     let count = count(size, w)?;
     let values = read_elements(item, alloc, count, w)?;
@@ -129,9 +131,9 @@ fn read_elements<R: Source>(
     alloc: Global,
     count: u64,
     w: &mut Window<R>,
-) -> Result<Vec<Value>, ReadFault>
-    ensures { Reads (times count (read_value (type_of item.now))) (state R.remaining R.failed w.old)
-        (seen (λ v. map value_of v.items) result) (state R.remaining R.failed w.new) }
+) -> Result<Vec<Value>, Stop>
+    ensures { ReadsAs (times count (read_value (type_of item.now))) (state R.remaining R.failed w.old)
+        (λ v. map value_of v.items) result (state R.remaining R.failed w.new) }
 {
     if let Shape::Boolean = item {
         return read_booleans(alloc, count, w);
@@ -139,7 +141,7 @@ fn read_elements<R: Source>(
     let mut values = Vec::new(alloc);
     for i in 0..count {
         if values.push(Value::Null).is_err() {
-            return Err(w.fault(Why::Memory));
+            return Err(Stop { why: Why::Memory });
         }
         let Some(value) = values.last_mut() else {
             unreachable!();
@@ -156,9 +158,9 @@ fn read_open<R: Source>(
     alloc: Global,
     value: &mut Value,
     w: &mut Window<R>,
-) -> Result<(), ReadFault>
-    ensures { Reads (open_type (read_value (type_of shape.now))) (state R.remaining R.failed w.old)
-        (seen (λ _. value_of value.new) result) (state R.remaining R.failed w.new) }
+) -> Result<(), Stop>
+    ensures { ReadsAs (open_type (read_value (type_of shape.now))) (state R.remaining R.failed w.old)
+        (λ _. value_of value.new) result (state R.remaining R.failed w.new) }
 {
     let size = length(w)?;
     let outer = w.enter(size);
@@ -175,12 +177,12 @@ fn read_fields<R: Source>(
     alloc: Global,
     bits: &[bool],
     w: &mut Window<R>,
-) -> Result<Vec<Option<Value>>, ReadFault>
-    ensures { Reads (fields_read (fields_of fields.now) bits.now) (state R.remaining R.failed w.old)
-        (seen (λ v. places_of v.items) result) (state R.remaining R.failed w.new) }
+) -> Result<Vec<Option<Value>>, Stop>
+    ensures { ReadsAs (fields_read (fields_of fields.now) bits.now) (state R.remaining R.failed w.old)
+        (λ v. places_of v.items) result (state R.remaining R.failed w.new) }
 {
     let Ok(mut places) = Vec::with_capacity(alloc, fields.len()) else {
-        return Err(w.fault(Why::Memory));
+        return Err(Stop { why: Why::Memory });
     };
     let mut left = bits;
     for field in fields {
@@ -205,12 +207,12 @@ fn read_additions<R: Source>(
     alloc: Global,
     bits: &[bool],
     w: &mut Window<R>,
-) -> Result<Vec<Option<Value>>, ReadFault>
-    ensures { Reads (additions_read (additions_of additions.now) bits.now) (state R.remaining R.failed w.old)
-        (seen (λ v. places_of v.items) result) (state R.remaining R.failed w.new) }
+) -> Result<Vec<Option<Value>>, Stop>
+    ensures { ReadsAs (additions_read (additions_of additions.now) bits.now) (state R.remaining R.failed w.old)
+        (λ v. places_of v.items) result (state R.remaining R.failed w.new) }
 {
     let Ok(mut places) = Vec::with_capacity(alloc, additions.len()) else {
-        return Err(w.fault(Why::Memory));
+        return Err(Stop { why: Why::Memory });
     };
     let mut left = bits;
     for addition in additions {
@@ -236,9 +238,9 @@ fn read_sequence<R: Source>(
     alloc: Global,
     value: &mut Value,
     w: &mut Window<R>,
-) -> Result<(), ReadFault>
-    ensures { Reads (read_value (sequence (fields_of root.now))) (state R.remaining R.failed w.old)
-        (seen (λ _. value_of value.new) result) (state R.remaining R.failed w.new) }
+) -> Result<(), Stop>
+    ensures { ReadsAs (read_value (sequence (fields_of root.now))) (state R.remaining R.failed w.old)
+        (λ _. value_of value.new) result (state R.remaining R.failed w.new) }
 {
     let bits = preamble(alloc, optional(root) as u64, w)?;
     let root = read_fields(root, alloc, bits.as_slice(), w)?;
@@ -259,8 +261,8 @@ fn read_root<R: Source>(
     root: &[Field],
     alloc: Global,
     w: &mut Window<R>,
-) -> Result<Start, ReadFault>
-    ensures { Reads (root_at (fields_of root.now)) (state R.remaining R.failed w.old) (seen start_of result)
+) -> Result<Start, Stop>
+    ensures { ReadsAs (root_at (fields_of root.now)) (state R.remaining R.failed w.old) start_of result
         (state R.remaining R.failed w.new) }
 {
     let bits = preamble(alloc, optional(root) as u64 + 1, w)?;
@@ -282,9 +284,9 @@ fn read_rest<R: Source>(
     start: Start,
     value: &mut Value,
     w: &mut Window<R>,
-) -> Result<(), ReadFault>
-    ensures { Reads (rest_at (additions_of additions.now) (start_of start)) (state R.remaining R.failed w.old)
-        (seen (λ _. value_of value.new) result) (state R.remaining R.failed w.new) }
+) -> Result<(), Stop>
+    ensures { ReadsAs (rest_at (additions_of additions.now) (start_of start)) (state R.remaining R.failed w.old)
+        (λ _. value_of value.new) result (state R.remaining R.failed w.new) }
 {
     let added = read_extension(additions, alloc, start.is_extended, w)?;
     set(
@@ -306,13 +308,13 @@ fn read_extension<R: Source>(
     alloc: Global,
     is_extended: bool,
     w: &mut Window<R>,
-) -> Result<Added, ReadFault>
-    ensures { Reads (extension_read is_extended (additions_of additions.now) (additions_read (additions_of additions.now)))
-        (state R.remaining R.failed w.old) (seen added_of result) (state R.remaining R.failed w.new) }
+) -> Result<Added, Stop>
+    ensures { ReadsAs (extension_read is_extended (additions_of additions.now) (additions_read (additions_of additions.now)))
+        (state R.remaining R.failed w.old) added_of result (state R.remaining R.failed w.new) }
 {
     if !is_extended {
         let Ok(known) = absent_places(alloc, additions) else {
-            return Err(w.fault(Why::Memory));
+            return Err(Stop { why: Why::Memory });
         };
         return Ok(Added {
             known,
@@ -333,13 +335,13 @@ fn read_alternative<R: Source>(
     tag: Tag,
     value: &mut Value,
     w: &mut Window<R>,
-) -> Result<bool, ReadFault>
-    ensures { Reads (found_in (root_of alternatives.now no_alternatives) tag) (state R.remaining R.failed w.old)
-        (seen (λ found. found_as found (value_of value.new)) result) (state R.remaining R.failed w.new) }
+) -> Result<bool, Stop>
+    ensures { ReadsAs (found_in (root_of alternatives.now no_alternatives) tag) (state R.remaining R.failed w.old)
+        (λ found. found_as found (value_of value.new)) result (state R.remaining R.failed w.new) }
 {
     for alternative in alternatives {
         if is_same_tag(alternative.tag, tag) {
-            let mut inner = own_place(alloc, w)?;
+            let mut inner = own_place(alloc)?;
             read_shape(&alternative.shape, alloc, &mut inner, w)?;
             set(value, Value::Chosen { tag, value: inner });
             return Ok(true);
@@ -356,13 +358,13 @@ fn read_open_alternative<R: Source>(
     tag: Tag,
     value: &mut Value,
     w: &mut Window<R>,
-) -> Result<bool, ReadFault>
-    ensures { Reads (found_in (later_of alternatives.now) tag) (state R.remaining R.failed w.old)
-        (seen (λ found. found_as found (value_of value.new)) result) (state R.remaining R.failed w.new) }
+) -> Result<bool, Stop>
+    ensures { ReadsAs (found_in (later_of alternatives.now) tag) (state R.remaining R.failed w.old)
+        (λ found. found_as found (value_of value.new)) result (state R.remaining R.failed w.new) }
 {
     for alternative in alternatives {
         if is_same_tag(alternative.tag, tag) {
-            let mut inner = own_place(alloc, w)?;
+            let mut inner = own_place(alloc)?;
             read_open(&alternative.shape, alloc, &mut inner, w)?;
             set(value, Value::Chosen { tag, value: inner });
             return Ok(true);
@@ -379,9 +381,9 @@ fn read_later_alternative<R: Source>(
     tag: Tag,
     value: &mut Value,
     w: &mut Window<R>,
-) -> Result<(), ReadFault>
-    ensures { Reads (later_at (later_of alternatives.now) tag) (state R.remaining R.failed w.old)
-        (seen (λ _. value_of value.new) result) (state R.remaining R.failed w.new) }
+) -> Result<(), Stop>
+    ensures { ReadsAs (later_at (later_of alternatives.now) tag) (state R.remaining R.failed w.old)
+        (λ _. value_of value.new) result (state R.remaining R.failed w.new) }
 {
     let is_found = read_open_alternative(alternatives, alloc, tag, value, w)?;
     if is_found {

@@ -2,7 +2,8 @@
 use crate::shared::is_well;
 use oer_text::parse_type;
 use oer_types::{
-    Form, Item, Shape, Value, contains_number, fits_shape, is_in_range, is_within_depth, parts_left,
+    Form, Item, Shape, Value, are_last_zero, bit_of, contains_number, fits_shape, is_in_range,
+    is_within_depth, may_be_unused, octets_needed, parts_left, spare_bits,
 };
 use oer_units::{Class, Width, class, signed_of, unsigned_of};
 use std::alloc::Global;
@@ -49,6 +50,43 @@ fn are_ranges() -> bool {
         && !is_in_range(Some(3), Some(5), 2)
         && !is_in_range(Some(3), Some(5), 6)
         && is_in_range(None, None, i128::MIN)
+}
+
+fn are_octets_of_bits() -> bool {
+    octets_needed(0) == 0
+        && octets_needed(1) == 1
+        && octets_needed(8) == 1
+        && octets_needed(9) == 2
+        && octets_needed(u64::MAX) == 2305843009213693952
+        && spare_bits(0) == 0
+        && spare_bits(1) == 7
+        && spare_bits(15) == 1
+        && spare_bits(16) == 0
+}
+
+fn are_bits() -> bool {
+    bit_of(0x50, 6)
+        && !bit_of(0x50, 5)
+        && bit_of(0x01, 0)
+        && bit_of(0x80, 7)
+        && are_last_zero(0x50, 4)
+        && !are_last_zero(0x50, 5)
+        && are_last_zero(0xff, 0)
+}
+
+// The length counts the initial octet (X.696, 13.3).
+fn are_unused_bits() -> bool {
+    may_be_unused(0, 1)
+        && !may_be_unused(1, 1)
+        && may_be_unused(7, 2)
+        && !may_be_unused(8, 2)
+}
+
+#[test]
+fn bits_of_octets() -> Result<(), Fail> {
+    is_well("octets of bits", are_octets_of_bits())?;
+    is_well("bits", are_bits())?;
+    is_well("unused bits", are_unused_bits())
 }
 
 #[test]

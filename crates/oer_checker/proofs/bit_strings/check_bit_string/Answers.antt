@@ -11,7 +11,7 @@ pub returns-in_err-octets : goal.returns-in_err-octets
 returns-in_err-octets c = rw (at_stop c.from_residual.result c.in_err-octets.field-0.0 c.from_residual.ensures.1) (fixed_stop (fixed c.args.size.now) c.args.size.now _ c.in-Some.count _ _ c.in-Some.ensures (rw c.octets_needed.ensures.value at c.in_err-octets.ensures))
 
 pub returns-in-Some : goal.returns-in-Some
-returns-in-Some c = rw (c.ends_in_zeros.ensures, c.spare.ensures.value) (fixed_got (fixed c.args.size.now) c.args.size.now _ _ c.in-Some.count c.in_ok-octets.octets.now c.in-Some.ensures (rw c.octets_needed.ensures.value at c.in_ok-octets.ensures))
+returns-in-Some c = rw (c.ends_in_zeros.ensures, c.spare_bits.ensures.value) (fixed_got (fixed c.args.size.now) c.args.size.now _ _ c.in-Some.count c.in_ok-octets.octets.now c.in-Some.ensures (rw c.octets_needed.ensures.value at c.in_ok-octets.ensures))
 
 pub returns-in_err-bits : goal.returns-in_err-bits
 returns-in_err-bits c = rw (at_stop c.from_residual-in_err-bits.result c.in_err-bits.field-0.0 c.from_residual-in_err-bits.ensures.1) (counted_stop (fixed c.args.size.now) c.args.size.now _ _ _ c.in_default.ensures c.in_err-bits.ensures.bits)

@@ -1,20 +1,20 @@
 use Rattle.std.proofs.Common.{◌≡◌, ◌-◌, ◌∙◌, sym, ap, arith, ℕ, take, length}
 use Rattle.oer_types.specs.Bits.{bits_of, octets_for}
 use Rattle.oer_types.proofs.Parts.{length-bits_of}
-use Rattle.oer_units.proofs.ReadExits.{at_exit}
 use Rattle.oer_decoder.proofs.BitReads.{counted_stop, counted_unused, counted_short, counted_got, octets_of_used}
+use Rattle.oer_decoder.proofs.Exits.{at_fault, at_stop, here}
 use Rattle.oer_decoder.proofs.bit_strings.counted_bits.Goals as goal
 
 pub returns-in_err-length : goal.returns-in_err-length
-returns-in_err-length g c = rw (at_exit c.from_residual.result c.in_err-length.field-0.0 c.from_residual.ensures.1) (counted_stop c.args.size _ _ _ c.in_err-length.ensures.reads)
+returns-in_err-length g c = rw (at_fault c.from_residual.result c.in_err-length.field-0.0 c.from_residual.ensures.1) (here _ _ _ _ (counted_stop c.args.size _ _ _ c.in_err-length.ensures.reads))
 
 pub returns-in_err-unused : goal.returns-in_err-unused
-returns-in_err-unused g c = rw (at_exit c.from_residual-in_err-unused.result c.in_err-unused.field-0.0 c.from_residual-in_err-unused.ensures.1) (counted_unused c.args.size _ _ _ c.in_ok-length.length _ c.in_ok-length.ensures.reads c.in_err-unused.ensures.reads)
+returns-in_err-unused g c = rw (at_stop c.from_residual-in_err-unused.result c.in_err-unused.field-0.0 c.from_residual-in_err-unused.ensures.1) (counted_unused c.args.size _ _ _ c.in_ok-length.length _ c.in_ok-length.ensures.reads c.in_err-unused.ensures.reads)
 
 pub returns-in_err-octets : goal.returns-in_err-octets
 returns-in_err-octets g c =
-    rw (at_exit c.from_residual-in_err-octets.result c.in_err-octets.field-0.0 c.from_residual-in_err-octets.ensures.1)
-    (counted_short c.args.size _ _ _ _ c.in_ok-length.length c.in_ok-unused.unused _ c.in_ok-length.ensures.reads c.in_ok-unused.ensures.reads c.in_err-octets.ensures.reads)
+    rw (at_fault c.from_residual-in_err-octets.result c.in_err-octets.field-0.0 c.from_residual-in_err-octets.ensures.1)
+    (here _ _ _ _ (counted_short c.args.size _ _ _ _ c.in_ok-length.length c.in_ok-unused.unused _ c.in_ok-length.ensures.reads c.in_ok-unused.ensures.reads c.in_err-octets.ensures.reads))
 
 pub packed-requires : goal.packed-requires
 packed-requires g c =

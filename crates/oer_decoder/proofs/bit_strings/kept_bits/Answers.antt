@@ -13,8 +13,8 @@ by_many : (r : Result (Vec Bool Global) AllocError) (d : List ℕ) (u : ℕ) →
 by_many (Ok v) d u e h = h ∙ sym e
 by_many (Err e') d u e h = tt
 
-pub returns-then-octets-gt8192 : goal.returns-then-octets-gt8192
-returns-then-octets-gt8192 c = by_many c.bits_of.result c.args.octets.now c.args.unused (kept_many 8192 65536 c.args.unused c.args.octets.now refl c.requires c.if-octets-gt8192.true) c.bits_of.ensures
+pub returns-then-octets-gt-PLACES_OCTETS : goal.returns-then-octets-gt-PLACES_OCTETS
+returns-then-octets-gt-PLACES_OCTETS c = by_many c.bits_of.result c.args.octets.now c.args.unused (kept_many 8192 65536 c.args.unused c.args.octets.now refl c.requires c.if-octets-gt-PLACES_OCTETS.true) c.bits_of.ensures
 
 pub returns : goal.returns
 returns c =
@@ -23,4 +23,4 @@ returns c =
     c.truncate.ensures.items
     ∙ ap (λ (s : List Bool). take c.saturating_sub-count.result s) all
     ∙ ap (λ (n : ℕ). take n (bits_of c.args.octets.now)) count
-    ∙ sym (kept_few 8192 65536 c.args.unused c.args.octets.now refl c.if-octets-gt8192.false)
+    ∙ sym (kept_few 8192 65536 c.args.unused c.args.octets.now refl c.if-octets-gt-PLACES_OCTETS.false)

@@ -1,14 +1,14 @@
 use Rattle.std.proofs.Common.{Ok}
 use Rattle.oer_units.specs.Reader.{give}
 use Rattle.oer_units.specs.Reading.{counted_octets}
-use Rattle.oer_units.proofs.ReadExits.{at_exit}
 use Rattle.oer_units.proofs.ReadSteps.{Reads-map, Reads-stop}
 use Rattle.oer_types.specs.AsnValue.{foreign}
 use Rattle.oer_types.proofs.Values.{value_of-Foreign}
+use Rattle.oer_decoder.proofs.Exits.{at_stop}
 use Rattle.oer_decoder.proofs.parts.set_foreign.Goals as goal
 
 pub returns-in_err-octets : goal.returns-in_err-octets
-returns-in_err-octets g c = rw (at_exit c.from_residual.result c.in_err-octets.field-0.0 c.from_residual.ensures.1) (Reads-stop counted_octets (λ w. give (foreign c.args.tag w)) _ _ _ c.in_err-octets.ensures)
+returns-in_err-octets g c = rw (at_stop c.from_residual.result c.in_err-octets.field-0.0 c.from_residual.ensures.1) (Reads-stop counted_octets (λ w. give (foreign c.args.tag w)) _ _ _ c.in_err-octets.ensures)
 
 pub returns : goal.returns
 returns g c = rw (c.set.ensures, value_of-Foreign) (Reads-map counted_octets (λ w. foreign c.args.tag w) _ _ (Ok c.in_ok-octets.octets.items) c.in_ok-octets.ensures)

@@ -1,7 +1,7 @@
-use Rattle.std.proofs.Common.{◌≡◌, ◌≢◌, ℕ, ◌-◌, ◌+◌, ◌≤◌, arith}
+use Rattle.std.proofs.Common.{refl, ◌≡◌, ◌≢◌, ℕ, ◌-◌, ◌+◌, ◌≤◌, arith}
 use Rattle.std.proofs.lemmas.Grind.{common_steps}
-use Rattle.oer_units.proofs.ReadExits.{at_exit}
 use Rattle.oer_decoder.proofs.Objects.{subs_next, subs_stop, subs_memory, subs_end, subs_out}
+use Rattle.oer_decoder.proofs.Exits.{at_fault, here}
 use Rattle.oer_decoder.proofs.strings.subidentifiers.Goals as goal
 
 pub returns-then-end-taken : goal.returns-then-end-taken
@@ -11,15 +11,15 @@ pub returns-in_err-number : goal.returns-in_err-number
 returns-in_err-number g c =
     let left : ℕ = c.taken.result + c.args.content - c.loop-turn.w.bound.taken in
     let some : left ≢ 0 = λ (z : left ≡ 0). absurd (omega arith) in
-    rw (at_exit c.from_residual.result c.in_err-number.field-0.0 c.from_residual.ensures.1)
-    (subs_stop (c.args.content - c.loop-turn.turn) (c.args.content - (c.loop-turn.turn + 1)) left c.loop-turn.numbers.items _ _ _ _ _ (omega arith) some c.loop-turn.invariant.leads
-    (rw c.taken-in-loop-turn-2.ensures at c.in_err-number.ensures.reads))
+    rw (at_fault c.from_residual.result c.in_err-number.field-0.0 c.from_residual.ensures.1)
+    (here _ _ _ _ (subs_stop (c.args.content - c.loop-turn.turn) (c.args.content - (c.loop-turn.turn + 1)) left c.loop-turn.numbers.items _ _ _ _ _ (omega arith) some c.loop-turn.invariant.leads
+    (rw c.taken-in-loop-turn-2.ensures at c.in_err-number.ensures.reads)))
 
 pub returns-then-is_err : goal.returns-then-is_err
 returns-then-is_err g c =
     let left : ℕ = c.taken.result + c.args.content - c.loop-turn.w.bound.taken in
     let some : left ≢ 0 = λ (z : left ≡ 0). absurd (omega arith) in
-    subs_memory (c.args.content - c.loop-turn.turn) (c.args.content - (c.loop-turn.turn + 1)) left c.loop-turn.numbers.items c.in_ok-number.number _ _ _ _ _ _ (omega arith) some c.fault.ensures.why c.fault.ensures.taken c.loop-turn.invariant.leads
+    subs_memory (c.args.content - c.loop-turn.turn) (c.args.content - (c.loop-turn.turn + 1)) left c.loop-turn.numbers.items c.in_ok-number.number _ _ _ _ _ _ (omega arith) some refl refl c.loop-turn.invariant.leads
     (rw c.taken-in-loop-turn-2.ensures at c.in_ok-number.ensures.reads)
 
 pub loop-turn-preserved : goal.loop-turn-preserved

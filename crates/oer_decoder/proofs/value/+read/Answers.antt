@@ -1,7 +1,6 @@
 use Rattle.std.proofs.Common.{◌≡◌, ◌∙◌, ◌++◌, ◌∷◌, [], vec_len, Option, Some, None, Vec, Global, map, length, ◌-◌, ◌+◌, Ok, Err, arith, refl, rules, sym, ap, add-one}
 use Rattle.std.proofs.lemmas.Grind.{common_steps}
 use Rattle.oer_units.specs.Reading.{open_type}
-use Rattle.oer_units.proofs.ReadExits.{at_exit}
 use Rattle.oer_units.proofs.ReadOpen.{open_filled, open_stop, open_unfilled, open_value_stop}
 use Rattle.oer_units.proofs.ReadSteps.{Reads-memory}
 use Rattle.oer_types.specs.Reading.{read_value}
@@ -19,24 +18,25 @@ use Rattle.oer_decoder.proofs.Extensions.{extensible_stop, extensible_then, exte
 use Rattle.oer_decoder.proofs.Loops.{addition_count_is, stored_last, adds_end, adds_next, adds_none, adds_stop, elements_end, elements_next, elements_none, elements_stop, fields_end, fields_next, fields_none, fields_stop, items_stop, items_then, leads_memory, listed_is, place_none, place_then, root_stop, root_then, sequence_stop, sequence_then}
 use Rattle.oer_decoder.proofs.Picks.{choice_found, choice_later, choice_none, choice_with-is, has_marker, more_of, choice_refused, choice_stop, chosen_memory, chosen_stop, chosen_then, later_end, later_foreign, later_found, later_here, later_next, later_stop, root_end, root_here, root_next}
 use Rattle.oer_decoder.proofs.Shapes.{type_of-Boolean}
+use Rattle.oer_decoder.proofs.Exits.{at_fault, at_stop, here}
 use Rattle.oer_decoder.proofs.value.+read.Goals as goal
 
 -- ---- an open type
 
 pub read_open-returns-in_err-size : goal.read_open-returns-in_err-size
 read_open-returns-in_err-size g t c =
-    rw (at_exit c.from_residual.result c.in_err-size.field-0.0 c.from_residual.ensures.1) (open_stop (read_value (type_of c.args.shape.now)) _ _ _ c.in_err-size.ensures.reads)
+    rw (at_fault c.from_residual.result c.in_err-size.field-0.0 c.from_residual.ensures.1) (here _ _ _ _ (open_stop (read_value (type_of c.args.shape.now)) _ _ _ c.in_err-size.ensures.reads))
 
 pub read_open-returns-in_err-read_shape : goal.read_open-returns-in_err-read_shape
 read_open-returns-in_err-read_shape g t c =
-    rw (at_exit c.from_residual-in_err-read_shape.result c.in_err-read_shape.field-0.0 c.from_residual-in_err-read_shape.ensures.1)
+    rw (at_stop c.from_residual-in_err-read_shape.result c.in_err-read_shape.field-0.0 c.from_residual-in_err-read_shape.ensures.1)
     (open_value_stop (read_value (type_of c.args.shape.now)) _ _ _ _ c.in_ok-size.size _ c.in_ok-size.ensures.room c.in_ok-size.ensures.reads c.enter-outer.ensures.entered c.in_err-read_shape.ensures.reads)
 
 pub read_open-returns-in_err-leave : goal.read_open-returns-in_err-leave
 read_open-returns-in_err-leave g t c =
     let e = c.in_err-leave.ensures in
-    rw (at_exit c.from_residual-in_err-leave.result c.in_err-leave.field-0.0 c.from_residual-in_err-leave.ensures.1)
-    (open_unfilled (read_value (type_of c.args.shape.now)) _ _ _ _ _ c.in_ok-size.size (value_of c.read_shape.new.value) _ c.in_ok-size.ensures.room c.in_ok-size.ensures.reads c.enter-outer.ensures.entered c.in_ok-read_shape.ensures.reads (omega (arith, e.unfilled)) e.fault.0 e.fault.1 e.err)
+    rw (at_fault c.from_residual-in_err-leave.result c.in_err-leave.field-0.0 c.from_residual-in_err-leave.ensures.1)
+    (here _ _ _ _ (open_unfilled (read_value (type_of c.args.shape.now)) _ _ _ _ _ c.in_ok-size.size (value_of c.read_shape.new.value) _ c.in_ok-size.ensures.room c.in_ok-size.ensures.reads c.enter-outer.ensures.entered c.in_ok-read_shape.ensures.reads (omega (arith, e.unfilled)) e.fault.0 e.fault.1 e.err))
 
 pub read_open-returns : goal.read_open-returns
 read_open-returns g t c =
@@ -53,7 +53,7 @@ read_elements-loop-i-init g t c = elements_none c.args.count (read_value (type_o
 
 pub read_elements-returns-in_err-read_shape : goal.read_elements-returns-in_err-read_shape
 read_elements-returns-in_err-read_shape g t c =
-    rw (at_exit c.from_residual.result c.in_err-read_shape.field-0.0 c.from_residual.ensures.1)
+    rw (at_stop c.from_residual.result c.in_err-read_shape.field-0.0 c.from_residual.ensures.1)
     (elements_stop (c.args.count - c.loop-i.i) (c.args.count - (c.loop-i.i + 1)) (read_value (type_of c.args.item.now)) c.loop-i.values.items _ _ _ _ _ (omega arith) c.loop-i.invariant c.in_err-read_shape.ensures.reads)
 
 pub read_elements-loop-i-preserved : goal.read_elements-loop-i-preserved
@@ -63,7 +63,7 @@ read_elements-loop-i-preserved g t c =
     elements_next (c.args.count - c.loop-i.i) (c.args.count - (c.loop-i.i + 1)) (read_value (type_of c.args.item.now)) c.loop-i.values.items _ c.read_shape.new.value _ _ _ _ (omega arith) (stored_last c.loop-i.values.items c.push.new.self.items Value.Null _ (omega (arith, len, c.loop-i.values.ok.0)) pushed) c.loop-i.invariant c.in_ok-read_shape.ensures.reads
 
 pub read_elements-returns-then-is_err : goal.read_elements-returns-then-is_err
-read_elements-returns-then-is_err g t c = leads_memory _ _ _ _ _ _ c.fault.ensures.why c.fault.ensures.taken c.loop-i.invariant
+read_elements-returns-then-is_err g t c = leads_memory _ _ _ _ _ _ refl refl c.loop-i.invariant
 
 pub read_elements-returns : goal.read_elements-returns
 read_elements-returns g t c = elements_end (c.args.count - c.loop-i.i) (read_value (type_of c.args.item.now)) c.loop-i.values.items _ _ _ (omega arith) c.loop-i.invariant
@@ -71,7 +71,7 @@ read_elements-returns g t c = elements_end (c.args.count - c.loop-i.i) (read_val
 -- ---- components
 
 pub read_fields-returns-in_default : goal.read_fields-returns-in_default
-read_fields-returns-in_default g t c = Reads-memory _ _ _ c.fault.ensures.why c.fault.ensures.taken
+read_fields-returns-in_default g t c = Reads-memory _ _ _ refl refl
 
 pub read_fields-loop-field-init : goal.read_fields-loop-field-init
 read_fields-loop-field-init g t c = record {
@@ -90,8 +90,8 @@ read_fields-loop-field-preserved-then-not-is_present g t c = record {
 
 pub read_fields-returns-in_err-read_shape : goal.read_fields-returns-in_err-read_shape
 read_fields-returns-in_err-read_shape g t c =
-    rw (at_exit c.from_residual.result c.in_err-read_shape.field-0.0 c.from_residual.ensures.1)
-    (fields_stop c.args.fields.now c.loop-field.field-index c.field-item.result c.loop-field.left.now c.presence-is_present.result.0 c.loop-field.places.items _ _ _ _ _ c.loop-field-test.true c.field-item.is c.presence-is_present.ensures.there c.loop-field.invariant.leads (place_then c.presence-is_present.result.0 (read_value (type_of c.field-item.result.shape)) _ _ (Err c.in_err-read_shape.field-0.0) (search rules) c.in_err-read_shape.ensures.reads))
+    rw (at_stop c.from_residual.result c.in_err-read_shape.field-0.0 c.from_residual.ensures.1)
+    (fields_stop c.args.fields.now c.loop-field.field-index c.field-item.result c.loop-field.left.now c.presence-is_present.result.0 c.loop-field.places.items _ _ _ _ _ c.loop-field-test.true c.field-item.is c.presence-is_present.ensures.there c.loop-field.invariant.leads (place_then c.presence-is_present.result.0 (read_value (type_of c.field-item.result.shape)) _ _ (Err _) (search rules) c.in_err-read_shape.ensures.reads))
 
 pub read_fields-loop-field-preserved : goal.read_fields-loop-field-preserved
 read_fields-loop-field-preserved g t c = record {
@@ -105,7 +105,7 @@ read_fields-returns g t c = fields_end c.args.fields.now c.loop-field.field-inde
 -- ---- additions
 
 pub read_additions-returns-in_default : goal.read_additions-returns-in_default
-read_additions-returns-in_default g t c = Reads-memory _ _ _ c.fault.ensures.why c.fault.ensures.taken
+read_additions-returns-in_default g t c = Reads-memory _ _ _ refl refl
 
 pub read_additions-loop-addition-init : goal.read_additions-loop-addition-init
 read_additions-loop-addition-init g t c = record {
@@ -124,8 +124,8 @@ read_additions-loop-addition-preserved-then-not-is_present g t c = record {
 
 pub read_additions-returns-in_err-read_open : goal.read_additions-returns-in_err-read_open
 read_additions-returns-in_err-read_open g t c =
-    rw (at_exit c.from_residual.result c.in_err-read_open.field-0.0 c.from_residual.ensures.1)
-    (adds_stop c.args.additions.now c.loop-addition.addition-index c.addition-item.result c.loop-addition.left.now c.first-is_present.result c.loop-addition.places.items _ _ _ _ _ c.loop-addition-test.true c.addition-item.is c.first-is_present.ensures c.loop-addition.invariant.leads (place_then c.first-is_present.result (open_type (read_value (type_of c.addition-item.result.shape))) _ _ (Err c.in_err-read_open.field-0.0) (search rules) c.in_err-read_open.ensures))
+    rw (at_stop c.from_residual.result c.in_err-read_open.field-0.0 c.from_residual.ensures.1)
+    (adds_stop c.args.additions.now c.loop-addition.addition-index c.addition-item.result c.loop-addition.left.now c.first-is_present.result c.loop-addition.places.items _ _ _ _ _ c.loop-addition-test.true c.addition-item.is c.first-is_present.ensures c.loop-addition.invariant.leads (place_then c.first-is_present.result (open_type (read_value (type_of c.addition-item.result.shape))) _ _ (Err _) (search rules) c.in_err-read_open.ensures))
 
 pub read_additions-loop-addition-preserved : goal.read_additions-loop-addition-preserved
 read_additions-loop-addition-preserved g t c = record {
@@ -140,13 +140,13 @@ read_additions-returns g t c = adds_end c.args.additions.now c.loop-addition.add
 
 pub read_items-returns-in_err-count : goal.read_items-returns-in_err-count
 read_items-returns-in_err-count g t c =
-    rw (at_exit c.from_residual.result c.in_err-count.field-0.0 c.from_residual.ensures.1)
+    rw (at_stop c.from_residual.result c.in_err-count.field-0.0 c.from_residual.ensures.1)
     (items_stop c.args.size (read_value (type_of c.args.item.now)) _ _ _ c.in_err-count.ensures)
 
 pub read_items-returns-in_err-values : goal.read_items-returns-in_err-values
 read_items-returns-in_err-values g t c =
-    rw (at_exit c.from_residual-in_err-values.result c.in_err-values.field-0.0 c.from_residual-in_err-values.ensures.1)
-    (items_then c.args.size (read_value (type_of c.args.item.now)) _ _ _ c.in_ok-count.count (Err c.in_err-values.field-0.0) c.in_ok-count.ensures c.in_err-values.ensures)
+    rw (at_stop c.from_residual-in_err-values.result c.in_err-values.field-0.0 c.from_residual-in_err-values.ensures.1)
+    (items_then c.args.size (read_value (type_of c.args.item.now)) _ _ _ c.in_ok-count.count (Err _) c.in_ok-count.ensures c.in_err-values.ensures)
 
 pub read_items-returns : goal.read_items-returns
 read_items-returns g t c =
@@ -157,13 +157,13 @@ read_items-returns g t c =
 
 pub read_sequence-returns-in_err-bits : goal.read_sequence-returns-in_err-bits
 read_sequence-returns-in_err-bits g t c =
-    rw (at_exit c.from_residual.result c.in_err-bits.field-0.0 c.from_residual.ensures.1)
+    rw (at_stop c.from_residual.result c.in_err-bits.field-0.0 c.from_residual.ensures.1)
     (sequence_stop (fields_of c.args.root.now) _ _ _ (rw c.optional.ensures.is at c.in_err-bits.ensures))
 
 pub read_sequence-returns-in_err-root : goal.read_sequence-returns-in_err-root
 read_sequence-returns-in_err-root g t c =
-    rw (at_exit c.from_residual-in_err-root.result c.in_err-root.field-0.0 c.from_residual-in_err-root.ensures.1)
-    (sequence_then (fields_of c.args.root.now) _ _ _ (bits_in c.in_ok-bits.bits) (Err c.in_err-root.field-0.0) (rw c.optional.ensures.is at c.in_ok-bits.ensures) (rw c.as_slice.ensures at c.in_err-root.ensures))
+    rw (at_stop c.from_residual-in_err-root.result c.in_err-root.field-0.0 c.from_residual-in_err-root.ensures.1)
+    (sequence_then (fields_of c.args.root.now) _ _ _ (bits_in c.in_ok-bits.bits) (Err _) (rw c.optional.ensures.is at c.in_ok-bits.ensures) (rw c.as_slice.ensures at c.in_err-root.ensures))
 
 pub read_sequence-returns : goal.read_sequence-returns
 read_sequence-returns g t c =
@@ -172,13 +172,13 @@ read_sequence-returns g t c =
 
 pub read_root-returns-in_err-bits : goal.read_root-returns-in_err-bits
 read_root-returns-in_err-bits g t c =
-    rw (at_exit c.from_residual.result c.in_err-bits.field-0.0 c.from_residual.ensures.1)
+    rw (at_stop c.from_residual.result c.in_err-bits.field-0.0 c.from_residual.ensures.1)
     (root_stop (fields_of c.args.root.now) _ _ _ (rw (c.optional.ensures.is, add-one) at c.in_err-bits.ensures))
 
 pub read_root-returns-in_err-places : goal.read_root-returns-in_err-places
 read_root-returns-in_err-places g t c =
-    rw (at_exit c.from_residual-in_err-places.result c.in_err-places.field-0.0 c.from_residual-in_err-places.ensures.1)
-    (root_then (fields_of c.args.root.now) _ _ _ (bits_in c.in_ok-bits.bits) (Err c.in_err-places.field-0.0) (rw (c.optional.ensures.is, add-one) at c.in_ok-bits.ensures) (rw (c.after.ensures, c.as_slice-marks.ensures) at c.in_err-places.ensures))
+    rw (at_stop c.from_residual-in_err-places.result c.in_err-places.field-0.0 c.from_residual-in_err-places.ensures.1)
+    (root_then (fields_of c.args.root.now) _ _ _ (bits_in c.in_ok-bits.bits) (Err _) (rw (c.optional.ensures.is, add-one) at c.in_ok-bits.ensures) (rw (c.after.ensures, c.as_slice-marks.ensures) at c.in_err-places.ensures))
 
 pub read_root-returns : goal.read_root-returns
 read_root-returns g t c =
@@ -193,18 +193,18 @@ read_extension-returns-then-not-is_extended g t c =
 
 pub read_extension-returns-in_err-bits : goal.read_extension-returns-in_err-bits
 read_extension-returns-in_err-bits g t c =
-    rw (at_exit c.from_residual.result c.in_err-bits.field-0.0 c.from_residual.ensures.1)
+    rw (at_stop c.from_residual.result c.in_err-bits.field-0.0 c.from_residual.ensures.1)
     (extension_stop c.args.is_extended (additions_of c.args.additions.now) _ _ _ (search rules) c.in_err-bits.ensures.reads)
 
 pub read_extension-returns-in_err-known : goal.read_extension-returns-in_err-known
 read_extension-returns-in_err-known g t c =
-    rw (at_exit c.from_residual-in_err-known.result c.in_err-known.field-0.0 c.from_residual-in_err-known.ensures.1)
+    rw (at_stop c.from_residual-in_err-known.result c.in_err-known.field-0.0 c.from_residual-in_err-known.ensures.1)
     (extension_known c.args.is_extended (additions_of c.args.additions.now) _ _ _ c.in_ok-bits.bits.items _ (search rules) c.in_ok-bits.ensures.reads (rw c.deref.ensures.value at c.in_err-known.ensures))
 
 pub read_extension-returns-in_err-unknown : goal.read_extension-returns-in_err-unknown
 read_extension-returns-in_err-unknown g t c =
-    rw (at_exit c.from_residual-in_err-unknown.result c.in_err-unknown.field-0.0 c.from_residual-in_err-unknown.ensures.1)
-    (extension_then c.args.is_extended (additions_of c.args.additions.now) (length c.args.additions.now) _ _ _ _ c.in_ok-bits.bits.items (places_of c.in_ok-known.known.items) (Err c.in_err-unknown.field-0.0) (search rules) (addition_count_is c.args.additions.now) c.in_ok-bits.ensures.reads
+    rw (at_stop c.from_residual-in_err-unknown.result c.in_err-unknown.field-0.0 c.from_residual-in_err-unknown.ensures.1)
+    (extension_then c.args.is_extended (additions_of c.args.additions.now) (length c.args.additions.now) _ _ _ _ c.in_ok-bits.bits.items (places_of c.in_ok-known.known.items) (Err _) (search rules) (addition_count_is c.args.additions.now) c.in_ok-bits.ensures.reads
     (rw c.deref.ensures.value at c.in_ok-known.ensures) (rw c.deref-2.ensures.value at c.in_err-unknown.ensures))
 
 pub read_extension-returns : goal.read_extension-returns
@@ -214,8 +214,8 @@ read_extension-returns g t c =
 
 pub read_rest-returns-in_err-added : goal.read_rest-returns-in_err-added
 read_rest-returns-in_err-added g t c =
-    rw (at_exit c.from_residual.result c.in_err-added.field-0.0 c.from_residual.ensures.1)
-    (rest_then (additions_of c.args.additions.now) (start_of c.args.start) _ _ (Err c.in_err-added.field-0.0) c.in_err-added.ensures)
+    rw (at_stop c.from_residual.result c.in_err-added.field-0.0 c.from_residual.ensures.1)
+    (rest_then (additions_of c.args.additions.now) (start_of c.args.start) _ _ (Err _) c.in_err-added.ensures)
 
 pub read_rest-returns : goal.read_rest-returns
 read_rest-returns g t c =
@@ -226,12 +226,12 @@ read_rest-returns g t c =
 
 pub read_alternative-returns-in_err-inner : goal.read_alternative-returns-in_err-inner
 read_alternative-returns-in_err-inner g t c =
-    rw (at_exit c.from_residual.result c.in_err-inner.field-0.0 c.from_residual.ensures.1)
-    (chosen_memory _ _ _ _ c.loop-alternative.invariant.still c.in_err-inner.ensures.why c.in_err-inner.ensures.taken)
+    rw (at_stop c.from_residual.result c.in_err-inner.field-0.0 c.from_residual.ensures.1)
+    (chosen_memory _ _ _ _ c.loop-alternative.invariant.still c.in_err-inner.ensures refl)
 
 pub read_alternative-returns-in_err-read_shape : goal.read_alternative-returns-in_err-read_shape
 read_alternative-returns-in_err-read_shape g t c =
-    rw (at_exit c.from_residual-in_err-read_shape.result c.in_err-read_shape.field-0.0 c.from_residual-in_err-read_shape.ensures.1)
+    rw (at_stop c.from_residual-in_err-read_shape.result c.in_err-read_shape.field-0.0 c.from_residual-in_err-read_shape.ensures.1)
     (chosen_stop c.args.tag (read_value (type_of c.alternative-item.result.shape)) _ _ _ _ _ c.loop-alternative.invariant.still
     (root_here c.args.alternatives.now c.loop-alternative.alternative-index c.alternative-item.result c.args.tag _ c.loop-alternative-test.true c.alternative-item.is c.if-is_same_tag.ensures c.loop-alternative.invariant.same) c.in_err-read_shape.ensures.reads)
 
@@ -253,12 +253,12 @@ read_alternative-returns g t c = root_end c.args.alternatives.now c.loop-alterna
 
 pub read_open_alternative-returns-in_err-inner : goal.read_open_alternative-returns-in_err-inner
 read_open_alternative-returns-in_err-inner g t c =
-    rw (at_exit c.from_residual.result c.in_err-inner.field-0.0 c.from_residual.ensures.1)
-    (chosen_memory _ _ _ _ c.loop-alternative.invariant.still c.in_err-inner.ensures.why c.in_err-inner.ensures.taken)
+    rw (at_stop c.from_residual.result c.in_err-inner.field-0.0 c.from_residual.ensures.1)
+    (chosen_memory _ _ _ _ c.loop-alternative.invariant.still c.in_err-inner.ensures refl)
 
 pub read_open_alternative-returns-in_err-read_open : goal.read_open_alternative-returns-in_err-read_open
 read_open_alternative-returns-in_err-read_open g t c =
-    rw (at_exit c.from_residual-in_err-read_open.result c.in_err-read_open.field-0.0 c.from_residual-in_err-read_open.ensures.1)
+    rw (at_stop c.from_residual-in_err-read_open.result c.in_err-read_open.field-0.0 c.from_residual-in_err-read_open.ensures.1)
     (chosen_stop c.args.tag (open_type (read_value (type_of c.alternative-item.result.shape))) _ _ _ _ _ c.loop-alternative.invariant.still
     (later_here c.args.alternatives.now c.loop-alternative.alternative-index c.alternative-item.result c.args.tag _ c.loop-alternative-test.true c.alternative-item.is c.if-is_same_tag.ensures c.loop-alternative.invariant.same) c.in_err-read_open.ensures)
 
@@ -282,7 +282,7 @@ read_open_alternative-returns g t c = later_end c.args.alternatives.now c.loop-a
 
 pub read_later_alternative-returns-in_err-is_found : goal.read_later_alternative-returns-in_err-is_found
 read_later_alternative-returns-in_err-is_found g t c =
-    rw (at_exit c.from_residual.result c.in_err-is_found.field-0.0 c.from_residual.ensures.1)
+    rw (at_stop c.from_residual.result c.in_err-is_found.field-0.0 c.from_residual.ensures.1)
     (later_stop c.args.alternatives.now c.args.tag _ _ _ c.in_err-is_found.ensures)
 
 pub read_later_alternative-returns-then-is_found : goal.read_later_alternative-returns-then-is_found
@@ -314,7 +314,7 @@ read_extensible-read_rest-requires g t c κs within =
 pub read_extensible-returns-in_err-start : goal.read_extensible-returns-in_err-start
 read_extensible-returns-in_err-start g t c =
     let h = c.requires.is in
-    rw (at_exit c.from_residual.result c.in_err-start.field-0.0 c.from_residual.ensures.1, h.2, type_of-Sequence)
+    rw (at_stop c.from_residual.result c.in_err-start.field-0.0 c.from_residual.ensures.1, h.2, type_of-Sequence)
     (extensible_stop (fields_of h.0.items) (additions_of h.1.items) _ _ _ (rw h.3 at c.in_err-start.ensures))
 
 pub read_extensible-returns : goal.read_extensible-returns
@@ -340,13 +340,13 @@ read_choice-read_later_alternative-requires g t c κs within =
 pub read_choice-returns-in_err-tag : goal.read_choice-returns-in_err-tag
 read_choice-returns-in_err-tag g t c =
     let h = c.requires.is in
-    rw (at_exit c.from_residual.result c.in_err-tag.field-0.0 c.from_residual.ensures.1, h.1, type_of-Choice, choice_with-is)
-    (choice_stop (has_marker c.args.additions.now) h.0.items (later_of (more_of c.args.additions.now)) _ _ _ c.in_err-tag.ensures.reads)
+    rw (at_fault c.from_residual.result c.in_err-tag.field-0.0 c.from_residual.ensures.1, h.1, type_of-Choice, choice_with-is)
+    (here _ _ _ _ (choice_stop (has_marker c.args.additions.now) h.0.items (later_of (more_of c.args.additions.now)) _ _ _ c.in_err-tag.ensures.reads))
 
 pub read_choice-returns-in_err-is_found : goal.read_choice-returns-in_err-is_found
 read_choice-returns-in_err-is_found g t c =
     let h = c.requires.is in
-    rw (at_exit c.from_residual-in_err-is_found.result c.in_err-is_found.field-0.0 c.from_residual-in_err-is_found.ensures.1, h.1, type_of-Choice, choice_with-is)
+    rw (at_stop c.from_residual-in_err-is_found.result c.in_err-is_found.field-0.0 c.from_residual-in_err-is_found.ensures.1, h.1, type_of-Choice, choice_with-is)
     (choice_refused (has_marker c.args.additions.now) h.0.items (later_of (more_of c.args.additions.now)) _ _ _ c.in_ok-tag.tag _ c.in_ok-tag.ensures.reads (rw h.2 at c.in_err-is_found.ensures))
 
 pub read_choice-returns-then-is_found : goal.read_choice-returns-then-is_found
@@ -367,4 +367,4 @@ read_choice-returns-in-None g t c =
     let h = c.requires.is in
     rw (h.1, c.in-None.is, type_of-Choice)
     (choice_none h.0.items _ _ _ c.in_ok-tag.tag _ c.in_ok-tag.ensures.reads
-    (rw (h.2, c.if-is_found.false) at c.in_ok-is_found.ensures) c.fault.ensures.why c.fault.ensures.taken)
+    (rw (h.2, c.if-is_found.false) at c.in_ok-is_found.ensures) refl refl)
