@@ -72,11 +72,15 @@ fn initial_octet<R: Source>(length: u64, w: &mut Window<R>) -> Result<u8, Stop>
         (state R.remaining R.failed w.new) }
 {
     if length == 0 {
-        return Err(Stop { why: Why::BitUnused });
+        return Err(Stop {
+            why: Why::BitUnused,
+        });
     }
     let unused = octet(w)?;
     if !may_be_unused(unused, length) {
-        return Err(Stop { why: Why::BitUnused });
+        return Err(Stop {
+            why: Why::BitUnused,
+        });
     }
     Ok(unused)
 }
@@ -118,10 +122,7 @@ fn packed(octets: Vec<u8>, count: u64) -> Bits
 /// The presence bitmap of the additions (X.696, 16.4), as far as additions are kept: up to place
 /// 65,535. It is a BIT STRING without size constraint, so more than 2^64 - 1 bits are rejected with
 /// `Size`. A set bit past place 65,535 is rejected with `UnknownAddition`.
-pub(crate) fn addition_map<R: Source>(
-    alloc: Global,
-    w: &mut Window<R>,
-) -> Result<Vec<bool>, Stop>
+pub(crate) fn addition_map<R: Source>(alloc: Global, w: &mut Window<R>) -> Result<Vec<bool>, Stop>
     ensures few { IfOk result (λ v. length v.items ≤ addition_places) }
     ensures reads { ReadsAs addition_map_at (state R.remaining R.failed w.old) (λ v. v.items) result
         (state R.remaining R.failed w.new) }
@@ -130,7 +131,9 @@ pub(crate) fn addition_map<R: Source>(
     let unused = sized_octet(Size::any(), length, w)?;
     let octets = octets(alloc, w, length - 1)?;
     if !is_clear_past(&octets, unused) {
-        return Err(Stop { why: Why::UnknownAddition });
+        return Err(Stop {
+            why: Why::UnknownAddition,
+        });
     }
     let Ok(bits) = kept_bits(alloc, &octets, unused) else {
         return Err(Stop { why: Why::Memory });

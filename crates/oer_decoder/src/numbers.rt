@@ -15,8 +15,8 @@ use crate::parts::set;
 use crate::stop::Stop;
 use oer_types::{Form, Item, Value, contains_number, is_in_range};
 use oer_units::{
-    Source, Why, Window, enumerated, octet, signed_counted, signed_fixed,
-    unsigned_counted, unsigned_fixed,
+    Source, Why, Window, enumerated, octet, signed_counted, signed_fixed, unsigned_counted,
+    unsigned_fixed,
 };
 
 /// A BOOLEAN (X.696, 9): every octet but `00` is TRUE.
@@ -53,7 +53,9 @@ pub(crate) fn read_integer<R: Source>(
 {
     let number = number(Form::of_bounds(low, high), w)?;
     if !is_in_range(low, high, number) {
-        return Err(Stop { why: Why::IntegerRange });
+        return Err(Stop {
+            why: Why::IntegerRange,
+        });
     }
     set(value, Value::Int(number));
     Ok(())
@@ -93,7 +95,9 @@ pub(crate) fn read_enumerated<R: Source>(
 {
     let number = enumerated(w)?;
     if !is_known(items, extensible, number) {
-        return Err(Stop { why: Why::UnknownEnum });
+        return Err(Stop {
+            why: Why::UnknownEnum,
+        });
     }
     set(value, Value::Enum(number));
     Ok(())

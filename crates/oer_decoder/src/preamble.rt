@@ -62,18 +62,16 @@ fn short_preamble<R: Source>(count: usize, w: &mut Window<R>) -> Result<Marks, S
     let mut octet = [0u8; 1];
     octets_into(w, &mut octet)?;
     if !are_last_zero(octet[0], 8 - count as u8) {
-        return Err(Stop { why: Why::PreamblePadding });
+        return Err(Stop {
+            why: Why::PreamblePadding,
+        });
     }
     Ok(Marks::Few(bits_of_octet(octet[0]), count))
 }
 
 // A preamble of any number of octets.
 #[inline(always)]
-fn long_preamble<R: Source>(
-    alloc: Global,
-    count: u64,
-    w: &mut Window<R>,
-) -> Result<Marks, Stop>
+fn long_preamble<R: Source>(alloc: Global, count: u64, w: &mut Window<R>) -> Result<Marks, Stop>
     ensures { ReadsAs (preamble_at count) (state R.remaining R.failed w.old) bits_in result
         (state R.remaining R.failed w.new) }
 {
@@ -83,7 +81,9 @@ fn long_preamble<R: Source>(
     };
     let mut bits = bits;
     if !are_false_from(&bits, count as usize) {
-        return Err(Stop { why: Why::PreamblePadding });
+        return Err(Stop {
+            why: Why::PreamblePadding,
+        });
     }
     bits.truncate(count as usize);
     Ok(Marks::Many(bits))

@@ -76,10 +76,7 @@ fn are_bits() -> bool {
 
 // The length counts the initial octet (X.696, 13.3).
 fn are_unused_bits() -> bool {
-    may_be_unused(0, 1)
-        && !may_be_unused(1, 1)
-        && may_be_unused(7, 2)
-        && !may_be_unused(8, 2)
+    may_be_unused(0, 1) && !may_be_unused(1, 1) && may_be_unused(7, 2) && !may_be_unused(8, 2)
 }
 
 #[test]
