@@ -17,10 +17,7 @@ use oer_units::{Source, Why, Window, length, octets, subidentifier};
 use std::alloc::{AllocError, Global};
 
 /// A length, and that many octets.
-pub(crate) fn counted_octets<R: Source>(
-    alloc: Global,
-    w: &mut Window<R>,
-) -> Result<Vec<u8>, Stop>
+pub(crate) fn counted_octets<R: Source>(alloc: Global, w: &mut Window<R>) -> Result<Vec<u8>, Stop>
     ensures { ReadsAs counted_octets_at (state R.remaining R.failed w.old) (λ v. v.items) result
         (state R.remaining R.failed w.new) }
 {
@@ -29,11 +26,7 @@ pub(crate) fn counted_octets<R: Source>(
 }
 
 // As many octets as the one size says, or else as a length says that the size allows.
-fn sized_octets<R: Source>(
-    alloc: Global,
-    size: &Size,
-    w: &mut Window<R>,
-) -> Result<Vec<u8>, Stop>
+fn sized_octets<R: Source>(alloc: Global, size: &Size, w: &mut Window<R>) -> Result<Vec<u8>, Stop>
     ensures { ReadsAs (read_octets (fixed_size size.now) size.now) (state R.remaining R.failed w.old) (λ v. v.items) result
         (state R.remaining R.failed w.new) }
 {
@@ -75,10 +68,14 @@ pub(crate) fn read_text<R: Source>(
 {
     let octets = sized_octets(alloc, size, w)?;
     if !are_characters(kind, &octets) {
-        return Err(Stop { why: Why::Character });
+        return Err(Stop {
+            why: Why::Character,
+        });
     }
     let Some(text) = decoded(octets) else {
-        return Err(Stop { why: Why::Character });
+        return Err(Stop {
+            why: Why::Character,
+        });
     };
     set(value, Value::Text(text));
     Ok(())
@@ -96,7 +93,9 @@ pub(crate) fn read_utf8<R: Source>(
 {
     let octets = counted_octets(alloc, w)?;
     let Some(text) = decoded(octets) else {
-        return Err(Stop { why: Why::Character });
+        return Err(Stop {
+            why: Why::Character,
+        });
     };
     if !size.allows(u128::from(characters_in(text.as_str()))) {
         return Err(Stop { why: Why::Size });

@@ -102,7 +102,9 @@ fn read_choice<R: Source>(
     }
     match additions {
         Some(additions) => read_later_alternative(additions, alloc, tag, value, w),
-        None => Err(Stop { why: Why::UnknownAlternative }),
+        None => Err(Stop {
+            why: Why::UnknownAlternative,
+        }),
     }
 }
 
@@ -257,11 +259,7 @@ fn read_sequence<R: Source>(
 
 /// The root of a SEQUENCE with an extension marker, after its preamble.
 #[cycle(read)]
-fn read_root<R: Source>(
-    root: &[Field],
-    alloc: Global,
-    w: &mut Window<R>,
-) -> Result<Start, Stop>
+fn read_root<R: Source>(root: &[Field], alloc: Global, w: &mut Window<R>) -> Result<Start, Stop>
     ensures { ReadsAs (root_at (fields_of root.now)) (state R.remaining R.failed w.old) start_of result
         (state R.remaining R.failed w.new) }
 {
