@@ -1,8 +1,8 @@
 //! Whole values, read and written.
 ghost use Rattle.std.specs.Prelude.{IfSome};
-ghost use Rattle.oer_types.specs.Fits.{Fits};
+ghost use Rattle.oer_model.specs.Fits.{Fits};
 ghost use Rattle.oer_types.specs.Schema.{the_type};
-ghost use Rattle.oer_types.specs.ValueView.{value_of};
+ghost use Rattle.oer_values.specs.ValueView.{value_of};
 
 use crate::pieces::Pieces;
 use crate::twice::{Twice, of_turn};

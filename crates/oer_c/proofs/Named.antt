@@ -1,7 +1,7 @@
 -- What holds of the type that was found holds by its Name.
 use Rattle.std.proofs.Common.{◌≡◌, ℕ, List, Option, None, Some, subst}
 use Rattle.std.specs.Str.{IsUtf8}
-use Rattle.oer_types.specs.AsnType.{AsnType}
+use Rattle.oer_model.specs.AsnType.{AsnType}
 use Rattle.oer_notation.specs.Reading.{find}
 use Rattle.oer_notation.specs.Views.{knowns}
 use Rattle.oer_notation.specs.declared.types.Types.{Types}

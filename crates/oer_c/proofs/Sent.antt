@@ -15,8 +15,8 @@ use Rattle.oer_c.specs.contracts.shared.Shared as known
 use Rattle.oer_c.specs.declared.shared.Shared.{Shared}
 use Rattle.oer_c.specs.contracts.held.Held as held
 use Rattle.std.proofs.Crossing.{crosses}
-use Rattle.oer_types.proofs.shape.Shape.TheLaws.TheKnot as shape
-use Rattle.oer_types.proofs.value.Value.TheLaws.TheKnot as value
+use Rattle.oer_values.proofs.shape.Shape.TheLaws.TheKnot as shape
+use Rattle.oer_values.proofs.value.Value.TheLaws.TheKnot as value
 
 types_send : IsSend known.the_row
 types_send = search (crosses, shape.crosses, value.crosses, sendable) depth 60 fits 20000

@@ -2,7 +2,7 @@
 use Rattle.std.specs.Prelude.{◌≡◌, ℕ, Bool, true, false, List, Result, Ok, Err}
 use Rattle.oer_units.specs.Faults.{why_number}
 use Rattle.oer_units.specs.declared.fault.ReadFault.{ReadFault}
-use Rattle.oer_types.specs.AsnType.{AsnType}
+use Rattle.oer_model.specs.AsnType.{AsnType}
 use Rattle.oer_checker.specs.Check.{Answers, Finds, IsOfOctets, Tells}
 use Rattle.oer_checker.specs.declared.verdict.Verdict.{Verdict}
 use Rattle.oer_c.specs.declared.check.Checked.{Checked}

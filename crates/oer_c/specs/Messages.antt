@@ -1,7 +1,7 @@
 -- What the call that checks many messages answers.
 use Rattle.std.specs.Prelude.{◌≡◌, ◌<◌, ◌≤◌, ◌+◌, ℕ, List, length, slice_index_or, ◌⊎◌}
 use Rattle.std.specs.List.{between}
-use Rattle.oer_types.specs.AsnType.{AsnType}
+use Rattle.oer_model.specs.AsnType.{AsnType}
 use Rattle.oer_c.specs.Checking.{IsChecked, only}
 use Rattle.oer_c.specs.declared.check.Checked.{Checked}
 use Rattle.oer_c.specs.declared.many.Message.{Message}

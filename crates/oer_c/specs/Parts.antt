@@ -3,8 +3,8 @@ use Rattle.std.specs.Prelude.{◌≡◌, ℕ, true, false, List, length, Option,
 use Rattle.std.specs.declared.alloc.Global.{Global}
 use Rattle.std.specs.Str.{IsUtf8}
 use Rattle.oer_units.specs.declared.fault.ReadFault.{ReadFault}
-use Rattle.oer_types.specs.AsnType.{AsnType}
-use Rattle.oer_types.specs.Parts.{Step, StopsAt, Within}
+use Rattle.oer_model.specs.AsnType.{AsnType}
+use Rattle.oer_model.specs.Parts.{Step, StopsAt, Within}
 use Rattle.oer_checker.specs.Check.{Tells}
 use Rattle.oer_checker.specs.Handing.{Begins}
 use Rattle.oer_checker.specs.Path.{SpellsPath}

@@ -1,7 +1,7 @@
 -- The numbers of the reasons for which texts and JSON are rejected.
 use Rattle.std.specs.Prelude.{ℕ}
-use Rattle.oer_types.specs.declared.fault.SchemaFault.{SchemaFault}
-use Rattle.oer_types.specs.declared.fault.SchemaFault.TheVariants.{TooDeep, TooManyParts, BoundOrder, SizeOrder, BadName, RepeatedName, NoItems, RepeatedNumber, RepeatedTag, DefaultMisfit, EmptyElement}
+use Rattle.oer_model.specs.declared.fault.SchemaFault.{SchemaFault}
+use Rattle.oer_model.specs.declared.fault.SchemaFault.TheVariants.{TooDeep, TooManyParts, BoundOrder, SizeOrder, BadName, RepeatedName, NoItems, RepeatedNumber, RepeatedTag, DefaultMisfit, EmptyElement}
 use Rattle.oer_notation.specs.declared.fault.TextWhy.{TextWhy}
 use Rattle.oer_notation.specs.declared.fault.TextWhy.TheVariants as text
 use Rattle.oer_json.specs.declared.fault.JsonFault.{JsonFault}

@@ -1,9 +1,9 @@
 -- What the call that shows JSON answers.
 use Rattle.std.specs.Prelude.{◌≡◌, ◌≤◌, ℕ, List, ◌++◌, length, ◌⊎◌}
 use Rattle.serde_json.specs.Written.{compact_text}
-use Rattle.oer_types.specs.AsnType.{AsnType}
-use Rattle.oer_types.specs.AsnValue.{AsnValue}
-use Rattle.oer_types.specs.Encoding.{Encodes}
+use Rattle.oer_model.specs.AsnType.{AsnType}
+use Rattle.oer_model.specs.AsnValue.{AsnValue}
+use Rattle.oer_model.specs.Encoding.{Encodes}
 use Rattle.oer_json.specs.Made.{made}
 use Rattle.oer_c.specs.Buffers.{IsPut}
 use Rattle.oer_c.specs.Rewriting.{IsRejected}

@@ -2,10 +2,10 @@
 ghost use Rattle.std.specs.Prelude.{◌≡◌, Some, IfErr, IfOk};
 ghost use Rattle.serde_json.specs.Read.{read};
 ghost use Rattle.serde_json.specs.View.{view};
-ghost use Rattle.oer_types.specs.Fits.{Fits};
+ghost use Rattle.oer_model.specs.Fits.{Fits};
 ghost use Rattle.oer_types.specs.Schema.{the_type};
-ghost use Rattle.oer_types.specs.Strict.{IsCanonical};
-ghost use Rattle.oer_types.specs.ValueView.{value_of};
+ghost use Rattle.oer_model.specs.Strict.{IsCanonical};
+ghost use Rattle.oer_values.specs.ValueView.{value_of};
 ghost use Rattle.oer_json.specs.Denotes.{IsJsonOf};
 ghost use Rattle.oer_c.specs.Buffers.{IsUndone, only_written};
 ghost use Rattle.oer_c.specs.Making.{IsOctetsOf, IsUnmade, IsUnread, IsUntaken, Makes, json_rejection};

@@ -1,8 +1,8 @@
 -- Lists of the bits of octets.
 use Rattle.std.proofs.Common.{◌≡◌, drop-cons, ℕ, zero, suc, ◌+◌, ◌-◌, ◌*◌, ◌/◌, ◌%◌, ◌<◌, ◌≤◌, Bool, true, false, not, ◌&&◌, List, [], ◌∷◌, length, take, drop, get_or, refl, sym, ap, ◌∙◌, arith, length-drop, length-take}
-use Rattle.oer_types.specs.Bits.{all_false, bit, bits_of, first_bit, later_bits, octets_for, spare_bits}
-use Rattle.oer_types.specs.Checking.{ends_set}
-use Rattle.oer_types.proofs.Parts.{length-bits_of}
+use Rattle.oer_model.specs.Bits.{all_false, bit, bits_of, first_bit, later_bits, octets_for, spare_bits}
+use Rattle.oer_model.specs.Checking.{ends_set}
+use Rattle.oer_model.proofs.reading.Parts.{length-bits_of}
 use Rattle.oer_checker.specs.BitView.{bits_in}
 use Rattle.oer_checker.specs.Steps.{last_are_zero}
 use Rattle.oer_checker.specs.declared.bits.Bits.{Bits}

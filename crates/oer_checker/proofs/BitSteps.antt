@@ -7,16 +7,16 @@ use Rattle.oer_units.specs.declared.fault.Why.TheVariants as reason
 use Rattle.oer_units.specs.Least.{length_octets}
 use Rattle.oer_units.specs.Reader.{Outcome, Place, Reader, bind, give, got, group, guard, refuse, refused}
 use Rattle.oer_units.specs.Reading.{counted_length, octet}
-use Rattle.oer_types.specs.Bits.{all_false, bits_of, octets_for, padded, spare_bits}
-use Rattle.oer_types.specs.Canonical.{bit_octets, bitmap_octets}
-use Rattle.oer_types.specs.Checking.{are_least_bits, check_bits, is_bitmap, judged}
-use Rattle.oer_types.specs.Constraints.{any_size, size_fits}
-use Rattle.oer_types.specs.Reading.{bitmap, preamble, read_bits}
-use Rattle.oer_types.specs.declared.size.Size.{Size}
-use Rattle.oer_types.proofs.LeastBits.{length-padded}
-use Rattle.oer_types.proofs.Packing.{bits_counted}
-use Rattle.oer_types.proofs.Parts.{length-bits_of}
-use Rattle.oer_types.specs.SharedSteps.{unused_fits}
+use Rattle.oer_model.specs.Bits.{all_false, bits_of, octets_for, padded, spare_bits}
+use Rattle.oer_model.specs.Canonical.{bit_octets, bitmap_octets}
+use Rattle.oer_model.specs.Checking.{are_least_bits, check_bits, is_bitmap, judged}
+use Rattle.oer_model.specs.Constraints.{any_size, size_fits}
+use Rattle.oer_model.specs.Reading.{bitmap, preamble, read_bits}
+use Rattle.oer_model.specs.declared.size.Size.{Size}
+use Rattle.oer_model.proofs.bits.LeastBits.{length-padded}
+use Rattle.oer_model.proofs.bits.Packing.{bits_counted}
+use Rattle.oer_model.proofs.reading.Parts.{length-bits_of}
+use Rattle.oer_model.specs.SharedSteps.{unused_fits}
 use Rattle.oer_checker.specs.Steps.{got_both, addition_map, between, last_are_zero}
 use Rattle.oer_checker.proofs.BitLists.{spare_last}
 use Rattle.oer_checker.proofs.Joins.{bind_got, bind_stop, give_got, judged_got, judged_stop}

@@ -2,9 +2,9 @@
 use Rattle.std.proofs.Common.{◌≡◌, ℕ, Bool, true, false, ◌&&◌, List, [], ◌∷◌, ◌++◌, Option, refl, sym, ap, ◌∙◌, subst}
 use Rattle.oer_units.specs.Reader.{Outcome, Place, Reader, bind, give, got, refused, then_read}
 use Rattle.oer_units.proofs.Closure.{got_place}
-use Rattle.oer_types.specs.AsnType.{AsnType}
-use Rattle.oer_types.specs.Checking.{both}
-use Rattle.oer_types.specs.Parts.{Answer, Part, Step, first_by_bit, found, lookup, part, read_first, same_step}
+use Rattle.oer_model.specs.AsnType.{AsnType}
+use Rattle.oer_model.specs.Checking.{both}
+use Rattle.oer_model.specs.Parts.{Answer, Part, Step, first_by_bit, found, lookup, part, read_first, same_step}
 use Rattle.oer_checker.specs.Steps.{and_after, check_if}
 use Rattle.oer_checker.proofs.Joins.{bind_got, both_got, give_got}
 

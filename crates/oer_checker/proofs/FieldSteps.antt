@@ -6,22 +6,22 @@ use Rattle.oer_units.specs.declared.fault.Why.TheVariants as reason
 use Rattle.oer_units.specs.declared.fault.Why.TheVariants.{UnknownAddition}
 use Rattle.oer_units.specs.Reader.{Outcome, Place, Reader, bind, bounded, give, got, guard, refuse, refused, then_read, within}
 use Rattle.oer_units.proofs.Closure.{got_place, got_value}
-use Rattle.oer_types.specs.AsnType.{Additions, AsnType, Fields, Need, default, extensible_sequence, field, may, must, sequence, sequence_of}
-use Rattle.oer_types.specs.AsnValue.{AsnValue}
-use Rattle.oer_types.specs.Bits.{all_false, first_bit, later_bits}
-use Rattle.oer_types.specs.Canonical.{canonical_octets, same_list}
-use Rattle.oer_types.specs.Checking.{and_also, both, check_additions, check_octets, check_bit, check_extensible, check_extension, check_fields, check_items, check_open, check_sequence, check_times, check_unknown, check_value, is_bitmap, is_least, judged, quantity_octets, unlike}
-use Rattle.oer_types.specs.Constraints.{AdditionsKeepLimits, FieldsKeepLimits, KeepsLimits, addition_count, optional, size_fits}
-use Rattle.oer_types.specs.Fits.{AdditionDefaultsFit, DefaultFits, DefaultsFit, FieldDefaultsFit, Fits}
-use Rattle.oer_types.specs.Laws.{CanonicalComputed, CanonicalGiven}
-use Rattle.oer_types.specs.Reading.{bitmap, preamble, quantity}
-use Rattle.oer_types.specs.ShapeView.{additions_of, fields_of, need_of, type_of}
-use Rattle.oer_types.specs.Strict.{IsCanonical}
-use Rattle.oer_types.specs.declared.size.Size.{Size}
-use Rattle.oer_types.specs.declared.shape.Field.{Field}
-use Rattle.oer_types.specs.declared.shape.Addition.{Addition}
-use Rattle.oer_types.proofs.Same.{same_list-refl, same_list-true}
-use Rattle.oer_types.specs.SharedSteps.{bits_left, is_there}
+use Rattle.oer_model.specs.AsnType.{Additions, AsnType, Fields, Need, default, extensible_sequence, field, may, must, sequence, sequence_of}
+use Rattle.oer_model.specs.AsnValue.{AsnValue}
+use Rattle.oer_model.specs.Bits.{all_false, first_bit, later_bits}
+use Rattle.oer_model.specs.Canonical.{canonical_octets, same_list}
+use Rattle.oer_model.specs.Checking.{and_also, both, check_additions, check_octets, check_bit, check_extensible, check_extension, check_fields, check_items, check_open, check_sequence, check_times, check_unknown, check_value, is_bitmap, is_least, judged, quantity_octets, unlike}
+use Rattle.oer_model.specs.Constraints.{AdditionsKeepLimits, FieldsKeepLimits, KeepsLimits, addition_count, optional, size_fits}
+use Rattle.oer_model.specs.Fits.{AdditionDefaultsFit, DefaultFits, DefaultsFit, FieldDefaultsFit, Fits}
+use Rattle.oer_model.specs.Laws.{CanonicalComputed, CanonicalGiven}
+use Rattle.oer_model.specs.Reading.{bitmap, preamble, quantity}
+use Rattle.oer_values.specs.ShapeView.{additions_of, fields_of, need_of, type_of}
+use Rattle.oer_model.specs.Strict.{IsCanonical}
+use Rattle.oer_model.specs.declared.size.Size.{Size}
+use Rattle.oer_values.specs.declared.shape.Field.{Field}
+use Rattle.oer_values.specs.declared.shape.Addition.{Addition}
+use Rattle.oer_model.proofs.filling.Same.{same_list-refl, same_list-true}
+use Rattle.oer_model.specs.SharedSteps.{bits_left, is_there}
 use Rattle.oer_checker.specs.Steps.{addition_map, and_after, between, check_if, check_there, got_both, is_default, sized_quantity}
 use Rattle.oer_checker.proofs.BitLists.{drop_next, drop_past}
 use Rattle.oer_checker.proofs.Joins.{also_is, and_all, and_true, bind_got, bind_stop, both_got, both_stop, give_got, judged_got, judged_stop, more_got, more_stop, no_more}

@@ -5,16 +5,16 @@ use Rattle.std.proofs.lemmas.List.{drop-take, length-take}
 use Rattle.oer_units.specs.declared.fault.Why.{Why}
 use Rattle.oer_units.specs.Reader.{Outcome, Place, Reader, bind, give, got, refused}
 use Rattle.oer_units.proofs.Closure.{got_place}
-use Rattle.oer_types.specs.AsnType.{AsnType}
-use Rattle.oer_types.specs.Bits.{first_bit}
-use Rattle.oer_types.specs.Checking.{both, check_additions, check_fields, check_times, check_unknown, check_value}
-use Rattle.oer_types.specs.Constraints.{AdditionsKeepLimits, FieldsKeepLimits, optional}
-use Rattle.oer_types.specs.Fits.{AdditionDefaultsFit, FieldDefaultsFit}
-use Rattle.oer_types.specs.Parts.{Answer, Part, Step, addition_parts, field_parts, found, item_parts, join_parts, lookup, part, parts_in, same_step, to_addition, to_component, to_item, unknown_parts}
-use Rattle.oer_types.specs.ShapeView.{additions_of, fields_of, need_of}
-use Rattle.oer_types.specs.declared.shape.Addition.{Addition}
-use Rattle.oer_types.specs.declared.shape.Field.{Field}
-use Rattle.oer_types.specs.SharedSteps.{is_there}
+use Rattle.oer_model.specs.AsnType.{AsnType}
+use Rattle.oer_model.specs.Bits.{first_bit}
+use Rattle.oer_model.specs.Checking.{both, check_additions, check_fields, check_times, check_unknown, check_value}
+use Rattle.oer_model.specs.Constraints.{AdditionsKeepLimits, FieldsKeepLimits, optional}
+use Rattle.oer_model.specs.Fits.{AdditionDefaultsFit, FieldDefaultsFit}
+use Rattle.oer_model.specs.Parts.{Answer, Part, Step, addition_parts, field_parts, found, item_parts, join_parts, lookup, part, parts_in, same_step, to_addition, to_component, to_item, unknown_parts}
+use Rattle.oer_values.specs.ShapeView.{additions_of, fields_of, need_of}
+use Rattle.oer_values.specs.declared.shape.Addition.{Addition}
+use Rattle.oer_values.specs.declared.shape.Field.{Field}
+use Rattle.oer_model.specs.SharedSteps.{is_there}
 use Rattle.oer_checker.specs.Walk.{read_in}
 use Rattle.oer_checker.proofs.BitLists.{drop_sum}
 use Rattle.oer_checker.proofs.Entries.{Ends, Entry, FoundBy, FoundBy_same, NotIn, Passes, both_ends, found_there, missed, walked}

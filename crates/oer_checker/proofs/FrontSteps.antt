@@ -6,19 +6,19 @@ use Rattle.oer_units.specs.declared.fault.ReadFault.{ReadFault}
 use Rattle.oer_units.specs.Octets.{IsOctets}
 use Rattle.oer_units.specs.Reader.{Outcome, Place, at, got, refused}
 use Rattle.oer_units.proofs.Closure.{got_place, got_value}
-use Rattle.oer_types.specs.AsnType.{AsnType}
-use Rattle.oer_types.specs.AsnValue.{AsnValue}
-use Rattle.oer_types.specs.Checking.{check_value}
-use Rattle.oer_types.specs.Constraints.{KeepsLimits}
-use Rattle.oer_types.specs.Encoding.{Encodes, IsSpelling}
-use Rattle.oer_types.specs.Fits.{DefaultsFit}
-use Rattle.oer_types.specs.Laws as law
-use Rattle.oer_types.specs.Laws.{Judges, Means}
-use Rattle.oer_types.specs.Reading.{read_value}
-use Rattle.oer_types.proofs.Checked.{front_same}
-use Rattle.oer_types.proofs.Judged.{check_tells}
-use Rattle.oer_types.proofs.Main.{value_lawful}
-use Rattle.oer_types.proofs.Theorems.{reads_each, reads_encodings}
+use Rattle.oer_model.specs.AsnType.{AsnType}
+use Rattle.oer_model.specs.AsnValue.{AsnValue}
+use Rattle.oer_model.specs.Checking.{check_value}
+use Rattle.oer_model.specs.Constraints.{KeepsLimits}
+use Rattle.oer_model.specs.Encoding.{Encodes, IsSpelling}
+use Rattle.oer_model.specs.Fits.{DefaultsFit}
+use Rattle.oer_model.specs.Laws as law
+use Rattle.oer_model.specs.Laws.{Judges, Means}
+use Rattle.oer_model.specs.Reading.{read_value}
+use Rattle.oer_model.proofs.checking.Checked.{front_same}
+use Rattle.oer_model.proofs.checking.Judged.{check_tells}
+use Rattle.oer_model.proofs.reading.Main.{value_lawful}
+use Rattle.oer_model.proofs.reading.Theorems.{reads_each, reads_encodings}
 use Rattle.oer_checker.specs.Check.{Answers, Finds, IsFound, Tells, most}
 use Rattle.oer_checker.specs.Walk.{CanSplit}
 use Rattle.oer_checker.specs.declared.verdict.Verdict.{Verdict}

@@ -5,16 +5,16 @@ use Rattle.oer_units.specs.declared.fault.Why.TheVariants as reason
 use Rattle.oer_units.specs.declared.fault.Why.TheVariants.{UnknownAddition}
 use Rattle.oer_units.specs.Reader.{Outcome, Place, Reader, bind, bounded, give, got, guard, refuse, refused, then_read, within}
 use Rattle.oer_units.proofs.Closure.{got_place, got_value}
-use Rattle.oer_types.specs.AsnType.{Additions, AsnType, Fields, extensible_sequence, sequence, sequence_of}
-use Rattle.oer_types.specs.Bits.{all_false, first_bit, later_bits}
-use Rattle.oer_types.specs.Checking.{and_also, both, check_additions, check_extension, check_fields, check_times, check_unknown, check_value, is_bitmap, is_least, judge, judged, quantity_octets}
-use Rattle.oer_types.specs.Constraints.{addition_count, optional, size_fits}
-use Rattle.oer_types.specs.Parts.{Answer, Part, Step, addition_parts, extension_parts, field_parts, item_parts, join_parts, lookup, parts_in, read_parts, to_addition, to_component, unknown_parts}
-use Rattle.oer_types.specs.Reading.{bitmap, preamble, quantity}
-use Rattle.oer_types.specs.ShapeView.{additions_of, fields_of}
-use Rattle.oer_types.specs.declared.shape.Addition.{Addition}
-use Rattle.oer_types.specs.declared.shape.Field.{Field}
-use Rattle.oer_types.specs.declared.size.Size.{Size}
+use Rattle.oer_model.specs.AsnType.{Additions, AsnType, Fields, extensible_sequence, sequence, sequence_of}
+use Rattle.oer_model.specs.Bits.{all_false, first_bit, later_bits}
+use Rattle.oer_model.specs.Checking.{and_also, both, check_additions, check_extension, check_fields, check_times, check_unknown, check_value, is_bitmap, is_least, judge, judged, quantity_octets}
+use Rattle.oer_model.specs.Constraints.{addition_count, optional, size_fits}
+use Rattle.oer_model.specs.Parts.{Answer, Part, Step, addition_parts, extension_parts, field_parts, item_parts, join_parts, lookup, parts_in, read_parts, to_addition, to_component, unknown_parts}
+use Rattle.oer_model.specs.Reading.{bitmap, preamble, quantity}
+use Rattle.oer_values.specs.ShapeView.{additions_of, fields_of}
+use Rattle.oer_values.specs.declared.shape.Addition.{Addition}
+use Rattle.oer_values.specs.declared.shape.Field.{Field}
+use Rattle.oer_model.specs.declared.size.Size.{Size}
 use Rattle.oer_checker.specs.Steps.{addition_map, and_after, got_both, sized_quantity}
 use Rattle.oer_checker.specs.Walk.{IsGot}
 use Rattle.oer_checker.proofs.Entries.{both_ends, walked}

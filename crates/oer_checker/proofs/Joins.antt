@@ -2,7 +2,7 @@
 use Rattle.std.proofs.Common.{◌≡◌, ℕ, Bool, true, false, ◌&&◌, List, refl, sym, ap, ◌∙◌}
 use Rattle.oer_units.specs.declared.fault.Why.{Why}
 use Rattle.oer_units.specs.Reader.{Outcome, Place, Reader, bind, give, got, guard, refuse, refused, then_read}
-use Rattle.oer_types.specs.Checking.{and_also, both, judge, judged}
+use Rattle.oer_model.specs.Checking.{and_also, both, judge, judged}
 use Rattle.oer_checker.specs.Steps.{got_both, and_after, between}
 
 pub bind_got : {A B : Type 0} (r : Reader A) (k : A → Reader B) (p q : Place) (x : A) (o : Outcome B) → got x q ≡ r p → o ≡ k x q → o ≡ bind r k p

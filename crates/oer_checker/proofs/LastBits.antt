@@ -1,6 +1,6 @@
 -- The last bits of octets.
 use Rattle.std.proofs.Common.{◌≡◌, ℕ, suc, ◌-◌, ◌<◌, ◌≤◌, false, eqb, List, [], ◌∷◌, length, take, drop, get_or, drop-cons, arith, ap, ◌∙◌, sym}
-use Rattle.oer_types.specs.Bits.{all_false, bits_of}
+use Rattle.oer_model.specs.Bits.{all_false, bits_of}
 use Rattle.oer_checker.specs.Steps.{last_are_zero}
 use Rattle.oer_checker.proofs.BitLists.{drop_past, last_octet}
 

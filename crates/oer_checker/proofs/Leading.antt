@@ -2,19 +2,19 @@
 use Rattle.std.proofs.Common.{◌≡◌, ◌⊎◌, inl, inr, ◌<◌, ◌+◌, arith, ℕ, suc, Bool, true, false, List, [], ◌∷◌, ◌++◌, length, take, drop, get_or, Option, Some, None, Result, Ok, Err, refl, sym, ap, ap₂, ◌∙◌, subst, append-nil, drop-cons}
 use Rattle.std.proofs.lemmas.List.{take_at}
 use Rattle.oer_units.specs.Reader.{at, got}
-use Rattle.oer_types.specs.AsnType.{AsnType}
-use Rattle.oer_types.specs.Checking.{check_value}
-use Rattle.oer_types.specs.Constraints.{KeepsLimits}
-use Rattle.oer_types.specs.Encoding.{Encodes}
-use Rattle.oer_types.specs.Fits.{DefaultsFit}
-use Rattle.oer_types.specs.Parts as plain
-use Rattle.oer_types.specs.Parts.{Answer, IsSplit, StopsAt, Within, absent_part, find_part, found, go_on, knows, lookup, no_such_step, nothing_at, parts_in, read_parts}
-use Rattle.oer_types.specs.Reading.{read_value}
-use Rattle.oer_types.proofs.CheckedParts.{value_checked}
-use Rattle.oer_types.proofs.Finding.{finds_parts, misses_parts, same_found}
-use Rattle.oer_types.proofs.Main.{value_lawful}
-use Rattle.oer_types.proofs.Pieces.{Child, KeptChild, Led, child_in, child_kept, kept, led, nothing_there, pieces, splits, typed, untyped}
-use Rattle.oer_types.proofs.Splitting.{split_read}
+use Rattle.oer_model.specs.AsnType.{AsnType}
+use Rattle.oer_model.specs.Checking.{check_value}
+use Rattle.oer_model.specs.Constraints.{KeepsLimits}
+use Rattle.oer_model.specs.Encoding.{Encodes}
+use Rattle.oer_model.specs.Fits.{DefaultsFit}
+use Rattle.oer_model.specs.Parts as plain
+use Rattle.oer_model.specs.Parts.{Answer, IsSplit, StopsAt, Within, absent_part, find_part, found, go_on, knows, lookup, no_such_step, nothing_at, parts_in, read_parts}
+use Rattle.oer_model.specs.Reading.{read_value}
+use Rattle.oer_model.proofs.checking.CheckedParts.{value_checked}
+use Rattle.oer_model.proofs.paths.Finding.{finds_parts, misses_parts, same_found}
+use Rattle.oer_model.proofs.reading.Main.{value_lawful}
+use Rattle.oer_model.proofs.paths.Pieces.{Child, KeptChild, Led, child_in, child_kept, kept, led, nothing_there, pieces, splits, typed, untyped}
+use Rattle.oer_model.proofs.paths.Splitting.{split_read}
 use Rattle.oer_checker.specs.Check.{Finds, Tells}
 use Rattle.oer_checker.specs.Handing.{Agrees, Follows, Hands, IsHanded, IsMissed}
 use Rattle.oer_checker.specs.Walk.{CanSplit, Enters, IsGot, path_of, step_of}

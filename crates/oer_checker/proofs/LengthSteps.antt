@@ -5,7 +5,7 @@ use Rattle.oer_units.specs.Least.{length_octets}
 use Rattle.oer_units.specs.Reader.{Outcome, Place, Reader, at, bind, bounded, filled_by, give, got, group, leave, open_by, refused, then_read, within}
 use Rattle.oer_units.specs.Reading.{counted_length, determinant, with_length}
 use Rattle.oer_units.proofs.Closure.{got_place, got_value}
-use Rattle.oer_types.specs.Checking.{and_also, check_group, check_length, check_octets, check_open, is_least, judge, judged}
+use Rattle.oer_model.specs.Checking.{and_also, check_group, check_length, check_octets, check_open, is_least, judge, judged}
 use Rattle.oer_checker.specs.Steps.{got_both, and_after, between, left_open, sized_length}
 use Rattle.oer_checker.proofs.Joins.{also_is, and_true, bind_got, bind_stop, give_got}
 

@@ -14,14 +14,14 @@ use Rattle.oer_units.specs.Reading.{counted_number, determinant, is_int128, numb
 use Rattle.oer_units.specs.Width.{octets_of_width}
 use Rattle.oer_units.proofs.Closure.{got_place, got_value}
 use Rattle.oer_units.proofs.Ranges.{int_le-true}
-use Rattle.oer_types.specs.AsnType.{NamedNumber, enumerated, integer}
-use Rattle.oer_types.specs.Canonical.{integer_octets}
-use Rattle.oer_types.specs.Checking.{check_enumerated, check_integer, check_value, is_least, judged, quantity_octets}
-use Rattle.oer_types.specs.Constraints.{Form, form_of, has_number, in_range, signed_counted, signed_fixed, size_fits, unsigned_counted, unsigned_fixed}
-use Rattle.oer_types.specs.Reading.{quantity, read_integer}
-use Rattle.oer_types.specs.SharedSteps.{number_in}
-use Rattle.oer_types.proofs.NumberSteps.{integer_is, naturals_is, tested, wide}
-use Rattle.oer_types.specs.declared.size.Size.{Size}
+use Rattle.oer_model.specs.AsnType.{NamedNumber, enumerated, integer}
+use Rattle.oer_model.specs.Canonical.{integer_octets}
+use Rattle.oer_model.specs.Checking.{check_enumerated, check_integer, check_value, is_least, judged, quantity_octets}
+use Rattle.oer_model.specs.Constraints.{Form, form_of, has_number, in_range, signed_counted, signed_fixed, size_fits, unsigned_counted, unsigned_fixed}
+use Rattle.oer_model.specs.Reading.{quantity, read_integer}
+use Rattle.oer_model.specs.SharedSteps.{number_in}
+use Rattle.oer_model.proofs.fitting.NumberSteps.{integer_is, naturals_is, tested, wide}
+use Rattle.oer_model.specs.declared.size.Size.{Size}
 use Rattle.std.specs.Prelude.{Result, Ok, Err, IfOk}
 use Rattle.oer_checker.specs.declared.cursor.Cursor.{Cursor}
 use Rattle.oer_checker.specs.declared.stop.Stop.{Stop}

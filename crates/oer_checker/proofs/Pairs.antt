@@ -5,10 +5,10 @@ use Rattle.oer_units.specs.Reader.{Outcome, Place, Reader, at, bind, bounded, fi
 use Rattle.oer_units.specs.Reading.{counted_octets, determinant, open_type, with_length}
 use Rattle.oer_units.specs.Least.{length_octets}
 use Rattle.oer_units.proofs.Closure.{got_place, got_value}
-use Rattle.oer_types.specs.AsnType.{AsnType, Need, default, may, must}
-use Rattle.oer_types.specs.Canonical.{canonical_octets, same_list}
-use Rattle.oer_types.specs.Checking.{and_also, check_group, check_length, check_octets, check_open, check_value, is_least, judge, judged, unlike}
-use Rattle.oer_types.specs.Parts.{octets_of, taken_from}
+use Rattle.oer_model.specs.AsnType.{AsnType, Need, default, may, must}
+use Rattle.oer_model.specs.Canonical.{canonical_octets, same_list}
+use Rattle.oer_model.specs.Checking.{and_also, check_group, check_length, check_octets, check_open, check_value, is_least, judge, judged, unlike}
+use Rattle.oer_model.specs.Parts.{octets_of, taken_from}
 use Rattle.oer_checker.specs.Steps.{and_after, between, check_there, got_both, sized_length}
 use Rattle.oer_checker.specs.Walk.{read_in}
 use Rattle.oer_checker.proofs.Joins.{also_is}

@@ -3,13 +3,13 @@ use Rattle.std.proofs.Common.{◌≡◌, ℕ, zero, suc, Bool, true, false, List
 use Rattle.oer_units.specs.declared.tagging.Tag.{Tag}
 use Rattle.oer_units.specs.Reader.{Outcome, Place, Reader, bind, choose, give, got, refuse, refused, then_read}
 use Rattle.oer_units.specs.Reading.{counted_octets, open_type, tag}
-use Rattle.oer_types.specs.AsnType.{Additions, Alternatives, AsnType, Fields, Need, addition, alternative, choice, default, extensible_sequence, field, later, leaf, may, must, no_additions, no_alternatives, no_fields, sequence, sequence_of}
-use Rattle.oer_types.specs.Bits.{first_bit, later_bits}
-use Rattle.oer_types.specs.Checking.{check_value}
-use Rattle.oer_types.specs.Constraints.{addition_count, has_tag, optional, same_tag}
-use Rattle.oer_types.specs.Parts.{Answer, Part, Step, addition_parts, alone_by_tag, alternative_parts, extension_parts, field_parts, first_by_bit, first_by_need, found, item_parts, join_parts, lookup, octets_of, part, parts_in, read_alone, read_first, read_parts, same_step, to_addition, to_chosen, to_component, to_item, unknown_parts}
-use Rattle.oer_types.specs.Reading.{bitmap, preamble, quantity}
-use Rattle.oer_types.specs.declared.size.Size.{Size}
+use Rattle.oer_model.specs.AsnType.{Additions, Alternatives, AsnType, Fields, Need, addition, alternative, choice, default, extensible_sequence, field, later, leaf, may, must, no_additions, no_alternatives, no_fields, sequence, sequence_of}
+use Rattle.oer_model.specs.Bits.{first_bit, later_bits}
+use Rattle.oer_model.specs.Checking.{check_value}
+use Rattle.oer_model.specs.Constraints.{addition_count, has_tag, optional, same_tag}
+use Rattle.oer_model.specs.Parts.{Answer, Part, Step, addition_parts, alone_by_tag, alternative_parts, extension_parts, field_parts, first_by_bit, first_by_need, found, item_parts, join_parts, lookup, octets_of, part, parts_in, read_alone, read_first, read_parts, same_step, to_addition, to_chosen, to_component, to_item, unknown_parts}
+use Rattle.oer_model.specs.Reading.{bitmap, preamble, quantity}
+use Rattle.oer_model.specs.declared.size.Size.{Size}
 
 -- ---- what is not among the parts that are read
 

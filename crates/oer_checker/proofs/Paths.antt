@@ -7,7 +7,7 @@ use Rattle.std.proofs.Math.Seq.{get_or-append_seam}
 use Rattle.std.proofs.lemmas.Fmt.{decimal_injective}
 use Rattle.std.proofs.lemmas.List.{get_or-take}
 use Rattle.std.proofs.lemmas.List.Sums.{split_at_first, fails_before_first, passes_at_first}
-use Rattle.oer_types.specs.Parts.{Step, to_component, to_addition, to_item, to_chosen}
+use Rattle.oer_model.specs.Parts.{Step, to_component, to_addition, to_item, to_chosen}
 use Rattle.oer_checker.specs.Walk.{step_of}
 use Rattle.oer_checker.specs.declared.step.Step as rust
 use Rattle.oer_checker.specs.Path.{IsNumbered, OnePath, SpellsPath, SpellsStep}

@@ -2,10 +2,10 @@
 use Rattle.std.proofs.Common.{◌≡◌, arith, add-one, ℕ, ◌+◌, ◌-◌, ◌<◌, ◌≤◌, Bool, List, [], ◌∷◌, ◌++◌, length, take, drop, get_or, slice_range, Option, Some, None, Result, Ok, Err, IfOk, refl, sym, ap, ap₂, ◌∙◌, subst, append_assoc, length-append, append-nil, drop-cons}
 use Rattle.std.proofs.lemmas.List.{take_at}
 use Rattle.oer_units.specs.Reader.{Outcome, at, got, refused}
-use Rattle.oer_types.specs.AsnType.{AsnType}
-use Rattle.oer_types.specs.Parts as plain
-use Rattle.oer_types.specs.Parts.{Answer, LeadsTo, absent_part, find_part, found, go_on, knows, lookup, no_such_step, nothing_at, parts_in, read_parts}
-use Rattle.oer_types.proofs.Finding.{found_is, same_found}
+use Rattle.oer_model.specs.AsnType.{AsnType}
+use Rattle.oer_model.specs.Parts as plain
+use Rattle.oer_model.specs.Parts.{Answer, LeadsTo, absent_part, find_part, found, go_on, knows, lookup, no_such_step, nothing_at, parts_in, read_parts}
+use Rattle.oer_model.proofs.paths.Finding.{found_is, same_found}
 use Rattle.oer_checker.specs.Check.{Tells}
 use Rattle.oer_checker.specs.Handing.{AgreesWith}
 use Rattle.oer_checker.specs.Offsets.{IsBefore, StandsAt}

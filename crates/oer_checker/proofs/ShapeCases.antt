@@ -1,16 +1,16 @@
 -- What a shape can be, and steps that it doesn't have.
 use Rattle.std.proofs.Common.{◌≡◌, ◌⊎◌, inl, inr, ⊎_elim, ℕ, suc, ltb, length, List, [], ◌∷◌, false, Option, Some, None, Vec, Box, Global, refl, ap, sym, subst, ◌∙◌}
-use Rattle.oer_types.specs.AsnType.{AsnType, choice, extensible_sequence, leaf, sequence, sequence_of}
-use Rattle.oer_types.specs.Parts.{Step, field_count, knows, to_addition, to_chosen, to_component, to_item}
-use Rattle.oer_types.specs.ShapeView.{SeenField, SeenAddition, SeenAlternative, addition_step, alt_step, choice_with, field_step, fields_of, sequence_with, shape_step, type_of}
-use Rattle.oer_types.specs.declared.size.Size.{Size}
-use Rattle.oer_types.specs.declared.shape.Addition.{Addition}
-use Rattle.oer_types.specs.declared.shape.Alt.{Alt}
-use Rattle.oer_types.specs.declared.shape.Field.{Field}
-use Rattle.oer_types.specs.declared.shape.Shape.{Shape, Sequence, SequenceOf, Choice, fold-roll-Shape, out-Shape, roll-Shape, roll-out-Shape}
-use Rattle.oer_types.specs.declared.shape.Shape.TheOpen.{Shape-F}
-use Rattle.oer_types.specs.declared.shape.Shape.TheVariants.{rolls-Sequence, rolls-SequenceOf, rolls-Choice}
-use Rattle.oer_types.proofs.Shapes.{type_of-Choice, type_of-Sequence, type_of-SequenceOf}
+use Rattle.oer_model.specs.AsnType.{AsnType, choice, extensible_sequence, leaf, sequence, sequence_of}
+use Rattle.oer_model.specs.Parts.{Step, field_count, knows, to_addition, to_chosen, to_component, to_item}
+use Rattle.oer_values.specs.ShapeView.{SeenField, SeenAddition, SeenAlternative, addition_step, alt_step, choice_with, field_step, fields_of, sequence_with, shape_step, type_of}
+use Rattle.oer_model.specs.declared.size.Size.{Size}
+use Rattle.oer_values.specs.declared.shape.Addition.{Addition}
+use Rattle.oer_values.specs.declared.shape.Alt.{Alt}
+use Rattle.oer_values.specs.declared.shape.Field.{Field}
+use Rattle.oer_values.specs.declared.shape.Shape.{Shape, Sequence, SequenceOf, Choice, fold-roll-Shape, out-Shape, roll-Shape, roll-out-Shape}
+use Rattle.oer_values.specs.declared.shape.Shape.TheOpen.{Shape-F}
+use Rattle.oer_values.specs.declared.shape.Shape.TheVariants.{rolls-Sequence, rolls-SequenceOf, rolls-Choice}
+use Rattle.oer_values.proofs.Shapes.{type_of-Choice, type_of-Sequence, type_of-SequenceOf}
 use Rattle.oer_checker.specs.Facts.{IsLeaf}
 use Rattle.oer_checker.proofs.FieldSteps.{count_is}
 use Rattle.oer_checker.proofs.PartSteps.{has_step}

@@ -2,14 +2,14 @@
 use Rattle.std.proofs.Common.{◌≡◌, ℕ, ◌+◌, ◌*◌, ◌<◌, ◌≤◌, List, Option, Some, Vec, Global, length, get_or, arith, refl, sym, subst, rules}
 use borrow.Author.Sizes.{Under, under, sizes, deeper, same_size}
 use denote.Param.Weighed.{most}
-use Rattle.oer_types.specs.declared.shape.Addition.{Addition}
-use Rattle.oer_types.specs.declared.shape.Alt.{Alt}
-use Rattle.oer_types.specs.declared.shape.Field.{Field}
-use Rattle.oer_types.specs.declared.shape.Shape.{Shape, Sequence, Choice, the_lemmas}
-use Rattle.oer_types.proofs.shape.Shape.TheLaws.{the_size}
-use Rattle.oer_types.proofs.shape.Field.TheLaws as field
-use Rattle.oer_types.proofs.shape.Addition.TheLaws as addition
-use Rattle.oer_types.proofs.shape.Alt.TheLaws as alt
+use Rattle.oer_values.specs.declared.shape.Addition.{Addition}
+use Rattle.oer_values.specs.declared.shape.Alt.{Alt}
+use Rattle.oer_values.specs.declared.shape.Field.{Field}
+use Rattle.oer_values.specs.declared.shape.Shape.{Shape, Sequence, Choice, the_lemmas}
+use Rattle.oer_values.proofs.shape.Shape.TheLaws.{the_size}
+use Rattle.oer_values.proofs.shape.Field.TheLaws as field
+use Rattle.oer_values.proofs.shape.Addition.TheLaws as addition
+use Rattle.oer_values.proofs.shape.Alt.TheLaws as alt
 
 four_times : (m n r s t : ℕ) → r ≤ 3 → Under m n → 4 * n + s ≡ t → 4 * m + r < t
 four_times m n r s t small (under h) e = omega arith

@@ -9,26 +9,26 @@ use Rattle.oer_units.specs.declared.tagging.Tag.{Tag}
 use Rattle.oer_units.proofs.Counted.{counted_octets_lawful}
 use Rattle.oer_units.proofs.TagReaders.{tag_lawful}
 use Rattle.oer_units.proofs.Units.{group_lawful}
-use Rattle.oer_types.specs.AsnType.{Additions, Alternatives, AsnType, Fields, Need, addition, choice, default, extensible_sequence, field, may, must, no_additions, no_alternatives, sequence, sequence_of}
-use Rattle.oer_types.specs.AsnValue.{AsnValue, Places, absent, no_places, present, unknown}
-use Rattle.oer_types.specs.Bits.{IsPreamble, first_bit, later_bits}
-use Rattle.oer_types.specs.Checking.{check_additions, check_fields, check_times, check_unknown, check_value}
-use Rattle.oer_types.specs.Constraints.{AdditionsKeepLimits, FieldsKeepLimits, KeepsLimits, addition_count, has_tag, optional, same_tag}
-use Rattle.oer_types.specs.Encoding.{ByBit, ByNeed, IsItself, IsSpelling, SpellsAdditions, SpellsFields, SpellsUnknown}
-use Rattle.oer_types.specs.Fits.{AdditionDefaultsFit, DefaultsFit, FieldDefaultsFit}
-use Rattle.oer_types.specs.Parts.{Holds, octets_of, to_addition, to_chosen, to_component, to_item}
-use Rattle.oer_types.specs.Reading.{preamble, read_value}
-use Rattle.oer_types.specs.SharedSteps.{bits_left, is_there}
-use Rattle.oer_types.specs.ShapeView.{additions_of, fields_of, later_of, need_of, root_of, type_of}
-use Rattle.oer_types.specs.declared.shape.Addition.{Addition}
-use Rattle.oer_types.specs.declared.shape.Alt.{Alt}
-use Rattle.oer_types.specs.declared.shape.Field.{Field}
-use Rattle.oer_types.specs.declared.size.Size.{Size}
-use Rattle.oer_types.proofs.Checked.{flag}
-use Rattle.oer_types.proofs.CheckedParts.{value_checked}
-use Rattle.oer_types.proofs.Main.{open_is_lawful, value_lawful}
-use Rattle.oer_types.proofs.Parts.{preamble_lawful}
-use Rattle.oer_types.proofs.Splitting.{taken_lawful}
+use Rattle.oer_model.specs.AsnType.{Additions, Alternatives, AsnType, Fields, Need, addition, choice, default, extensible_sequence, field, may, must, no_additions, no_alternatives, sequence, sequence_of}
+use Rattle.oer_model.specs.AsnValue.{AsnValue, Places, absent, no_places, present, unknown}
+use Rattle.oer_model.specs.Bits.{IsPreamble, first_bit, later_bits}
+use Rattle.oer_model.specs.Checking.{check_additions, check_fields, check_times, check_unknown, check_value}
+use Rattle.oer_model.specs.Constraints.{AdditionsKeepLimits, FieldsKeepLimits, KeepsLimits, addition_count, has_tag, optional, same_tag}
+use Rattle.oer_model.specs.Encoding.{ByBit, ByNeed, IsItself, IsSpelling, SpellsAdditions, SpellsFields, SpellsUnknown}
+use Rattle.oer_model.specs.Fits.{AdditionDefaultsFit, DefaultsFit, FieldDefaultsFit}
+use Rattle.oer_model.specs.Parts.{Holds, octets_of, to_addition, to_chosen, to_component, to_item}
+use Rattle.oer_model.specs.Reading.{preamble, read_value}
+use Rattle.oer_model.specs.SharedSteps.{bits_left, is_there}
+use Rattle.oer_values.specs.ShapeView.{additions_of, fields_of, later_of, need_of, root_of, type_of}
+use Rattle.oer_values.specs.declared.shape.Addition.{Addition}
+use Rattle.oer_values.specs.declared.shape.Alt.{Alt}
+use Rattle.oer_values.specs.declared.shape.Field.{Field}
+use Rattle.oer_model.specs.declared.size.Size.{Size}
+use Rattle.oer_model.proofs.checking.Checked.{flag}
+use Rattle.oer_model.proofs.checking.CheckedParts.{value_checked}
+use Rattle.oer_model.proofs.reading.Main.{open_is_lawful, value_lawful}
+use Rattle.oer_model.proofs.reading.Parts.{preamble_lawful}
+use Rattle.oer_model.proofs.paths.Splitting.{taken_lawful}
 use Rattle.oer_checker.specs.Offsets.{AreAdditions, AreFields, AreUnknown, IsBefore, IsByTag, IsOpening, additions_to, fields_to}
 use Rattle.oer_checker.specs.Steps.{addition_map, between, got_both, sized_length, sized_quantity}
 use Rattle.oer_checker.specs.Walk.{IsAfter, Stands, read_in}

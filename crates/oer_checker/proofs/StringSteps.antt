@@ -9,11 +9,11 @@ use Rattle.oer_units.specs.Least.{counted}
 use Rattle.oer_units.specs.Reader.{Outcome, Place, Reader, at, bind, bounded, choose, give, got, group, group_by, guard, refuse, refused, then_read, within}
 use Rattle.oer_units.specs.Reading.{counted_length, counted_octets, determinant, subidentifier, with_length}
 use Rattle.oer_units.proofs.Closure.{got_place, got_value}
-use Rattle.oer_types.specs.Canonical.{string_octets}
-use Rattle.oer_types.specs.Checking.{check_octet_string, check_subidentifiers, check_text, check_utf8, is_least, judged}
-use Rattle.oer_types.specs.Constraints.{size_fits}
-use Rattle.oer_types.specs.Reading.{read_octets}
-use Rattle.oer_types.specs.declared.size.Size.{Size}
+use Rattle.oer_model.specs.Canonical.{string_octets}
+use Rattle.oer_model.specs.Checking.{check_octet_string, check_subidentifiers, check_text, check_utf8, is_least, judged}
+use Rattle.oer_model.specs.Constraints.{size_fits}
+use Rattle.oer_model.specs.Reading.{read_octets}
+use Rattle.oer_model.specs.declared.size.Size.{Size}
 use Rattle.oer_checker.specs.Steps.{got_both, between, sized_length, subidentifier_size}
 use Rattle.oer_checker.proofs.Joins.{bind_got, bind_stop, give_got, judged_got, judged_stop}
 use Rattle.oer_checker.proofs.LengthSteps.{sized_room}

@@ -3,13 +3,14 @@ use Rattle.std.proofs.Common.{◌≡◌, ◌<◌, arith, ℕ, zero, suc, Bool, t
 use Rattle.oer_units.specs.declared.tagging.Tag.{Tag}
 use Rattle.oer_units.specs.Reader.{Outcome, Place, Reader, bind, choose, give, got, refused, then_read}
 use Rattle.oer_units.specs.Reading.{counted_octets, open_type, tag}
-use Rattle.oer_types.specs.AsnType.{Alternatives, AsnType, choice, no_alternatives}
-use Rattle.oer_types.specs.Checking.{check_value}
-use Rattle.oer_types.specs.Constraints.{has_tag, same_tag}
-use Rattle.oer_types.specs.Parts.{Answer, Part, alone_by_tag, alternative_parts, found, lookup, octets_of, part, parts_in, read_alone, read_parts, to_chosen}
-use Rattle.oer_types.specs.ShapeView.{later_of, root_of, type_of}
-use Rattle.oer_types.specs.declared.shape.Alt.{Alt}
-use Rattle.oer_checker.specs.Walk.{IsFirst, read_in}
+use Rattle.oer_model.specs.AsnType.{Alternatives, AsnType, choice, no_alternatives}
+use Rattle.oer_model.specs.Checking.{check_value}
+use Rattle.oer_model.specs.Constraints.{has_tag, same_tag}
+use Rattle.oer_model.specs.Parts.{Answer, Part, alone_by_tag, alternative_parts, found, lookup, octets_of, part, parts_in, read_alone, read_parts, to_chosen}
+use Rattle.oer_values.specs.Lookup.{IsFirst}
+use Rattle.oer_values.specs.ShapeView.{later_of, root_of, type_of}
+use Rattle.oer_values.specs.declared.shape.Alt.{Alt}
+use Rattle.oer_checker.specs.Walk.{read_in}
 use Rattle.oer_checker.proofs.Joins.{bind_got}
 use Rattle.oer_checker.proofs.TagSteps.{not_in_root}
 

@@ -1,22 +1,20 @@
 -- Alternatives of a CHOICE, one after another.
-use Rattle.std.proofs.Common.{◌≡◌, ℕ, zero, suc, subst, ◌+◌, ◌<◌, ◌≤◌, Bool, true, false, ◌||◌, List, [], ◌∷◌, arith, length, drop, take, get_or, refl, sym, ap, ap₂, ◌∙◌, drop-cons, add-one}
-use Rattle.std.proofs.lemmas.List.{drop_all, take_all}
+use Rattle.std.proofs.Common.{◌≡◌, ℕ, zero, suc, subst, ◌<◌, Bool, true, false, ◌||◌, List, [], ◌∷◌, arith, if◌then◌else◌, Option, Some, None, length, drop, take, get_or, refl, sym, ap, ap₂, ◌∙◌}
 use Rattle.oer_units.specs.declared.fault.Why.{Why}
 use Rattle.oer_units.specs.declared.fault.Why.TheVariants.{UnknownAlternative}
 use Rattle.oer_units.specs.declared.tagging.Tag.{Tag}
 use Rattle.oer_units.specs.Reader.{Outcome, Place, Reader, choose, got, guard, refuse, refused}
 use Rattle.oer_units.specs.Reading.{tag}
-use Rattle.oer_types.specs.AsnType.{Alternatives, choice, no_alternatives}
-use Rattle.oer_types.specs.Checking.{check_alternative, check_by_tag, check_choice, check_chosen, check_octets, check_open, check_value}
-use Rattle.oer_types.specs.Constraints.{AlternativesKeepLimits, KeepsLimits, has_tag, same_tag}
-use Rattle.oer_types.specs.Fits.{AlternativeDefaultsFit, DefaultsFit}
-use Rattle.oer_types.specs.ShapeView.{later_of, root_of, type_of}
-use Rattle.oer_types.specs.declared.shape.Alt.{Alt}
+use Rattle.oer_model.specs.AsnType.{Alternatives, choice, no_alternatives}
+use Rattle.oer_model.specs.Checking.{check_alternative, check_by_tag, check_choice, check_chosen, check_octets, check_open, check_value}
+use Rattle.oer_model.specs.Constraints.{AlternativesKeepLimits, KeepsLimits, has_tag, same_tag}
+use Rattle.oer_model.specs.Fits.{AlternativeDefaultsFit, DefaultsFit}
+use Rattle.oer_values.specs.Lookup.{first_with}
+use Rattle.oer_values.specs.ShapeView.{later_of, root_of, type_of}
+use Rattle.oer_values.specs.declared.shape.Alt.{Alt}
+use Rattle.oer_values.proofs.TagSteps.{here}
 use Rattle.oer_checker.specs.Steps.{check_later}
 use Rattle.oer_checker.proofs.Joins.{bind_got, bind_stop}
-
-pub here : (xs : List Alt) (i : ℕ) (a : Alt) → i < length xs → a ≡ get_or xs i a → drop i xs ≡ a ∷ drop (i + 1) xs
-here xs i a less is = drop-cons xs i a less ∙ ap (λ (x : Alt). x ∷ drop (suc i) xs) (sym is) ∙ ap (λ (k : ℕ). a ∷ drop k xs) (sym (add-one i))
 
 -- ---- a root, and what follows it
 
@@ -83,22 +81,7 @@ choice_none xs p q t e none =
     choice_then false (root_of xs no_alternatives) p q t (refused UnknownAlternative q.input) e
     (refused_is (has_tag t (root_of xs no_alternatives)) (check_alternative (root_of xs no_alternatives) t) q none)
 
--- ---- the first one that has the tag
-
-tag_beside : (b c : Bool) (x y : Bool) → b ≡ false → (x ≡ false → y ≡ false) → (c || x) ≡ false → (c || y) ≡ false
-tag_beside b true x y e f h = absurd (cc)
-tag_beside b false x y e f h = f h
-
-first_next : (xs : List Alt) (i : ℕ) (a : Alt) (t : Tag) → i < length xs → a ≡ get_or xs i a → same_tag a.tag t ≡ false → has_tag t (root_of (take i xs) no_alternatives) ≡ false → has_tag t (root_of (take (suc i) xs) no_alternatives) ≡ false
-first_next [] i a t less is none before = absurd (omega arith)
-first_next (x ∷ xs) zero a t less is none before = ap (λ (b : Bool). b || false) (ap (λ (y : Alt). same_tag y.tag t) (sym is) ∙ none)
-first_next (x ∷ xs) (suc i) a t less is none before = tag_beside false (same_tag x.tag t) (has_tag t (root_of (take i xs) no_alternatives)) (has_tag t (root_of (take (suc i) xs) no_alternatives)) refl (first_next xs i a t (omega arith) is none) before
-
-pub first_more : (xs : List Alt) (i : ℕ) (a : Alt) (t : Tag) → i < length xs → a ≡ get_or xs i a → same_tag a.tag t ≡ false → has_tag t (root_of (take i xs) no_alternatives) ≡ false → has_tag t (root_of (take (i + 1) xs) no_alternatives) ≡ false
-first_more xs i a t less is none before = ap (λ (k : ℕ). has_tag t (root_of (take k xs) no_alternatives)) (add-one i) ∙ first_next xs i a t less is none before
-
-pub first_none : (xs : List Alt) (i : ℕ) (t : Tag) → length xs ≤ i → has_tag t (root_of (take i xs) no_alternatives) ≡ false → has_tag t (root_of xs no_alternatives) ≡ false
-first_none xs i t le before = ap (λ (l : List Alt). has_tag t (root_of l no_alternatives)) (sym (take_all i xs le)) ∙ before
+-- ---- the first one that has the tag is the one that is checked
 
 or_left : (b r : Bool) → (b || r) ≡ false → b ≡ false
 or_left true r e = absurd (cc)
@@ -108,7 +91,6 @@ or_right : (b r : Bool) → (b || r) ≡ false → r ≡ false
 or_right true r e = absurd (cc)
 or_right false r e = e
 
--- it is the one that is checked
 pub first_value : (xs : List Alt) (i : ℕ) (a : Alt) (t : Tag) → i < length xs → a ≡ get_or xs i a → same_tag a.tag t ≡ true → has_tag t (root_of (take i xs) no_alternatives) ≡ false
     → (true ≡ has_tag t (root_of xs no_alternatives)) × (check_value (type_of a.shape) ≡ check_alternative (root_of xs no_alternatives) t)
 first_value [] i a t less is same before = absurd (omega arith)
@@ -124,20 +106,25 @@ first_value (x ∷ xs) (suc i) a t less is same before =
       rest.1 ∙ ap (λ (b : Bool). check_by_tag b (check_value (type_of x.shape)) (check_alternative (root_of xs no_alternatives) t)) other,
     )
 
--- ---- in a loop
+-- ---- after the extension marker
 
-pub later_here : (xs : List Alt) (i : ℕ) (a : Alt) (t : Tag) (whole : Reader Bool) → i < length xs → a ≡ get_or xs i a → true ≡ same_tag a.tag t → check_later (later_of (drop i xs)) t ≡ whole → check_open (check_value (type_of a.shape)) ≡ whole
-later_here xs i a t whole less is same e =
-    ap (λ (b : Bool). choose (b || has_tag t (later_of (drop (i + 1) xs))) (check_by_tag b (check_open (check_value (type_of a.shape))) (check_alternative (later_of (drop (i + 1) xs)) t)) check_octets) same
-    ∙ ap (λ (l : List Alt). check_later (later_of l) t) (sym (here xs i a less is)) ∙ e
+abbrev later_or : Option Alt → Reader Bool
+later_or None = check_octets
+later_or (Some a) = check_open (check_value (type_of a.shape))
 
-pub later_next : (xs : List Alt) (i : ℕ) (a : Alt) (t : Tag) (whole : Reader Bool) → i < length xs → a ≡ get_or xs i a → false ≡ same_tag a.tag t → check_later (later_of (drop i xs)) t ≡ whole → check_later (later_of (drop (i + 1) xs)) t ≡ whole
-later_next xs i a t whole less is other e =
-    ap (λ (b : Bool). choose (b || has_tag t (later_of (drop (i + 1) xs))) (check_by_tag b (check_open (check_value (type_of a.shape))) (check_alternative (later_of (drop (i + 1) xs)) t)) check_octets) other
-    ∙ ap (λ (l : List Alt). check_later (later_of l) t) (sym (here xs i a less is)) ∙ e
+or_step : (b c : Bool) (a : Alt) (rest : Reader Bool) (p : Option Alt) → choose c rest check_octets ≡ later_or p → choose (b || c) (check_by_tag b (check_open (check_value (type_of a.shape))) rest) check_octets ≡ later_or (if b then Some a else p)
+or_step true c a rest p e = refl
+or_step false c a rest p e = e
 
-pub later_end : (xs : List Alt) (i : ℕ) (t : Tag) (whole : Reader Bool) → length xs ≤ i → check_later (later_of (drop i xs)) t ≡ whole → check_octets ≡ whole
-later_end xs i t whole le e = ap (λ (l : List Alt). check_later (later_of l) t) (sym (drop_all i xs le)) ∙ e
+later_first : (xs : List Alt) (t : Tag) → check_later (later_of xs) t ≡ later_or (first_with t xs)
+later_first [] t = refl
+later_first (a ∷ xs) t = or_step (same_tag a.tag t) (has_tag t (later_of xs)) a (check_alternative (later_of xs) t) (first_with t xs) (later_first xs t)
+
+pub later_found : (xs : List Alt) (a : Alt) (t : Tag) → Some a ≡ first_with t xs → check_open (check_value (type_of a.shape)) ≡ check_later (later_of xs) t
+later_found xs a t is = ap later_or is ∙ sym (later_first xs t)
+
+pub later_none : (xs : List Alt) (t : Tag) → None ≡ first_with t xs → check_octets ≡ check_later (later_of xs) t
+later_none xs t is = ap later_or is ∙ sym (later_first xs t)
 
 -- ---- what is asked of the types
 

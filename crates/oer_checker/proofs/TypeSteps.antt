@@ -1,18 +1,18 @@
 -- The checker of a shape, by what the shape is.
 use Rattle.std.proofs.Common.{◌≡◌, Bool, true, false, List, Option, Some, None, Vec, Box, Global, refl, sym, ap, ap₂, ◌∙◌, subst}
 use Rattle.oer_units.specs.Reader.{Outcome, Place}
-use Rattle.oer_types.specs.AsnType.{Alternatives, AsnType, choice, extensible_sequence, no_alternatives, sequence, sequence_of}
-use Rattle.oer_types.specs.Checking.{check_value}
-use Rattle.oer_types.specs.ShapeView.{additions_of, fields_of, later_of, root_of, type_of}
-use Rattle.oer_types.specs.declared.size.Size.{Size}
-use Rattle.oer_types.specs.declared.shape.Field.{Field}
-use Rattle.oer_types.specs.declared.shape.Addition.{Addition}
-use Rattle.oer_types.specs.declared.shape.Alt.{Alt}
-use Rattle.oer_types.specs.declared.shape.Shape.{Shape, Sequence, SequenceOf, Choice}
-use Rattle.oer_types.specs.Constraints.{AlternativesKeepLimits, KeepsLimits}
-use Rattle.oer_types.specs.Fits.{AlternativeDefaultsFit, DefaultsFit}
+use Rattle.oer_model.specs.AsnType.{Alternatives, AsnType, choice, extensible_sequence, no_alternatives, sequence, sequence_of}
+use Rattle.oer_model.specs.Checking.{check_value}
+use Rattle.oer_values.specs.ShapeView.{additions_of, fields_of, later_of, root_of, type_of}
+use Rattle.oer_model.specs.declared.size.Size.{Size}
+use Rattle.oer_values.specs.declared.shape.Field.{Field}
+use Rattle.oer_values.specs.declared.shape.Addition.{Addition}
+use Rattle.oer_values.specs.declared.shape.Alt.{Alt}
+use Rattle.oer_values.specs.declared.shape.Shape.{Shape, Sequence, SequenceOf, Choice}
+use Rattle.oer_model.specs.Constraints.{AlternativesKeepLimits, KeepsLimits}
+use Rattle.oer_model.specs.Fits.{AlternativeDefaultsFit, DefaultsFit}
 use Rattle.oer_checker.proofs.TagSteps.{after_defaults, after_limits, front_defaults, front_limits}
-use Rattle.oer_types.proofs.Shapes.{type_of-Choice, type_of-Sequence, type_of-SequenceOf}
+use Rattle.oer_values.proofs.Shapes.{type_of-Choice, type_of-Sequence, type_of-SequenceOf}
 
 pub by_type : (S T : AsnType) (p : Place) (o : Outcome Bool) → S ≡ T → o ≡ check_value T p → o ≡ check_value S p
 by_type S T p o is e = e ∙ ap (λ (U : AsnType). check_value U p) (sym is)

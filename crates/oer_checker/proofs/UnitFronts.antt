@@ -10,18 +10,18 @@ use Rattle.oer_units.specs.declared.fault.Why.TheVariants as reason
 use Rattle.oer_units.specs.declared.fault.Why.TheVariants.{UnknownAddition}
 use Rattle.oer_units.proofs.Closure.{got_place, got_value}
 use Rattle.oer_units.proofs.Lengths.{determinant_lawful}
-use Rattle.oer_types.specs.AsnType.{AsnType}
-use Rattle.oer_types.specs.AsnValue.{AsnValue}
-use Rattle.oer_types.specs.Bits.{all_false}
-use Rattle.oer_types.specs.Checking.{check_value, is_bitmap, is_least, judge, judged, quantity_octets}
-use Rattle.oer_types.specs.Constraints.{KeepsLimits, size_fits}
-use Rattle.oer_types.specs.Encoding.{IsSpelling, SpellsBitmap}
-use Rattle.oer_types.specs.Fits.{DefaultsFit}
-use Rattle.oer_types.specs.Reading.{bitmap, quantity, read_value}
-use Rattle.oer_types.specs.declared.size.Size.{Size}
-use Rattle.oer_types.proofs.CheckedParts.{value_checked}
-use Rattle.oer_types.proofs.Main.{value_lawful}
-use Rattle.oer_types.proofs.Parts.{bitmap_lawful, quantity_lawful}
+use Rattle.oer_model.specs.AsnType.{AsnType}
+use Rattle.oer_model.specs.AsnValue.{AsnValue}
+use Rattle.oer_model.specs.Bits.{all_false}
+use Rattle.oer_model.specs.Checking.{check_value, is_bitmap, is_least, judge, judged, quantity_octets}
+use Rattle.oer_model.specs.Constraints.{KeepsLimits, size_fits}
+use Rattle.oer_model.specs.Encoding.{IsSpelling, SpellsBitmap}
+use Rattle.oer_model.specs.Fits.{DefaultsFit}
+use Rattle.oer_model.specs.Reading.{bitmap, quantity, read_value}
+use Rattle.oer_model.specs.declared.size.Size.{Size}
+use Rattle.oer_model.proofs.checking.CheckedParts.{value_checked}
+use Rattle.oer_model.proofs.reading.Main.{value_lawful}
+use Rattle.oer_model.proofs.reading.Parts.{bitmap_lawful, quantity_lawful}
 use Rattle.oer_checker.specs.Steps.{addition_map, sized_length, sized_quantity}
 
 -- the octets from p to q spell x

@@ -4,15 +4,15 @@ use Rattle.std.proofs.lemmas.Bool.{eq-eqb, ne_eqb}
 use Rattle.oer_units.specs.Reader.{Outcome, Place, Reader, give, got}
 use Rattle.oer_units.specs.Reading.{counted_octets, open_type}
 use Rattle.oer_units.proofs.Closure.{got_place}
-use Rattle.oer_types.specs.AsnType.{AsnType, Need, default, may, must}
-use Rattle.oer_types.specs.Bits.{first_bit, later_bits}
-use Rattle.oer_types.specs.Checking.{both, check_additions, check_fields, check_octets, check_open, check_times, check_unknown, check_value}
-use Rattle.oer_types.specs.Constraints.{optional, optional_with}
-use Rattle.oer_types.specs.Parts.{Part, Step, addition_parts, field_parts, first_by_bit, first_by_need, item_parts, octets_of, same_step, to_addition, to_component, to_item, unknown_parts}
-use Rattle.oer_types.specs.ShapeView.{additions_of, fields_of, need_of, type_of}
-use Rattle.oer_types.specs.declared.shape.Addition.{Addition}
-use Rattle.oer_types.specs.declared.shape.Field.{Field}
-use Rattle.oer_types.specs.SharedSteps.{bits_left, is_there}
+use Rattle.oer_model.specs.AsnType.{AsnType, Need, default, may, must}
+use Rattle.oer_model.specs.Bits.{first_bit, later_bits}
+use Rattle.oer_model.specs.Checking.{both, check_additions, check_fields, check_octets, check_open, check_times, check_unknown, check_value}
+use Rattle.oer_model.specs.Constraints.{optional, optional_with}
+use Rattle.oer_model.specs.Parts.{Part, Step, addition_parts, field_parts, first_by_bit, first_by_need, item_parts, octets_of, same_step, to_addition, to_component, to_item, unknown_parts}
+use Rattle.oer_values.specs.ShapeView.{additions_of, fields_of, need_of, type_of}
+use Rattle.oer_values.specs.declared.shape.Addition.{Addition}
+use Rattle.oer_values.specs.declared.shape.Field.{Field}
+use Rattle.oer_model.specs.SharedSteps.{bits_left, is_there}
 use Rattle.oer_checker.specs.Steps.{check_if, check_there}
 use Rattle.oer_checker.proofs.BitLists.{drop_none}
 use Rattle.oer_checker.proofs.Entries.{Ends, Entry, NotIn, Passes, ends_next, parts_next, passes_next, walked}

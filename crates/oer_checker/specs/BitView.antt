@@ -1,6 +1,6 @@
 -- Bits of octets, from one to another.
 use Rattle.std.specs.Prelude.{◌≡◌, Bool, List, drop, length, take}
-use Rattle.oer_types.specs.Bits.{bits_of}
+use Rattle.oer_model.specs.Bits.{bits_of}
 use Rattle.oer_checker.specs.declared.bits.Bits.{Bits}
 
 abbrev pub bits_in : Bits → List Bool

@@ -2,12 +2,12 @@
 use Rattle.std.specs.Prelude.{◌≡◌, ◌↔◌, ◌≤◌, ℕ, ◌-◌, ◌^◌, List, ◌++◌, length, drop, true, Result, Ok, Err, IfErr}
 use Rattle.oer_units.specs.Reader.{at, got, refused}
 use Rattle.oer_units.specs.declared.fault.ReadFault.{ReadFault}
-use Rattle.oer_types.specs.AsnType.{AsnType}
-use Rattle.oer_types.specs.AsnValue.{AsnValue}
-use Rattle.oer_types.specs.Checking.{check_value}
-use Rattle.oer_types.specs.Encoding.{Encodes}
-use Rattle.oer_types.specs.Laws.{Means}
-use Rattle.oer_types.specs.Strict.{IsCanonical}
+use Rattle.oer_model.specs.AsnType.{AsnType}
+use Rattle.oer_model.specs.AsnValue.{AsnValue}
+use Rattle.oer_model.specs.Checking.{check_value}
+use Rattle.oer_model.specs.Encoding.{Encodes}
+use Rattle.oer_model.specs.Laws.{Means}
+use Rattle.oer_model.specs.Strict.{IsCanonical}
 use Rattle.oer_checker.specs.Plain.{is_plain}
 use Rattle.oer_checker.specs.declared.verdict.Verdict.{Verdict}
 

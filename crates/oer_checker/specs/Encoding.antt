@@ -1,7 +1,7 @@
 -- What is known of an encoding that was checked.
 use Rattle.std.specs.Prelude.{ℕ, List, Result, Ok, Err}
 use Rattle.oer_units.specs.declared.fault.ReadFault.{ReadFault}
-use Rattle.oer_types.specs.AsnType.{AsnType}
+use Rattle.oer_model.specs.AsnType.{AsnType}
 use Rattle.oer_types.specs.Schema.{the_type}
 use Rattle.oer_checker.specs.declared.encoding.Encoding.{Encoding}
 use Rattle.oer_checker.specs.declared.verdict.Verdict.{Verdict}

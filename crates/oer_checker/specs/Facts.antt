@@ -1,12 +1,12 @@
 -- Shapes and their parts.
 use Rattle.std.specs.Prelude.{◌≡◌, ◌<◌, ℕ, List, Option, Some, Vec, get_or, length}
 use Rattle.std.specs.declared.alloc.Global.{Global}
-use Rattle.oer_types.specs.AsnType.{AsnType, leaf}
-use Rattle.oer_types.specs.declared.shape.Addition.{Addition}
-use Rattle.oer_types.specs.declared.shape.Alt.{Alt}
-use Rattle.oer_types.specs.declared.shape.Field.{Field}
-use Rattle.oer_types.specs.declared.shape.Shape.{Shape}
-use Rattle.oer_types.specs.declared.shape.Shape.TheVariants.{Choice, Sequence}
+use Rattle.oer_model.specs.AsnType.{AsnType, leaf}
+use Rattle.oer_values.specs.declared.shape.Addition.{Addition}
+use Rattle.oer_values.specs.declared.shape.Alt.{Alt}
+use Rattle.oer_values.specs.declared.shape.Field.{Field}
+use Rattle.oer_values.specs.declared.shape.Shape.{Shape}
+use Rattle.oer_values.specs.declared.shape.Shape.TheVariants.{Choice, Sequence}
 
 -- x is one of them
 abbrev pub IsOne : {A : Type 0} → List A → A → Type 0

@@ -1,12 +1,12 @@
 -- What the caller of `part` learns, in the words of encodings and paths.
 use Rattle.std.specs.Prelude.{◌≡◌, ℕ, ◌-◌, Bool, true, false, List, ◌++◌, length, drop, take, Option, Some, Result, Ok, Err}
 use Rattle.oer_units.specs.Reader.{Outcome, at, got, refused}
-use Rattle.oer_types.specs.AsnType.{AsnType}
-use Rattle.oer_types.specs.AsnValue.{AsnValue}
-use Rattle.oer_types.specs.Checking.{check_value}
-use Rattle.oer_types.specs.Encoding.{Encodes}
-use Rattle.oer_types.specs.Parts as plain
-use Rattle.oer_types.specs.Parts.{Answer, StopsAt, Within, absent_part, find_part, found, no_such_step}
+use Rattle.oer_model.specs.AsnType.{AsnType}
+use Rattle.oer_model.specs.AsnValue.{AsnValue}
+use Rattle.oer_model.specs.Checking.{check_value}
+use Rattle.oer_model.specs.Encoding.{Encodes}
+use Rattle.oer_model.specs.Parts as plain
+use Rattle.oer_model.specs.Parts.{Answer, StopsAt, Within, absent_part, find_part, found, no_such_step}
 use Rattle.oer_checker.specs.Check.{IsOfOctets, Tells, most}
 use Rattle.oer_checker.specs.declared.fault.PartFault.{PartFault}
 use Rattle.oer_checker.specs.declared.fault.PartFault.TheVariants.{Read, NoSuchStep, Absent}

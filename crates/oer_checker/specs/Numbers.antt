@@ -1,8 +1,8 @@
 -- Numbers of an INTEGER in their least form.
 use Rattle.std.specs.Prelude.{ℕ, ℤ, List, Bool, true}
-use Rattle.oer_types.specs.Canonical.{integer_octets}
-use Rattle.oer_types.specs.Checking.{is_least}
-use Rattle.oer_types.specs.Constraints.{Form, signed_counted, signed_fixed, unsigned_counted, unsigned_fixed}
+use Rattle.oer_model.specs.Canonical.{integer_octets}
+use Rattle.oer_model.specs.Checking.{is_least}
+use Rattle.oer_model.specs.Constraints.{Form, signed_counted, signed_fixed, unsigned_counted, unsigned_fixed}
 
 -- whether b is as short as z can be in its form
 abbrev pub least_in : Form → ℤ → List ℕ → Bool

@@ -3,12 +3,12 @@ use Rattle.std.specs.Prelude.{◌≡◌, ℕ, zero, suc, ◌+◌, List, [], ◌�
 use Rattle.oer_units.specs.Numbers.{unsigned}
 use Rattle.oer_units.specs.Spelling.{IsCounted, IsJoined, IsLength, IsTag, StandsFor}
 use Rattle.oer_units.specs.declared.tagging.Tag.{Tag}
-use Rattle.oer_types.specs.AsnType.{Additions, Alternatives, AsnType, Fields, addition, alternative, choice, extensible_sequence, field, later, no_additions, no_alternatives, no_fields, sequence, sequence_of}
-use Rattle.oer_types.specs.AsnValue.{AsnValue, Places, Unknown}
-use Rattle.oer_types.specs.Bits.{IsPreamble}
-use Rattle.oer_types.specs.Constraints.{addition_count, optional, same_tag}
-use Rattle.oer_types.specs.Encoding.{IsItself, IsSpelling, SpellsAdditions, SpellsBitmap, SpellsFields, SpellsUnknown}
-use Rattle.oer_types.specs.Parts.{LeadsTo, Step, to_addition, to_chosen, to_component, to_item}
+use Rattle.oer_model.specs.AsnType.{Additions, Alternatives, AsnType, Fields, addition, alternative, choice, extensible_sequence, field, later, no_additions, no_alternatives, no_fields, sequence, sequence_of}
+use Rattle.oer_model.specs.AsnValue.{AsnValue, Places, Unknown}
+use Rattle.oer_model.specs.Bits.{IsPreamble}
+use Rattle.oer_model.specs.Constraints.{addition_count, optional, same_tag}
+use Rattle.oer_model.specs.Encoding.{IsItself, IsSpelling, SpellsAdditions, SpellsBitmap, SpellsFields, SpellsUnknown}
+use Rattle.oer_model.specs.Parts.{LeadsTo, Step, to_addition, to_chosen, to_component, to_item}
 
 -- the components before the one with the number i, and the additions before it
 abbrev pub fields_to : ℕ → Fields → Fields

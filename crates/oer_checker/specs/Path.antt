@@ -1,7 +1,7 @@
 -- The texts of paths.
 use Rattle.std.specs.Prelude.{◌≡◌, ℕ, ◌<◌, ◌^◌, List, [], ◌∷◌, ◌++◌, codes}
 use Rattle.std.specs.Fmt.{decimal}
-use Rattle.oer_types.specs.Parts.{Step, to_component, to_addition, to_item, to_chosen}
+use Rattle.oer_model.specs.Parts.{Step, to_component, to_addition, to_item, to_chosen}
 
 -- a letter, and the number in decimal digits
 abbrev pub IsNumbered : List ℕ → List ℕ → ℕ → Type 0

@@ -1,8 +1,8 @@
 -- What the caller of `part_range` learns.
 use Rattle.std.specs.Prelude.{◌≤◌, ℕ, List, length, slice_range, Option, Some}
 use Rattle.std.specs.declared.ops.Range.{Range}
-use Rattle.oer_types.specs.AsnType.{AsnType}
-use Rattle.oer_types.specs.Parts as plain
+use Rattle.oer_model.specs.AsnType.{AsnType}
+use Rattle.oer_model.specs.Parts as plain
 use Rattle.oer_checker.specs.Handing.{Begins}
 use Rattle.oer_checker.specs.Offsets.{StandsAt}
 

@@ -6,14 +6,14 @@ use Rattle.oer_units.specs.Reading.{determinant, subidentifier}
 use Rattle.oer_units.specs.declared.fault.Why.TheVariants as reason
 use Rattle.oer_units.specs.declared.fault.Why.TheVariants.{UnknownAddition}
 use Rattle.oer_units.specs.declared.tagging.Tag.{Tag}
-use Rattle.oer_types.specs.AsnType.{Alternatives, AsnType, Need, default, may, must}
-use Rattle.oer_types.specs.Bits.{all_false, bits_of}
-use Rattle.oer_types.specs.Canonical.{canonical_octets, same_list}
-use Rattle.oer_types.specs.Checking.{check_alternative, check_octets, check_value, is_bitmap, is_least, judged, quantity_octets, unlike}
-use Rattle.oer_types.specs.Constraints.{has_tag, size_fits}
-use Rattle.oer_types.specs.Limits.{addition_places}
-use Rattle.oer_types.specs.Reading.{bitmap, quantity}
-use Rattle.oer_types.specs.declared.size.Size.{Size}
+use Rattle.oer_model.specs.AsnType.{Alternatives, AsnType, Need, default, may, must}
+use Rattle.oer_model.specs.Bits.{all_false, bits_of}
+use Rattle.oer_model.specs.Canonical.{canonical_octets, same_list}
+use Rattle.oer_model.specs.Checking.{check_alternative, check_octets, check_value, is_bitmap, is_least, judged, quantity_octets, unlike}
+use Rattle.oer_model.specs.Constraints.{has_tag, size_fits}
+use Rattle.oer_model.specs.Limits.{addition_places}
+use Rattle.oer_model.specs.Reading.{bitmap, quantity}
+use Rattle.oer_model.specs.declared.size.Size.{Size}
 
 -- x and f were read
 abbrev pub got_both : {A : Type 0} → A → Bool → Place → Outcome (A × Bool)

@@ -1,16 +1,14 @@
 -- What one step finds, and paths of steps.
-use Rattle.std.specs.Prelude.{◌≡◌, ◌<◌, ◌≤◌, ℕ, ◌-◌, List, [], ◌∷◌, ◌++◌, true, false, length, map, take, get_or, Option, Some, None, option_map, Result, Ok, Err}
+use Rattle.std.specs.Prelude.{◌≡◌, ◌≤◌, ℕ, ◌-◌, List, [], ◌∷◌, ◌++◌, length, map, Option, Some, None, option_map, Result, Ok, Err}
 use Rattle.oer_units.specs.Reader.{Outcome, Place, got, refused}
-use Rattle.oer_units.specs.declared.tagging.Tag.{Tag}
-use Rattle.oer_types.specs.AsnType.{AsnType, no_alternatives}
-use Rattle.oer_types.specs.AsnValue.{AsnValue}
-use Rattle.oer_types.specs.Constraints.{KeepsLimits, has_tag, same_tag}
-use Rattle.oer_types.specs.Encoding.{IsSpelling}
-use Rattle.oer_types.specs.Fits.{DefaultsFit}
-use Rattle.oer_types.specs.Parts as plain
-use Rattle.oer_types.specs.Parts.{Answer, absent_part, find_part, found, lookup, no_such_step, to_addition, to_chosen, to_component, to_item}
-use Rattle.oer_types.specs.ShapeView.{root_of, type_of}
-use Rattle.oer_types.specs.declared.shape.Alt.{Alt}
+use Rattle.oer_model.specs.AsnType.{AsnType}
+use Rattle.oer_model.specs.AsnValue.{AsnValue}
+use Rattle.oer_model.specs.Constraints.{KeepsLimits}
+use Rattle.oer_model.specs.Encoding.{IsSpelling}
+use Rattle.oer_model.specs.Fits.{DefaultsFit}
+use Rattle.oer_model.specs.Parts as plain
+use Rattle.oer_model.specs.Parts.{Answer, absent_part, find_part, found, lookup, no_such_step, to_addition, to_chosen, to_component, to_item}
+use Rattle.oer_values.specs.ShapeView.{type_of}
 use Rattle.oer_checker.specs.declared.step.Step.{Step}
 use Rattle.oer_checker.specs.declared.step.Step.TheVariants.{Component, Addition, Item, Chosen}
 use Rattle.oer_checker.specs.declared.fault.PartFault.{PartFault}
@@ -60,12 +58,6 @@ Enters V b step (Ok p) = (find_part V b (step ∷ []) ≡ found (type_in p) p.oc
 Enters V b step (Err (Read e)) = ⊥
 Enters V b step (Err NoSuchStep) = find_part V b (step ∷ []) ≡ no_such_step
 Enters V b step (Err Absent) = find_part V b (step ∷ []) ≡ absent_part
-
--- the first of the alternatives that has the tag, or none
-abbrev pub IsFirst : List Alt → Tag → Option Alt → Type 0
-IsFirst xs t None = has_tag t (root_of xs no_alternatives) ≡ false
-IsFirst xs t (Some a) = (i : ℕ) × (i < length xs) × (a ≡ get_or xs i a) × (same_tag a.tag t ≡ true)
-    × (has_tag t (root_of (take i xs) no_alternatives) ≡ false)
 
 -- At p octets a stand and then s, where F holds of a and of how many s are; from those of s on there are so many.
 abbrev pub IsAfter : (ℕ → List ℕ → Type 0) → Place → List ℕ → ℕ → Type 0

@@ -2,12 +2,12 @@
 ghost use Rattle.std.specs.Prelude.{◌≡◌, ◌≤◌, ◌<◌, ◌-◌, ◌*◌, ◌%◌, List, Bool, None, IfOk, drop, leb, length, not, take, ◌&&◌};
 ghost use Rattle.oer_units.specs.Reader.{bind, give, group, guard};
 ghost use Rattle.oer_units.specs.declared.fault.Why.TheVariants as reason;
-ghost use Rattle.oer_types.specs.AsnType.{bit_string};
-ghost use Rattle.oer_types.specs.Bits.{all_false, bits_of as the_bits, first_bit, later_bits, spare_bits};
-ghost use Rattle.oer_types.specs.Canonical.{bitmap_octets};
-ghost use Rattle.oer_types.specs.Checking.{are_least_bits as are_least, check_value, ends_set};
-ghost use Rattle.oer_types.specs.Constraints.{size_fits};
-ghost use Rattle.oer_types.specs.Reading.{preamble as preamble_read, read_bits};
+ghost use Rattle.oer_model.specs.AsnType.{bit_string};
+ghost use Rattle.oer_model.specs.Bits.{all_false, bits_of as the_bits, first_bit, later_bits, spare_bits};
+ghost use Rattle.oer_model.specs.Canonical.{bitmap_octets};
+ghost use Rattle.oer_model.specs.Checking.{are_least_bits as are_least, check_value, ends_set};
+ghost use Rattle.oer_model.specs.Constraints.{size_fits};
+ghost use Rattle.oer_model.specs.Reading.{preamble as preamble_read, read_bits};
 ghost use Rattle.oer_checker.specs.BitView.{IsWhole, bits_in};
 ghost use Rattle.oer_checker.specs.Places.{outcome, place_of, same};
 ghost use Rattle.oer_checker.specs.Steps.{addition_map as addition_map_read, last_are_zero};

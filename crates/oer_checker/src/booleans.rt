@@ -1,7 +1,7 @@
 //! Lists of BOOLEANs, of an octet each.
 ghost use Rattle.std.specs.Prelude.{◌≡◌};
-ghost use Rattle.oer_types.specs.AsnType.{boolean};
-ghost use Rattle.oer_types.specs.Checking.{check_times, check_value};
+ghost use Rattle.oer_model.specs.AsnType.{boolean};
+ghost use Rattle.oer_model.specs.Checking.{check_times, check_value};
 ghost use Rattle.oer_checker.specs.Places.{outcome, place_of, same};
 
 use crate::cursor::{Cursor, both};

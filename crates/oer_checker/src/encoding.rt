@@ -1,6 +1,6 @@
 //! An encoding that was checked, and its parts.
 ghost use Rattle.std.specs.Prelude.{◌≡◌, IfOk};
-ghost use Rattle.oer_types.specs.Parts.{find_part};
+ghost use Rattle.oer_model.specs.Parts.{find_part};
 ghost use Rattle.oer_types.specs.Schema.{the_type};
 ghost use Rattle.oer_checker.specs.AtMostOne.{IsFound-prop};
 ghost use Rattle.oer_checker.specs.Check.{Answers, Finds, IsFound, IsOfOctets, Tells};

@@ -1,7 +1,7 @@
 //! What holds of a type holds of its parts. These functions do nothing; their contracts say so.
-ghost use Rattle.oer_types.specs.Constraints.{AdditionsKeepLimits, AlternativesKeepLimits, FieldsKeepLimits, KeepsLimits};
-ghost use Rattle.oer_types.specs.Fits.{AdditionDefaultsFit, AlternativeDefaultsFit, DefaultFits, DefaultsFit, FieldDefaultsFit, Fits};
-ghost use Rattle.oer_types.specs.ShapeView.{additions_of, fields_of, later_of, need_of, type_of};
+ghost use Rattle.oer_model.specs.Constraints.{AdditionsKeepLimits, AlternativesKeepLimits, FieldsKeepLimits, KeepsLimits};
+ghost use Rattle.oer_model.specs.Fits.{AdditionDefaultsFit, AlternativeDefaultsFit, DefaultFits, DefaultsFit, FieldDefaultsFit, Fits};
+ghost use Rattle.oer_values.specs.ShapeView.{additions_of, fields_of, later_of, need_of, type_of};
 ghost use Rattle.oer_checker.specs.Facts.{IsOne};
 
 use oer_types::{Addition, Alt, Field};

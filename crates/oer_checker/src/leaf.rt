@@ -1,7 +1,7 @@
 //! Types without parts.
 ghost use Rattle.std.specs.Prelude.{◌≡◌};
-ghost use Rattle.oer_types.specs.Checking.{check_value};
-ghost use Rattle.oer_types.specs.ShapeView.{type_of};
+ghost use Rattle.oer_model.specs.Checking.{check_value};
+ghost use Rattle.oer_values.specs.ShapeView.{type_of};
 ghost use Rattle.oer_checker.specs.Facts.{IsLeaf};
 ghost use Rattle.oer_checker.specs.Places.{outcome, place_of, same};
 

@@ -1,7 +1,7 @@
 //! Lengths and what they count.
 ghost use Rattle.std.specs.Prelude.{◌≡◌, ◌+◌, eqb, length};
 ghost use Rattle.oer_units.specs.Least.{length_octets};
-ghost use Rattle.oer_types.specs.Checking.{check_octets as octets_checked};
+ghost use Rattle.oer_model.specs.Checking.{check_octets as octets_checked};
 ghost use Rattle.oer_checker.specs.Places.{counted_as, outcome, place_of, same};
 ghost use Rattle.oer_checker.specs.Steps.{between, left_open, sized_length};
 

@@ -2,10 +2,10 @@
 ghost use Rattle.std.specs.Prelude.{◌≡◌, ◌||◌, eqb, map};
 ghost use Rattle.oer_units.specs.Reader.{give, guard};
 ghost use Rattle.oer_units.specs.declared.fault.Why.TheVariants.{IntegerRange};
-ghost use Rattle.oer_types.specs.AsnType.{boolean, enumerated as enumerated_type, integer as integer_type};
-ghost use Rattle.oer_types.specs.Checking.{check_value};
-ghost use Rattle.oer_types.specs.Constraints.{has_number, in_range};
-ghost use Rattle.oer_types.specs.ShapeView.{named_number};
+ghost use Rattle.oer_model.specs.AsnType.{boolean, enumerated as enumerated_type, integer as integer_type};
+ghost use Rattle.oer_model.specs.Checking.{check_value};
+ghost use Rattle.oer_model.specs.Constraints.{has_number, in_range};
+ghost use Rattle.oer_values.specs.ShapeView.{named_number};
 ghost use Rattle.oer_checker.specs.Places.{counted_as, outcome, place_of, same};
 ghost use Rattle.oer_checker.specs.Steps.{sized_quantity};
 

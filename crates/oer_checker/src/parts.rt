@@ -1,22 +1,20 @@
 //! What surrounds the parts of a value: presence, defaults, and parts that the type doesn't
 //! know.
-ghost use Rattle.std.specs.Prelude.{◌≡◌, drop, option_map};
-ghost use Rattle.oer_types.specs.Checking.{check_unknown as unknown_checked};
-ghost use Rattle.oer_types.specs.Constraints.{KeepsLimits};
-ghost use Rattle.oer_types.specs.Fits.{DefaultFits, Fits};
-ghost use Rattle.oer_types.specs.ShapeView.{need_of, type_of};
+ghost use Rattle.std.specs.Prelude.{◌≡◌, drop};
+ghost use Rattle.oer_model.specs.Checking.{check_unknown as unknown_checked};
+ghost use Rattle.oer_model.specs.Constraints.{KeepsLimits};
+ghost use Rattle.oer_model.specs.Fits.{DefaultFits, Fits};
+ghost use Rattle.oer_values.specs.ShapeView.{need_of, type_of};
 ghost use Rattle.oer_checker.specs.BitView.{IsWhole, bits_in};
 ghost use Rattle.oer_checker.specs.Places.{outcome, place_of, same};
-ghost use Rattle.oer_types.specs.SharedSteps.{bits_left, is_there};
+ghost use Rattle.oer_model.specs.SharedSteps.{bits_left, is_there};
 ghost use Rattle.oer_checker.specs.Steps.{is_default as is_default_in};
-ghost use Rattle.oer_checker.specs.Walk.{IsFirst};
 
 use crate::bits::Bits;
 use crate::cursor::{Cursor, both};
 use crate::lengths::check_octets;
 use crate::stop::Stop;
-use oer_types::{Alt, Field, Need, is_same_tag, laws};
-use oer_units::Tag;
+use oer_types::{Field, Need, laws};
 use oer_writer::parts::equals;
 
 /// Whether a component is there, and the bits of those after it.
@@ -42,18 +40,6 @@ pub(crate) fn is_default(field: &Field, octets: &[u8]) -> bool
         Need::Must | Need::May => false,
         Need::Default(value) => equals(&field.shape, value, octets),
     }
-}
-
-/// The first alternative that has the tag.
-pub(crate) fn with_tag<'s>(alternatives: &'s [Alt], tag: Tag) -> Option<&'s Alt>
-    ensures { IsFirst alternatives.now tag (option_map (λ a. a.now) result) }
-{
-    for alternative in alternatives {
-        if is_same_tag(alternative.tag, tag) {
-            return Some(alternative);
-        }
-    }
-    None
 }
 
 /// The additions that the type doesn't know, of which there are `known`: each as the octets of its

@@ -1,7 +1,7 @@
 //! The text of a path.
 ghost use Rattle.std.specs.Prelude.{◌≡◌, ◌<◌, ◌^◌, ℕ, List, decimal, IfOk, IfErr, MatchOption};
 ghost use Rattle.oer_checker.specs.Walk.{path_of, step_of};
-ghost use Rattle.oer_types.specs.Parts.{Step as PlainStep};
+ghost use Rattle.oer_model.specs.Parts.{Step as PlainStep};
 ghost use Rattle.oer_checker.specs.Path.{SpellsPath, SpellsStep};
 
 use crate::step::Step;

@@ -3,12 +3,12 @@ ghost use Rattle.std.specs.Prelude.{◌≡◌, ◌≤◌, MatchOption, OnOk, fal
 ghost use Rattle.std.specs.Str.{chars, is_utf8};
 ghost use Rattle.oer_units.specs.Least.{counted};
 ghost use Rattle.oer_units.specs.Reading.{counted_octets};
-ghost use Rattle.oer_types.specs.AsnType.{object_id, octet_string, restricted_string, utf8_string};
-ghost use Rattle.oer_types.specs.Canonical.{string_octets};
-ghost use Rattle.oer_types.specs.Checking.{check_subidentifiers as subidentifiers_checked, check_value, is_least, judged};
-ghost use Rattle.oer_types.specs.Constraints.{fixed as fixed_size};
-ghost use Rattle.oer_types.specs.Reading.{read_octets};
-ghost use Rattle.oer_types.specs.AlphabetView.{alphabet_of};
+ghost use Rattle.oer_model.specs.AsnType.{object_id, octet_string, restricted_string, utf8_string};
+ghost use Rattle.oer_model.specs.Canonical.{string_octets};
+ghost use Rattle.oer_model.specs.Checking.{check_subidentifiers as subidentifiers_checked, check_value, is_least, judged};
+ghost use Rattle.oer_model.specs.Constraints.{fixed as fixed_size};
+ghost use Rattle.oer_model.specs.Reading.{read_octets};
+ghost use Rattle.oer_values.specs.AlphabetView.{alphabet_of};
 ghost use Rattle.oer_checker.specs.Places.{outcome, place_of, same};
 ghost use Rattle.oer_checker.specs.Steps.{between};
 

@@ -1,10 +1,10 @@
 //! How the encoding of a value is checked.
 ghost use Rattle.std.specs.Prelude.{◌≡◌, length};
-ghost use Rattle.oer_types.specs.AsnType.{sequence, sequence_of};
-ghost use Rattle.oer_types.specs.Checking.{check_additions as additions_checked, check_extension as extension_checked, check_fields as fields_checked, check_open as open_checked, check_times, check_value};
-ghost use Rattle.oer_types.specs.Constraints.{AdditionsKeepLimits, AlternativesKeepLimits, FieldsKeepLimits, KeepsLimits};
-ghost use Rattle.oer_types.specs.Fits.{AdditionDefaultsFit, AlternativeDefaultsFit, DefaultFits, DefaultsFit, FieldDefaultsFit, Fits};
-ghost use Rattle.oer_types.specs.ShapeView.{additions_of, fields_of, later_of, need_of, type_of};
+ghost use Rattle.oer_model.specs.AsnType.{sequence, sequence_of};
+ghost use Rattle.oer_model.specs.Checking.{check_additions as additions_checked, check_extension as extension_checked, check_fields as fields_checked, check_open as open_checked, check_times, check_value};
+ghost use Rattle.oer_model.specs.Constraints.{AdditionsKeepLimits, AlternativesKeepLimits, FieldsKeepLimits, KeepsLimits};
+ghost use Rattle.oer_model.specs.Fits.{AdditionDefaultsFit, AlternativeDefaultsFit, DefaultFits, DefaultsFit, FieldDefaultsFit, Fits};
+ghost use Rattle.oer_values.specs.ShapeView.{additions_of, fields_of, later_of, need_of, type_of};
 ghost use Rattle.oer_checker.specs.BitView.{bits_in};
 ghost use Rattle.oer_checker.specs.Facts.{IsChoice, IsExtensible};
 ghost use Rattle.oer_checker.specs.Places.{outcome, place_of, same};
@@ -18,10 +18,10 @@ use crate::facts::{addition_fits, field_fits, later_fits};
 use crate::leaf::check_leaf;
 use crate::lengths::{check_octets, leave, octets_between, sized_length_at};
 use crate::numbers::sized_quantity_at;
-use crate::parts::{check_unknown, is_default, presence, with_tag};
+use crate::parts::{check_unknown, is_default, presence};
 use crate::stop::Stop;
 use crate::units::tag_at;
-use oer_types::{Addition, Alt, Field, Shape, Size, is_same_tag, optional};
+use oer_types::{Addition, Alt, Field, Shape, Size, optional, with_tag};
 use oer_units::{Tag, Why};
 
 /// The encoding of a value of the type, and whether it is canonical.
@@ -258,11 +258,9 @@ fn check_later(alternatives: &[Alt], tag: Tag, at: &mut Cursor) -> Result<bool, 
     requires defaults { AlternativeDefaultsFit (later_of alternatives.now) }
     ensures { outcome same result at.new ≡ later_checked (later_of alternatives.now) tag (place_of at.old) }
 {
-    for alternative in alternatives {
-        if is_same_tag(alternative.tag, tag) {
-            later_fits(alternatives, alternative);
-            return check_open(&alternative.shape, at);
-        }
-    }
-    check_octets(at)
+    let Some(alternative) = with_tag(alternatives, tag) else {
+        return check_octets(at);
+    };
+    later_fits(alternatives, alternative);
+    check_open(&alternative.shape, at)
 }

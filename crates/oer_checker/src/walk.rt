@@ -3,13 +3,13 @@ ghost use Rattle.std.specs.Prelude.{◌≡◌, ◌≤◌, IfOk, IfSome, drop, le
 ghost use Rattle.oer_units.specs.Reader.{at};
 ghost use Rattle.oer_units.specs.Reading.{counted_octets, open_type};
 ghost use Rattle.oer_units.specs.Spelling.{IsLength};
-ghost use Rattle.oer_types.specs.AsnType.{no_alternatives};
-ghost use Rattle.oer_types.specs.Bits.{first_bit};
-ghost use Rattle.oer_types.specs.Checking.{both, check_additions as additions_checked, check_fields as fields_checked, check_unknown as unknown_checked, check_value};
-ghost use Rattle.oer_types.specs.Constraints.{AdditionsKeepLimits, FieldsKeepLimits, KeepsLimits};
-ghost use Rattle.oer_types.specs.Fits.{AdditionDefaultsFit, DefaultsFit, FieldDefaultsFit};
-ghost use Rattle.oer_types.specs.Parts.{addition_parts, field_parts, join_parts, knows as knows_step, octets_of, parts_in, read_parts, to_addition, to_chosen, to_component, to_item, unknown_parts};
-ghost use Rattle.oer_types.specs.ShapeView.{additions_of, fields_of, type_of};
+ghost use Rattle.oer_model.specs.AsnType.{no_alternatives};
+ghost use Rattle.oer_model.specs.Bits.{first_bit};
+ghost use Rattle.oer_model.specs.Checking.{both, check_additions as additions_checked, check_fields as fields_checked, check_unknown as unknown_checked, check_value};
+ghost use Rattle.oer_model.specs.Constraints.{AdditionsKeepLimits, FieldsKeepLimits, KeepsLimits};
+ghost use Rattle.oer_model.specs.Fits.{AdditionDefaultsFit, DefaultsFit, FieldDefaultsFit};
+ghost use Rattle.oer_model.specs.Parts.{addition_parts, field_parts, join_parts, knows as knows_step, octets_of, parts_in, read_parts, to_addition, to_chosen, to_component, to_item, unknown_parts};
+ghost use Rattle.oer_values.specs.ShapeView.{additions_of, fields_of, type_of};
 ghost use Rattle.oer_checker.specs.BitView.{IsWhole, bits_in};
 ghost use Rattle.oer_checker.specs.Offsets.{AreAdditions, AreFields, AreUnknown, IsBefore};
 ghost use Rattle.oer_checker.specs.Places.{place_of};
@@ -21,11 +21,11 @@ use crate::cursor::Cursor;
 use crate::fault::PartFault;
 use crate::lengths::{octets_between, sized_length_at};
 use crate::numbers::sized_quantity_at;
-use crate::parts::{check_unknown, presence, with_tag};
+use crate::parts::{check_unknown, presence};
 use crate::step::Step;
 use crate::units::{group_at, tag_at};
 use crate::value::{check_additions, check_elements, check_fields, check_shape};
-use oer_types::{Addition, Field, Shape, optional};
+use oer_types::{Addition, Field, Shape, optional, with_tag};
 
 /// Octets in an encoding, and their type if that is known.
 #[derive(Clone, Copy)]

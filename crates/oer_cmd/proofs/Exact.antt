@@ -17,14 +17,14 @@ use Rattle.oer_units.specs.declared.fault.ReadFault.{ReadFault}
 use Rattle.oer_units.specs.Reader.{Outcome, Place, Reader, at, got, refused}
 use Rattle.oer_units.specs.Reads.{ReadsFront, seen}
 use Rattle.oer_writer.specs.declared.fault.WriteFault.TheVariants as write
-use Rattle.oer_types.specs.AsnType.{AsnType}
-use Rattle.oer_types.specs.AsnValue.{AsnValue}
-use Rattle.oer_types.specs.Canonical.{canonical_octets}
-use Rattle.oer_types.specs.Checking.{check_value}
-use Rattle.oer_types.specs.Parts.{Answer, Step, absent_part, find_part, no_such_step}
-use Rattle.oer_types.specs.Reading.{read_value}
-use Rattle.oer_types.specs.ValueView.{value_of}
-use Rattle.oer_types.specs.declared.value.Value.{Value}
+use Rattle.oer_model.specs.AsnType.{AsnType}
+use Rattle.oer_model.specs.AsnValue.{AsnValue}
+use Rattle.oer_model.specs.Canonical.{canonical_octets}
+use Rattle.oer_model.specs.Checking.{check_value}
+use Rattle.oer_model.specs.Parts.{Answer, Step, absent_part, find_part, no_such_step}
+use Rattle.oer_model.specs.Reading.{read_value}
+use Rattle.oer_values.specs.ValueView.{value_of}
+use Rattle.oer_values.specs.declared.value.Value.{Value}
 use Rattle.oer_checker.specs.Check.{Answers, Tells, most}
 use Rattle.oer_checker.specs.Handing.{Agrees, AgreesWith, AnswersPart}
 use Rattle.oer_checker.specs.Walk.{path_of as steps_of}

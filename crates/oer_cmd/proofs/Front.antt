@@ -8,10 +8,10 @@ use Rattle.oer_units.specs.declared.fault.ReadFault.{ReadFault}
 use Rattle.oer_units.specs.declared.fault.Why.TheVariants.{Device, End, Memory}
 use Rattle.oer_units.specs.Reader.{at, bind, give, got, group, group_by, refused, then_read}
 use Rattle.oer_units.specs.Reads.{Span, renamed, Exactly, ReadsFront}
-use Rattle.oer_types.specs.AsnType.{AsnType}
-use Rattle.oer_types.specs.AsnValue.{AsnValue}
-use Rattle.oer_types.specs.Encoding.{Encodes}
-use Rattle.oer_types.specs.Strict.{IsCanonical}
+use Rattle.oer_model.specs.AsnType.{AsnType}
+use Rattle.oer_model.specs.AsnValue.{AsnValue}
+use Rattle.oer_model.specs.Encoding.{Encodes}
+use Rattle.oer_model.specs.Strict.{IsCanonical}
 use Rattle.oer_decoder.specs.Rewriting.{IsRewritten}
 use Rattle.oer_decoder.specs.Front.{Told}
 use Rattle.serde_json.specs.Data.{Data}

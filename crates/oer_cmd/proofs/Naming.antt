@@ -2,7 +2,7 @@
 use Rattle.std.proofs.Common.{Result, ◌≡◌, ◌∙◌, ℕ, List, [], Option, Some, None, Ok, refl, sym, subst, inl, inr}
 use Rattle.std.specs.Prelude.{IfErr}
 use Rattle.clap.specs.Words.{Text}
-use Rattle.oer_types.specs.AsnType.{AsnType}
+use Rattle.oer_model.specs.AsnType.{AsnType}
 use Rattle.oer_notation.specs.Grammar.{IsDefined, IsNew, later_definition, this_definition}
 use Rattle.oer_notation.specs.Laws.{OneType, ParseAllComplete, ParseAllSound, ParseSound}
 use Rattle.oer_notation.specs.Parsing.{parse, parse_all}

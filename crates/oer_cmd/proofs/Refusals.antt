@@ -14,9 +14,9 @@ use Rattle.oer_units.specs.Reads.{Exactly, ReadsFront, Span, place, renamed}
 use Rattle.oer_units.specs.declared.fault.ReadFault.{ReadFault}
 use Rattle.oer_units.specs.declared.fault.Why.TheVariants as why
 use Rattle.oer_writer.specs.declared.fault.WriteFault.TheVariants as write
-use Rattle.oer_types.specs.AsnType.{AsnType}
-use Rattle.oer_types.specs.AsnValue.{AsnValue}
-use Rattle.oer_types.specs.Parts.{Step}
+use Rattle.oer_model.specs.AsnType.{AsnType}
+use Rattle.oer_model.specs.AsnValue.{AsnValue}
+use Rattle.oer_model.specs.Parts.{Step}
 use Rattle.oer_checker.specs.Path.{OnePath}
 use Rattle.oer_json.specs.Denotes.{IsJsonOf}
 use Rattle.oer_checker.specs.Handing.{Follows}

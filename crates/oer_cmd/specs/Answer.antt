@@ -8,13 +8,13 @@ use Rattle.serde_json.specs.Data.{Data}
 use Rattle.serde_json.specs.Read.{read}
 use Rattle.serde_json.specs.Written.{compact_text}
 use Rattle.oer_units.specs.Reader.{Outcome, at, got, refused}
-use Rattle.oer_types.specs.AsnType.{AsnType}
-use Rattle.oer_types.specs.AsnValue.{AsnValue}
-use Rattle.oer_types.specs.Canonical.{canonical_octets}
-use Rattle.oer_types.specs.Checking.{check_value}
-use Rattle.oer_types.specs.Parts as part
-use Rattle.oer_types.specs.Parts.{Step, find_part}
-use Rattle.oer_types.specs.Reading.{read_value}
+use Rattle.oer_model.specs.AsnType.{AsnType}
+use Rattle.oer_model.specs.AsnValue.{AsnValue}
+use Rattle.oer_model.specs.Canonical.{canonical_octets}
+use Rattle.oer_model.specs.Checking.{check_value}
+use Rattle.oer_model.specs.Parts as part
+use Rattle.oer_model.specs.Parts.{Step, find_part}
+use Rattle.oer_model.specs.Reading.{read_value}
 use Rattle.oer_checker.specs.Check.{most}
 use Rattle.oer_json.specs.Made.{made}
 use Rattle.oer_json.specs.Take.{taken}

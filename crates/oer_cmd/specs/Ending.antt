@@ -3,7 +3,7 @@ use Rattle.std.specs.Prelude.{◌≡◌, ◌≢◌, ◌≤◌, ◌⊎◌, ℕ, L
 use Rattle.std.specs.Io.KnownBytes.{Appends, Keeps}
 use Rattle.clap.specs.Words.{IsAmong, Text, fault_of, takes}
 use Rattle.clap.specs.declared.error.kind.ErrorKind.TheVariants.{DisplayHelp, DisplayVersion}
-use Rattle.oer_types.specs.Parts.{Step}
+use Rattle.oer_model.specs.Parts.{Step}
 use Rattle.oer_options.specs.Words.{Asks, oer, path_text, source_text}
 use Rattle.oer_options.specs.declared.options.Options.{Options}
 use Rattle.oer_cmd.specs.Answer.{IsPathOf, expected_answer}

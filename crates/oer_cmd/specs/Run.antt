@@ -8,11 +8,11 @@ use Rattle.clap.specs.Words.{Text}
 use Rattle.serde_json.specs.Data.{Data}
 use Rattle.serde_json.specs.Read.{read}
 use Rattle.serde_json.specs.Written.{compact_text}
-use Rattle.oer_types.specs.AsnType.{AsnType}
-use Rattle.oer_types.specs.AsnValue.{AsnValue}
-use Rattle.oer_types.specs.Encoding.{Encodes}
-use Rattle.oer_types.specs.Parts.{Step, Within}
-use Rattle.oer_types.specs.Strict.{IsCanonical}
+use Rattle.oer_model.specs.AsnType.{AsnType}
+use Rattle.oer_model.specs.AsnValue.{AsnValue}
+use Rattle.oer_model.specs.Encoding.{Encodes}
+use Rattle.oer_model.specs.Parts.{Step, Within}
+use Rattle.oer_model.specs.Strict.{IsCanonical}
 use Rattle.oer_checker.specs.Path.{SpellsPath}
 use Rattle.oer_json.specs.Denotes.{IsJsonOf}
 use Rattle.oer_json.specs.Made.{made}

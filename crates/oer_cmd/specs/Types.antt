@@ -1,8 +1,8 @@
 -- The type that the options name.
 use Rattle.std.specs.Prelude.{◌≡◌, ◌≢◌, List, Option, Some, None}
 use Rattle.clap.specs.Words.{Text}
-use Rattle.oer_types.specs.AsnType.{AsnType}
-use Rattle.oer_types.specs.WellFormed.{IsWellFormed}
+use Rattle.oer_model.specs.AsnType.{AsnType}
+use Rattle.oer_model.specs.WellFormed.{IsWellFormed}
 use Rattle.oer_notation.specs.Grammar.{AreWellFormed, IsDefined, Spells, SpellsAll}
 use Rattle.oer_notation.specs.Reading.{Known}
 use Rattle.oer_options.specs.Words.{Texts}

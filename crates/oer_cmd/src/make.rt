@@ -2,12 +2,12 @@
 ghost use Rattle.std.specs.Prelude.{◌≡◌, ◌≢◌, None, Some, IfErr, IfOk, string_bytes};
 ghost use Rattle.serde_json.specs.Read.{read};
 ghost use Rattle.serde_json.specs.View.{view};
-ghost use Rattle.oer_types.specs.AsnValue.{AsnValue};
-ghost use Rattle.oer_types.specs.Canonical.{canonical_octets};
-ghost use Rattle.oer_types.specs.Fits.{Fits};
+ghost use Rattle.oer_model.specs.AsnValue.{AsnValue};
+ghost use Rattle.oer_model.specs.Canonical.{canonical_octets};
+ghost use Rattle.oer_model.specs.Fits.{Fits};
 ghost use Rattle.oer_types.specs.Schema.{the_type};
-ghost use Rattle.oer_types.specs.Strict.{IsCanonical};
-ghost use Rattle.oer_types.specs.ValueView.{value_of};
+ghost use Rattle.oer_model.specs.Strict.{IsCanonical};
+ghost use Rattle.oer_values.specs.ValueView.{value_of};
 ghost use Rattle.oer_json.specs.Denotes.{IsJsonOf};
 ghost use Rattle.oer_json.specs.Take.{taken};
 ghost use Rattle.oer_options.specs.Words.{behind};

@@ -1,6 +1,6 @@
 //! A part of octets.
 ghost use Rattle.std.specs.Prelude.{◌≡◌, ◌≢◌, List, None, IfErr, IfOk, string_bytes};
-ghost use Rattle.oer_types.specs.Parts.{Step as PlainStep};
+ghost use Rattle.oer_model.specs.Parts.{Step as PlainStep};
 ghost use Rattle.oer_types.specs.Schema.{the_type};
 ghost use Rattle.oer_checker.specs.Walk.{path_of as steps_of};
 ghost use Rattle.oer_options.specs.Words.{behind};

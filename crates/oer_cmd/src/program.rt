@@ -3,7 +3,7 @@ ghost use Rattle.std.specs.Prelude.{◌≡◌, ◌≢◌, ◌≤◌, ◌⊎◌, 
 ghost use Rattle.std.specs.Io.KnownBytes.{Appends, Keeps};
 ghost use Rattle.clap.specs.Words.{kind_of, takes};
 ghost use Rattle.clap.specs.declared.error.kind.ErrorKind.TheVariants.{DisplayHelp, DisplayVersion, OutOfMemory};
-ghost use Rattle.oer_types.specs.Parts.{Step};
+ghost use Rattle.oer_model.specs.Parts.{Step};
 ghost use Rattle.oer_types.specs.Schema.{the_type};
 ghost use Rattle.oer_options.specs.Words.{oer, path_text, source_text, texts_of};
 ghost use Rattle.oer_cmd.specs.Answer.{IsPathOf, answer_of, expected_answer, task_answer};

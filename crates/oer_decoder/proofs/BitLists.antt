@@ -1,7 +1,7 @@
 -- Lists of the bits of octets.
 use Rattle.std.proofs.Common.{◌≡◌, ◌≢◌, ℕ, zero, suc, ◌+◌, ◌-◌, ◌*◌, ◌/◌, ◌%◌, ◌^◌, ◌<◌, ◌≤◌, Bool, true, false, ◌&&◌, eqb, List, [], ◌∷◌, ◌++◌, length, take, drop, get_or, drop-cons, add-one, refl, sym, ap, ◌∙◌, arith, length-append, length-drop, length-take}
-use Rattle.oer_types.specs.Bits.{all_false, bit, bits_of}
-use Rattle.oer_types.proofs.Parts.{length-bits_of}
+use Rattle.oer_model.specs.Bits.{all_false, bit, bits_of}
+use Rattle.oer_model.proofs.reading.Parts.{length-bits_of}
 use Rattle.oer_decoder.specs.BitReading.{used}
 
 take_none : (A : Type 0) (m : ℕ) → take {A = A} m [] ≡ []

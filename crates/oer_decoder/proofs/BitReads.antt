@@ -9,11 +9,11 @@ use Rattle.oer_units.specs.Reads.{place, Reads, State}
 use Rattle.oer_units.proofs.ReadGroups.{group_zero}
 use Rattle.oer_units.proofs.ReadLengths.{with_stop, with_then}
 use Rattle.oer_units.proofs.ReadSteps.{Reads-give, Reads-same, Reads-stop, Reads-then}
-use Rattle.oer_types.specs.Bits.{all_false, bits_of, octets_for}
-use Rattle.oer_types.specs.Constraints.{any_size, size_fits}
-use Rattle.oer_types.specs.Reading.{preamble, read_bits}
-use Rattle.oer_types.specs.declared.size.Size as constraint
-use Rattle.oer_types.specs.SharedSteps.{unused_fits}
+use Rattle.oer_model.specs.Bits.{all_false, bits_of, octets_for}
+use Rattle.oer_model.specs.Constraints.{any_size, size_fits}
+use Rattle.oer_model.specs.Reading.{preamble, read_bits}
+use Rattle.oer_model.specs.declared.size.Size as constraint
+use Rattle.oer_model.specs.SharedSteps.{unused_fits}
 use Rattle.oer_decoder.specs.BitReading.{addition_map_at, initial_octet_at, kept_map, sized_octet_at, used}
 use Rattle.oer_decoder.proofs.Joins.{addition_plain, bits_plain, guard_no, guard_yes, padding_plain, size_plain}
 

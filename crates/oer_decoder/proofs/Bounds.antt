@@ -10,12 +10,12 @@ use Rattle.oer_units.specs.Reading as unit
 use Rattle.oer_units.specs.Reads.{place, Reads, seen, State}
 use Rattle.oer_units.specs.Width.{octets_of_width}
 use Rattle.oer_units.proofs.ReadSteps.{Reads-give, Reads-map, Reads-same, Reads-stop, Reads-then}
-use Rattle.oer_types.specs.AsnType.{NamedNumber, enumerated, integer}
-use Rattle.oer_types.specs.AsnValue.{AsnValue, enum, int}
-use Rattle.oer_types.specs.Constraints.{Form, form_of, has_number, in_range}
-use Rattle.oer_types.specs.Reading.{read_integer, read_value}
-use Rattle.oer_types.specs.SharedSteps.{number_in}
-use Rattle.oer_types.proofs.NumberSteps.{integer_is, naturals_is, tested, wide}
+use Rattle.oer_model.specs.AsnType.{NamedNumber, enumerated, integer}
+use Rattle.oer_model.specs.AsnValue.{AsnValue, enum, int}
+use Rattle.oer_model.specs.Constraints.{Form, form_of, has_number, in_range}
+use Rattle.oer_model.specs.Reading.{read_integer, read_value}
+use Rattle.oer_model.specs.SharedSteps.{number_in}
+use Rattle.oer_model.proofs.fitting.NumberSteps.{integer_is, naturals_is, tested, wide}
 use Rattle.oer_decoder.proofs.Joins.{enum_plain, guard_no, guard_yes, range_plain}
 
 naturals : (w : Width) (s s' : State) (result : Result ℕ ReadFault) → Reads (group_as (octets_of_width w) unsigned) s result s' → Reads (group_as (octets_of_width w) natural) s (seen pos result) s'

@@ -8,15 +8,15 @@ use Rattle.oer_units.specs.Reader.{bind, bounded, give, got, group, guard, Outco
 use Rattle.oer_units.specs.Reading.{counted_octets, determinant, octet, open_type, with_length}
 use Rattle.oer_units.specs.Reads.{Leads, place, Reads, seen, State}
 use Rattle.oer_units.proofs.ReadSteps.{Reads-give, Reads-map, Reads-memory_after, Reads-same, Reads-stop, Reads-then}
-use Rattle.oer_types.specs.AsnType.{addition, Additions, extensible_sequence, Fields, no_additions}
-use Rattle.oer_types.specs.AsnValue.{AsnValue, Places, seq, Unknown, unknown}
-use Rattle.oer_types.specs.Bits.{all_false, later_bits}
-use Rattle.oer_types.specs.Constraints.{addition_count, any_size, optional, size_fits}
-use Rattle.oer_types.specs.Fits.{all_absent}
-use Rattle.oer_types.specs.Reading.{bitmap, bits_sized, preamble, read_additions, read_both, read_by_bit, read_extensible, read_extension, read_fields, read_unknown, read_value}
-use Rattle.oer_types.specs.ValueView.{unknown_of}
-use Rattle.oer_types.specs.declared.value.Unknown as rust_unknown
-use Rattle.oer_types.specs.SharedSteps.{unused_fits}
+use Rattle.oer_model.specs.AsnType.{addition, Additions, extensible_sequence, Fields, no_additions}
+use Rattle.oer_model.specs.AsnValue.{AsnValue, Places, seq, Unknown, unknown}
+use Rattle.oer_model.specs.Bits.{all_false, later_bits}
+use Rattle.oer_model.specs.Constraints.{addition_count, any_size, optional, size_fits}
+use Rattle.oer_model.specs.Fits.{all_absent}
+use Rattle.oer_model.specs.Reading.{bitmap, bits_sized, preamble, read_additions, read_both, read_by_bit, read_extensible, read_extension, read_fields, read_unknown, read_value}
+use Rattle.oer_values.specs.ValueView.{unknown_of}
+use Rattle.oer_values.specs.declared.value.Unknown as rust_unknown
+use Rattle.oer_model.specs.SharedSteps.{unused_fits}
 use Rattle.oer_decoder.specs.BitReading.{addition_map_at, initial_octet_at, kept_map, sized_octet_at, used}
 use Rattle.oer_decoder.specs.Places.{rest_at, root_at, Started, started}
 use Rattle.oer_decoder.proofs.BitReads.{sized_after}

@@ -11,20 +11,20 @@ use Rattle.oer_units.specs.declared.fault.Why.TheVariants.{Device, End, Limit, M
 use Rattle.oer_units.specs.declared.fault.ReadFault.{ReadFault}
 use Rattle.oer_units.specs.Reader.{at, got, Outcome, Place, Reader, refused}
 use Rattle.oer_units.specs.Reads.{Exactly, Gives, Made, place, ReadsFront, renamed, seen, Span, Took}
-use Rattle.oer_types.specs.AsnType.{AsnType}
-use Rattle.oer_types.specs.AsnValue.{AsnValue}
-use Rattle.oer_types.specs.Constraints.{KeepsLimits}
-use Rattle.oer_types.specs.Encoding.{Encodes, IsSpelling}
-use Rattle.oer_types.specs.Fits.{Fits}
-use Rattle.oer_types.specs.Laws.{Means}
-use Rattle.oer_types.specs.Reading.{read_value}
-use Rattle.oer_types.proofs.CanonicalForms.{encodes_from}
-use Rattle.oer_types.proofs.Main.{value_lawful}
-use Rattle.oer_types.proofs.Payload.{value_paid}
-use Rattle.oer_types.proofs.Sizes.{nodes_bounded}
-use Rattle.oer_types.proofs.Theorems.{reads_each}
-use Rattle.oer_types.specs.ValueView.{value_of}
-use Rattle.oer_types.specs.declared.value.Value.{Value}
+use Rattle.oer_model.specs.AsnType.{AsnType}
+use Rattle.oer_model.specs.AsnValue.{AsnValue}
+use Rattle.oer_model.specs.Constraints.{KeepsLimits}
+use Rattle.oer_model.specs.Encoding.{Encodes, IsSpelling}
+use Rattle.oer_model.specs.Fits.{Fits}
+use Rattle.oer_model.specs.Laws.{Means}
+use Rattle.oer_model.specs.Reading.{read_value}
+use Rattle.oer_model.proofs.canonical.CanonicalForms.{encodes_from}
+use Rattle.oer_model.proofs.reading.Main.{value_lawful}
+use Rattle.oer_model.proofs.reading.Payload.{value_paid}
+use Rattle.oer_model.proofs.reading.Sizes.{nodes_bounded}
+use Rattle.oer_model.proofs.reading.Theorems.{reads_each}
+use Rattle.oer_values.specs.ValueView.{value_of}
+use Rattle.oer_values.specs.declared.value.Value.{Value}
 use Rattle.oer_decoder.specs.Front.{counted_of, first_of, IsFound, IsTaken, ReadsAndCounts, ReadsWhatComes, Told, value_in}
 
 plain : {A : Type 0} (o : Outcome A) → renamed false o ≡ o

@@ -7,17 +7,17 @@ use Rattle.oer_units.specs.Stream.{one_more}
 use Rattle.oer_units.specs.declared.fault.Why.{Why}
 use Rattle.oer_units.specs.declared.fault.Why.TheVariants.{Device, Memory}
 use Rattle.oer_units.specs.declared.fault.ReadFault.{ReadFault}
-use Rattle.oer_types.specs.AsnType.{AsnType}
-use Rattle.oer_types.specs.AsnValue.{AsnValue}
-use Rattle.oer_types.specs.Canonical.{canonical_octets}
-use Rattle.oer_types.specs.Constraints.{KeepsLimits}
-use Rattle.oer_types.specs.Encoding.{Encodes}
-use Rattle.oer_types.specs.Reading.{read_value}
-use Rattle.oer_types.specs.Strict.{IsCanonical}
-use Rattle.oer_types.proofs.Again.{canonical_encodes, canonical_tells}
-use Rattle.oer_types.proofs.Canonical.{canon_one}
-use Rattle.oer_types.proofs.Computed.{canon_computed}
-use Rattle.oer_types.proofs.Given.{canon_given}
+use Rattle.oer_model.specs.AsnType.{AsnType}
+use Rattle.oer_model.specs.AsnValue.{AsnValue}
+use Rattle.oer_model.specs.Canonical.{canonical_octets}
+use Rattle.oer_model.specs.Constraints.{KeepsLimits}
+use Rattle.oer_model.specs.Encoding.{Encodes}
+use Rattle.oer_model.specs.Reading.{read_value}
+use Rattle.oer_model.specs.Strict.{IsCanonical}
+use Rattle.oer_model.proofs.canonical.Again.{canonical_encodes, canonical_tells}
+use Rattle.oer_model.proofs.canonical.Canonical.{canon_one}
+use Rattle.oer_model.proofs.canonical.Computed.{canon_computed}
+use Rattle.oer_model.proofs.canonical.Given.{canon_given}
 use Rattle.oer_writer.specs.Write.{IsTooLong}
 use Rattle.oer_writer.specs.declared.fault.WriteFault.TheVariants.{Device as SinkFailed, TooLong}
 use Rattle.oer_writer.proofs.WholeValues.{too_long}

@@ -13,19 +13,19 @@ use Rattle.oer_units.specs.Reading.{counted_number, determinant, is_int128, numb
 use Rattle.oer_units.specs.ReadingSteps.{allow_at}
 use Rattle.oer_units.specs.Reads.{Leads, place, Reads, seen, State}
 use Rattle.oer_units.proofs.ReadSteps.{Reads-give, Reads-map, Reads-memory, Reads-same, Reads-stop, Reads-then}
-use Rattle.oer_types.specs.AsnType.{AsnType, default, field, Fields, may, must, Need, sequence}
-use Rattle.oer_types.specs.AsnValue.{absent, AsnValue, items, no_places, Places, present, seq, value}
-use Rattle.oer_types.specs.Bits.{first_bit, later_bits}
-use Rattle.oer_types.specs.Constraints.{addition_count, optional, size_fits}
-use Rattle.oer_types.specs.Fits.{all_absent, listed}
-use Rattle.oer_types.specs.Reading.{preamble, quantity, read_additions, read_absent, read_by_bit, read_fields, read_items, read_present, read_sequence, read_value}
-use Rattle.oer_types.specs.ShapeView.{additions_of, fields_of, need_of, type_of}
-use Rattle.oer_types.specs.ValueView.{places_from, places_of, value_of, values_of}
-use Rattle.oer_types.specs.declared.size.Size.{Size}
-use Rattle.oer_types.specs.declared.value.Value.{Value}
-use Rattle.oer_types.specs.declared.shape.Field.{Field}
-use Rattle.oer_types.specs.declared.shape.Addition.{Addition}
-use Rattle.oer_types.specs.SharedSteps.{bits_left, is_there}
+use Rattle.oer_model.specs.AsnType.{AsnType, default, field, Fields, may, must, Need, sequence}
+use Rattle.oer_model.specs.AsnValue.{absent, AsnValue, items, no_places, Places, present, seq, value}
+use Rattle.oer_model.specs.Bits.{first_bit, later_bits}
+use Rattle.oer_model.specs.Constraints.{addition_count, optional, size_fits}
+use Rattle.oer_model.specs.Fits.{all_absent, listed}
+use Rattle.oer_model.specs.Reading.{preamble, quantity, read_additions, read_absent, read_by_bit, read_fields, read_items, read_present, read_sequence, read_value}
+use Rattle.oer_values.specs.ShapeView.{additions_of, fields_of, need_of, type_of}
+use Rattle.oer_values.specs.ValueView.{places_from, places_of, value_of, values_of}
+use Rattle.oer_model.specs.declared.size.Size.{Size}
+use Rattle.oer_values.specs.declared.value.Value.{Value}
+use Rattle.oer_values.specs.declared.shape.Field.{Field}
+use Rattle.oer_values.specs.declared.shape.Addition.{Addition}
+use Rattle.oer_model.specs.SharedSteps.{bits_left, is_there}
 use Rattle.oer_decoder.specs.Places.{count_at, place_by, put, put_all, root_at, started}
 use Rattle.oer_decoder.proofs.Joins.{guard_no, guard_yes, seen_twice, size_plain}
 

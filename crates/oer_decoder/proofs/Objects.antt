@@ -8,9 +8,9 @@ use Rattle.oer_units.specs.Reading.{arcs_of, counted_length, object_identifier, 
 use Rattle.oer_units.specs.Reads.{Leads, Reads, named, seen, State}
 use Rattle.oer_units.proofs.ReadLengths.{with_stop, with_then}
 use Rattle.oer_units.proofs.ReadSteps.{Reads-give, Reads-map, Reads-memory_after, Reads-stop, Reads-then}
-use Rattle.oer_types.specs.AsnType.{object_id}
-use Rattle.oer_types.specs.AsnValue.{oid}
-use Rattle.oer_types.specs.Reading.{read_value}
+use Rattle.oer_model.specs.AsnType.{object_id}
+use Rattle.oer_model.specs.AsnValue.{oid}
+use Rattle.oer_model.specs.Reading.{read_value}
 use Rattle.oer_decoder.proofs.Joins.{guard_no, guard_yes, IsPlain, seen_twice}
 
 abbrev after_first : ℕ → ℕ → ℕ × ℕ → Reader (List ℕ)

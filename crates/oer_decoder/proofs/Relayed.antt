@@ -1,6 +1,6 @@
 -- From the law on encodings to what rewriting keeps.
 use Rattle.std.proofs.Common.{refl}
-use Rattle.oer_types.specs.Laws.{KeepsUnknown}
+use Rattle.oer_model.specs.Laws.{KeepsUnknown}
 use Rattle.oer_decoder.specs.Relaying.{RewritingKeepsUnknown}
 
 pub relayed : KeepsUnknown → RewritingKeepsUnknown

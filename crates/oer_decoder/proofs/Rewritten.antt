@@ -3,15 +3,15 @@ use Rattle.std.proofs.Common.{◌≡◌, ℕ, ◌+◌, ◌-◌, List, ◌++◌, 
 use Rattle.std.specs.Io.KnownBytes.{Appends, Consumes}
 use Rattle.oer_units.specs.declared.fault.ReadFault.{ReadFault}
 use Rattle.oer_units.specs.Reader.{at, got, Place}
-use Rattle.oer_types.specs.AsnType.{AsnType}
-use Rattle.oer_types.specs.AsnValue.{AsnValue}
-use Rattle.oer_types.specs.Constraints.{KeepsLimits}
-use Rattle.oer_types.specs.Encoding.{Encodes}
-use Rattle.oer_types.specs.Reading.{read_value}
-use Rattle.oer_types.specs.Strict.{IsCanonical}
-use Rattle.oer_types.proofs.Again.{canonical_encodes}
-use Rattle.oer_types.proofs.Canonical.{canon_one}
-use Rattle.oer_types.proofs.Theorems.{reads_each}
+use Rattle.oer_model.specs.AsnType.{AsnType}
+use Rattle.oer_model.specs.AsnValue.{AsnValue}
+use Rattle.oer_model.specs.Constraints.{KeepsLimits}
+use Rattle.oer_model.specs.Encoding.{Encodes}
+use Rattle.oer_model.specs.Reading.{read_value}
+use Rattle.oer_model.specs.Strict.{IsCanonical}
+use Rattle.oer_model.proofs.canonical.Again.{canonical_encodes}
+use Rattle.oer_model.proofs.canonical.Canonical.{canon_one}
+use Rattle.oer_model.proofs.reading.Theorems.{reads_each}
 use Rattle.oer_writer.specs.declared.fault.WriteFault.{WriteFault}
 use Rattle.oer_writer.specs.Write.{StopsWriting}
 use Rattle.oer_decoder.specs.Front.{IsFound, ReadsAndCounts}

@@ -10,11 +10,11 @@ use Rattle.oer_units.specs.Reading.{counted_length, counted_octets}
 use Rattle.oer_units.specs.Reads.{Reads, State}
 use Rattle.oer_units.proofs.ReadLengths.{with_stop, with_then}
 use Rattle.oer_units.proofs.ReadSteps.{Reads-give, Reads-map, Reads-stop, Reads-then}
-use Rattle.oer_types.specs.AsnType.{Alphabet, ia5, numeric, printable, restricted_string, utf8_string, visible}
-use Rattle.oer_types.specs.AsnValue.{text}
-use Rattle.oer_types.specs.Constraints.{all_characters, fixed, is_among, is_character, is_within, size_fits}
-use Rattle.oer_types.specs.Reading.{read_octets, read_text, read_utf8, read_value}
-use Rattle.oer_types.specs.declared.size.Size as constraint
+use Rattle.oer_model.specs.AsnType.{Alphabet, ia5, numeric, printable, restricted_string, utf8_string, visible}
+use Rattle.oer_model.specs.AsnValue.{text}
+use Rattle.oer_model.specs.Constraints.{all_characters, fixed, is_among, is_character, is_within, size_fits}
+use Rattle.oer_model.specs.Reading.{read_octets, read_text, read_utf8, read_value}
+use Rattle.oer_model.specs.declared.size.Size as constraint
 use Rattle.oer_decoder.proofs.Joins.{character_plain, guard_no, guard_yes, size_plain}
 
 -- ---- octets after a length

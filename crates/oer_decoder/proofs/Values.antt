@@ -1,9 +1,9 @@
 -- A `Value` without parts, beside what it stands for.
 use Rattle.std.proofs.Common.{◌≡◌, ℕ, ℤ, List, Vec, String, Global, string_bytes, refl, rules}
 use Rattle.std.proofs.Common as common
-use Rattle.oer_types.specs.AsnValue.{bit_list, bool, enum, int, nothing, oid, text}
-use Rattle.oer_types.specs.ValueView.{value_of}
-use Rattle.oer_types.specs.declared.value.Value.{Bits, Bool, Enum, Int, Null, Oid, Text, the_lemmas}
+use Rattle.oer_model.specs.AsnValue.{bit_list, bool, enum, int, nothing, oid, text}
+use Rattle.oer_values.specs.ValueView.{value_of}
+use Rattle.oer_values.specs.declared.value.Value.{Bits, Bool, Enum, Int, Null, Oid, Text, the_lemmas}
 
 pub value_of-Bool : (b : common.Bool) → value_of (Bool b) ≡ bool b
 value_of-Bool b = search (rules, the_lemmas)

@@ -3,11 +3,11 @@ use Rattle.std.specs.Prelude.{ℕ, ◌-◌, ◌*◌, List, length, take, drop, B
 use Rattle.oer_units.specs.Reader.{Reader, bind, give, group, guard}
 use Rattle.oer_units.specs.Reading.{octet, with_length}
 use Rattle.oer_units.specs.declared.fault.Why.TheVariants.{BitUnused, Size, UnknownAddition}
-use Rattle.oer_types.specs.Bits.{all_false, bits_of, octets_for}
-use Rattle.oer_types.specs.Constraints.{any_size, size_fits}
-use Rattle.oer_types.specs.Limits.{addition_places}
-use Rattle.oer_types.specs.SharedSteps.{unused_fits}
-use Rattle.oer_types.specs.declared.size.Size as constraint
+use Rattle.oer_model.specs.Bits.{all_false, bits_of, octets_for}
+use Rattle.oer_model.specs.Constraints.{any_size, size_fits}
+use Rattle.oer_model.specs.Limits.{addition_places}
+use Rattle.oer_model.specs.SharedSteps.{unused_fits}
+use Rattle.oer_model.specs.declared.size.Size as constraint
 
 -- n bits, and any bits to the octet's end
 abbrev pub fixed_bits_at : ℕ → Reader (List Bool)

@@ -6,13 +6,13 @@ use Rattle.oer_units.specs.Reader.{Reader}
 use Rattle.oer_units.specs.Reads.{Reads, Span, seen, start}
 use Rattle.oer_units.specs.declared.fault.Why.TheVariants.{Device, Memory}
 use Rattle.oer_units.specs.declared.fault.ReadFault.{ReadFault}
-use Rattle.oer_types.specs.AsnType.{AsnType}
-use Rattle.oer_types.specs.AsnValue.{AsnValue}
-use Rattle.oer_types.specs.Encoding.{Encodes}
-use Rattle.oer_types.specs.Laws.{Means}
-use Rattle.oer_types.specs.Nodes.{nodes, payload, type_nodes}
-use Rattle.oer_types.specs.ValueView.{value_of}
-use Rattle.oer_types.specs.declared.value.Value.{Value}
+use Rattle.oer_model.specs.AsnType.{AsnType}
+use Rattle.oer_model.specs.AsnValue.{AsnValue}
+use Rattle.oer_model.specs.Encoding.{Encodes}
+use Rattle.oer_model.specs.Laws.{Means}
+use Rattle.oer_model.specs.Nodes.{nodes, payload, type_nodes}
+use Rattle.oer_values.specs.ValueView.{value_of}
+use Rattle.oer_values.specs.declared.value.Value.{Value}
 
 -- What an answer says that took t, where n octets were allowed, and left rest. A value that was read has no more parts, and holds no
 -- more octets, than the type and t allow.

@@ -3,14 +3,14 @@ use Rattle.std.specs.Prelude.{◌≡◌, ◌≢◌, ◌↔◌, ℕ, ◌-◌, ◌
 use Rattle.oer_units.specs.Reads.{ReadsFront, TakesNoMemory}
 use Rattle.oer_units.specs.declared.fault.Why.TheVariants.{Device, Memory}
 use Rattle.oer_units.specs.declared.fault.ReadFault.{ReadFault}
-use Rattle.oer_types.specs.AsnType.{AsnType}
-use Rattle.oer_types.specs.AsnValue.{AsnValue}
-use Rattle.oer_types.specs.Encoding.{Encodes}
-use Rattle.oer_types.specs.Filling.{filled}
-use Rattle.oer_types.specs.Fits.{Fits}
-use Rattle.oer_types.specs.Reading.{read_value}
-use Rattle.oer_types.specs.Strict.{IsCanonical}
-use Rattle.oer_types.specs.WellFormed.{IsWellFormed}
+use Rattle.oer_model.specs.AsnType.{AsnType}
+use Rattle.oer_model.specs.AsnValue.{AsnValue}
+use Rattle.oer_model.specs.Encoding.{Encodes}
+use Rattle.oer_model.specs.Filling.{filled}
+use Rattle.oer_model.specs.Fits.{Fits}
+use Rattle.oer_model.specs.Reading.{read_value}
+use Rattle.oer_model.specs.Strict.{IsCanonical}
+use Rattle.oer_model.specs.WellFormed.{IsWellFormed}
 use Rattle.oer_writer.specs.Write.{IsTooLong}
 use Rattle.oer_writer.specs.declared.fault.WriteFault.TheVariants.{TooLong}
 use Rattle.oer_decoder.specs.Front.{ReadsWhatComes, Told}

@@ -1,5 +1,5 @@
 -- The types whose values take no memory.
-use Rattle.oer_types.specs.AsnType.{AsnType, boolean, enumerated, integer, null}
+use Rattle.oer_model.specs.AsnType.{AsnType, boolean, enumerated, integer, null}
 
 abbrev pub NeedsNoMemory : AsnType → Type 0
 NeedsNoMemory boolean = Unit {0}

@@ -1,12 +1,12 @@
 -- Which shapes have these parts.
 use Rattle.std.specs.Prelude.{◌≡◌, List, Option, Some, Vec, ⊤}
 use Rattle.std.specs.declared.alloc.Global.{Global}
-use Rattle.oer_types.specs.AsnType.{AsnType, leaf}
-use Rattle.oer_types.specs.declared.shape.Addition.{Addition}
-use Rattle.oer_types.specs.declared.shape.Alt.{Alt}
-use Rattle.oer_types.specs.declared.shape.Field.{Field}
-use Rattle.oer_types.specs.declared.shape.Shape.{Shape}
-use Rattle.oer_types.specs.declared.shape.Shape.TheVariants.{Choice, Sequence}
+use Rattle.oer_model.specs.AsnType.{AsnType, leaf}
+use Rattle.oer_values.specs.declared.shape.Addition.{Addition}
+use Rattle.oer_values.specs.declared.shape.Alt.{Alt}
+use Rattle.oer_values.specs.declared.shape.Field.{Field}
+use Rattle.oer_values.specs.declared.shape.Shape.{Shape}
+use Rattle.oer_values.specs.declared.shape.Shape.TheVariants.{Choice, Sequence}
 
 -- a SEQUENCE with an extension marker, of these components and additions
 abbrev pub IsExtensible : Shape → List Field → List Addition → Type 0

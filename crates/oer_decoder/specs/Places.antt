@@ -2,12 +2,12 @@
 use Rattle.std.specs.Prelude.{ℕ, suc, Bool, true, false, List, [], ◌∷◌, Option, Some, None}
 use Rattle.oer_units.specs.Reader.{Reader, bind, give, guard, within}
 use Rattle.oer_units.specs.declared.fault.Why.TheVariants as reason
-use Rattle.oer_types.specs.AsnType.{Additions, Fields}
-use Rattle.oer_types.specs.AsnValue.{AsnValue, Places, absent, present, seq}
-use Rattle.oer_types.specs.Bits.{first_bit, later_bits}
-use Rattle.oer_types.specs.Constraints.{optional, size_fits}
-use Rattle.oer_types.specs.Reading.{preamble, quantity, read_additions, read_extension, read_fields}
-use Rattle.oer_types.specs.declared.size.Size.{Size}
+use Rattle.oer_model.specs.AsnType.{Additions, Fields}
+use Rattle.oer_model.specs.AsnValue.{AsnValue, Places, absent, present, seq}
+use Rattle.oer_model.specs.Bits.{first_bit, later_bits}
+use Rattle.oer_model.specs.Constraints.{optional, size_fits}
+use Rattle.oer_model.specs.Reading.{preamble, quantity, read_additions, read_extension, read_fields}
+use Rattle.oer_model.specs.declared.size.Size.{Size}
 
 -- a component by r, if it is there
 abbrev pub place_by : Bool → Reader AsnValue → Reader (Option AsnValue)

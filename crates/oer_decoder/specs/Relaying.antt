@@ -1,13 +1,13 @@
 -- What rewriting does with parts that the type doesn't know.
 use Rattle.std.specs.Prelude.{◌≡◌, ℕ, List, length, None, Some, ◌⊎◌}
 use Rattle.std.specs.Io.KnownBytes.{Appends}
-use Rattle.oer_types.specs.AsnType.{AsnType}
-use Rattle.oer_types.specs.AsnValue.{AsnValue}
-use Rattle.oer_types.specs.Constraints.{KeepsLimits}
-use Rattle.oer_types.specs.Encoding.{Encodes}
-use Rattle.oer_types.specs.Fits.{DefaultsFit}
-use Rattle.oer_types.specs.Parts.{EntersDefault, Step, Within}
-use Rattle.oer_types.specs.Strict.{IsCanonical}
+use Rattle.oer_model.specs.AsnType.{AsnType}
+use Rattle.oer_model.specs.AsnValue.{AsnValue}
+use Rattle.oer_model.specs.Constraints.{KeepsLimits}
+use Rattle.oer_model.specs.Encoding.{Encodes}
+use Rattle.oer_model.specs.Fits.{DefaultsFit}
+use Rattle.oer_model.specs.Parts.{EntersDefault, Step, Within}
+use Rattle.oer_model.specs.Strict.{IsCanonical}
 use Rattle.oer_decoder.specs.Front.{Takes}
 use Rattle.oer_decoder.specs.Rewriting.{IsRewritten, Known}
 

@@ -4,12 +4,12 @@ use Rattle.std.specs.Io.KnownBytes.{Appends}
 use Rattle.oer_units.specs.declared.fault.Why.TheVariants.{Device, Memory}
 use Rattle.oer_units.specs.declared.fault.ReadFault.{ReadFault}
 use Rattle.oer_units.specs.Reads.{ReadsFront}
-use Rattle.oer_types.specs.AsnType.{AsnType}
-use Rattle.oer_types.specs.AsnValue.{AsnValue}
-use Rattle.oer_types.specs.Canonical.{canonical_octets}
-use Rattle.oer_types.specs.Encoding.{Encodes}
-use Rattle.oer_types.specs.Reading.{read_value}
-use Rattle.oer_types.specs.Strict.{IsCanonical}
+use Rattle.oer_model.specs.AsnType.{AsnType}
+use Rattle.oer_model.specs.AsnValue.{AsnValue}
+use Rattle.oer_model.specs.Canonical.{canonical_octets}
+use Rattle.oer_model.specs.Encoding.{Encodes}
+use Rattle.oer_model.specs.Reading.{read_value}
+use Rattle.oer_model.specs.Strict.{IsCanonical}
 use Rattle.oer_writer.specs.Write.{Fails, StopsWriting, Writes}
 use Rattle.oer_decoder.specs.Front.{Takes, Told}
 use Rattle.oer_decoder.specs.declared.fault.RewriteFault.{RewriteFault}

@@ -1,7 +1,7 @@
 -- What the parts of a sequence stand for.
 use Rattle.std.specs.Prelude.{List, map}
-use Rattle.oer_types.specs.AsnValue.{Places, Unknown}
-use Rattle.oer_types.specs.ValueView.{places_of, unknown_of}
+use Rattle.oer_model.specs.AsnValue.{Places, Unknown}
+use Rattle.oer_values.specs.ValueView.{places_of, unknown_of}
 use Rattle.oer_decoder.specs.declared.value.Start.{Start}
 use Rattle.oer_decoder.specs.declared.value.Added.{Added}
 use Rattle.oer_decoder.specs.Places.{Started}

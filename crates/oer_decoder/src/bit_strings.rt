@@ -1,12 +1,12 @@
 //! Bits: BIT STRING and the presence bitmap of a SEQUENCE.
 ghost use Rattle.std.specs.Prelude.{◌≡◌, ◌≤◌, ◌<◌, ◌-◌, ◌*◌, ◌^◌, ◌∷◌, [], IfOk, None, length, drop, take};
 ghost use Rattle.oer_units.specs.Reads.{state};
-ghost use Rattle.oer_types.specs.AsnType.{bit_string as bit_string_type};
-ghost use Rattle.oer_types.specs.Bits.{bits_of as the_bits, all_false, octets_for};
-ghost use Rattle.oer_types.specs.Constraints.{fixed as fixed_size};
-ghost use Rattle.oer_types.specs.Limits.{addition_places};
-ghost use Rattle.oer_types.specs.Reading.{read_bits, read_value};
-ghost use Rattle.oer_types.specs.ValueView.{value_of};
+ghost use Rattle.oer_model.specs.AsnType.{bit_string as bit_string_type};
+ghost use Rattle.oer_model.specs.Bits.{bits_of as the_bits, all_false, octets_for};
+ghost use Rattle.oer_model.specs.Constraints.{fixed as fixed_size};
+ghost use Rattle.oer_model.specs.Limits.{addition_places};
+ghost use Rattle.oer_model.specs.Reading.{read_bits, read_value};
+ghost use Rattle.oer_values.specs.ValueView.{value_of};
 ghost use Rattle.oer_decoder.specs.BitReading.{addition_map_at, fixed_bits_at, initial_octet_at, sized_octet_at, used};
 ghost use Rattle.oer_decoder.specs.Stops.{ReadsAs, same};
 

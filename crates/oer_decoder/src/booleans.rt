@@ -2,9 +2,9 @@
 ghost use Rattle.std.specs.Prelude.{map};
 ghost use Rattle.oer_units.specs.Reader.{times};
 ghost use Rattle.oer_units.specs.Reads.{state};
-ghost use Rattle.oer_types.specs.AsnType.{boolean};
-ghost use Rattle.oer_types.specs.Reading.{read_value};
-ghost use Rattle.oer_types.specs.ValueView.{value_of};
+ghost use Rattle.oer_model.specs.AsnType.{boolean};
+ghost use Rattle.oer_model.specs.Reading.{read_value};
+ghost use Rattle.oer_values.specs.ValueView.{value_of};
 ghost use Rattle.oer_decoder.specs.Stops.{ReadsAs};
 
 use crate::numbers::truth;

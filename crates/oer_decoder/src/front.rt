@@ -1,11 +1,11 @@
 //! Reading a value from the front of a reader.
 ghost use Rattle.std.specs.Prelude.{IfOk};
 ghost use Rattle.oer_units.specs.Reads.{ReadsFront, TakesNoMemory, seen};
-ghost use Rattle.oer_types.specs.Fits.{Fits};
-ghost use Rattle.oer_types.specs.Reading.{read_value};
+ghost use Rattle.oer_model.specs.Fits.{Fits};
+ghost use Rattle.oer_model.specs.Reading.{read_value};
 ghost use Rattle.oer_types.specs.Schema.{the_type};
-ghost use Rattle.oer_types.specs.ShapeView.{type_of};
-ghost use Rattle.oer_types.specs.ValueView.{value_of};
+ghost use Rattle.oer_values.specs.ShapeView.{type_of};
+ghost use Rattle.oer_values.specs.ValueView.{value_of};
 ghost use Rattle.oer_decoder.specs.Front.{IsTaken, ReadsAndCounts, ReadsWhatComes, Told, counted_of, value_in};
 ghost use Rattle.oer_decoder.specs.Memory.{NeedsNoMemory};
 

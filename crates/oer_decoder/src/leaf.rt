@@ -1,8 +1,8 @@
 //! Values without parts.
 ghost use Rattle.oer_units.specs.Reads.{state};
-ghost use Rattle.oer_types.specs.Reading.{read_value};
-ghost use Rattle.oer_types.specs.ShapeView.{type_of};
-ghost use Rattle.oer_types.specs.ValueView.{value_of};
+ghost use Rattle.oer_model.specs.Reading.{read_value};
+ghost use Rattle.oer_values.specs.ShapeView.{type_of};
+ghost use Rattle.oer_values.specs.ValueView.{value_of};
 ghost use Rattle.oer_decoder.specs.Memory.{NeedsNoMemory};
 ghost use Rattle.oer_decoder.specs.Parts.{HasNoParts};
 ghost use Rattle.oer_decoder.specs.Stops.{ReadsAs, StopsNotForMemory};

@@ -1,14 +1,14 @@
 //! BOOLEAN, INTEGER and ENUMERATED, which don't allocate.
 ghost use Rattle.std.specs.Prelude.{◌≡◌, ◌||◌, map};
 ghost use Rattle.oer_units.specs.Reads.{state};
-ghost use Rattle.oer_types.specs.AsnValue.{bool as truth_value};
-ghost use Rattle.oer_types.specs.AsnType.{boolean, enumerated as enumerated_type, integer as integer_type};
-ghost use Rattle.oer_types.specs.Constraints.{has_number};
-ghost use Rattle.oer_types.specs.Reading.{read_integer, read_value};
-ghost use Rattle.oer_types.specs.ShapeView.{named_number};
-ghost use Rattle.oer_types.specs.ValueView.{value_of};
-ghost use Rattle.oer_types.specs.SharedSteps.{number_in};
-ghost use Rattle.oer_types.specs.FormView.{form_seen};
+ghost use Rattle.oer_model.specs.AsnValue.{bool as truth_value};
+ghost use Rattle.oer_model.specs.AsnType.{boolean, enumerated as enumerated_type, integer as integer_type};
+ghost use Rattle.oer_model.specs.Constraints.{has_number};
+ghost use Rattle.oer_model.specs.Reading.{read_integer, read_value};
+ghost use Rattle.oer_values.specs.ShapeView.{named_number};
+ghost use Rattle.oer_values.specs.ValueView.{value_of};
+ghost use Rattle.oer_model.specs.SharedSteps.{number_in};
+ghost use Rattle.oer_values.specs.FormView.{form_seen};
 ghost use Rattle.oer_decoder.specs.Stops.{ReadsAs, StopsNotForMemory, same};
 
 use crate::parts::set;

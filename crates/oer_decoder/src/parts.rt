@@ -3,14 +3,14 @@
 ghost use Rattle.std.specs.Prelude.{◌≡◌, ◌≤◌, IfErr, IfOk, drop, length, map};
 ghost use Rattle.oer_units.specs.declared.fault.Why.TheVariants.{Memory};
 ghost use Rattle.oer_units.specs.Reads.{state};
-ghost use Rattle.oer_types.specs.Bits.{first_bit, later_bits};
-ghost use Rattle.oer_types.specs.Fits.{all_absent};
-ghost use Rattle.oer_types.specs.Limits.{addition_places};
-ghost use Rattle.oer_types.specs.Reading.{read_unknown as unknown_read};
-ghost use Rattle.oer_types.specs.ShapeView.{additions_of, need_of};
-ghost use Rattle.oer_types.specs.ValueView.{places_of, unknown_of, value_of};
+ghost use Rattle.oer_model.specs.Bits.{first_bit, later_bits};
+ghost use Rattle.oer_model.specs.Fits.{all_absent};
+ghost use Rattle.oer_model.specs.Limits.{addition_places};
+ghost use Rattle.oer_model.specs.Reading.{read_unknown as unknown_read};
+ghost use Rattle.oer_values.specs.ShapeView.{additions_of, need_of};
+ghost use Rattle.oer_values.specs.ValueView.{places_of, unknown_of, value_of};
 ghost use Rattle.oer_decoder.specs.Choices.{foreign_at};
-ghost use Rattle.oer_types.specs.SharedSteps.{bits_left, is_there};
+ghost use Rattle.oer_model.specs.SharedSteps.{bits_left, is_there};
 ghost use Rattle.oer_decoder.specs.Places.{count_at};
 ghost use Rattle.oer_decoder.specs.Stops.{ReadsAs, same};
 

@@ -1,7 +1,7 @@
 //! The preamble of a SEQUENCE.
 ghost use Rattle.std.specs.Prelude.{◌≡◌, ◌≤◌};
 ghost use Rattle.oer_units.specs.Reads.{state};
-ghost use Rattle.oer_types.specs.Reading.{preamble as preamble_at};
+ghost use Rattle.oer_model.specs.Reading.{preamble as preamble_at};
 ghost use Rattle.oer_decoder.specs.MarksView.{bits_in};
 ghost use Rattle.oer_decoder.specs.Stops.{ReadsAs};
 

@@ -3,11 +3,11 @@ ghost use Rattle.std.specs.Prelude.{◌≡◌, ◌≤◌, ◌-◌, ◌+◌, IfOk
 ghost use Rattle.std.specs.Str.{chars, is_utf8};
 ghost use Rattle.oer_units.specs.Reading.{counted_octets as counted_octets_at, arcs_of as the_arcs, subidentifiers as subidentifiers_at};
 ghost use Rattle.oer_units.specs.Reads.{bound_of, left_of, state};
-ghost use Rattle.oer_types.specs.AsnType.{octet_string as octet_string_type, object_id as object_id_type, restricted_string, utf8_string};
-ghost use Rattle.oer_types.specs.Constraints.{fixed as fixed_size};
-ghost use Rattle.oer_types.specs.Reading.{read_octets, read_value};
-ghost use Rattle.oer_types.specs.ValueView.{value_of};
-ghost use Rattle.oer_types.specs.AlphabetView.{alphabet_of};
+ghost use Rattle.oer_model.specs.AsnType.{octet_string as octet_string_type, object_id as object_id_type, restricted_string, utf8_string};
+ghost use Rattle.oer_model.specs.Constraints.{fixed as fixed_size};
+ghost use Rattle.oer_model.specs.Reading.{read_octets, read_value};
+ghost use Rattle.oer_values.specs.ValueView.{value_of};
+ghost use Rattle.oer_values.specs.AlphabetView.{alphabet_of};
 ghost use Rattle.oer_decoder.specs.Stops.{ReadsAs};
 
 use crate::parts::set;

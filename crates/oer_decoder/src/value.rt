@@ -3,11 +3,11 @@ ghost use Rattle.std.specs.Prelude.{map, length};
 ghost use Rattle.oer_units.specs.Reader.{times};
 ghost use Rattle.oer_units.specs.Reading.{open_type};
 ghost use Rattle.oer_units.specs.Reads.{state};
-ghost use Rattle.oer_types.specs.AsnType.{no_alternatives, sequence, sequence_of};
-ghost use Rattle.oer_types.specs.Reading.{read_additions as additions_read, read_extension as extension_read, read_fields as fields_read, read_value};
-ghost use Rattle.oer_types.specs.ShapeView.{additions_of, fields_of, later_of, root_of, type_of};
-ghost use Rattle.oer_types.specs.ValueView.{places_of, value_of};
-ghost use Rattle.oer_decoder.specs.Choices.{found_as, found_in, later_at};
+ghost use Rattle.oer_model.specs.AsnType.{sequence, sequence_of};
+ghost use Rattle.oer_model.specs.Reading.{read_additions as additions_read, read_extension as extension_read, read_fields as fields_read, read_value};
+ghost use Rattle.oer_values.specs.ShapeView.{additions_of, fields_of, later_of, type_of};
+ghost use Rattle.oer_values.specs.ValueView.{places_of, value_of};
+ghost use Rattle.oer_decoder.specs.Choices.{later_at};
 ghost use Rattle.oer_decoder.specs.Memory.{NeedsNoMemory};
 ghost use Rattle.oer_decoder.specs.Parts.{IsChoice, IsExtensible};
 ghost use Rattle.oer_decoder.specs.Places.{rest_at, root_at};
@@ -22,7 +22,7 @@ use crate::parts::{
 };
 use crate::preamble::preamble;
 use crate::stop::Stop;
-use oer_types::{Addition, Alt, Field, Shape, Size, Unknown, Value, is_same_tag, optional};
+use oer_types::{Addition, Alt, Field, Shape, Size, Unknown, Value, optional, with_tag};
 use oer_units::{Source, Tag, Why, Window, length, tag};
 use std::alloc::Global;
 
@@ -96,8 +96,10 @@ fn read_choice<R: Source>(
         (state R.remaining R.failed w.new) }
 {
     let tag = tag(w)?;
-    let is_found = read_alternative(root, alloc, tag, value, w)?;
-    if is_found {
+    if let Some(alternative) = with_tag(root, tag) {
+        let mut inner = own_place(alloc)?;
+        read_shape(&alternative.shape, alloc, &mut inner, w)?;
+        set(value, Value::Chosen { tag, value: inner });
         return Ok(());
     }
     match additions {
@@ -325,52 +327,6 @@ fn read_extension<R: Source>(
     Ok(Added { known, unknown })
 }
 
-/// Whether an alternative of the root has the tag; its value is then read into `value`.
-#[cycle(read)]
-fn read_alternative<R: Source>(
-    alternatives: &[Alt],
-    alloc: Global,
-    tag: Tag,
-    value: &mut Value,
-    w: &mut Window<R>,
-) -> Result<bool, Stop>
-    ensures { ReadsAs (found_in (root_of alternatives.now no_alternatives) tag) (state R.remaining R.failed w.old)
-        (λ found. found_as found (value_of value.new)) result (state R.remaining R.failed w.new) }
-{
-    for alternative in alternatives {
-        if is_same_tag(alternative.tag, tag) {
-            let mut inner = own_place(alloc)?;
-            read_shape(&alternative.shape, alloc, &mut inner, w)?;
-            set(value, Value::Chosen { tag, value: inner });
-            return Ok(true);
-        }
-    }
-    Ok(false)
-}
-
-/// Whether an alternative after the extension marker has the tag; its value is then read into `value`.
-#[cycle(read)]
-fn read_open_alternative<R: Source>(
-    alternatives: &[Alt],
-    alloc: Global,
-    tag: Tag,
-    value: &mut Value,
-    w: &mut Window<R>,
-) -> Result<bool, Stop>
-    ensures { ReadsAs (found_in (later_of alternatives.now) tag) (state R.remaining R.failed w.old)
-        (λ found. found_as found (value_of value.new)) result (state R.remaining R.failed w.new) }
-{
-    for alternative in alternatives {
-        if is_same_tag(alternative.tag, tag) {
-            let mut inner = own_place(alloc)?;
-            read_open(&alternative.shape, alloc, &mut inner, w)?;
-            set(value, Value::Chosen { tag, value: inner });
-            return Ok(true);
-        }
-    }
-    Ok(false)
-}
-
 /// Reads what follows a tag that no alternative of the root has, where there is an extension marker.
 #[cycle(read)]
 fn read_later_alternative<R: Source>(
@@ -383,9 +339,11 @@ fn read_later_alternative<R: Source>(
     ensures { ReadsAs (later_at (later_of alternatives.now) tag) (state R.remaining R.failed w.old)
         (λ _. value_of value.new) result (state R.remaining R.failed w.new) }
 {
-    let is_found = read_open_alternative(alternatives, alloc, tag, value, w)?;
-    if is_found {
-        return Ok(());
-    }
-    set_foreign(alloc, tag, value, w)
+    let Some(alternative) = with_tag(alternatives, tag) else {
+        return set_foreign(alloc, tag, value, w);
+    };
+    let mut inner = own_place(alloc)?;
+    read_open(&alternative.shape, alloc, &mut inner, w)?;
+    set(value, Value::Chosen { tag, value: inner });
+    Ok(())
 }

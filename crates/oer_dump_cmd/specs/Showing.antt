@@ -2,7 +2,7 @@
 use Rattle.std.specs.Prelude.{◌≡◌, ◌≤◌, ℕ, List, [], ◌∷◌, ◌++◌, length, Bool, Option, Some, None, Result, Ok, Err, String, codes, string_bytes, ⊤}
 use Rattle.std.specs.Global.{Global}
 use Rattle.clap.specs.Words.{Text}
-use Rattle.oer_types.specs.AsnType.{AsnType}
+use Rattle.oer_model.specs.AsnType.{AsnType}
 use Rattle.oer_options.specs.Words.{Texts, behind}
 use Rattle.oer_cmd.specs.Answer.{checked, expected_type, hex_octets, limited_octets}
 use Rattle.oer_cmd.specs.Expected.{Expected, Refusal, refusal, refusal_of, unknown, value, ◌>>=◌}

@@ -1,7 +1,7 @@
 //! A part on the way to the octets in hand.
 
 use oer_reader::Step;
-use oer_types::{Addition, Alt, Field, Need, Shape, Value, is_same_tag};
+use oer_types::{Addition, Alt, Field, Need, Shape, Value, find_alternative};
 use oer_units::Tag;
 
 /// What a part is called.
@@ -45,28 +45,6 @@ pub(crate) struct Frame<'a> {
     pub tag: Option<Tag>,
     /// The step to the part of it that was begun last.
     pub last: Option<Step>,
-}
-
-/// The alternative with the tag.
-pub(crate) fn alternative<'a>(
-    root: &'a [Alt],
-    additions: &'a Option<Vec<Alt>>,
-    tag: Tag,
-) -> Option<&'a Alt> {
-    for one in root {
-        if is_same_tag(one.tag, tag) {
-            return Some(one);
-        }
-    }
-    let Some(later) = additions else {
-        return None;
-    };
-    for one in later {
-        if is_same_tag(one.tag, tag) {
-            return Some(one);
-        }
-    }
-    None
 }
 
 impl<'a> Frame<'a> {
@@ -153,7 +131,7 @@ impl<'a> Frame<'a> {
             },
             Shape::Choice { root, additions } => {
                 let tag = self.tag?;
-                Some(Frame::chosen(step, tag, alternative(root, additions, tag)))
+                Some(Frame::chosen(step, tag, find_alternative(root, additions, tag)))
             }
             _ => None,
         }
@@ -173,6 +151,6 @@ impl<'a> Frame<'a> {
         let (Some(Shape::Choice { root, additions }), Some(tag)) = (self.shape, self.tag) else {
             return false;
         };
-        additions.is_some() || alternative(root, additions, tag).is_some()
+        additions.is_some() || find_alternative(root, additions, tag).is_some()
     }
 }

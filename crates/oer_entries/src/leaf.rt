@@ -1,8 +1,8 @@
 //! Values of parts: their JSON, and their canonical octets.
 ghost use Rattle.std.specs.Prelude.{IfOk, IfSome};
-ghost use Rattle.oer_types.specs.Fits.{Fits};
+ghost use Rattle.oer_model.specs.Fits.{Fits};
 ghost use Rattle.oer_types.specs.Schema.{the_type};
-ghost use Rattle.oer_types.specs.ValueView.{value_of};
+ghost use Rattle.oer_values.specs.ValueView.{value_of};
 
 use oer_json::to_json;
 use oer_literals::name_of;

@@ -2,11 +2,11 @@
 use Rattle.std.proofs.Common.{◌≡◌, ◌≤◌, ◌<◌, ℕ, zero, suc, List, [], ◌∷◌, length, set, Option, Some, None, refl, ap, sym, ◌∙◌, arith, Vec, Global, map}
 use Rattle.std.specs.Prelude.{option_map}
 use Rattle.std.specs.Vec.{with_item}
-use Rattle.oer_types.specs.AsnValue.{AsnValue, Places, absent, present, seq}
-use Rattle.oer_types.specs.ValueView.{value_of, places_of, unknown_of}
-use Rattle.oer_types.specs.declared.value.Unknown as rust_unknown
-use Rattle.oer_types.specs.declared.value.Value.{Value, Seq}
-use Rattle.oer_types.proofs.Values.{value_of-Seq}
+use Rattle.oer_model.specs.AsnValue.{AsnValue, Places, absent, present, seq}
+use Rattle.oer_values.specs.ValueView.{value_of, places_of, unknown_of}
+use Rattle.oer_values.specs.declared.value.Unknown as rust_unknown
+use Rattle.oer_values.specs.declared.value.Value.{Value, Seq}
+use Rattle.oer_values.proofs.Values.{value_of-Seq}
 use Rattle.oer_example.specs.Renewed.{put_at, with_component}
 
 there : (i : ℕ) (x : Value) (ps : List (Option Value)) → i < length ps → put_at i (value_of x) (places_of ps) ≡ Some (places_of (set ps i (Some x)))

@@ -1,7 +1,7 @@
 -- Parts of octets that are all of one encoding.
 use Rattle.std.proofs.Common.{◌≡◌, ℕ, List, [], ◌++◌, Option, Some, Ok, Err, subst, sym, append-nil}
-use Rattle.oer_types.specs.AsnType.{AsnType}
-use Rattle.oer_types.specs.Parts.{Step, Within}
+use Rattle.oer_model.specs.AsnType.{AsnType}
+use Rattle.oer_model.specs.Parts.{Step, Within}
 use Rattle.oer_checker.specs.Encoding.{octets_in, type_of_encoding}
 use Rattle.oer_checker.specs.Handing.{Follows, Hands}
 use Rattle.oer_checker.specs.declared.encoding.Encoding.{Encoding}

@@ -2,11 +2,11 @@
 use Rattle.std.proofs.Common.{◌≡◌, ℕ, List, Option, Some, None, Ok, ap, refl, pos, ◌∙◌, subst, sym}
 use Rattle.std.specs.Prelude.{◌↔◌, Bool, true, false, IsTrue, option_map}
 use Rattle.hex.specs.Hex.{decode_of}
-use Rattle.oer_types.specs.AsnType.{AsnType}
-use Rattle.oer_types.specs.AsnValue.{AsnValue, int}
-use Rattle.oer_types.specs.Encoding.{Encodes}
-use Rattle.oer_types.specs.Fits.{Fits}
-use Rattle.oer_types.specs.Strict.{IsCanonical}
+use Rattle.oer_model.specs.AsnType.{AsnType}
+use Rattle.oer_model.specs.AsnValue.{AsnValue, int}
+use Rattle.oer_model.specs.Encoding.{Encodes}
+use Rattle.oer_model.specs.Fits.{Fits}
+use Rattle.oer_model.specs.Strict.{IsCanonical}
 use Rattle.oer_example.specs.Renewed.{IsEncoding, IsPart, IsRenewed, signed_path, with_component}
 
 -- the part that is signed is the one that was taken

@@ -1,11 +1,11 @@
 -- What the program does with a certificate.
 use Rattle.std.specs.Prelude.{◌≡◌, ℕ, zero, suc, List, [], ◌∷◌, ◌++◌, length, Option, Some, None, option_map, pos, Ok}
 use Rattle.hex.specs.Hex.{decode_of, encode_lower}
-use Rattle.oer_types.specs.AsnType.{AsnType}
-use Rattle.oer_types.specs.AsnValue.{AsnValue, Places, absent, int, no_places, present, seq}
-use Rattle.oer_types.specs.Encoding.{Encodes}
-use Rattle.oer_types.specs.Parts.{Step, Within, to_component}
-use Rattle.oer_types.specs.Strict.{IsCanonical}
+use Rattle.oer_model.specs.AsnType.{AsnType}
+use Rattle.oer_model.specs.AsnValue.{AsnValue, Places, absent, int, no_places, present, seq}
+use Rattle.oer_model.specs.Encoding.{Encodes}
+use Rattle.oer_model.specs.Parts.{Step, Within, to_component}
+use Rattle.oer_model.specs.Strict.{IsCanonical}
 
 -- b is all of one encoding
 abbrev pub IsEncoding : AsnType → List ℕ → Type 0

@@ -1,11 +1,11 @@
 //! A value from octets, and octets from a value.
 ghost use Rattle.std.specs.Prelude.{◌≡◌, ◌≢◌, IfErr, IfOk, option_map, pos};
-ghost use Rattle.oer_types.specs.AsnValue.{AsnValue, int};
-ghost use Rattle.oer_types.specs.Encoding.{Encodes};
-ghost use Rattle.oer_types.specs.Fits.{Fits};
+ghost use Rattle.oer_model.specs.AsnValue.{AsnValue, int};
+ghost use Rattle.oer_model.specs.Encoding.{Encodes};
+ghost use Rattle.oer_model.specs.Fits.{Fits};
 ghost use Rattle.oer_types.specs.Schema.{the_type};
-ghost use Rattle.oer_types.specs.Strict.{IsCanonical};
-ghost use Rattle.oer_types.specs.ValueView.{value_of};
+ghost use Rattle.oer_model.specs.Strict.{IsCanonical};
+ghost use Rattle.oer_values.specs.ValueView.{value_of};
 ghost use Rattle.oer_example.specs.Renewed.{with_component as spec_with_component};
 
 use crate::fault::Fault;

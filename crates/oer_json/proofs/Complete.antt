@@ -9,18 +9,18 @@ use Rattle.serde_json.specs.Data.{Data, Items, Members}
 use Rattle.serde_json.specs.Find.{get_member}
 use Rattle.oer_units.specs.Reading.{is_int64}
 use Rattle.oer_units.specs.declared.tagging.Tag.{Tag}
-use Rattle.oer_types.specs.LeafType as kind
-use Rattle.oer_types.specs.LeafType.{LeafType}
-use Rattle.oer_types.specs.LeafValue.{LeafValue}
-use Rattle.oer_types.specs.LeafValue as leaf_kind
-use Rattle.oer_types.specs.AsnType.{Additions, Alternatives, AsnType, Fields, addition, alternative, boolean, choice, extensible_sequence, field, later, leaf, no_additions, no_alternatives, no_fields, null, sequence, sequence_of}
-use Rattle.oer_types.specs.AsnValue.{AsnValue, Places, Unknown, Values, absent, bit_list, chosen, enum, foreign, int, items, leaf_value, no_places, no_values, octets, oid, present, seq, text, value}
-use Rattle.oer_types.specs.Constraints.{addition_count, has_number, has_tag, same_tag, size_fits}
-use Rattle.oer_types.specs.DefaultView.{place}
-use Rattle.oer_types.specs.FitTest.{additions_fit, all_below, all_fit, alternative_fits, fields_fit, is_fit, is_fit_leaf, is_without, may_be_absent, unknown_fit, values_length}
-use Rattle.oer_types.specs.WellFormed.{AnyOf, Repeats, alternative_names, alternative_tags, field_names}
-use Rattle.oer_types.proofs.FitTests.{both, fit_complete}
-use Rattle.oer_types.proofs.Same.{same_tag-refl, same_tag-true}
+use Rattle.oer_model.specs.LeafType as kind
+use Rattle.oer_model.specs.LeafType.{LeafType}
+use Rattle.oer_model.specs.LeafValue.{LeafValue}
+use Rattle.oer_model.specs.LeafValue as leaf_kind
+use Rattle.oer_model.specs.AsnType.{Additions, Alternatives, AsnType, Fields, addition, alternative, boolean, choice, extensible_sequence, field, later, leaf, no_additions, no_alternatives, no_fields, null, sequence, sequence_of}
+use Rattle.oer_model.specs.AsnValue.{AsnValue, Places, Unknown, Values, absent, bit_list, chosen, enum, foreign, int, items, leaf_value, no_places, no_values, octets, oid, present, seq, text, value}
+use Rattle.oer_model.specs.Constraints.{addition_count, has_number, has_tag, same_tag, size_fits}
+use Rattle.oer_values.specs.DefaultView.{place}
+use Rattle.oer_model.specs.FitTest.{additions_fit, all_below, all_fit, alternative_fits, fields_fit, is_fit, is_fit_leaf, is_without, may_be_absent, unknown_fit, values_length}
+use Rattle.oer_model.specs.WellFormed.{AnyOf, Repeats, alternative_names, alternative_tags, field_names}
+use Rattle.oer_model.proofs.fitting.FitTests.{both, fit_complete}
+use Rattle.oer_model.proofs.filling.Same.{same_tag-refl, same_tag-true}
 use Rattle.oer_json.specs.Answer.{◌>>=◌, some_or}
 use Rattle.oer_json.specs.Denotes.{DenoteAdditions, DenoteFields, DenoteItems, Denotes, DenotesAlternative, DenotesOctets, DenotesPlace, IsOneOf, LeafDenotes, only}
 use Rattle.oer_json.specs.Keys.{class_letter, is_among, tag_digits, tag_key}

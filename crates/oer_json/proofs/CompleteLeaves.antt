@@ -8,13 +8,13 @@ use Rattle.serde_json.specs.Data as json
 use Rattle.serde_json.specs.Data.{Data, Num}
 use Rattle.serde_json.specs.Find.{as_integer}
 use Rattle.oer_units.specs.Reading.{is_int64}
-use Rattle.oer_types.specs.AsnType.{AsnType, NamedNumber}
-use Rattle.oer_types.specs.AsnValue.{AsnValue}
-use Rattle.oer_types.specs.Constraints.{above, below, in_range}
-use Rattle.oer_types.specs.Fits.{AllBelow}
-use Rattle.oer_types.specs.FitTest.{all_below, arcs_fit, first_arcs, is_fit}
-use Rattle.oer_types.specs.WellFormed.{AnyOf, Repeats, item_names}
-use Rattle.oer_types.proofs.FitTests.{below_all, both}
+use Rattle.oer_model.specs.AsnType.{AsnType, NamedNumber}
+use Rattle.oer_model.specs.AsnValue.{AsnValue}
+use Rattle.oer_model.specs.Constraints.{above, below, in_range}
+use Rattle.oer_model.specs.Fits.{AllBelow}
+use Rattle.oer_model.specs.FitTest.{all_below, arcs_fit, first_arcs, is_fit}
+use Rattle.oer_model.specs.WellFormed.{AnyOf, Repeats, item_names}
+use Rattle.oer_model.proofs.fitting.FitTests.{below_all, both}
 use Rattle.oer_json.specs.Answer.{◌>>=◌, some_or}
 use Rattle.oer_json.specs.Denotes.{DenotesInteger, DenotesItem, DenotesOctets, IsOneOf}
 use Rattle.oer_json.specs.Made.{has_64_bits}

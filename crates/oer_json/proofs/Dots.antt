@@ -5,7 +5,7 @@ use Rattle.std.specs.Str.Parse.{AllDigits}
 use Rattle.std.proofs.lemmas.Bool.{and_parts, eqb-true}
 use Rattle.std.proofs.lemmas.Fmt.{decimal_is_IsNumeral_wide}
 use Rattle.std.proofs.lemmas.Str.Parse.{digit_from_value}
-use Rattle.oer_types.specs.Fits.{AllBelow}
+use Rattle.oer_model.specs.Fits.{AllBelow}
 use Rattle.oer_json.specs.Answer.{some_or}
 use Rattle.oer_literals.specs.Numbers.{arc_of}
 use Rattle.oer_json.specs.Texts.{after_points, all_natural, dotted, is_natural, parts}

@@ -10,10 +10,10 @@ use Rattle.serde_json.specs.Data.{Data, Members, no_members, member, put}
 use Rattle.serde_json.specs.Find.{of_integer}
 use Rattle.serde_json.specs.Written.{has_float, items_have_float, members_have_float}
 use Rattle.oer_units.specs.declared.tagging.Tag.{Tag}
-use Rattle.oer_types.specs.LeafValue.{LeafValue, enum, int}
-use Rattle.oer_types.specs.AsnType.{Additions, Alternatives, AsnType, Fields, NamedNumber, addition, alternative, choice, extensible_sequence, field, later, no_additions, no_alternatives, no_fields, sequence, sequence_of}
-use Rattle.oer_types.specs.AsnValue.{AsnValue, Places, Unknown, Values, absent, chosen, items, leaf_value, no_places, no_values, present, seq, unknown, value}
-use Rattle.oer_types.specs.Constraints.{same_tag}
+use Rattle.oer_model.specs.LeafValue.{LeafValue, enum, int}
+use Rattle.oer_model.specs.AsnType.{Additions, Alternatives, AsnType, Fields, NamedNumber, addition, alternative, choice, extensible_sequence, field, later, no_additions, no_alternatives, no_fields, sequence, sequence_of}
+use Rattle.oer_model.specs.AsnValue.{AsnValue, Places, Unknown, Values, absent, chosen, items, leaf_value, no_places, no_values, present, seq, unknown, value}
+use Rattle.oer_model.specs.Constraints.{same_tag}
 use Rattle.oer_json.specs.Keys.{place_key}
 use Rattle.oer_json.specs.Made.{has_64_bits, made, made_alternative, made_item, made_items, made_leaf, made_octets, named_numbers, one_member, put_additions, put_fields, put_unknown}
 use Rattle.oer_literals.specs.Items.{name_of}

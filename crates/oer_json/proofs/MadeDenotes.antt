@@ -6,15 +6,15 @@ use Rattle.serde_json.specs.Data.{Data, Items, Members}
 use Rattle.serde_json.specs.Find.{get_member}
 use Rattle.serde_json.proofs.Views.{get_member-put, get_member-put_other}
 use Rattle.oer_units.specs.declared.tagging.Tag.{Tag}
-use Rattle.oer_types.specs.LeafType.{LeafType, octet_string}
-use Rattle.oer_types.specs.LeafValue.{LeafValue, enum, int, octets}
-use Rattle.oer_types.specs.AsnType.{Additions, Alternatives, AsnType, Fields, addition, alternative, choice, extensible_sequence, field, later, leaf, no_additions, no_alternatives, no_fields, sequence, sequence_of}
-use Rattle.oer_types.specs.AsnValue.{AsnValue, Places, Unknown, Values, absent, chosen, foreign, items, leaf_value, no_places, no_values, present, seq, unknown, value}
-use Rattle.oer_types.specs.Constraints.{addition_count, has_tag, same_tag, size_fits}
-use Rattle.oer_types.specs.FitTest.{additions_fit, all_below, all_fit, alternative_fits, fields_fit, is_fit, is_fit_leaf, is_without, may_be_absent, unknown_fit, values_length}
-use Rattle.oer_types.specs.WellFormed.{Repeats, addition_names, field_names, is_identifier}
-use Rattle.oer_types.proofs.FitTests.{both, fit_complete}
-use Rattle.oer_types.proofs.Same.{same_tag-true}
+use Rattle.oer_model.specs.LeafType.{LeafType, octet_string}
+use Rattle.oer_model.specs.LeafValue.{LeafValue, enum, int, octets}
+use Rattle.oer_model.specs.AsnType.{Additions, Alternatives, AsnType, Fields, addition, alternative, choice, extensible_sequence, field, later, leaf, no_additions, no_alternatives, no_fields, sequence, sequence_of}
+use Rattle.oer_model.specs.AsnValue.{AsnValue, Places, Unknown, Values, absent, chosen, foreign, items, leaf_value, no_places, no_values, present, seq, unknown, value}
+use Rattle.oer_model.specs.Constraints.{addition_count, has_tag, same_tag, size_fits}
+use Rattle.oer_model.specs.FitTest.{additions_fit, all_below, all_fit, alternative_fits, fields_fit, is_fit, is_fit_leaf, is_without, may_be_absent, unknown_fit, values_length}
+use Rattle.oer_model.specs.WellFormed.{Repeats, addition_names, field_names, is_identifier}
+use Rattle.oer_model.proofs.fitting.FitTests.{both, fit_complete}
+use Rattle.oer_model.proofs.filling.Same.{same_tag-true}
 use Rattle.oer_json.specs.Denotes.{DenoteAdditions, DenoteFields, DenoteItems, DenoteUnknown, Denotes, DenotesAlternative, IsOneOf, IsPart, LeafDenotes, only, unknown_key}
 use Rattle.oer_json.specs.Keys.{EachKey, place_key}
 use Rattle.oer_json.specs.Laws.{MadeTaken}

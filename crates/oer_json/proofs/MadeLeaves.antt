@@ -10,10 +10,10 @@ use Rattle.hex.proofs.HexLemmas.{decode_of-encode_lower}
 use Rattle.serde_json.specs.Data as json
 use Rattle.serde_json.specs.Data.{Data, Members}
 use Rattle.serde_json.specs.Find.{of_integer}
-use Rattle.oer_types.specs.AsnType.{NamedNumber}
-use Rattle.oer_types.specs.FitTest.{all_below}
-use Rattle.oer_types.specs.WellFormed.{AnyOf}
-use Rattle.oer_types.proofs.FitTests.{both}
+use Rattle.oer_model.specs.AsnType.{NamedNumber}
+use Rattle.oer_model.specs.FitTest.{all_below}
+use Rattle.oer_model.specs.WellFormed.{AnyOf}
+use Rattle.oer_model.proofs.fitting.FitTests.{both}
 use Rattle.oer_json.specs.Denotes.{DenotesInteger, DenotesItem, DenotesOctets, HoldsWhole}
 use Rattle.oer_json.specs.Keys.{EachKey}
 use Rattle.oer_json.specs.Made.{has_64_bits, made_integer, made_item, made_octets}

@@ -1,16 +1,17 @@
 -- What is made, step by step.
-use Rattle.std.proofs.Common.{◌≡◌, ℕ, List, [], ◌∷◌, ◌++◌, map, true, false, Option, Some, None, Vec, Global, refl, sym, ap, ◌∙◌}
-use Rattle.serde_json.specs.Data.{Data, Items, no_items, item}
+use Rattle.std.proofs.Common.{◌≡◌, ℕ, List, [], ◌∷◌, ◌++◌, map, Bool, true, false, if◌then◌else◌, Option, Some, None, Vec, Global, refl, sym, ap, ◌∙◌}
+use Rattle.serde_json.specs.Data.{Data, Items, no_items, item, null}
 use Rattle.serde_json.specs.View.{items_of, view}
 use Rattle.serde_json.specs.declared.value.Value as json
 use Rattle.std.proofs.lemmas.List.{map-append}
 use Rattle.oer_units.specs.declared.tagging.Tag.{Tag}
-use Rattle.oer_types.specs.LeafValue.{LeafValue}
-use Rattle.oer_types.specs.AsnType.{Alternatives, AsnType, choice, extensible_sequence, leaf, sequence, sequence_of}
-use Rattle.oer_types.specs.AsnValue.{AsnValue, chosen, foreign, leaf_value}
-use Rattle.oer_types.specs.ShapeView.{choice_with, root_of, later_of, type_of, seen_alternative}
-use Rattle.oer_types.specs.Constraints.{same_tag}
-use Rattle.oer_types.specs.declared.shape.Alt.{Alt}
+use Rattle.oer_model.specs.LeafValue.{LeafValue}
+use Rattle.oer_model.specs.AsnType.{Alternatives, AsnType, choice, extensible_sequence, leaf, no_alternatives, sequence, sequence_of}
+use Rattle.oer_model.specs.AsnValue.{AsnValue, chosen, foreign, leaf_value}
+use Rattle.oer_values.specs.Lookup.{alternative_with, first_with, or_else}
+use Rattle.oer_values.specs.ShapeView.{choice_with, root_of, later_of, type_of, seen_alternative}
+use Rattle.oer_model.specs.Constraints.{same_tag}
+use Rattle.oer_values.specs.declared.shape.Alt.{Alt}
 use Rattle.oer_json.specs.Keys.{tag_key}
 use Rattle.oer_json.specs.Made.{made, made_alternative, made_leaf, made_octets, named_numbers, one_member}
 use Rattle.oer_json.proofs.Levels.{levels}
@@ -45,23 +46,40 @@ pub before_none : (ds : List Data) → before_items ds no_items ≡ items_of ds
 before_none [] = refl
 before_none (d ∷ ds) = ap (item d) (before_none ds)
 
-pub alternative_here : (x : Alt) (xs : List Alt) (after : Alternatives) (t : Tag) (v : AsnValue) → same_tag x.tag t ≡ true → made_alternative (root_of (x ∷ xs) after) t v ≡ one_member (seen_alternative x).name (made (type_of x.shape) v)
-alternative_here x xs after t v h = rw h refl
-
-pub alternative_past : (x : Alt) (xs : List Alt) (after : Alternatives) (t : Tag) (v : AsnValue) → same_tag x.tag t ≡ false → made_alternative (root_of (x ∷ xs) after) t v ≡ made_alternative (root_of xs after) t v
-alternative_past x xs after t v h = rw h refl
-
-pub later_here : (x : Alt) (xs : List Alt) (t : Tag) (v : AsnValue) → same_tag x.tag t ≡ true → made_alternative (later_of (x ∷ xs)) t v ≡ one_member (seen_alternative x).name (made (type_of x.shape) v)
-later_here x xs t v h = rw h refl
-
-pub later_past : (x : Alt) (xs : List Alt) (t : Tag) (v : AsnValue) → same_tag x.tag t ≡ false → made_alternative (later_of (x ∷ xs)) t v ≡ made_alternative (later_of xs) t v
-later_past x xs t v h = rw h refl
-
 pub items_step : (js ks : List json.Value) (j : json.Value) (d : Data) (rest : Items) → ks ≡ js ++ j ∷ [] → view j ≡ d → before_items (map view js) (item d rest) ≡ before_items (map view ks) rest
 items_step js ks j d rest e h =
     sym (before_one (map view js) d rest) ∙ ap (λ x. before_items (map view js ++ x ∷ []) rest) (sym h) ∙ ap (λ ds. before_items ds rest) (sym (map-append view js (j ∷ []))) ∙ ap (λ xs. before_items (map view xs) rest) (sym e)
 
--- where an alternative of the root has the tag
-pub chosen_first : (root : List Alt) (additions : Option (Vec Alt Global)) (t : Tag) (v : AsnValue) (d : Data) → ((after : Alternatives) → made_alternative (root_of root after) t v ≡ d) → made (choice_with root additions) (chosen t v) ≡ d
-chosen_first root None t v d h = h _
-chosen_first root (Some more) t v d h = h _
+-- ---- the alternative that has the tag
+
+module _ (t : Tag) (v : AsnValue) where
+  -- its object; where there is none, what is made by the others
+  abbrev pub object_or : Option Alt → Data → Data
+  object_or None d = d
+  object_or (Some x) d = one_member (seen_alternative x).name (made (type_of x.shape) v)
+
+  step : (b : Bool) (x : Alt) (p : Option Alt) (d e : Data) → d ≡ object_or p e → (if b then one_member (seen_alternative x).name (made (type_of x.shape) v) else d) ≡ object_or (if b then Some x else p) e
+  step true x p d e h = refl
+  step false x p d e h = h
+
+  joined : (p q : Option Alt) → object_or p (object_or q null) ≡ object_or (or_else p q) null
+  joined None q = refl
+  joined (Some x) q = refl
+
+  root_made : (xs : List Alt) (after : Alternatives) → made_alternative (root_of xs after) t v ≡ object_or (first_with t xs) (made_alternative after t v)
+  root_made [] after = refl
+  root_made (x ∷ xs) after = step (same_tag x.tag t) x (first_with t xs) _ _ (root_made xs after)
+
+  later_made : (xs : List Alt) → made_alternative (later_of xs) t v ≡ object_or (first_with t xs) null
+  later_made [] = refl
+  later_made (x ∷ xs) = step (same_tag x.tag t) x (first_with t xs) _ _ (later_made xs)
+
+  choice_made : (xs : List Alt) (a : Option (Vec Alt Global)) → made (choice_with xs a) (chosen t v) ≡ object_or (alternative_with t xs a) null
+  choice_made xs None = root_made xs no_alternatives ∙ joined (first_with t xs) None
+  choice_made xs (Some more) = root_made xs (later_of more.items) ∙ ap (object_or (first_with t xs)) (later_made more.items) ∙ joined (first_with t xs) (first_with t more.items)
+
+  pub made_found : (xs : List Alt) (a : Option (Vec Alt Global)) (x : Alt) → Some x ≡ alternative_with t xs a → made (choice_with xs a) (chosen t v) ≡ one_member (seen_alternative x).name (made (type_of x.shape) v)
+  made_found xs a x e = choice_made xs a ∙ ap (λ p. object_or p null) (sym e)
+
+  pub made_nowhere : (xs : List Alt) (a : Option (Vec Alt Global)) → None ≡ alternative_with t xs a → made (choice_with xs a) (chosen t v) ≡ null
+  made_nowhere xs a e = choice_made xs a ∙ ap (λ p. object_or p null) (sym e)

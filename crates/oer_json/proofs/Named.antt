@@ -1,9 +1,9 @@
 -- What is known of the names and tags in a well-formed type, level by level.
 use Rattle.std.proofs.Common.{◌≡◌, inl, inr, ℕ, List, [], ◌∷◌, ◌++◌, Bool, true, false, refl, sym, subst}
-use Rattle.oer_types.specs.AsnType.{Additions, Alternatives, AsnType, Fields, NamedNumber, choice, enumerated, extensible_sequence, sequence, sequence_of}
-use Rattle.oer_types.specs.WellFormed.{AnyOf, HasRepeatedTag, InAdditions, InAlternatives, InFields, IsWellFormed, Repeats, Somewhere, addition_names, alternative_names, alternative_tags, field_names, is_identifier, item_names, names}
-use Rattle.oer_types.specs.declared.fault.SchemaFault.TheVariants.{BadName, RepeatedName, RepeatedTag}
-use Rattle.oer_types.specs.declared.size.Size.{Size}
+use Rattle.oer_model.specs.AsnType.{Additions, Alternatives, AsnType, Fields, NamedNumber, choice, enumerated, extensible_sequence, sequence, sequence_of}
+use Rattle.oer_model.specs.WellFormed.{AnyOf, HasRepeatedTag, InAdditions, InAlternatives, InFields, IsWellFormed, Repeats, Somewhere, addition_names, alternative_names, alternative_tags, field_names, is_identifier, item_names, names}
+use Rattle.oer_model.specs.declared.fault.SchemaFault.TheVariants.{BadName, RepeatedName, RepeatedTag}
+use Rattle.oer_model.specs.declared.size.Size.{Size}
 use Rattle.oer_json.specs.Denotes.{IsOneOf}
 
 -- the faults of names and tags

@@ -5,7 +5,7 @@ use Rattle.std.specs.Fmt.{decimal}
 use Rattle.oer_units.specs.declared.tagging.Class.{Class}
 use Rattle.oer_units.specs.declared.tagging.Class.TheVariants.{Universal, Application, Context, Private}
 use Rattle.oer_units.specs.declared.tagging.Tag.{Tag}
-use Rattle.oer_types.specs.WellFormed.{is_identifier}
+use Rattle.oer_model.specs.WellFormed.{is_identifier}
 use Rattle.oer_json.specs.Keys.{class_digits, class_in, class_letter, high_key, if_natural, low_place, place_digits, place_key, tag_digits, tag_key, unless_some, with_class}
 use Rattle.oer_literals.specs.Numbers.{place_of, tag_number_of}
 use Rattle.oer_json.specs.Texts.{is_natural}

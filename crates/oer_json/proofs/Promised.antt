@@ -1,12 +1,12 @@
 -- What the plain function's answer tells of the JSON.
 use Rattle.std.proofs.Common.{◌≡◌, IfErr, IfOk, Result, Ok, Err, sym, subst, ◌∙◌}
 use Rattle.serde_json.specs.Data.{Data}
-use Rattle.oer_types.specs.AsnType.{AsnType}
-use Rattle.oer_types.specs.AsnValue.{AsnValue}
-use Rattle.oer_types.specs.Fits.{Fits}
-use Rattle.oer_types.specs.ValueView.{value_of}
-use Rattle.oer_types.specs.WellFormed.{IsWellFormed}
-use Rattle.oer_types.specs.declared.value.Value.{Value}
+use Rattle.oer_model.specs.AsnType.{AsnType}
+use Rattle.oer_model.specs.AsnValue.{AsnValue}
+use Rattle.oer_model.specs.Fits.{Fits}
+use Rattle.oer_values.specs.ValueView.{value_of}
+use Rattle.oer_model.specs.WellFormed.{IsWellFormed}
+use Rattle.oer_values.specs.declared.value.Value.{Value}
 use Rattle.oer_json.specs.Answer.{IsSameOrMemory}
 use Rattle.oer_json.specs.Denotes.{IsJsonOf}
 use Rattle.oer_json.specs.Made.{made}

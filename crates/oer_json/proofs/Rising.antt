@@ -2,7 +2,7 @@
 use Rattle.std.proofs.Common.{◌≡◌, ◌⊎◌, inl, inr, ℕ, suc, ◌<◌, ◌≤◌, ◌==◌, nat_lt, List, [], ◌∷◌, Bool, true, false, Less, Equal, Greater, nat_cmp, refl, sym, arith}
 use Rattle.std.proofs.lemmas.Bool.{eqb-true, eqb-false, ltb-true, ltb-false}
 use Rattle.std.specs.BTreeSet.{insert_key}
-use Rattle.oer_types.specs.WellFormed.{AnyOf}
+use Rattle.oer_model.specs.WellFormed.{AnyOf}
 
 -- each from the lowest on and above the one before it
 abbrev pub Rises : ℕ → List ℕ → Type 0

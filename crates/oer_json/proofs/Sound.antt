@@ -6,13 +6,13 @@ use Rattle.serde_json.specs.Data as json
 use Rattle.serde_json.specs.Data.{Data, Items, Members}
 use Rattle.serde_json.specs.Find.{as_bool, as_null, get_member}
 use Rattle.oer_units.specs.declared.tagging.Tag.{Tag}
-use Rattle.oer_types.specs.AsnType.{Additions, Alternatives, AsnType, Fields, addition, alternative, bit_string, boolean, choice, enumerated, extensible_sequence, field, integer, later, leaf, no_additions, no_alternatives, no_fields, null, object_id, octet_string, restricted_string, sequence, sequence_of, utf8_string}
-use Rattle.oer_types.specs.AsnValue.{AsnValue, Places, Values, bit_list, bool, chosen, enum, foreign, int, items, no_places, no_values, nothing, octets, oid, seq, text, value}
-use Rattle.oer_types.specs.Constraints.{addition_count, size_fits}
-use Rattle.oer_types.specs.DefaultView.{place}
-use Rattle.oer_types.specs.FitTest.{is_fit, may_be_absent, values_length}
-use Rattle.oer_types.specs.WellFormed.{addition_names, field_names}
-use Rattle.oer_types.proofs.FitTests.{fit_sound}
+use Rattle.oer_model.specs.AsnType.{Additions, Alternatives, AsnType, Fields, addition, alternative, bit_string, boolean, choice, enumerated, extensible_sequence, field, integer, later, leaf, no_additions, no_alternatives, no_fields, null, object_id, octet_string, restricted_string, sequence, sequence_of, utf8_string}
+use Rattle.oer_model.specs.AsnValue.{AsnValue, Places, Values, bit_list, bool, chosen, enum, foreign, int, items, no_places, no_values, nothing, octets, oid, seq, text, value}
+use Rattle.oer_model.specs.Constraints.{addition_count, size_fits}
+use Rattle.oer_values.specs.DefaultView.{place}
+use Rattle.oer_model.specs.FitTest.{is_fit, may_be_absent, values_length}
+use Rattle.oer_model.specs.WellFormed.{addition_names, field_names}
+use Rattle.oer_model.proofs.fitting.FitTests.{fit_sound}
 use Rattle.oer_json.specs.Answer.{◌>>=◌, some_or}
 use Rattle.oer_json.specs.Denotes.{DenoteAdditions, DenoteFields, DenoteItems, Denotes, DenotesAlternative, DenotesOctets, DenotesPlace, IsOneOf, only}
 use Rattle.oer_json.specs.Keys.{all_pass, class_letter, is_among, keys_of, tag_digits, tag_key}

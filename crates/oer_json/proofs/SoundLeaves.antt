@@ -9,10 +9,10 @@ use Rattle.hex.specs.declared.error.FromHexError.{FromHexError}
 use Rattle.serde_json.specs.Data as json
 use Rattle.serde_json.specs.Data.{Data, Items, Members, Num}
 use Rattle.serde_json.specs.Find.{as_array, as_bool, as_integer, as_null, as_object, as_str}
-use Rattle.oer_types.specs.AsnType.{AsnType, NamedNumber}
-use Rattle.oer_types.specs.AsnValue.{AsnValue}
-use Rattle.oer_types.specs.FitTest.{is_fit}
-use Rattle.oer_types.specs.WellFormed.{AnyOf}
+use Rattle.oer_model.specs.AsnType.{AsnType, NamedNumber}
+use Rattle.oer_model.specs.AsnValue.{AsnValue}
+use Rattle.oer_model.specs.FitTest.{is_fit}
+use Rattle.oer_model.specs.WellFormed.{AnyOf}
 use Rattle.oer_json.specs.Answer.{◌>>=◌, some_or}
 use Rattle.oer_json.specs.Denotes.{DenotesInteger, DenotesItem, DenotesOctets, only}
 use Rattle.oer_json.specs.Made.{has_64_bits}

@@ -5,16 +5,16 @@ use Rattle.serde_json.specs.Data.{Data, Members}
 use Rattle.serde_json.specs.Find.{get_member}
 use Rattle.serde_json.specs.View.{items_view, view}
 use Rattle.serde_json.specs.declared.value.Value as json
-use Rattle.oer_types.specs.AsnType.{Alternatives, no_alternatives}
-use Rattle.oer_types.specs.AsnValue.{AsnValue, Places, Values, no_places, no_values, value, chosen}
-use Rattle.oer_types.specs.DefaultView.{place}
-use Rattle.oer_types.specs.FitTest.{may_be_absent}
-use Rattle.oer_types.specs.ShapeView.{additions_of, fields_of, later_of, need_of, root_of, type_of}
-use Rattle.oer_types.specs.ValueView.{attached, places_of, value_of, values_of}
-use Rattle.oer_types.specs.declared.shape.Field.{Field}
-use Rattle.oer_types.specs.declared.shape.Addition.{Addition}
-use Rattle.oer_types.specs.declared.shape.Alt.{Alt}
-use Rattle.oer_types.specs.declared.value.Value.{Value}
+use Rattle.oer_model.specs.AsnType.{Alternatives, no_alternatives}
+use Rattle.oer_model.specs.AsnValue.{AsnValue, Places, Values, no_places, no_values, value, chosen}
+use Rattle.oer_values.specs.DefaultView.{place}
+use Rattle.oer_model.specs.FitTest.{may_be_absent}
+use Rattle.oer_values.specs.ShapeView.{additions_of, fields_of, later_of, need_of, root_of, type_of}
+use Rattle.oer_values.specs.ValueView.{attached, places_of, value_of, values_of}
+use Rattle.oer_values.specs.declared.shape.Field.{Field}
+use Rattle.oer_values.specs.declared.shape.Addition.{Addition}
+use Rattle.oer_values.specs.declared.shape.Alt.{Alt}
+use Rattle.oer_values.specs.declared.value.Value.{Value}
 use Rattle.oer_json.specs.Answer.{◌>>=◌}
 use Rattle.oer_json.specs.Take.{take, take_additions, take_alternative, take_fields, take_items, take_place}
 use Rattle.oer_json.specs.declared.fault.JsonFault.{JsonFault}

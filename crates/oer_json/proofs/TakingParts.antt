@@ -1,12 +1,12 @@
 -- A SEQUENCE with an extension marker and a CHOICE, step by step.
 use Rattle.std.proofs.Common.{◌≡◌, ℕ, List, true, false, Option, Some, None, Vec, Global, Result, Ok, Err, refl, ◌∙◌}
 use Rattle.serde_json.specs.Data.{Data, Members}
-use Rattle.oer_types.specs.AsnType.{Additions, Fields, extensible_sequence, no_alternatives}
-use Rattle.oer_types.specs.AsnValue.{AsnValue, Places, Unknown, seq}
-use Rattle.oer_types.specs.Constraints.{addition_count}
-use Rattle.oer_types.specs.ShapeView.{choice_with, later_of, root_of}
-use Rattle.oer_types.specs.WellFormed.{addition_names, field_names}
-use Rattle.oer_types.specs.declared.shape.Alt.{Alt}
+use Rattle.oer_model.specs.AsnType.{Additions, Fields, extensible_sequence, no_alternatives}
+use Rattle.oer_model.specs.AsnValue.{AsnValue, Places, Unknown, seq}
+use Rattle.oer_model.specs.Constraints.{addition_count}
+use Rattle.oer_values.specs.ShapeView.{choice_with, later_of, root_of}
+use Rattle.oer_model.specs.WellFormed.{addition_names, field_names}
+use Rattle.oer_values.specs.declared.shape.Alt.{Alt}
 use Rattle.oer_json.specs.Keys.{all_pass, keys_of}
 use Rattle.oer_json.specs.Take.{foreign_in, is_key, members_in, one_member, take, take_additions, take_alternative, take_fields, take_unknown}
 use Rattle.oer_json.specs.declared.fault.JsonFault.{JsonFault}

@@ -3,11 +3,11 @@ use Rattle.std.proofs.Common.{◌≡◌, inl, inr, ℕ, suc, ◌^◌, ◌<◌, �
 use Rattle.std.proofs.lemmas.Bool.{le-ltb, leb-true}
 use Rattle.serde_json.specs.Data.{Data, Members}
 use Rattle.serde_json.specs.Find.{get_member}
-use Rattle.oer_types.specs.AsnType.{Additions, Fields, extensible_sequence}
-use Rattle.oer_types.specs.AsnValue.{Unknown, unknown}
-use Rattle.oer_types.specs.FitTest.{all_below, unknown_fit}
-use Rattle.oer_types.specs.WellFormed.{addition_names, field_names}
-use Rattle.oer_types.proofs.FitTests.{both}
+use Rattle.oer_model.specs.AsnType.{Additions, Fields, extensible_sequence}
+use Rattle.oer_model.specs.AsnValue.{Unknown, unknown}
+use Rattle.oer_model.specs.FitTest.{all_below, unknown_fit}
+use Rattle.oer_model.specs.WellFormed.{addition_names, field_names}
+use Rattle.oer_model.proofs.fitting.FitTests.{both}
 use Rattle.oer_json.specs.Answer.{◌>>=◌}
 use Rattle.oer_json.specs.Denotes.{DenoteUnknown, DenotesOctets, IsOneOf, IsPart, unknown_key}
 use Rattle.oer_json.specs.Keys.{EachKey, all_pass, beyond_in, high_key, is_among, keys_of, low_place, place_digits, place_key, places_in}

@@ -3,9 +3,9 @@ use Rattle.std.proofs.Common.{◌≡◌, inl, inr, ⊎_elim, ℕ, List, [], ◌�
 use Rattle.std.specs.Prelude.{⊤}
 use Rattle.serde_json.specs.Data.{Data, Members}
 use Rattle.serde_json.specs.Find.{get_member}
-use Rattle.oer_types.specs.AsnType.{Additions, Fields}
-use Rattle.oer_types.specs.AsnValue.{Unknown, unknown}
-use Rattle.oer_types.specs.WellFormed.{addition_names, field_names}
+use Rattle.oer_model.specs.AsnType.{Additions, Fields}
+use Rattle.oer_model.specs.AsnValue.{Unknown, unknown}
+use Rattle.oer_model.specs.WellFormed.{addition_names, field_names}
 use Rattle.oer_json.specs.Answer.{◌>>=◌}
 use Rattle.oer_json.specs.Denotes.{DenoteUnknown, DenotesOctets, IsOneOf, IsPart, unknown_key}
 use Rattle.oer_json.specs.Keys.{EachKey, all_pass, beyond_in, high_key, is_among, keys_of, low_place, place_digits, place_key, places_in}

@@ -6,11 +6,11 @@ use Rattle.serde_json.specs.Data as json
 use Rattle.serde_json.specs.Data.{Data, Items, Members, Num}
 use Rattle.serde_json.specs.Find.{as_integer, get_member}
 use Rattle.oer_units.specs.declared.tagging.Tag.{Tag}
-use Rattle.oer_types.specs.LeafValue.{LeafValue, enum, int, octets}
-use Rattle.oer_types.specs.AsnType.{Additions, Alternatives, AsnType, Fields, NamedNumber, addition, alternative, choice, extensible_sequence, field, later, leaf, no_additions, no_alternatives, no_fields, sequence, sequence_of}
-use Rattle.oer_types.specs.AsnValue.{AsnValue, Places, Unknown, Values, absent, chosen, foreign, items, leaf_value, no_places, no_values, present, seq, unknown, value}
-use Rattle.oer_types.specs.Fits.{Fits}
-use Rattle.oer_types.specs.WellFormed.{AnyOf, field_names, addition_names}
+use Rattle.oer_model.specs.LeafValue.{LeafValue, enum, int, octets}
+use Rattle.oer_model.specs.AsnType.{Additions, Alternatives, AsnType, Fields, NamedNumber, addition, alternative, choice, extensible_sequence, field, later, leaf, no_additions, no_alternatives, no_fields, sequence, sequence_of}
+use Rattle.oer_model.specs.AsnValue.{AsnValue, Places, Unknown, Values, absent, chosen, foreign, items, leaf_value, no_places, no_values, present, seq, unknown, value}
+use Rattle.oer_model.specs.Fits.{Fits}
+use Rattle.oer_model.specs.WellFormed.{AnyOf, field_names, addition_names}
 use Rattle.oer_json.specs.Keys.{EachKey, place_key, tag_key}
 use Rattle.oer_json.specs.Made.{named_numbers, made_leaf}
 

@@ -2,10 +2,10 @@
 use Rattle.std.specs.Prelude.{◌≡◌, ℕ, ◌^◌, ℤ, pos, negsuc, int_le, List, ◌∷◌, true, Ok}
 use Rattle.std.specs.Fmt.{signed_decimal}
 use Rattle.serde_json.specs.Data.{Data}
-use Rattle.oer_types.specs.AsnType.{AsnType}
-use Rattle.oer_types.specs.AsnValue.{AsnValue}
-use Rattle.oer_types.specs.Fits.{AllBelow, Fits}
-use Rattle.oer_types.specs.WellFormed.{IsWellFormed}
+use Rattle.oer_model.specs.AsnType.{AsnType}
+use Rattle.oer_model.specs.AsnValue.{AsnValue}
+use Rattle.oer_model.specs.Fits.{AllBelow, Fits}
+use Rattle.oer_model.specs.WellFormed.{IsWellFormed}
 use Rattle.oer_json.specs.Denotes.{IsJsonOf}
 use Rattle.oer_json.specs.Made.{made}
 use Rattle.oer_json.specs.Take.{decimal_in, dotted_in, taken}

@@ -6,10 +6,10 @@ use Rattle.serde_json.specs.Data as json
 use Rattle.serde_json.specs.Data.{Data, Items, Members}
 use Rattle.serde_json.specs.Find.{of_integer}
 use Rattle.oer_units.specs.declared.tagging.Tag.{Tag}
-use Rattle.oer_types.specs.LeafValue.{LeafValue, bit_list, bool, enum, int, nothing, octets, oid, text}
-use Rattle.oer_types.specs.AsnType.{Additions, Alternatives, AsnType, Fields, NamedNumber, addition, alternative, choice, enumerated, extensible_sequence, field, later, no_additions, no_alternatives, no_fields, sequence, sequence_of}
-use Rattle.oer_types.specs.AsnValue.{AsnValue, Places, Unknown, Values, absent, chosen, foreign, items, leaf_value, no_places, no_values, present, seq, unknown, value}
-use Rattle.oer_types.specs.Constraints.{same_tag}
+use Rattle.oer_model.specs.LeafValue.{LeafValue, bit_list, bool, enum, int, nothing, octets, oid, text}
+use Rattle.oer_model.specs.AsnType.{Additions, Alternatives, AsnType, Fields, NamedNumber, addition, alternative, choice, enumerated, extensible_sequence, field, later, no_additions, no_alternatives, no_fields, sequence, sequence_of}
+use Rattle.oer_model.specs.AsnValue.{AsnValue, Places, Unknown, Values, absent, chosen, foreign, items, leaf_value, no_places, no_values, present, seq, unknown, value}
+use Rattle.oer_model.specs.Constraints.{same_tag}
 use Rattle.oer_json.specs.Keys.{place_key, tag_key}
 use Rattle.oer_literals.specs.Bits.{bit_digit}
 use Rattle.oer_literals.specs.Items.{name_of}

@@ -1,11 +1,11 @@
 -- Kinds of shapes with parts.
 use Rattle.std.specs.Prelude.{◌≡◌, Option, Some, Vec}
 use Rattle.std.specs.declared.alloc.Global.{Global}
-use Rattle.oer_types.specs.declared.shape.Addition.{Addition}
-use Rattle.oer_types.specs.declared.shape.Alt.{Alt}
-use Rattle.oer_types.specs.declared.shape.Field.{Field}
-use Rattle.oer_types.specs.declared.shape.Shape.{Shape}
-use Rattle.oer_types.specs.declared.shape.Shape.TheVariants.{Choice, Sequence}
+use Rattle.oer_values.specs.declared.shape.Addition.{Addition}
+use Rattle.oer_values.specs.declared.shape.Alt.{Alt}
+use Rattle.oer_values.specs.declared.shape.Field.{Field}
+use Rattle.oer_values.specs.declared.shape.Shape.{Shape}
+use Rattle.oer_values.specs.declared.shape.Shape.TheVariants.{Choice, Sequence}
 
 -- a SEQUENCE with an extension marker
 abbrev pub IsExtensible : Shape → Type 0

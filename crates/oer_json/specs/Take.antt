@@ -8,13 +8,13 @@ use Rattle.oer_units.specs.declared.tagging.Tag.{Tag}
 use Rattle.serde_json.specs.Data as json
 use Rattle.serde_json.specs.Data.{Data, Items, Members, Num}
 use Rattle.serde_json.specs.Find.{as_null, as_bool, as_str, as_array, as_object, as_integer, get_member}
-use Rattle.oer_types.specs.AsnType.{Additions, Alternatives, AsnType, Fields, NamedNumber, addition, alternative, bit_string, boolean, choice, enumerated, extensible_sequence, field, integer, later, leaf, no_additions, no_alternatives, no_fields, null, object_id, octet_string, restricted_string, sequence, sequence_of, utf8_string}
-use Rattle.oer_types.specs.AsnValue.{AsnValue, Places, Unknown, Values, bit_list, bool, chosen, enum, foreign, int, items, no_places, no_values, nothing, octets, oid, seq, text, unknown, value}
-use Rattle.oer_types.specs.Constraints.{addition_count, size_fits}
-use Rattle.oer_types.specs.DefaultView.{place}
-use Rattle.oer_types.specs.FitTest.{is_fit, may_be_absent, values_length}
-use Rattle.oer_types.specs.WellFormed.{field_names, addition_names}
-use Rattle.oer_types.specs.declared.size.Size.{Size}
+use Rattle.oer_model.specs.AsnType.{Additions, Alternatives, AsnType, Fields, NamedNumber, addition, alternative, bit_string, boolean, choice, enumerated, extensible_sequence, field, integer, later, leaf, no_additions, no_alternatives, no_fields, null, object_id, octet_string, restricted_string, sequence, sequence_of, utf8_string}
+use Rattle.oer_model.specs.AsnValue.{AsnValue, Places, Unknown, Values, bit_list, bool, chosen, enum, foreign, int, items, no_places, no_values, nothing, octets, oid, seq, text, unknown, value}
+use Rattle.oer_model.specs.Constraints.{addition_count, size_fits}
+use Rattle.oer_values.specs.DefaultView.{place}
+use Rattle.oer_model.specs.FitTest.{is_fit, may_be_absent, values_length}
+use Rattle.oer_model.specs.WellFormed.{field_names, addition_names}
+use Rattle.oer_model.specs.declared.size.Size.{Size}
 use Rattle.oer_json.specs.Answer.{◌>>=◌, some_or}
 use Rattle.oer_json.specs.Keys.{all_pass, beyond_in, is_among, keys_of, place_digits, place_key, places_in, tag_digits}
 use Rattle.oer_json.specs.Made.{has_64_bits}

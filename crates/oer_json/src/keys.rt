@@ -2,8 +2,8 @@
 ghost use Rattle.std.specs.Prelude.{◌≡◌, ◌<◌, [], IfErr, IfOk, None, Ok, is_some, option_map, string_bytes};
 ghost use Rattle.serde_json.specs.Find.{get_member};
 ghost use Rattle.serde_json.specs.View.{members_view, view};
-ghost use Rattle.oer_types.specs.ShapeView.{additions_of, fields_of};
-ghost use Rattle.oer_types.specs.WellFormed.{addition_names, field_names};
+ghost use Rattle.oer_values.specs.ShapeView.{additions_of, fields_of};
+ghost use Rattle.oer_model.specs.WellFormed.{addition_names, field_names};
 ghost use Rattle.oer_json.specs.Answer.{IsSameOrMemory};
 ghost use Rattle.oer_json.specs.Keys.{all_pass, beyond_in, class_digits, class_letter, if_natural, high_key, is_among, is_smaller, keys_of, low_place, place_digits, place_key, places_in, smaller, tag_digits, tag_key};
 ghost use Rattle.oer_json.specs.Take.{is_key};

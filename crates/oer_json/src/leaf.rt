@@ -3,7 +3,7 @@ ghost use Rattle.std.specs.Prelude.{◌≡◌, ◌++◌, ◌<◌, IfOk, OnOk, ma
 ghost use Rattle.std.specs.Fmt.{decimal};
 ghost use Rattle.serde_json.specs.Data.{string};
 ghost use Rattle.serde_json.specs.View.{view};
-ghost use Rattle.oer_types.specs.ShapeView.{named_number};
+ghost use Rattle.oer_values.specs.ShapeView.{named_number};
 ghost use Rattle.oer_json.specs.Made.{made_integer, made_item, made_octets};
 ghost use Rattle.oer_literals.specs.Bits.{bit_digit};
 ghost use Rattle.oer_literals.specs.Items.{name_of};

@@ -1,19 +1,18 @@
 //! Values as JSON.
-ghost use Rattle.std.specs.Prelude.{◌≡◌, IfOk, OnOk, map, option_map, unwrap_or};
+ghost use Rattle.std.specs.Prelude.{◌≡◌, IfOk, OnOk, map, option_map};
 ghost use Rattle.serde_json.specs.Data.{array};
 ghost use Rattle.serde_json.specs.View.{members_view, view};
-ghost use Rattle.oer_types.specs.AsnType.{Alternatives};
-ghost use Rattle.oer_types.specs.AsnValue.{chosen, items, seq};
-ghost use Rattle.oer_types.specs.Fits.{Fits};
+ghost use Rattle.oer_model.specs.AsnValue.{chosen, items, seq};
+ghost use Rattle.oer_model.specs.Fits.{Fits};
 ghost use Rattle.oer_types.specs.Schema.{the_type};
-ghost use Rattle.oer_types.specs.ShapeView.{additions_of, fields_of, later_of, named_number, root_of, type_of};
-ghost use Rattle.oer_types.specs.ValueView.{places_of, unknown_of, value_of, values_of};
+ghost use Rattle.oer_values.specs.ShapeView.{additions_of, fields_of, named_number, type_of};
+ghost use Rattle.oer_values.specs.ValueView.{places_of, unknown_of, value_of, values_of};
 ghost use Rattle.oer_json.specs.Keys.{tag_key};
-ghost use Rattle.oer_json.specs.Made.{made, made_alternative, made_items, made_octets, named_numbers, one_member, put_additions as with_additions, put_fields as with_fields, put_unknown as with_unknown, with_place};
+ghost use Rattle.oer_json.specs.Made.{made, made_items, made_octets, named_numbers, one_member, put_additions as with_additions, put_fields as with_fields, put_unknown as with_unknown, with_place};
 
 use crate::keys::{place_key, tag_key};
 use crate::leaf::{arcs_json, bits_json, integer_json, item_json, octets_json, text_json};
-use oer_types::{Addition, Alt, Field, Item, Schema, Shape, Unknown, Value, is_same_tag};
+use oer_types::{Addition, Field, Item, Schema, Shape, Unknown, Value, find_alternative};
 use oer_units::Tag;
 use serde_json::{Map, Value as Json};
 use std::alloc::{AllocError, Global};
@@ -216,49 +215,11 @@ fn chosen_json(shape: &Shape, alloc: Global, tag: Tag, value: &Value) -> Result<
     let Shape::Choice { root, additions } = shape else {
         return Ok(Json::Null);
     };
-    let found = alternative_json(root, alloc, tag, value)?;
-    match found {
-        Some(json) => Ok(json),
-        None => match additions {
-            None => Ok(Json::Null),
-            Some(additions) => later_json(additions, alloc, tag, value),
-        },
-    }
-}
-
-/// The object of the first alternative that has the tag, if one has it.
-#[cycle(make)]
-fn alternative_json(
-    alts: &[Alt],
-    alloc: Global,
-    tag: Tag,
-    value: &Value,
-) -> Result<Option<Json>, AllocError>
-    ensures { IfOk result (λ o. (after : Alternatives) → made_alternative (root_of alts.now after) tag (value_of value.now)
-        ≡ unwrap_or (option_map view o) (made_alternative after tag (value_of value.now))) }
-{
-    for alt in alts {
-        if is_same_tag(alt.tag, tag) {
-            let json = value_json(&alt.shape, alloc, value)?;
-            return Ok(Some(object_json(alloc, alt.name.as_str(), json)?));
-        }
-    }
-    Ok(None)
-}
-
-/// The object of the first alternative after the extension marker that has the tag; null where none
-/// has it.
-#[cycle(make)]
-fn later_json(alts: &[Alt], alloc: Global, tag: Tag, value: &Value) -> Result<Json, AllocError>
-    ensures { IfOk result (λ j. view j ≡ made_alternative (later_of alts.now) tag (value_of value.now)) }
-{
-    for alt in alts {
-        if is_same_tag(alt.tag, tag) {
-            let json = value_json(&alt.shape, alloc, value)?;
-            return object_json(alloc, alt.name.as_str(), json);
-        }
-    }
-    Ok(Json::Null)
+    let Some(alternative) = find_alternative(root, additions, tag) else {
+        return Ok(Json::Null);
+    };
+    let json = value_json(&alternative.shape, alloc, value)?;
+    object_json(alloc, alternative.name.as_str(), json)
 }
 
 /// An object with one member.

@@ -1,9 +1,9 @@
 //! Objects and arrays.
 ghost use Rattle.std.specs.Prelude.{◌≡◌};
 ghost use Rattle.serde_json.specs.View.{items_view, members_view, view};
-ghost use Rattle.oer_types.specs.FitTest.{may_be_absent};
-ghost use Rattle.oer_types.specs.ShapeView.{need_of};
-ghost use Rattle.oer_types.specs.ValueView.{value_of, values_of};
+ghost use Rattle.oer_model.specs.FitTest.{may_be_absent};
+ghost use Rattle.oer_values.specs.ShapeView.{need_of};
+ghost use Rattle.oer_values.specs.ValueView.{value_of, values_of};
 ghost use Rattle.oer_json.specs.Answer.{IsSameOrMemory};
 ghost use Rattle.oer_json.specs.Take.{items_in, members_in, one_member, sized};
 

@@ -1,8 +1,8 @@
 //! Values without parts, from JSON.
 ghost use Rattle.std.specs.Prelude.{map, string_bytes};
 ghost use Rattle.serde_json.specs.View.{number_view, view};
-ghost use Rattle.oer_types.specs.ShapeView.{named_number, type_of};
-ghost use Rattle.oer_types.specs.ValueView.{value_of};
+ghost use Rattle.oer_values.specs.ShapeView.{named_number, type_of};
+ghost use Rattle.oer_values.specs.ValueView.{value_of};
 ghost use Rattle.oer_json.specs.Answer.{IsSameOrMemory};
 ghost use Rattle.oer_json.specs.Take.{arcs_in, bits_in, bits_of_text, bool_in, decimal_in, dotted_in, fitting, held, held_small, in_64_bits, integer_in, item_in, item_named, leaf_in, null_in, octets_in, take_leaf, text_in};
 

@@ -1,12 +1,12 @@
 //! Values from JSON.
 ghost use Rattle.std.specs.Prelude.{◌≡◌, IfErr, IfOk, Ok, option_map};
 ghost use Rattle.serde_json.specs.View.{items_view, members_view, view};
-ghost use Rattle.oer_types.specs.AsnType.{no_alternatives, sequence, sequence_of};
-ghost use Rattle.oer_types.specs.AsnValue.{AsnValue};
-ghost use Rattle.oer_types.specs.Fits.{Fits};
+ghost use Rattle.oer_model.specs.AsnType.{no_alternatives, sequence, sequence_of};
+ghost use Rattle.oer_model.specs.AsnValue.{AsnValue};
+ghost use Rattle.oer_model.specs.Fits.{Fits};
 ghost use Rattle.oer_types.specs.Schema.{the_type};
-ghost use Rattle.oer_types.specs.ShapeView.{additions_of, fields_of, root_of, type_of};
-ghost use Rattle.oer_types.specs.ValueView.{places_of, value_of, values_of};
+ghost use Rattle.oer_values.specs.ShapeView.{additions_of, fields_of, root_of, type_of};
+ghost use Rattle.oer_values.specs.ValueView.{places_of, value_of, values_of};
 ghost use Rattle.oer_json.specs.Answer.{IsSameOrMemory, Tries};
 ghost use Rattle.oer_json.specs.Denotes.{IsJsonOf};
 ghost use Rattle.oer_json.specs.Made.{made};

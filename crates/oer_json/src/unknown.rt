@@ -1,8 +1,8 @@
 //! Parts that a type doesn't know, from JSON.
 ghost use Rattle.std.specs.Prelude.{◌≡◌, map, option_map};
 ghost use Rattle.serde_json.specs.View.{members_view, view};
-ghost use Rattle.oer_types.specs.ShapeView.{type_of};
-ghost use Rattle.oer_types.specs.ValueView.{unknown_of, value_of};
+ghost use Rattle.oer_values.specs.ShapeView.{type_of};
+ghost use Rattle.oer_values.specs.ValueView.{unknown_of, value_of};
 ghost use Rattle.oer_json.specs.Answer.{IsSameOrMemory};
 ghost use Rattle.oer_json.specs.Take.{beyond_at, foreign_in, foreign_with, take_unknown, octets_at, unknown_at, unknown_from};
 

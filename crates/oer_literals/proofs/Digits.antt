@@ -1,6 +1,6 @@
 -- Bits of digits 0 and 1.
 use Rattle.std.proofs.Common.{◌≡◌, ℕ, zero, suc, ◌+◌, ◌-◌, ◌*◌, ◌/◌, ◌%◌, ◌^◌, ◌<◌, ◌≤◌, List, [], ◌∷◌, length, take, drop, map, Bool, true, false, cond, eqb, refl, ap, ◌∙◌, arith, sub-one}
-use Rattle.oer_types.specs.Bits.{bit, bits_of, octets_for}
+use Rattle.oer_model.specs.Bits.{bit, bits_of, octets_for}
 use Rattle.oer_literals.specs.Bits.{is_one, octet_of, octets_more}
 
 abbrev one_if : Bool → ℕ

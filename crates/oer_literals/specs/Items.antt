@@ -2,8 +2,8 @@
 use Rattle.std.specs.Prelude.{ℕ, ℤ, List, [], ◌∷◌, Option, Some, None, if◌then◌else◌}
 use Rattle.std.specs.Ordering.{int_eq}
 use Rattle.std.specs.Str.{bytes_eq}
-use Rattle.oer_types.specs.AsnType.{AsnType, leaf}
-use Rattle.oer_types.specs.LeafType.{LeafType, NamedNumber, enumerated}
+use Rattle.oer_model.specs.AsnType.{AsnType, leaf}
+use Rattle.oer_model.specs.LeafType.{LeafType, NamedNumber, enumerated}
 
 abbrev pub leaf_items : LeafType → List NamedNumber
 leaf_items (enumerated items extensible) = items

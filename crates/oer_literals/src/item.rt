@@ -1,6 +1,6 @@
 //! Items of an ENUMERATED, by name and by number.
 ghost use Rattle.std.specs.Prelude.{◌≡◌, map, option_map};
-ghost use Rattle.oer_types.specs.ShapeView.{named_number, type_of};
+ghost use Rattle.oer_values.specs.ShapeView.{named_number, type_of};
 ghost use Rattle.oer_literals.specs.Items.{items_of, name_of, number_named};
 
 use oer_types::{Item, Shape};

@@ -5,13 +5,13 @@ use Rattle.oer_lexer.specs.Laws.{LexComplete}
 use Rattle.oer_lexer.specs.Lexing.{lex}
 use Rattle.oer_lexer.specs.Token.{Token, Spot, tokens}
 use Rattle.oer_lexer.specs.declared.token.Sign.TheVariants.{OpenParenthesis}
-use Rattle.oer_types.specs.AsnType.{AsnType}
-use Rattle.oer_types.specs.Laws.{NoFaultFound}
-use Rattle.oer_types.specs.Nodes.{type_nodes}
-use Rattle.oer_types.specs.WellFormed.{depth, IsWellFormed}
-use Rattle.oer_types.specs.declared.fault.SchemaFault.TheVariants.{TooDeep, TooManyParts, DefaultMisfit}
+use Rattle.oer_model.specs.AsnType.{AsnType}
+use Rattle.oer_model.specs.Laws.{NoFaultFound}
+use Rattle.oer_model.specs.Nodes.{type_nodes}
+use Rattle.oer_model.specs.WellFormed.{depth, IsWellFormed}
+use Rattle.oer_model.specs.declared.fault.SchemaFault.TheVariants.{TooDeep, TooManyParts, DefaultMisfit}
 use Rattle.oer_notation.specs.Grammar.{Spells, IsType}
-use Rattle.oer_types.specs.Limits.{max_depth, max_parts}
+use Rattle.oer_model.specs.Limits.{max_depth, max_parts}
 use Rattle.oer_notation.specs.Parsing.{start, definition_at, end_by, end_of, parse}
 use Rattle.oer_notation.specs.Reading.{Known, with_parts}
 use Rattle.oer_notation.specs.State.{State, at_sign, ◌>>=◌}

@@ -4,9 +4,9 @@ use Rattle.oer_lexer.specs.Laws.{LexComplete}
 use Rattle.oer_lexer.specs.Lexing.{lex}
 use Rattle.oer_lexer.specs.Token.{Token, word, sign, Spot, tokens}
 use Rattle.oer_lexer.specs.declared.token.Sign.TheVariants.{OpenParenthesis, Assign}
-use Rattle.oer_types.specs.AsnType.{AsnType}
-use Rattle.oer_types.specs.Laws.{NoFaultFound}
-use Rattle.oer_types.specs.WellFormed.{AnyOf}
+use Rattle.oer_model.specs.AsnType.{AsnType}
+use Rattle.oer_model.specs.Laws.{NoFaultFound}
+use Rattle.oer_model.specs.WellFormed.{AnyOf}
 use Rattle.oer_notation.specs.Grammar.{SpellsAll, AreWellFormed, IsName, IsNew, AreDefinitions, one_definition, more_definitions}
 use Rattle.oer_notation.specs.Parsing.{start, definition_at, end_by, end_of, name_at, entry_at, is_last, entries_more, parse_all}
 use Rattle.oer_notation.specs.Reading.{Known, find}

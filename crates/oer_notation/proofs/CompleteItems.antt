@@ -6,7 +6,7 @@ use Rattle.oer_lexer.specs.declared.token.Sign.TheVariants.{OpenBrace, CloseBrac
 use Rattle.oer_units.specs.declared.tagging.Class.{Class}
 use Rattle.oer_units.specs.declared.tagging.Class.TheVariants.{Universal, Application, Private}
 use Rattle.oer_units.specs.declared.tagging.Tag.{Tag}
-use Rattle.oer_types.specs.AsnType.{NamedNumber}
+use Rattle.oer_model.specs.AsnType.{NamedNumber}
 use Rattle.oer_notation.specs.Grammar.{IsId, IsItemNumber, own_number, number_by_place, AreItems, no_items, item, items_marker, IsClass, universal, application, private, context, IsTag, own_tag, tag_by_place, MayBeOptional, plain_addition, optional_addition}
 use Rattle.oer_literals.specs.Numbers.{item_number_of, tag_number_of}
 use Rattle.oer_notation.specs.Numbers.{number_at}

@@ -7,12 +7,12 @@ use Rattle.oer_lexer.specs.declared.leaf.LeafWord.{LeafWord}
 use Rattle.oer_lexer.specs.Token.{Token, word, sign}
 use Rattle.oer_lexer.specs.declared.token.Sign.TheVariants.{OpenBrace, CloseBrace, OpenParenthesis, OpenBracket, Comma, Ellipsis}
 use Rattle.oer_units.specs.declared.tagging.Tag.{Tag}
-use Rattle.oer_types.specs.AsnType.{Need, AsnType, leaf, sequence, extensible_sequence, sequence_of, choice, Fields, no_fields, field, Additions, no_additions, addition, Alternatives, no_alternatives, alternative, later}
-use Rattle.oer_types.specs.Nodes.{leaf_nodes, type_nodes, fields_nodes, additions_nodes, alternatives_nodes}
-use Rattle.oer_types.specs.LeafType.{LeafType}
-use Rattle.oer_types.specs.ShapeView.{SeenField, SeenAddition, SeenAlternative, fields_from, additions_from, later_from, root_from}
-use Rattle.oer_types.specs.WellFormed.{depth, fields_depth, additions_depth, alternatives_depth, Somewhere, InFields, InAdditions, InAlternatives, HasMisfit, AnyMisfit}
-use Rattle.oer_types.specs.declared.size.Size.{Size}
+use Rattle.oer_model.specs.AsnType.{Need, AsnType, leaf, sequence, extensible_sequence, sequence_of, choice, Fields, no_fields, field, Additions, no_additions, addition, Alternatives, no_alternatives, alternative, later}
+use Rattle.oer_model.specs.Nodes.{leaf_nodes, type_nodes, fields_nodes, additions_nodes, alternatives_nodes}
+use Rattle.oer_model.specs.LeafType.{LeafType}
+use Rattle.oer_values.specs.ShapeView.{SeenField, SeenAddition, SeenAlternative, fields_from, additions_from, later_from, root_from}
+use Rattle.oer_model.specs.WellFormed.{depth, fields_depth, additions_depth, alternatives_depth, Somewhere, InFields, InAdditions, InAlternatives, HasMisfit, AnyMisfit}
+use Rattle.oer_model.specs.declared.size.Size.{Size}
 use Rattle.oer_notation.specs.Grammar.{IsId, IsName, IsListSize, in_brackets, bare, one_size, sizes, any_size, bracketed, own_tag, tag_by_place, IsNeed, needed, optional, with_default, MayBeOptional, plain_addition, optional_addition, IsLeaf, bounds_behind, items_behind, nothing_behind, size_behind, IsType, leaf_type, named_type, empty_sequence_type, sequence_type, extensible_sequence_type, sequence_of_type, choice_type, AreComponents, no_components as none_there, component, components_marker, AreAdditions, none_added, added as an_addition, AreAlternatives, none_left, an_alternative, alternatives_marker, AreLater, none_later, a_later}
 use Rattle.oer_notation.specs.Leaves.{LeafForm, bounded, leaf_form, listed, plain, sized}
 use Rattle.oer_notation.specs.Numbers.{list_size_at}
@@ -25,7 +25,7 @@ use Rattle.oer_notation.proofs.Comes.{Comes, done, front, sole, split, recount, 
 use Rattle.oer_notation.proofs.CompleteItems.{pass_end, pass_comma, pass_dots, go_end, go_more, items_at_given, tagged_given, optional_given}
 use Rattle.oer_notation.proofs.CompleteNumbers.{bounds_given, bracketed_given, list_size_given}
 use Rattle.oer_notation.proofs.CompleteValues.{no_sign, need_given}
-use Rattle.oer_types.proofs.Leaves.{some_depth, some_node}
+use Rattle.oer_model.proofs.fitting.Leaves.{some_depth, some_node}
 use Rattle.oer_notation.proofs.Definitions.{named_taken}
 use Rattle.oer_notation.proofs.LeafFacts.{HasNodes, form_nodes}
 use Rattle.oer_notation.proofs.NamesGiven.{find_given, start_name, start_word_of}

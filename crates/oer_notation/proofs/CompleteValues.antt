@@ -6,9 +6,9 @@ use Rattle.std.proofs.lemmas.Slice.Eq.{bytes_eq-Decides}
 use Rattle.oer_lexer.specs.Token.{Token, sign, Spot, tokens}
 use Rattle.oer_lexer.specs.declared.token.Sign.{Sign}
 use Rattle.oer_lexer.specs.declared.token.Sign.TheVariants.{CloseBrace, Comma}
-use Rattle.oer_types.specs.AsnType.{Need, may, default, NamedNumber, AsnType}
-use Rattle.oer_types.specs.AsnValue.{AsnValue, bool, nothing, int, enum, bit_list, octets, text as string, oid}
-use Rattle.oer_types.specs.WellFormed.{IsMisfit}
+use Rattle.oer_model.specs.AsnType.{Need, may, default, NamedNumber, AsnType}
+use Rattle.oer_model.specs.AsnValue.{AsnValue, bool, nothing, int, enum, bit_list, octets, text as string, oid}
+use Rattle.oer_model.specs.WellFormed.{IsMisfit}
 use Rattle.oer_literals.specs.Bits.{is_one}
 use Rattle.oer_literals.specs.Numbers.{integer_of, arc_of}
 use Rattle.oer_literals.specs.Items.{number_named}

@@ -1,14 +1,14 @@
 -- Names that stand for types, and types that are well-formed.
 use Rattle.std.proofs.Common.{◌≡◌, ℕ, ◌+◌, ◌-◌, ◌≤◌, ◌<◌, List, Some, Ok, Err, refl, ap, arith, lt-ltb}
 use Rattle.std.proofs.lemmas.Bool.{le-ltb}
-use Rattle.oer_types.specs.AsnType.{AsnType}
-use Rattle.oer_types.specs.Laws.{FirstFaultFound, NoFaultFound}
-use Rattle.oer_types.specs.Nodes.{type_nodes}
-use Rattle.oer_types.specs.WellFormed.{depth, IsFirstFault, IsWellFormed}
-use Rattle.oer_types.specs.declared.fault.SchemaFault.{SchemaFault}
-use Rattle.oer_types.specs.declared.fault.SchemaFault.TheVariants.{TooDeep}
-use Rattle.oer_types.specs.Limits.{max_depth, max_parts}
-use Rattle.oer_types.proofs.Leaves.{some_depth}
+use Rattle.oer_model.specs.AsnType.{AsnType}
+use Rattle.oer_model.specs.Laws.{FirstFaultFound, NoFaultFound}
+use Rattle.oer_model.specs.Nodes.{type_nodes}
+use Rattle.oer_model.specs.WellFormed.{depth, IsFirstFault, IsWellFormed}
+use Rattle.oer_model.specs.declared.fault.SchemaFault.{SchemaFault}
+use Rattle.oer_model.specs.declared.fault.SchemaFault.TheVariants.{TooDeep}
+use Rattle.oer_model.specs.Limits.{max_depth, max_parts}
+use Rattle.oer_model.proofs.fitting.Leaves.{some_depth}
 use Rattle.oer_notation.specs.Parsing.{faultless, checked, definition_at}
 use Rattle.oer_notation.specs.Reading.{Known, named_at, with_parts, type_at}
 use Rattle.oer_notation.specs.State.{State, fault, bump, full}

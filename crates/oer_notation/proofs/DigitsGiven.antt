@@ -3,12 +3,12 @@ use Rattle.std.proofs.Common.{◌≡◌, ℕ, zero, suc, ◌+◌, ◌*◌, ◌/�
 use Rattle.std.proofs.lemmas.Bool.{lt-ltb, leb-true, and_parts, cases_lt}
 use Rattle.std.proofs.lemmas.Bool.Decides.{Decides-eqb}
 use Rattle.hex.specs.Hex.{decode_pairs}
-use Rattle.oer_types.specs.AsnType.{bit_string, default}
-use Rattle.oer_types.specs.AsnValue.{bit_list}
-use Rattle.oer_types.specs.Bits.{bit, bits_of, octets_for}
-use Rattle.oer_types.specs.Fits.{Fits}
-use Rattle.oer_types.specs.WellFormed.{IsMisfit}
-use Rattle.oer_types.specs.declared.size.Size.{Size}
+use Rattle.oer_model.specs.AsnType.{bit_string, default}
+use Rattle.oer_model.specs.AsnValue.{bit_list}
+use Rattle.oer_model.specs.Bits.{bit, bits_of, octets_for}
+use Rattle.oer_model.specs.Fits.{Fits}
+use Rattle.oer_model.specs.WellFormed.{IsMisfit}
+use Rattle.oer_model.specs.declared.size.Size.{Size}
 use Rattle.oer_notation.specs.Grammar.{AreOctets, no_octets, an_octet, AreBits, no_bits, four_bits}
 use Rattle.oer_notation.specs.Values.{octets_in, bits_from, digit_bits}
 use Rattle.oer_notation.proofs.Digits.{digit_below, pair_bits}

@@ -2,10 +2,10 @@
 use Rattle.std.proofs.Common.{◌≡◌, suc, ℤ, List, length, Bool, Option, refl}
 use Rattle.oer_lexer.specs.declared.leaf.LeafWord.{LeafWord}
 use Rattle.oer_lexer.specs.declared.leaf.LeafWord.TheVariants as word
-use Rattle.oer_types.specs.LeafType.{NamedNumber}
-use Rattle.oer_types.specs.Nodes.{leaf_nodes}
-use Rattle.oer_types.specs.Widths.{HasBoundWidth, HaveItemWidths, HasSizeWidths, LeafHasWidths}
-use Rattle.oer_types.specs.declared.size.Size.{Size}
+use Rattle.oer_model.specs.LeafType.{NamedNumber}
+use Rattle.oer_model.specs.Nodes.{leaf_nodes}
+use Rattle.oer_model.specs.Widths.{HasBoundWidth, HaveItemWidths, HasSizeWidths, LeafHasWidths}
+use Rattle.oer_model.specs.declared.size.Size.{Size}
 use Rattle.oer_notation.specs.Leaves.{LeafForm, bounded, leaf_form, listed, plain, sized}
 
 -- each item is a part

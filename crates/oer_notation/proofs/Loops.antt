@@ -4,8 +4,8 @@ use Rattle.hex.specs.Hex.{decode_of}
 use Rattle.hex.specs.declared.error.FromHexError.{FromHexError}
 use Rattle.oer_lexer.specs.Token.{spots_of}
 use Rattle.oer_lexer.specs.declared.token.Spot.{Spot as RawSpot}
-use Rattle.oer_types.specs.AsnType.{AsnType, NamedNumber}
-use Rattle.oer_types.specs.ShapeView.{SeenAlternative}
+use Rattle.oer_model.specs.AsnType.{AsnType, NamedNumber}
+use Rattle.oer_values.specs.ShapeView.{SeenAlternative}
 use Rattle.oer_lexer.specs.declared.token.Sign.TheVariants.{Comma}
 use Rattle.oer_literals.specs.Numbers.{arc_of}
 use Rattle.oer_literals.proofs.Lists.{no_zero}

@@ -8,8 +8,8 @@ use Rattle.oer_lexer.specs.LeafWords.{leaf_among, leaf_word, leaves, second_word
 use Rattle.oer_lexer.specs.declared.leaf.LeafWord.{LeafWord}
 use Rattle.oer_lexer.specs.declared.leaf.LeafWord.TheVariants as leaf
 use Rattle.oer_lexer.specs.Token.{word}
-use Rattle.oer_types.specs.AsnType.{AsnType}
-use Rattle.oer_types.specs.WellFormed.{AnyOf}
+use Rattle.oer_model.specs.AsnType.{AsnType}
+use Rattle.oer_model.specs.WellFormed.{AnyOf}
 use Rattle.oer_notation.specs.Grammar.{IsName, a_name, IsDefined, this_definition, later_definition}
 use Rattle.oer_notation.specs.Reading.{Known, find, of_word, of_name, start_word, start_by, start_at}
 use Rattle.oer_notation.specs.State.{State, first}

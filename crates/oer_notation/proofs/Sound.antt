@@ -4,14 +4,14 @@ use Rattle.oer_lexer.specs.FallsInto.{FallsInto}
 use Rattle.oer_lexer.specs.Laws.{LexSound}
 use Rattle.oer_lexer.specs.Lexing.{lex}
 use Rattle.oer_lexer.specs.Token.{Token, word, Spot, tokens}
-use Rattle.oer_types.specs.AsnType.{AsnType}
-use Rattle.oer_types.specs.FaultTest.{first_fault}
-use Rattle.oer_types.specs.Laws.{FaultlessIsWellFormed, NoFaultFound}
-use Rattle.oer_types.specs.declared.fault.SchemaFault.{SchemaFault}
-use Rattle.oer_types.specs.Nodes.{type_nodes}
-use Rattle.oer_types.specs.WellFormed.{depth, IsWellFormed}
+use Rattle.oer_model.specs.AsnType.{AsnType}
+use Rattle.oer_model.specs.FaultTest.{first_fault}
+use Rattle.oer_model.specs.Laws.{FaultlessIsWellFormed, NoFaultFound}
+use Rattle.oer_model.specs.declared.fault.SchemaFault.{SchemaFault}
+use Rattle.oer_model.specs.Nodes.{type_nodes}
+use Rattle.oer_model.specs.WellFormed.{depth, IsWellFormed}
 use Rattle.oer_notation.specs.Grammar.{Spells, IsType, named_type}
-use Rattle.oer_types.specs.Limits.{max_depth, max_parts}
+use Rattle.oer_model.specs.Limits.{max_depth, max_parts}
 use Rattle.oer_notation.specs.Parsing.{start, faultless, checked, definition_at, end_by, end_among, end_of, parse}
 use Rattle.oer_notation.specs.Reading.{Known, find, Start, nothing, of_word, of_name, start_at, word_type, with_parts, named_at, type_by, too_deep, entered, type_at}
 use Rattle.oer_notation.specs.State.{State, Read, first, bump, part_at, full}

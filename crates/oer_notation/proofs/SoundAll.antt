@@ -4,10 +4,10 @@ use Rattle.oer_lexer.specs.Laws.{LexSound}
 use Rattle.oer_lexer.specs.Lexing.{lex}
 use Rattle.oer_lexer.specs.Token.{Token, word, number, bits, digits, text, sign}
 use Rattle.oer_lexer.specs.declared.token.Sign.TheVariants.{Assign}
-use Rattle.oer_types.specs.AsnType.{AsnType}
-use Rattle.oer_types.specs.Laws.{FaultlessIsWellFormed, NoFaultFound}
-use Rattle.oer_types.specs.WellFormed.{IsWellFormed}
-use Rattle.oer_types.specs.Widths.{HasWidths}
+use Rattle.oer_model.specs.AsnType.{AsnType}
+use Rattle.oer_model.specs.Laws.{FaultlessIsWellFormed, NoFaultFound}
+use Rattle.oer_model.specs.WellFormed.{IsWellFormed}
+use Rattle.oer_model.specs.Widths.{HasWidths}
 use Rattle.oer_notation.specs.Grammar.{SpellsAll, AreWellFormed, IsType, IsName, IsNew, AreDefinitions, one_definition, more_definitions}
 use Rattle.oer_notation.specs.Parsing.{start, definition_at, end_of, is_known, name_by, name_at, entry_at, is_last, entries_more, parse_all}
 use Rattle.oer_notation.specs.Reading.{Known, find}

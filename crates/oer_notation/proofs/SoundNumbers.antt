@@ -6,7 +6,7 @@ use Rattle.std.specs.Str.Parse.{digits_value, signed_digits_value, without_leadi
 use Rattle.std.proofs.lemmas.Bool.{ltb-true, and_parts}
 use Rattle.oer_lexer.specs.Token.{Token, word, number, sign}
 use Rattle.oer_lexer.specs.declared.token.Sign.TheVariants.{OpenParenthesis, CloseParenthesis, Range}
-use Rattle.oer_types.specs.declared.size.Size.{Size}
+use Rattle.oer_model.specs.declared.size.Size.{Size}
 use Rattle.oer_notation.specs.Grammar.{IsInteger, an_integer, IsNatural, a_natural, IsBound, no_bound, a_bound, AreBounds, no_bounds, one_number, range, IsSizeEnd, no_end, an_end, IsSize, one_size, sizes, IsBracketedSize, any_size, bracketed, IsListSize, in_brackets, bare}
 use Rattle.oer_literals.specs.Numbers.{is_numeral, integer_within, natural_below, integer_of, item_number_of, size_of, tag_number_of, arc_of}
 use Rattle.oer_literals.proofs.Numerals.{IsRange, range_128, range_64, true_numeral}

@@ -10,9 +10,9 @@ use Rattle.oer_lexer.specs.declared.token.Sign.TheVariants.{OpenBrace, CloseBrac
 use Rattle.oer_units.specs.declared.tagging.Class.{Class}
 use Rattle.oer_units.specs.declared.tagging.Class.TheVariants.{Universal, Application, Context, Private}
 use Rattle.oer_units.specs.declared.tagging.Tag.{Tag}
-use Rattle.oer_types.specs.LeafType.{LeafType}
-use Rattle.oer_types.specs.AsnType.{NamedNumber, AsnType, leaf, sequence_of, Additions, Alternatives, no_alternatives, alternative}
-use Rattle.oer_types.specs.ShapeView.{SeenField, SeenAddition, SeenAlternative, fields_from, additions_from, later_from, root_from}
+use Rattle.oer_model.specs.LeafType.{LeafType}
+use Rattle.oer_model.specs.AsnType.{NamedNumber, AsnType, leaf, sequence_of, Additions, Alternatives, no_alternatives, alternative}
+use Rattle.oer_values.specs.ShapeView.{SeenField, SeenAddition, SeenAlternative, fields_from, additions_from, later_from, root_from}
 use Rattle.oer_notation.specs.Grammar.{IsId, IsInteger, IsNatural, IsItemNumber, own_number, number_by_place, AreItems, no_items, item, items_marker, IsClass, universal, application, private, context, IsTag, own_tag, tag_by_place, MayBeOptional, plain_addition, optional_addition, IsNeed, IsLeaf, bounds_behind, items_behind, nothing_behind, size_behind, IsType, leaf_type, empty_sequence_type, sequence_type, extensible_sequence_type, sequence_of_type, choice_type, AreComponents, no_components as none_there, component, components_marker, AreAdditions, none_added, added as an_addition, AreAlternatives, none_left, an_alternative, alternatives_marker, AreLater, none_later, a_later}
 use Rattle.oer_literals.specs.Numbers.{item_number_of, tag_number_of}
 use Rattle.oer_notation.specs.Leaves.{LeafForm, bounded, leaf_form, listed, plain, sized}

@@ -7,11 +7,11 @@ use Rattle.std.proofs.lemmas.Bool.{ltb-true}
 use Rattle.std.proofs.lemmas.Slice.Eq.{bytes_eq-Decides}
 use Rattle.oer_lexer.specs.Token.{Token, word, bits, digits, text, sign}
 use Rattle.oer_lexer.specs.declared.token.Sign.TheVariants.{OpenBrace, CloseBrace}
-use Rattle.oer_types.specs.LeafType.{LeafType}
-use Rattle.oer_types.specs.LeafType as leaf_type
-use Rattle.oer_types.specs.AsnType.{AsnType, NamedNumber, Need, bit_string, boolean, default, enumerated, integer, leaf, may, must, null, object_id, octet_string, restricted_string, utf8_string}
-use Rattle.oer_types.specs.AsnValue.{AsnValue, bit_list, bool, enum, int, nothing, octets, oid, text as string}
-use Rattle.oer_types.specs.declared.size.Size.{Size}
+use Rattle.oer_model.specs.LeafType.{LeafType}
+use Rattle.oer_model.specs.LeafType as leaf_type
+use Rattle.oer_model.specs.AsnType.{AsnType, NamedNumber, Need, bit_string, boolean, default, enumerated, integer, leaf, may, must, null, object_id, octet_string, restricted_string, utf8_string}
+use Rattle.oer_model.specs.AsnValue.{AsnValue, bit_list, bool, enum, int, nothing, octets, oid, text as string}
+use Rattle.oer_model.specs.declared.size.Size.{Size}
 use Rattle.oer_notation.specs.Grammar.{IsInteger, IsNatural, IsItemNamed, this_item, later_item, between_quotes, text_of, AreArcs, no_arcs, an_arc, IsValue, true_value, false_value, null_value, number_value as a_number_value, item_value, octets_value, digit_bits_value, bits_value as a_bits_value, text_value, utf8_value, arcs_value, IsNeed, needed, optional, with_default}
 use Rattle.oer_literals.specs.Bits.{is_one}
 use Rattle.oer_literals.specs.Items.{number_named}

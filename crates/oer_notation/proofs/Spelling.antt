@@ -1,6 +1,6 @@
 -- What a text that was read spells.
 use Rattle.std.proofs.Common.{◌≡◌, ℕ, List, Option, Some, None, Result, Ok, Err, IfErr, IfOk, MatchOption, option_map, sym}
-use Rattle.oer_types.specs.AsnType.{AsnType}
+use Rattle.oer_model.specs.AsnType.{AsnType}
 use Rattle.oer_notation.specs.Grammar.{IsDefined, IsNew, Spells, SpellsAll}
 use Rattle.oer_notation.specs.Laws.{ParseAllRefuses, ParseAllSound, ParseRefuses, ParseSound}
 use Rattle.oer_notation.specs.Parsing.{parse, parse_all}

@@ -4,17 +4,17 @@ use Rattle.std.specs.Prelude.{FitsSigned}
 use Rattle.std.specs.Int.{Width, w64}
 use Rattle.std.proofs.lemmas.Bool.{cases_lt}
 use Rattle.oer_lexer.specs.Token.{Token}
-use Rattle.oer_types.specs.AsnType.{Additions, Alternatives, AsnType, Fields, NamedNumber, alternative, later, no_alternatives}
-use Rattle.oer_types.specs.LeafType.{LeafType}
-use Rattle.oer_types.specs.FaultTest.{first_fault}
-use Rattle.oer_types.specs.Laws.{NoFaultFound}
-use Rattle.oer_types.specs.Nodes.{leaf_nodes, type_nodes, fields_nodes, additions_nodes, alternatives_nodes}
-use Rattle.oer_types.specs.Widths.{AreLater as AllLater, LeafHasWidths, HasBoundWidth, HaveItemWidths, HasEndWidth, HasSizeWidths, AreInOrder, HasWidths, FieldsHaveWidths, AdditionsHaveWidths, AlternativesHaveWidths}
-use Rattle.oer_types.specs.declared.fault.SchemaFault.TheVariants.{TooManyParts}
-use Rattle.oer_types.specs.declared.size.Size.{Size}
+use Rattle.oer_model.specs.AsnType.{Additions, Alternatives, AsnType, Fields, NamedNumber, alternative, later, no_alternatives}
+use Rattle.oer_model.specs.LeafType.{LeafType}
+use Rattle.oer_model.specs.FaultTest.{first_fault}
+use Rattle.oer_model.specs.Laws.{NoFaultFound}
+use Rattle.oer_model.specs.Nodes.{leaf_nodes, type_nodes, fields_nodes, additions_nodes, alternatives_nodes}
+use Rattle.oer_model.specs.Widths.{AreLater as AllLater, LeafHasWidths, HasBoundWidth, HaveItemWidths, HasEndWidth, HasSizeWidths, AreInOrder, HasWidths, FieldsHaveWidths, AdditionsHaveWidths, AlternativesHaveWidths}
+use Rattle.oer_model.specs.declared.fault.SchemaFault.TheVariants.{TooManyParts}
+use Rattle.oer_model.specs.declared.size.Size.{Size}
 use Rattle.oer_units.specs.Laws.{HasTagNumber}
 use Rattle.oer_units.specs.declared.tagging.Tag.{Tag}
-use Rattle.oer_types.proofs.Leaves.{some_node}
+use Rattle.oer_model.proofs.fitting.Leaves.{some_node}
 use Rattle.oer_notation.proofs.LeafFacts.{HasNodes, KeepsWidths, form_nodes, form_widths}
 use Rattle.oer_notation.specs.Leaves.{LeafForm, bounded, leaf_form, listed, plain, sized}
 use Rattle.oer_notation.specs.Grammar.{IsInteger, an_integer, IsNatural, a_natural, IsBound, no_bound, a_bound, AreBounds, no_bounds, one_number, range, IsSizeEnd, no_end, an_end, IsSize, one_size, sizes, IsBracketedSize, any_size, bracketed, IsListSize, in_brackets, bare, IsItemNumber, own_number, number_by_place, AreItems, no_items, item, items_marker, IsTag, own_tag, tag_by_place, IsDefined, this_definition, later_definition, IsLeaf, bounds_behind, items_behind, nothing_behind, size_behind, IsType, leaf_type, named_type, empty_sequence_type, sequence_type, extensible_sequence_type, sequence_of_type, choice_type, AreComponents, no_components, component, components_marker, AreAdditions, none_added, added, AreAlternatives, none_left, an_alternative, alternatives_marker, AreLater, none_later, a_later}

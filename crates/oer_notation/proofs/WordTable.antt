@@ -8,8 +8,8 @@ use Rattle.std.proofs.lemmas.Slice.Eq.{bytes_eq-Decides}
 use Rattle.oer_lexer.specs.LeafWords.{is_leaf_word, is_second, is_word_of, leaf_among, leaf_word, leaves, second_words, words_among, words_of}
 use Rattle.oer_lexer.specs.declared.leaf.LeafWord.{LeafWord}
 use Rattle.oer_lexer.specs.Token.{Token, word, number, bits, digits, text, sign}
-use Rattle.oer_types.specs.AsnType.{AsnType}
-use Rattle.oer_types.specs.WellFormed.{AnyOf}
+use Rattle.oer_model.specs.AsnType.{AsnType}
+use Rattle.oer_model.specs.WellFormed.{AnyOf}
 use Rattle.oer_notation.specs.Grammar.{IsName, a_name, IsDefined, this_definition, later_definition}
 use Rattle.oer_notation.specs.Reading.{Known, find, Start, nothing, of_word, of_name, start_word, start_by}
 use Rattle.oer_notation.specs.Words.{is_reserved, is_name, other_words, reserved, type_word}

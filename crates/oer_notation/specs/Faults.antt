@@ -1,6 +1,6 @@
 -- The names of the faults.
 use Rattle.std.specs.Prelude.{ℕ, List, codes}
-use Rattle.oer_types.specs.Faults.{schema_fault_name}
+use Rattle.oer_model.specs.Faults.{schema_fault_name}
 use Rattle.oer_notation.specs.declared.fault.TextWhy.{TextWhy}
 use Rattle.oer_notation.specs.declared.fault.TextWhy.TheVariants.{Memory, Token, Syntax, Number, Name, Repeated, Mixed, Default, Schema}
 

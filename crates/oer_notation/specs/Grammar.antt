@@ -11,12 +11,12 @@ use Rattle.oer_lexer.specs.Token.{Token, word, number, bits, digits, text, sign}
 use Rattle.oer_lexer.specs.declared.leaf.LeafWord.{LeafWord}
 use Rattle.oer_lexer.specs.declared.token.Sign.TheVariants.{OpenBrace, CloseBrace, OpenParenthesis, CloseParenthesis, OpenBracket, CloseBracket, Comma, Range, Ellipsis, Assign}
 use Rattle.oer_literals.specs.Bits.{is_one}
-use Rattle.oer_types.specs.AsnType.{Need, must, may, default, NamedNumber, Alphabet, AsnType, leaf, boolean, null, integer, enumerated, bit_string, octet_string, object_id, restricted_string, utf8_string, sequence, extensible_sequence, sequence_of, choice, Fields, no_fields, field, Additions, no_additions, addition, Alternatives, no_alternatives, alternative, later}
-use Rattle.oer_types.specs.LeafType.{LeafType}
-use Rattle.oer_types.specs.AsnValue.{AsnValue, bool, nothing, int, enum, bit_list, octets, text as string, oid}
-use Rattle.oer_types.specs.Bits.{bit}
-use Rattle.oer_types.specs.WellFormed.{AnyOf, IsWellFormed}
-use Rattle.oer_types.specs.declared.size.Size.{Size}
+use Rattle.oer_model.specs.AsnType.{Need, must, may, default, NamedNumber, Alphabet, AsnType, leaf, boolean, null, integer, enumerated, bit_string, octet_string, object_id, restricted_string, utf8_string, sequence, extensible_sequence, sequence_of, choice, Fields, no_fields, field, Additions, no_additions, addition, Alternatives, no_alternatives, alternative, later}
+use Rattle.oer_model.specs.LeafType.{LeafType}
+use Rattle.oer_model.specs.AsnValue.{AsnValue, bool, nothing, int, enum, bit_list, octets, text as string, oid}
+use Rattle.oer_model.specs.Bits.{bit}
+use Rattle.oer_model.specs.WellFormed.{AnyOf, IsWellFormed}
+use Rattle.oer_model.specs.declared.size.Size.{Size}
 use Rattle.oer_units.specs.declared.tagging.Class.{Class}
 use Rattle.oer_units.specs.declared.tagging.Class.TheVariants.{Universal, Application, Context, Private}
 use Rattle.oer_units.specs.declared.tagging.Tag.{Tag}

@@ -1,7 +1,7 @@
 -- Laws of reading against the grammar.
 use Rattle.std.specs.Prelude.{◌≡◌, ℕ, List, Ok, Err}
-use Rattle.oer_types.specs.AsnType.{AsnType}
-use Rattle.oer_types.specs.WellFormed.{IsWellFormed}
+use Rattle.oer_model.specs.AsnType.{AsnType}
+use Rattle.oer_model.specs.WellFormed.{IsWellFormed}
 use Rattle.oer_notation.specs.Grammar.{Spells, SpellsAll, AreWellFormed}
 use Rattle.oer_notation.specs.Parsing.{parse, parse_all}
 use Rattle.oer_notation.specs.Reading.{Known}

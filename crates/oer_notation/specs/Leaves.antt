@@ -2,8 +2,8 @@
 use Rattle.std.specs.Prelude.{ℤ, List, Bool, Option}
 use Rattle.oer_lexer.specs.declared.leaf.LeafWord.{LeafWord}
 use Rattle.oer_lexer.specs.declared.leaf.LeafWord.TheVariants as word
-use Rattle.oer_types.specs.LeafType.{LeafType, NamedNumber, bit_string, boolean, enumerated, ia5, integer, null, numeric, object_id, octet_string, printable, restricted_string, utf8_string, visible}
-use Rattle.oer_types.specs.declared.size.Size.{Size}
+use Rattle.oer_model.specs.LeafType.{LeafType, NamedNumber, bit_string, boolean, enumerated, ia5, integer, null, numeric, object_id, octet_string, printable, restricted_string, utf8_string, visible}
+use Rattle.oer_model.specs.declared.size.Size.{Size}
 
 -- what stands behind the words, and the type that both make
 pub data LeafForm : Type 0 where

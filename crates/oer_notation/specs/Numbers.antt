@@ -1,7 +1,7 @@
 -- Numbers of the notation, sizes and bounds: what is read and what is left, or the first fault.
 use Rattle.std.specs.Prelude.{ℕ, ℤ, List, Bool, true, false, not, ◌&&◌, Option, Some, None, Ok, Err, codes, if◌then◌else◌}
 use Rattle.oer_lexer.specs.declared.token.Sign.TheVariants.{OpenParenthesis, CloseParenthesis, Range}
-use Rattle.oer_types.specs.declared.size.Size.{Size}
+use Rattle.oer_model.specs.declared.size.Size.{Size}
 use Rattle.oer_literals.specs.Numbers.{integer_of, size_of}
 use Rattle.oer_notation.specs.State.{State, Read, ◌>>=◌, fault, bump, at_sign, at_word, skip_sign, skip_word, number_text_at}
 use Rattle.oer_notation.specs.declared.fault.TextFault.{TextFault}

@@ -3,10 +3,10 @@ use Rattle.std.specs.Prelude.{ℕ, zero, suc, List, [], ◌∷◌, ◌++◌, len
 use Rattle.oer_lexer.specs.Lexing.{Lexed, lex}
 use Rattle.oer_lexer.specs.Token.{Token, word, number, bits, digits, text, sign, Spot}
 use Rattle.oer_lexer.specs.declared.token.Sign.TheVariants.{Assign}
-use Rattle.oer_types.specs.AsnType.{AsnType}
-use Rattle.oer_types.specs.Limits.{max_depth, max_parts}
-use Rattle.oer_types.specs.FaultTest.{first_fault}
-use Rattle.oer_types.specs.declared.fault.SchemaFault.{SchemaFault}
+use Rattle.oer_model.specs.AsnType.{AsnType}
+use Rattle.oer_model.specs.Limits.{max_depth, max_parts}
+use Rattle.oer_model.specs.FaultTest.{first_fault}
+use Rattle.oer_model.specs.declared.fault.SchemaFault.{SchemaFault}
 use Rattle.oer_notation.specs.Reading.{Known, find, with_parts, type_at}
 use Rattle.oer_notation.specs.State.{State, Read, ◌>>=◌, first, fault, bump, skip_sign}
 use Rattle.oer_notation.specs.Words.{is_name}

@@ -8,11 +8,11 @@ use Rattle.oer_lexer.specs.declared.token.Sign.TheVariants.{OpenBrace, CloseBrac
 use Rattle.oer_units.specs.declared.tagging.Tag.{Tag}
 use Rattle.oer_units.specs.declared.tagging.Class.{Class}
 use Rattle.oer_units.specs.declared.tagging.Class.TheVariants.{Universal, Application, Context, Private}
-use Rattle.oer_types.specs.AsnType.{NamedNumber, AsnType, leaf, sequence, extensible_sequence, sequence_of, choice, no_alternatives}
-use Rattle.oer_types.specs.Nodes.{type_nodes}
-use Rattle.oer_types.specs.ShapeView.{SeenField, SeenAddition, SeenAlternative, fields_from, additions_from, later_from, root_from}
-use Rattle.oer_types.specs.WellFormed.{depth}
-use Rattle.oer_types.specs.declared.fault.SchemaFault.TheVariants.{TooDeep}
+use Rattle.oer_model.specs.AsnType.{NamedNumber, AsnType, leaf, sequence, extensible_sequence, sequence_of, choice, no_alternatives}
+use Rattle.oer_model.specs.Nodes.{type_nodes}
+use Rattle.oer_values.specs.ShapeView.{SeenField, SeenAddition, SeenAlternative, fields_from, additions_from, later_from, root_from}
+use Rattle.oer_model.specs.WellFormed.{depth}
+use Rattle.oer_model.specs.declared.fault.SchemaFault.TheVariants.{TooDeep}
 use Rattle.oer_literals.specs.Numbers.{item_number_of, tag_number_of}
 use Rattle.oer_notation.specs.Leaves.{LeafForm, bounded, leaf_form, listed, plain, sized}
 use Rattle.oer_notation.specs.Numbers.{number_at, bounds_at, bracketed_size_at, list_size_at}

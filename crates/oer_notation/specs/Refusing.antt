@@ -1,7 +1,7 @@
 -- What a refusal of a text says of it.
 use Rattle.std.specs.Prelude.{◌≢◌, ℕ, List}
-use Rattle.oer_types.specs.AsnType.{AsnType}
-use Rattle.oer_types.specs.WellFormed.{IsWellFormed}
+use Rattle.oer_model.specs.AsnType.{AsnType}
+use Rattle.oer_model.specs.WellFormed.{IsWellFormed}
 use Rattle.oer_notation.specs.Grammar.{AreWellFormed, Spells, SpellsAll}
 use Rattle.oer_notation.specs.Reading.{Known}
 use Rattle.oer_notation.specs.declared.fault.TextFault.{TextFault}

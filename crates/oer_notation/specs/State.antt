@@ -4,7 +4,7 @@ use Rattle.std.specs.Str.{bytes_eq}
 use Rattle.oer_lexer.specs.Token.{Token, word, number, bits, digits, text, sign, Spot, spots_of}
 use Rattle.oer_lexer.specs.declared.token.Sign.{Sign}
 use Rattle.oer_lexer.specs.declared.token.Sign.TheVariants.{OpenBrace, CloseBrace, OpenParenthesis, CloseParenthesis, OpenBracket, CloseBracket, Comma, Range, Ellipsis, Assign}
-use Rattle.oer_types.specs.declared.fault.SchemaFault.TheVariants.{TooManyParts}
+use Rattle.oer_model.specs.declared.fault.SchemaFault.TheVariants.{TooManyParts}
 use Rattle.oer_notation.specs.Words.{is_id}
 use Rattle.oer_notation.specs.declared.cursor.Cursor.{Cursor}
 use Rattle.oer_notation.specs.declared.fault.TextFault.{TextFault}

@@ -6,10 +6,10 @@ use Rattle.std.specs.Str.{chars}
 use Rattle.hex.specs.Hex.{decode_of}
 use Rattle.oer_lexer.specs.Token.{Token, word, number, bits, digits, text, sign}
 use Rattle.oer_lexer.specs.declared.token.Sign.TheVariants.{OpenBrace, CloseBrace}
-use Rattle.oer_types.specs.LeafType.{LeafType, NamedNumber, bit_string, boolean, enumerated, integer, null, object_id, octet_string, restricted_string, utf8_string}
-use Rattle.oer_types.specs.AsnType.{AsnType, Need, default, leaf, may, must}
-use Rattle.oer_types.specs.AsnValue.{AsnValue, bool, nothing, int, enum, bit_list, octets, text as string, oid}
-use Rattle.oer_types.specs.Bits.{bits_of, octets_for}
+use Rattle.oer_model.specs.LeafType.{LeafType, NamedNumber, bit_string, boolean, enumerated, integer, null, object_id, octet_string, restricted_string, utf8_string}
+use Rattle.oer_model.specs.AsnType.{AsnType, Need, default, leaf, may, must}
+use Rattle.oer_model.specs.AsnValue.{AsnValue, bool, nothing, int, enum, bit_list, octets, text as string, oid}
+use Rattle.oer_model.specs.Bits.{bits_of, octets_for}
 use Rattle.oer_literals.specs.Bits.{is_one}
 use Rattle.oer_literals.specs.Items.{number_named}
 use Rattle.oer_literals.specs.Numbers.{arc_of, integer_of}

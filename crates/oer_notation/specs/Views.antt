@@ -1,6 +1,6 @@
 -- What the types of the code stand for.
 use Rattle.std.specs.Prelude.{List, map, string_bytes}
-use Rattle.oer_types.specs.ShapeView.{named_number, seen_addition, seen_alternative, seen_field}
+use Rattle.oer_values.specs.ShapeView.{named_number, seen_addition, seen_alternative, seen_field}
 use Rattle.oer_notation.specs.Reading.{Known, Start, nothing, of_word, of_name, NamedItems, Components, Choices}
 use Rattle.oer_types.specs.Schema.{the_type}
 use Rattle.oer_notation.specs.declared.parse.Definition.{Definition}

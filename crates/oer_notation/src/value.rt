@@ -1,8 +1,8 @@
 //! Values after DEFAULT.
 ghost use Rattle.std.specs.Prelude.{◌≡◌, [], suc, length, map, option_map, IfOk, Ok, string_bytes};
-ghost use Rattle.oer_types.specs.AsnValue.{bit_list};
-ghost use Rattle.oer_types.specs.ShapeView.{named_number, need_of, type_of};
-ghost use Rattle.oer_types.specs.ValueView.{value_of};
+ghost use Rattle.oer_model.specs.AsnValue.{bit_list};
+ghost use Rattle.oer_values.specs.ShapeView.{named_number, need_of, type_of};
+ghost use Rattle.oer_values.specs.ValueView.{value_of};
 ghost use Rattle.oer_notation.specs.State.{first, IsReading, state_of};
 ghost use Rattle.oer_notation.specs.Values.{arcs_at, arcs_more, begins_value, bits_by, bits_from, digit_bits, inside, integer_at, is_number, item_by, need_at, no_value, null_at, octets_by, octets_in, oid_at, some_value, text_by, text_in, text_step, truth_at, value_at};
 

@@ -7,11 +7,11 @@ use Rattle.oer_lexer.specs.LeafWords.{behind_second, with_words, words_of}
 use Rattle.oer_lexer.specs.declared.leaf.LeafWord.{LeafWord}
 use Rattle.oer_lexer.specs.Token.{Token, word, number, bits, digits, text, sign}
 use Rattle.oer_lexer.specs.declared.token.Sign.TheVariants.{OpenBrace, CloseBrace, OpenParenthesis, CloseParenthesis, OpenBracket, CloseBracket, Comma, Range, Ellipsis, Assign}
-use Rattle.oer_types.specs.AsnType.{AsnType, Alternatives, no_alternatives}
-use Rattle.oer_types.specs.ShapeView.{choice_with, fields_of, later_of, named_number, root_of, seen_alternative}
-use Rattle.oer_types.specs.declared.shape.Alt.{Alt}
-use Rattle.oer_types.specs.declared.shape.Field.{Field}
-use Rattle.oer_types.specs.declared.shape.Item.{Item}
+use Rattle.oer_model.specs.AsnType.{AsnType, Alternatives, no_alternatives}
+use Rattle.oer_values.specs.ShapeView.{choice_with, fields_of, later_of, named_number, root_of, seen_alternative}
+use Rattle.oer_values.specs.declared.shape.Alt.{Alt}
+use Rattle.oer_values.specs.declared.shape.Field.{Field}
+use Rattle.oer_values.specs.declared.shape.Item.{Item}
 use Rattle.oer_printer.specs.Printer.{Written, Puts, alternative_part, are_apart, comma_unless, edge_of, is_plain_edge, is_word_edge, is_opening_edge, is_parenthesis_edge, joined_from, marker_behind, run, step, written}
 use Rattle.oer_printer.specs.Printing.{after_commas, alternatives_have_notation, behind, component_tokens, field_parts, has_notation, in_braces, is_apart, is_plain, is_tight, is_visible, is_word, item_tokens, joined, later_parts, marker, printed, root_parts, space_if, spaced, token_text, type_tokens}
 use Rattle.oer_printer.specs.declared.printer.Edge.TheVariants as edge

@@ -4,7 +4,7 @@ use Rattle.std.specs.declared.alloc.AllocError.{AllocError}
 use Rattle.oer_lexer.specs.Token.{Token, word, number, bits, digits, text, sign}
 use Rattle.oer_lexer.specs.declared.token.Sign.{Sign}
 use Rattle.oer_lexer.specs.declared.token.Sign.TheVariants.{OpenBrace, CloseBrace, OpenParenthesis, CloseParenthesis, OpenBracket, CloseBracket, Comma, Range, Ellipsis, Assign}
-use Rattle.oer_types.specs.ShapeView.{SeenField, SeenAlternative}
+use Rattle.oer_values.specs.ShapeView.{SeenField, SeenAlternative}
 use Rattle.oer_literals.specs.Items.{items_of}
 use Rattle.oer_printer.specs.Printing.{after_commas, alternative_tokens, component_tokens, is_tight, joined, marker, need_tokens, space_if, token_text, type_tokens}
 use Rattle.oer_printer.specs.declared.printer.Edge.{Edge}

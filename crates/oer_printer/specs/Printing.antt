@@ -18,11 +18,11 @@ use Rattle.oer_units.specs.declared.tagging.Class.TheVariants.{Universal, Applic
 use Rattle.oer_units.specs.declared.tagging.Tag.{Tag}
 use Rattle.oer_literals.specs.Bits.{bit_digit}
 use Rattle.oer_literals.specs.Items.{items_of, name_of}
-use Rattle.oer_types.specs.LeafType.{LeafType, bit_string, boolean, enumerated, integer, null, object_id, octet_string, restricted_string, string_size, utf8_string}
-use Rattle.oer_types.specs.AsnType.{Additions, Alphabet, Alternatives, AsnType, Fields, NamedNumber, Need, addition, alternative, choice, default, extensible_sequence, field, ia5, later, leaf, may, must, no_additions, no_alternatives, no_fields, numeric, printable, sequence, sequence_of, visible}
-use Rattle.oer_types.specs.AsnValue.{AsnValue, leaf_value}
-use Rattle.oer_types.specs.LeafValue.{LeafValue, bit_list, bool, enum, int, nothing, octets, oid, text as string}
-use Rattle.oer_types.specs.declared.size.Size.{Size}
+use Rattle.oer_model.specs.LeafType.{LeafType, bit_string, boolean, enumerated, integer, null, object_id, octet_string, restricted_string, string_size, utf8_string}
+use Rattle.oer_model.specs.AsnType.{Additions, Alphabet, Alternatives, AsnType, Fields, NamedNumber, Need, addition, alternative, choice, default, extensible_sequence, field, ia5, later, leaf, may, must, no_additions, no_alternatives, no_fields, numeric, printable, sequence, sequence_of, visible}
+use Rattle.oer_model.specs.AsnValue.{AsnValue, leaf_value}
+use Rattle.oer_model.specs.LeafValue.{LeafValue, bit_list, bool, enum, int, nothing, octets, oid, text as string}
+use Rattle.oer_model.specs.declared.size.Size.{Size}
 
 -- ---- tokens
 

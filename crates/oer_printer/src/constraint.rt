@@ -1,7 +1,7 @@
 //! The text of bounds, sizes, items and tags.
 ghost use Rattle.std.specs.Prelude.{[], ◌∷◌, map};
 ghost use Rattle.std.specs.Ordering.{int_eq};
-ghost use Rattle.oer_types.specs.ShapeView.{named_number};
+ghost use Rattle.oer_values.specs.ShapeView.{named_number};
 ghost use Rattle.oer_printer.specs.Printer.{Puts};
 ghost use Rattle.oer_printer.specs.Printing.{bounds_tokens, class_tokens, ends_tokens, in_brackets, integer_token, item_tokens, natural_token, size_tokens, sized, tag_tokens};
 ghost use Rattle.oer_lexer.specs.Token.{sign, word};

@@ -3,9 +3,9 @@ ghost use Rattle.std.specs.Prelude.{◌≡◌, [], ◌∷◌, ◌++◌, OnOk, co
 ghost use Rattle.std.specs.Str.{chars};
 ghost use Rattle.hex.specs.Hex.{encode_upper};
 ghost use Rattle.oer_lexer.specs.Characters.{quote};
-ghost use Rattle.oer_types.specs.AsnValue.{oid};
-ghost use Rattle.oer_types.specs.ShapeView.{type_of};
-ghost use Rattle.oer_types.specs.ValueView.{value_of};
+ghost use Rattle.oer_model.specs.AsnValue.{oid};
+ghost use Rattle.oer_values.specs.ShapeView.{type_of};
+ghost use Rattle.oer_values.specs.ValueView.{value_of};
 ghost use Rattle.oer_printer.specs.Printer.{Puts};
 ghost use Rattle.oer_literals.specs.Bits.{bit_digit};
 ghost use Rattle.oer_literals.specs.Items.{items_of};

@@ -1,7 +1,7 @@
 //! Which types have a notation.
 ghost use Rattle.std.specs.Prelude.{◌≡◌};
-ghost use Rattle.oer_types.specs.AsnType.{no_alternatives};
-ghost use Rattle.oer_types.specs.ShapeView.{additions_of, fields_of, need_of, root_of, type_of};
+ghost use Rattle.oer_model.specs.AsnType.{no_alternatives};
+ghost use Rattle.oer_values.specs.ShapeView.{additions_of, fields_of, need_of, root_of, type_of};
 ghost use Rattle.oer_literals.specs.Items.{items_of};
 ghost use Rattle.oer_printer.specs.Printing.{additions_have_notation, alternatives_have_notation, has_notation, have_notation, need_has_notation};
 

@@ -1,11 +1,11 @@
 //! The text of a type.
 ghost use Rattle.std.specs.Prelude.{◌≡◌, ◌↔◌, [], ◌∷◌, IfOk, map, Ok, Err, Some, None, string_bytes};
-ghost use Rattle.oer_types.specs.AsnType.{enumerated, integer, no_alternatives, sequence_of};
+ghost use Rattle.oer_model.specs.AsnType.{enumerated, integer, no_alternatives, sequence_of};
 ghost use Rattle.oer_lexer.specs.LeafWords.{with_words};
 ghost use Rattle.oer_lexer.specs.Token.{sign, word};
 ghost use Rattle.oer_lexer.specs.declared.token.Sign.TheVariants.{OpenBrace};
 ghost use Rattle.oer_types.specs.Schema.{the_type};
-ghost use Rattle.oer_types.specs.ShapeView.{additions_of, fields_of, named_number, need_of, root_of, seen_alternative, seen_field, type_of};
+ghost use Rattle.oer_values.specs.ShapeView.{additions_of, fields_of, named_number, need_of, root_of, seen_alternative, seen_field, type_of};
 ghost use Rattle.oer_printer.specs.Printer.{Puts, alternative_part, comma_unless, field_part, joined_from, marker_behind};
 ghost use Rattle.oer_literals.specs.Items.{items_of};
 ghost use Rattle.oer_printer.specs.Printing.{addition_parts, after_commas, field_parts, item_tokens, joined, need_tokens, printed, root_parts, size_tokens, type_tokens};

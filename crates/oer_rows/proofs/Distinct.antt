@@ -3,11 +3,11 @@ use Rattle.std.proofs.Common.{◌≡◌, inl, inr, ℕ, zero, suc, ◌+◌, ◌<
 use Rattle.std.proofs.lemmas.Bool.{ne_eqb}
 use Rattle.oer_units.specs.Spelling.{IsCounted}
 use Rattle.oer_units.specs.declared.tagging.Tag.{Tag}
-use Rattle.oer_types.specs.AsnType.{Additions, Alternatives, AsnType, Fields, addition, alternative, choice, default, extensible_sequence, field, later, leaf, may, must, no_additions, no_alternatives, no_fields, sequence, sequence_of}
-use Rattle.oer_types.specs.Bits.{first_bit, later_bits}
-use Rattle.oer_types.specs.Constraints.{addition_count, same_tag}
-use Rattle.oer_types.specs.Encoding.{IsItself}
-use Rattle.oer_types.specs.Parts.{AloneByTag, Answer, Holds, IsAlone, IsSplit, Part, SplitsAdditions, SplitsAlternative, SplitsExtension, SplitsFields, SplitsItems, SplitsUnknown, Starts, StartsByBit, Step, field_count, found, lookup, part, same_step, to_addition, to_component, to_item}
+use Rattle.oer_model.specs.AsnType.{Additions, Alternatives, AsnType, Fields, addition, alternative, choice, default, extensible_sequence, field, later, leaf, may, must, no_additions, no_alternatives, no_fields, sequence, sequence_of}
+use Rattle.oer_model.specs.Bits.{first_bit, later_bits}
+use Rattle.oer_model.specs.Constraints.{addition_count, same_tag}
+use Rattle.oer_model.specs.Encoding.{IsItself}
+use Rattle.oer_model.specs.Parts.{AloneByTag, Answer, Holds, IsAlone, IsSplit, Part, SplitsAdditions, SplitsAlternative, SplitsExtension, SplitsFields, SplitsItems, SplitsUnknown, Starts, StartsByBit, Step, field_count, found, lookup, part, same_step, to_addition, to_component, to_item}
 use Rattle.oer_rows.proofs.LinePaths.{Every, every_both}
 
 abbrev pub step_of : Part → Step

@@ -7,20 +7,20 @@ use Rattle.oer_units.specs.Numbers.{unsigned}
 use Rattle.oer_units.specs.declared.tagging.Tag.{Tag}
 use Rattle.oer_units.proofs.TagReaders.{tag_lawful}
 use Rattle.oer_units.proofs.Units.{group_lawful}
-use Rattle.oer_types.specs.AsnType.{Additions, Alternatives, AsnType, Fields, addition, alternative, choice, extensible_sequence, field, later, leaf, no_additions, no_alternatives, no_fields, sequence, sequence_of}
-use Rattle.oer_types.specs.AsnValue.{AsnValue}
-use Rattle.oer_types.specs.Bits.{IsPreamble, all_false, first_bit, later_bits}
-use Rattle.oer_types.specs.Checking.{check_value}
-use Rattle.oer_types.specs.Constraints.{AdditionsKeepLimits, AlternativesKeepLimits, FieldsKeepLimits, KeepsLimits, addition_count, has_tag, optional, same_tag, size_fits}
-use Rattle.oer_types.specs.Encoding.{IsSpelling, SpellsBitmap}
-use Rattle.oer_types.specs.Fits.{AdditionDefaultsFit, AlternativeDefaultsFit, DefaultsFit, FieldDefaultsFit}
-use Rattle.oer_types.specs.Parts.{Step, to_addition, to_chosen, to_component, to_item}
-use Rattle.oer_types.specs.Reading.{preamble}
-use Rattle.oer_types.specs.declared.size.Size.{Size}
-use Rattle.oer_types.proofs.Parts.{preamble_lawful}
+use Rattle.oer_model.specs.AsnType.{Additions, Alternatives, AsnType, Fields, addition, alternative, choice, extensible_sequence, field, later, leaf, no_additions, no_alternatives, no_fields, sequence, sequence_of}
+use Rattle.oer_model.specs.AsnValue.{AsnValue}
+use Rattle.oer_model.specs.Bits.{IsPreamble, all_false, first_bit, later_bits}
+use Rattle.oer_model.specs.Checking.{check_value}
+use Rattle.oer_model.specs.Constraints.{AdditionsKeepLimits, AlternativesKeepLimits, FieldsKeepLimits, KeepsLimits, addition_count, has_tag, optional, same_tag, size_fits}
+use Rattle.oer_model.specs.Encoding.{IsSpelling, SpellsBitmap}
+use Rattle.oer_model.specs.Fits.{AdditionDefaultsFit, AlternativeDefaultsFit, DefaultsFit, FieldDefaultsFit}
+use Rattle.oer_model.specs.Parts.{Step, to_addition, to_chosen, to_component, to_item}
+use Rattle.oer_model.specs.Reading.{preamble}
+use Rattle.oer_model.specs.declared.size.Size.{Size}
+use Rattle.oer_model.proofs.reading.Parts.{preamble_lawful}
 use Rattle.oer_rows.specs.Lines.{AreAdditions, AreAlternative, AreBoth, AreEither, AreExtension, AreFields, AreIf, AreLines, AreNever, AreNone, AreOpen, AreRest, AreTimes, IsOne, StartWith}
 use Rattle.oer_rows.specs.Rows.{Line, Walk, Walker, add_line, go_on, halted, inside, leave, leave_at, line, line_at, row, stay, stuck, walk_additions, walk_alternative, walk_both, walk_choose, walk_chosen, walk_extension, walk_fields, walk_if, walk_open, walk_rest, walk_times, walk_unknown, walk_value, went}
-use Rattle.oer_types.specs.SharedSteps.{bits_left, is_there}
+use Rattle.oer_model.specs.SharedSteps.{bits_left, is_there}
 use Rattle.oer_checker.specs.Steps.{addition_map, between, sized_length, sized_quantity}
 use Rattle.oer_rows.specs.declared.row.Role.{Role}
 use Rattle.oer_rows.specs.declared.row.Role.TheVariants.{Bitmap, Contents, Length, Preamble, Quantity, Tag as TagRole, Unknown}

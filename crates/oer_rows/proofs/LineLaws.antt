@@ -8,18 +8,18 @@ use Rattle.oer_units.specs.declared.fault.Why.TheVariants.{UnknownAlternative}
 use Rattle.oer_units.specs.declared.tagging.Tag.{Tag}
 use Rattle.oer_units.proofs.TagReaders.{tag_lawful}
 use Rattle.oer_units.proofs.Units.{group_lawful}
-use Rattle.oer_types.specs.AsnType.{Additions, Alternatives, AsnType, Fields, Need, addition, alternative, choice, default, extensible_sequence, field, later, leaf, may, must, no_additions, no_alternatives, no_fields, sequence, sequence_of}
-use Rattle.oer_types.specs.Bits.{first_bit, later_bits}
-use Rattle.oer_types.specs.Canonical.{canonical_octets, same_list}
-use Rattle.oer_types.specs.Checking.{and_also, both, check_additions, check_alternative, check_by_tag, check_chosen, check_extension, check_fields, check_group, check_octets, check_open, check_times, check_unknown, check_value, judge, judged, unlike}
-use Rattle.oer_types.specs.Constraints.{AdditionsKeepLimits, AlternativesKeepLimits, FieldsKeepLimits, KeepsLimits, addition_count, has_tag, optional, same_tag}
-use Rattle.oer_types.specs.Fits.{AdditionDefaultsFit, AlternativeDefaultsFit, DefaultsFit, FieldDefaultsFit}
-use Rattle.oer_types.specs.Parts.{Step, to_addition, to_chosen, to_component, to_item}
-use Rattle.oer_types.specs.Reading.{preamble}
-use Rattle.oer_types.proofs.Parts.{preamble_lawful}
+use Rattle.oer_model.specs.AsnType.{Additions, Alternatives, AsnType, Fields, Need, addition, alternative, choice, default, extensible_sequence, field, later, leaf, may, must, no_additions, no_alternatives, no_fields, sequence, sequence_of}
+use Rattle.oer_model.specs.Bits.{first_bit, later_bits}
+use Rattle.oer_model.specs.Canonical.{canonical_octets, same_list}
+use Rattle.oer_model.specs.Checking.{and_also, both, check_additions, check_alternative, check_by_tag, check_chosen, check_extension, check_fields, check_group, check_octets, check_open, check_times, check_unknown, check_value, judge, judged, unlike}
+use Rattle.oer_model.specs.Constraints.{AdditionsKeepLimits, AlternativesKeepLimits, FieldsKeepLimits, KeepsLimits, addition_count, has_tag, optional, same_tag}
+use Rattle.oer_model.specs.Fits.{AdditionDefaultsFit, AlternativeDefaultsFit, DefaultsFit, FieldDefaultsFit}
+use Rattle.oer_model.specs.Parts.{Step, to_addition, to_chosen, to_component, to_item}
+use Rattle.oer_model.specs.Reading.{preamble}
+use Rattle.oer_model.proofs.reading.Parts.{preamble_lawful}
 use Rattle.oer_rows.specs.Listing.{Cover}
 use Rattle.oer_rows.specs.Rows.{Line, Walk, Walker, add_line, go_on, halted, inside, leave, leave_at, line, line_at, row, stay, stuck, walk_additions, walk_alternative, walk_both, walk_choose, walk_chosen, walk_extension, walk_fields, walk_if, walk_open, walk_rest, walk_times, walk_unknown, walk_value, went}
-use Rattle.oer_types.specs.SharedSteps.{bits_left, is_there}
+use Rattle.oer_model.specs.SharedSteps.{bits_left, is_there}
 use Rattle.oer_checker.specs.Steps.{addition_map, and_after, between, check_if, check_there, sized_length, sized_quantity}
 use Rattle.oer_rows.specs.declared.row.Role.{Role}
 use Rattle.oer_rows.specs.declared.row.Role.TheVariants.{Bitmap, Contents, Length, Preamble, Quantity, Tag as TagRole, Unknown}

@@ -1,9 +1,9 @@
 -- Rows name parts: a path that leads to a part has lines, and the path of a line leads to a part.
 use Rattle.std.proofs.Common.{◌≡◌, inl, inr, ⊎_elim, ℕ, ◌+◌, Bool, true, false, List, [], ◌∷◌, ◌++◌, length, Option, Some, None, if◌then◌else◌, arith, refl, sym, ap, ◌∙◌, subst, append_assoc, append-nil}
 use Rattle.std.proofs.lemmas.List.Elements.{All-contains, All-from_recursion}
-use Rattle.oer_types.specs.AsnType.{AsnType, choice, extensible_sequence, leaf, sequence, sequence_of}
-use Rattle.oer_types.specs.Parts.{LeadsTo, Part, Step, Within, found, lookup, no_such_step, part, same_step}
-use Rattle.oer_types.proofs.Finding.{led_to, same_found}
+use Rattle.oer_model.specs.AsnType.{AsnType, choice, extensible_sequence, leaf, sequence, sequence_of}
+use Rattle.oer_model.specs.Parts.{LeadsTo, Part, Step, Within, found, lookup, no_such_step, part, same_step}
+use Rattle.oer_model.proofs.paths.Finding.{led_to, same_found}
 use Rattle.oer_rows.specs.Lines.{AreLines}
 use Rattle.oer_rows.specs.Naming.{ArePart, Names, NamesParts, lines_of_part, octets_of_lines}
 use Rattle.oer_rows.specs.Rows.{Line, line}

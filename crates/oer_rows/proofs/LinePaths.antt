@@ -3,7 +3,7 @@ use Rattle.std.proofs.Common.{◌≡◌, ℕ, ◌+◌, Bool, true, false, not, �
 use Rattle.std.proofs.lemmas.Bool.{eqb-true, eq-eqb}
 use Rattle.std.proofs.lemmas.List.{append_cancel_left}
 use Rattle.std.specs.List.{AllByRecursion}
-use Rattle.oer_types.specs.Parts.{Step, same_step, to_addition, to_chosen, to_component, to_item}
+use Rattle.oer_model.specs.Parts.{Step, same_step, to_addition, to_chosen, to_component, to_item}
 use Rattle.oer_rows.specs.Naming.{starts_with, is_length, is_of, lines_of_part, octets_of_lines}
 use Rattle.oer_rows.specs.Rows.{Line, line}
 use Rattle.oer_rows.specs.declared.row.Role.{Role}

@@ -3,14 +3,14 @@ use Rattle.std.proofs.Common.{◌≡◌, ◌⊎◌, inl, inr, ℕ, zero, suc, �
 use Rattle.oer_units.specs.Numbers.{unsigned}
 use Rattle.oer_units.specs.Spelling.{IsCounted, IsJoined, IsLength, StandsFor}
 use Rattle.oer_units.specs.declared.tagging.Tag.{Tag}
-use Rattle.oer_types.specs.AsnType.{Additions, Alternatives, AsnType, Fields, addition, alternative, choice, default, extensible_sequence, field, later, leaf, may, must, no_additions, no_alternatives, no_fields, sequence, sequence_of}
-use Rattle.oer_types.specs.AsnValue.{AsnValue, Places, Unknown, absent, chosen, foreign, items, no_places, present, seq, unknown}
-use Rattle.oer_types.specs.Bits.{first_bit, later_bits}
-use Rattle.oer_types.specs.Constraints.{AdditionsKeepLimits, AlternativesKeepLimits, FieldsKeepLimits, KeepsLimits, addition_count, has_tag, optional, same_tag, size_fits}
-use Rattle.oer_types.specs.Encoding.{ByBit, ByTag, IsItself, IsSpelling, SpellsAdditions, SpellsAlternative, SpellsChosen, SpellsExtension, SpellsFields, SpellsUnknown}
-use Rattle.oer_types.specs.Fits.{AdditionDefaultsFit, AlternativeDefaultsFit, DefaultsFit, FieldDefaultsFit, all_absent, listed}
-use Rattle.oer_types.specs.Parts.{AloneByTag, Holds, IsAlone, IsSplit, Part, SplitsAdditions, SplitsAlternative, SplitsExtension, SplitsFields, SplitsItems, SplitsUnknown, StartsByBit, Step, part, to_addition, to_chosen, to_component, to_item}
-use Rattle.oer_types.specs.declared.size.Size.{Size}
+use Rattle.oer_model.specs.AsnType.{Additions, Alternatives, AsnType, Fields, addition, alternative, choice, default, extensible_sequence, field, later, leaf, may, must, no_additions, no_alternatives, no_fields, sequence, sequence_of}
+use Rattle.oer_model.specs.AsnValue.{AsnValue, Places, Unknown, absent, chosen, foreign, items, no_places, present, seq, unknown}
+use Rattle.oer_model.specs.Bits.{first_bit, later_bits}
+use Rattle.oer_model.specs.Constraints.{AdditionsKeepLimits, AlternativesKeepLimits, FieldsKeepLimits, KeepsLimits, addition_count, has_tag, optional, same_tag, size_fits}
+use Rattle.oer_model.specs.Encoding.{ByBit, ByTag, IsItself, IsSpelling, SpellsAdditions, SpellsAlternative, SpellsChosen, SpellsExtension, SpellsFields, SpellsUnknown}
+use Rattle.oer_model.specs.Fits.{AdditionDefaultsFit, AlternativeDefaultsFit, DefaultsFit, FieldDefaultsFit, all_absent, listed}
+use Rattle.oer_model.specs.Parts.{AloneByTag, Holds, IsAlone, IsSplit, Part, SplitsAdditions, SplitsAlternative, SplitsExtension, SplitsFields, SplitsItems, SplitsUnknown, StartsByBit, Step, part, to_addition, to_chosen, to_component, to_item}
+use Rattle.oer_model.specs.declared.size.Size.{Size}
 use Rattle.oer_rows.specs.Lines.{AreAdditions, AreAlternative, AreBoth, AreEither, AreExtension, AreFields, AreIf, AreLines, AreNever, AreNone, AreOpen, AreRest, AreTimes, AreUnknown, IsOne}
 use Rattle.oer_rows.specs.Naming.{ArePart, is_length, octets_of_lines}
 use Rattle.oer_rows.specs.Rows.{Line, line}

@@ -1,25 +1,26 @@
 -- Walks, one step after another.
-use Rattle.std.proofs.Common.{◌≡◌, ℕ, zero, suc, ◌+◌, ◌-◌, ◌<◌, ◌≤◌, ◌||◌, Bool, true, false, List, [], ◌∷◌, ◌++◌, length, drop, get_or, Result, Ok, Err, arith, refl, sym, ap, ap₂, ◌∙◌, subst, drop-cons, add-one}
+use Rattle.std.proofs.Common.{◌≡◌, ℕ, zero, suc, ◌+◌, ◌-◌, ◌<◌, ◌≤◌, ◌||◌, Bool, true, false, List, [], ◌∷◌, ◌++◌, length, drop, get_or, Result, Ok, Err, arith, refl, sym, ap, ap₂, ◌∙◌, subst, drop-cons, add-one, if◌then◌else◌, Option, Some, None}
 use Rattle.std.proofs.lemmas.List.{drop_all}
 use Rattle.oer_units.specs.declared.tagging.Tag.{Tag}
 use Rattle.oer_units.specs.Reader.{Place, Reader, at}
-use Rattle.oer_types.specs.AsnType.{Additions, Alternatives, AsnType, Fields, choice, extensible_sequence, leaf, no_alternatives, sequence, sequence_of}
-use Rattle.oer_types.specs.Bits.{first_bit, later_bits}
-use Rattle.oer_types.specs.Constraints.{has_tag, optional, same_tag}
-use Rattle.oer_types.specs.Parts.{Step, to_addition, to_chosen, to_component}
-use Rattle.oer_types.specs.Reading.{preamble}
+use Rattle.oer_model.specs.AsnType.{Additions, Alternatives, AsnType, Fields, choice, extensible_sequence, leaf, no_alternatives, sequence, sequence_of}
+use Rattle.oer_model.specs.Bits.{first_bit, later_bits}
+use Rattle.oer_model.specs.Constraints.{has_tag, optional, same_tag}
+use Rattle.oer_model.specs.Parts.{Step, to_addition, to_chosen, to_component}
+use Rattle.oer_model.specs.Reading.{preamble}
 use Rattle.oer_units.specs.Reading.{tag}
-use Rattle.oer_types.specs.ShapeView.{additions_of, fields_of, later_of, need_of, root_of, type_of}
-use Rattle.oer_types.specs.declared.shape.Addition.{Addition}
-use Rattle.oer_types.specs.declared.shape.Alt.{Alt}
-use Rattle.oer_types.specs.declared.shape.Field.{Field}
+use Rattle.oer_values.specs.Lookup.{first_with}
+use Rattle.oer_values.specs.ShapeView.{additions_of, fields_of, later_of, need_of, root_of, type_of}
+use Rattle.oer_values.specs.declared.shape.Addition.{Addition}
+use Rattle.oer_values.specs.declared.shape.Alt.{Alt}
+use Rattle.oer_values.specs.declared.shape.Field.{Field}
 use Rattle.oer_checker.specs.Places.{outcome, place_of}
-use Rattle.oer_types.specs.Checking.{check_value}
+use Rattle.oer_model.specs.Checking.{check_value}
 use Rattle.oer_rows.specs.declared.row.Role.TheVariants.{Bitmap, Contents, Preamble, Tag as TagRole}
 use Rattle.oer_rows.specs.Rows.{Line, Reaches, ReadsRow, Walk, Walker, Walks, add_line, go_on, halted, inside, leave, leave_at, path_in, row, stay, stuck, walk_additions, walk_alternative, walk_both, walk_choose, walk_chosen, walk_extension, walk_fields, walk_if, walk_later, walk_open, walk_rest, walk_times, walk_unknown, walk_value, went}
 use Rattle.oer_checker.specs.BitView.{bits_in}
 use Rattle.oer_checker.specs.Facts.{IsLeaf}
-use Rattle.oer_types.specs.SharedSteps.{bits_left, is_there}
+use Rattle.oer_model.specs.SharedSteps.{bits_left, is_there}
 use Rattle.oer_checker.specs.Steps.{addition_map}
 use Rattle.oer_checker.specs.declared.bits.Bits.{Bits}
 use Rattle.oer_checker.specs.declared.bit_strings.Map.{Map}
@@ -31,7 +32,7 @@ use Rattle.oer_rows.specs.declared.row.Role.{Role}
 use Rattle.oer_rows.specs.declared.spot.Spot.{Spot}
 use Rattle.oer_checker.specs.declared.stop.Stop.{Stop}
 use Rattle.oer_checker.proofs.BitLists.{drop_next, drop_past}
-use Rattle.oer_checker.proofs.TagSteps.{here, in_root, not_in_root}
+use Rattle.oer_checker.proofs.TagSteps.{in_root, not_in_root}
 
 pub by_walk : (result : Result Cursor Halt) (new : List Line) (w v : Walk) → w ≡ v → Walks result new w → Walks result new v
 by_walk result new w v e h = subst (λ (x : Walk). Walks result new x) e h
@@ -237,31 +238,42 @@ none_is b c d e = ap (λ (x : Bool). walk_choose x c stuck) e
 pub choice_none : (xs : List Alt) (total : ℕ) (path : List Step) (t : Tag) → false ≡ has_tag t (root_of xs no_alternatives) → stuck ≡ after_tag false (root_of xs no_alternatives) total path t
 choice_none xs total path t none = none_is (has_tag t (root_of xs no_alternatives)) (walk_alternative (root_of xs no_alternatives) total path t) (walk_unknown total path) none
 
-pub root_here : (xs : List Alt) (i : ℕ) (a : Alt) (total : ℕ) (path : List Step) (t : Tag) (whole : Walker) → i < length xs → a ≡ get_or xs i a → true ≡ same_tag a.tag t → walk_alternative (root_of (drop i xs) no_alternatives) total path t ≡ whole → walk_value (type_of a.shape) total path ≡ whole
-root_here xs i a total path t whole less is same e =
-    ap (λ (b : Bool). walk_choose b (walk_value (type_of a.shape) total path) (walk_alternative (root_of (drop (i + 1) xs) no_alternatives) total path t)) same
-    ∙ ap (λ (l : List Alt). walk_alternative (root_of l no_alternatives) total path t) (sym (here xs i a less is)) ∙ e
+abbrev root_or : ℕ → List Step → Option Alt → Walker
+root_or total path None = stuck
+root_or total path (Some a) = walk_value (type_of a.shape) total path
 
-pub root_next : (xs : List Alt) (i : ℕ) (a : Alt) (total : ℕ) (path : List Step) (t : Tag) (whole : Walker) → i < length xs → a ≡ get_or xs i a → false ≡ same_tag a.tag t → walk_alternative (root_of (drop i xs) no_alternatives) total path t ≡ whole → walk_alternative (root_of (drop (i + 1) xs) no_alternatives) total path t ≡ whole
-root_next xs i a total path t whole less is other e =
-    ap (λ (b : Bool). walk_choose b (walk_value (type_of a.shape) total path) (walk_alternative (root_of (drop (i + 1) xs) no_alternatives) total path t)) other
-    ∙ ap (λ (l : List Alt). walk_alternative (root_of l no_alternatives) total path t) (sym (here xs i a less is)) ∙ e
+root_step : (b : Bool) (a : Alt) (total : ℕ) (path : List Step) (rest : Walker) (p : Option Alt) → rest ≡ root_or total path p → walk_choose b (walk_value (type_of a.shape) total path) rest ≡ root_or total path (if b then Some a else p)
+root_step true a total path rest p e = refl
+root_step false a total path rest p e = e
 
-pub root_end : (xs : List Alt) (i : ℕ) (total : ℕ) (path : List Step) (t : Tag) (whole : Walker) (ls : List Line) (p : Place) → length xs ≤ i → walk_alternative (root_of (drop i xs) no_alternatives) total path t ≡ whole → Walks (Err Refused) ls (whole ls p)
-root_end xs i total path t whole ls p le e = by_walk (Err Refused) ls _ _ (ap (λ (c : Walker). c ls p) (ap (λ (l : List Alt). walk_alternative (root_of l no_alternatives) total path t) (sym (drop_all i xs le)) ∙ e)) (sticks ls p)
+root_first : (xs : List Alt) (total : ℕ) (path : List Step) (t : Tag) → walk_alternative (root_of xs no_alternatives) total path t ≡ root_or total path (first_with t xs)
+root_first [] total path t = refl
+root_first (a ∷ xs) total path t = root_step (same_tag a.tag t) a total path (walk_alternative (root_of xs no_alternatives) total path t) (first_with t xs) (root_first xs total path t)
 
-pub later_here : (xs : List Alt) (i : ℕ) (a : Alt) (total : ℕ) (path : List Step) (t : Tag) (whole : Walker) → i < length xs → a ≡ get_or xs i a → true ≡ same_tag a.tag t → walk_later (later_of (drop i xs)) total path t ≡ whole → walk_open total path (walk_value (type_of a.shape) total path) ≡ whole
-later_here xs i a total path t whole less is same e =
-    ap (λ (b : Bool). walk_choose (b || has_tag t (later_of (drop (i + 1) xs))) (walk_choose b (walk_open total path (walk_value (type_of a.shape) total path)) (walk_alternative (later_of (drop (i + 1) xs)) total path t)) (walk_unknown total path)) same
-    ∙ ap (λ (l : List Alt). walk_later (later_of l) total path t) (sym (here xs i a less is)) ∙ e
+pub root_found : (xs : List Alt) (a : Alt) (total : ℕ) (path : List Step) (t : Tag) → Some a ≡ first_with t xs → walk_value (type_of a.shape) total path ≡ walk_alternative (root_of xs no_alternatives) total path t
+root_found xs a total path t is = ap (root_or total path) is ∙ sym (root_first xs total path t)
 
-pub later_next : (xs : List Alt) (i : ℕ) (a : Alt) (total : ℕ) (path : List Step) (t : Tag) (whole : Walker) → i < length xs → a ≡ get_or xs i a → false ≡ same_tag a.tag t → walk_later (later_of (drop i xs)) total path t ≡ whole → walk_later (later_of (drop (i + 1) xs)) total path t ≡ whole
-later_next xs i a total path t whole less is other e =
-    ap (λ (b : Bool). walk_choose (b || has_tag t (later_of (drop (i + 1) xs))) (walk_choose b (walk_open total path (walk_value (type_of a.shape) total path)) (walk_alternative (later_of (drop (i + 1) xs)) total path t)) (walk_unknown total path)) other
-    ∙ ap (λ (l : List Alt). walk_later (later_of l) total path t) (sym (here xs i a less is)) ∙ e
+pub root_none : (xs : List Alt) (total : ℕ) (path : List Step) (t : Tag) → None ≡ first_with t xs → stuck ≡ walk_alternative (root_of xs no_alternatives) total path t
+root_none xs total path t is = ap (root_or total path) is ∙ sym (root_first xs total path t)
 
-pub later_end : (xs : List Alt) (i : ℕ) (total : ℕ) (path : List Step) (t : Tag) (whole : Walker) → length xs ≤ i → walk_later (later_of (drop i xs)) total path t ≡ whole → walk_unknown total path ≡ whole
-later_end xs i total path t whole le e = ap (λ (l : List Alt). walk_later (later_of l) total path t) (sym (drop_all i xs le)) ∙ e
+abbrev later_or : ℕ → List Step → Option Alt → Walker
+later_or total path None = walk_unknown total path
+later_or total path (Some a) = walk_open total path (walk_value (type_of a.shape) total path)
+
+last_step : (b c : Bool) (a : Alt) (total : ℕ) (path : List Step) (rest : Walker) (p : Option Alt) → walk_choose c rest (walk_unknown total path) ≡ later_or total path p
+    → walk_choose (b || c) (walk_choose b (walk_open total path (walk_value (type_of a.shape) total path)) rest) (walk_unknown total path) ≡ later_or total path (if b then Some a else p)
+last_step true c a total path rest p e = refl
+last_step false c a total path rest p e = e
+
+later_first : (xs : List Alt) (total : ℕ) (path : List Step) (t : Tag) → walk_later (later_of xs) total path t ≡ later_or total path (first_with t xs)
+later_first [] total path t = refl
+later_first (a ∷ xs) total path t = last_step (same_tag a.tag t) (has_tag t (later_of xs)) a total path (walk_alternative (later_of xs) total path t) (first_with t xs) (later_first xs total path t)
+
+pub later_found : (xs : List Alt) (a : Alt) (total : ℕ) (path : List Step) (t : Tag) → Some a ≡ first_with t xs → walk_open total path (walk_value (type_of a.shape) total path) ≡ walk_later (later_of xs) total path t
+later_found xs a total path t is = ap (later_or total path) is ∙ sym (later_first xs total path t)
+
+pub later_none : (xs : List Alt) (total : ℕ) (path : List Step) (t : Tag) → None ≡ first_with t xs → walk_unknown total path ≡ walk_later (later_of xs) total path t
+later_none xs total path t is = ap (later_or total path) is ∙ sym (later_first xs total path t)
 
 -- ---- additions that the type doesn't know
 

@@ -2,10 +2,10 @@
 use Rattle.std.proofs.Common.{◌≡◌, ℕ, ◌-◌, ◌≤◌, Bool, List, [], ◌++◌, length, drop, take, Result, Ok, Err, arith, refl, sym, ap, ◌∙◌, subst, length-append, length-drop, take_at}
 use Rattle.oer_units.specs.declared.fault.ReadFault.{ReadFault}
 use Rattle.oer_units.specs.Reader.{Outcome, Place, at, got, refused}
-use Rattle.oer_types.specs.AsnType.{AsnType}
-use Rattle.oer_types.specs.Checking.{check_value}
-use Rattle.oer_types.specs.Constraints.{KeepsLimits}
-use Rattle.oer_types.specs.Fits.{DefaultsFit}
+use Rattle.oer_model.specs.AsnType.{AsnType}
+use Rattle.oer_model.specs.Checking.{check_value}
+use Rattle.oer_model.specs.Constraints.{KeepsLimits}
+use Rattle.oer_model.specs.Fits.{DefaultsFit}
 use Rattle.oer_checker.specs.Check.{Answers, Tells, most}
 use Rattle.oer_rows.specs.Lines.{AreLines}
 use Rattle.oer_rows.specs.Listing.{AreListed, Cover, Covers, lines_in, rows_of}

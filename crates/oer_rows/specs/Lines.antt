@@ -3,14 +3,14 @@ use Rattle.std.specs.Prelude.{◌≡◌, ℕ, zero, suc, ◌+◌, List, [], ◌�
 use Rattle.oer_units.specs.Numbers.{unsigned}
 use Rattle.oer_units.specs.Spelling.{IsCounted, IsLength, IsTag, StandsFor}
 use Rattle.oer_units.specs.declared.tagging.Tag.{Tag}
-use Rattle.oer_types.specs.AsnType.{Additions, Alternatives, AsnType, Fields, addition, alternative, choice, extensible_sequence, field, later, leaf, no_additions, no_alternatives, no_fields, sequence, sequence_of}
-use Rattle.oer_types.specs.AsnValue.{AsnValue}
-use Rattle.oer_types.specs.Bits.{IsPreamble, all_false, first_bit, later_bits}
-use Rattle.oer_types.specs.Constraints.{addition_count, has_tag, optional, same_tag, size_fits}
-use Rattle.oer_types.specs.Encoding.{IsSpelling, SpellsBitmap}
-use Rattle.oer_types.specs.Parts.{Step, to_addition, to_chosen, to_component, to_item}
+use Rattle.oer_model.specs.AsnType.{Additions, Alternatives, AsnType, Fields, addition, alternative, choice, extensible_sequence, field, later, leaf, no_additions, no_alternatives, no_fields, sequence, sequence_of}
+use Rattle.oer_model.specs.AsnValue.{AsnValue}
+use Rattle.oer_model.specs.Bits.{IsPreamble, all_false, first_bit, later_bits}
+use Rattle.oer_model.specs.Constraints.{addition_count, has_tag, optional, same_tag, size_fits}
+use Rattle.oer_model.specs.Encoding.{IsSpelling, SpellsBitmap}
+use Rattle.oer_model.specs.Parts.{Step, to_addition, to_chosen, to_component, to_item}
 use Rattle.oer_rows.specs.Rows.{Line, line}
-use Rattle.oer_types.specs.SharedSteps.{bits_left, is_there}
+use Rattle.oer_model.specs.SharedSteps.{bits_left, is_there}
 use Rattle.oer_rows.specs.declared.row.Role.{Role}
 use Rattle.oer_rows.specs.declared.row.Role.TheVariants.{Preamble, Bitmap, Quantity, Tag as TagRole, Length, Contents, Unknown}
 

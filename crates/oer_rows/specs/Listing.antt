@@ -2,7 +2,7 @@
 use Rattle.std.specs.Prelude.{◌≡◌, ℕ, ◌-◌, List, [], ◌∷◌, ◌++◌, length, drop, take, Result, Ok, Err}
 use Rattle.oer_units.specs.Reader.{at}
 use Rattle.oer_units.specs.declared.fault.ReadFault.{ReadFault}
-use Rattle.oer_types.specs.AsnType.{AsnType}
+use Rattle.oer_model.specs.AsnType.{AsnType}
 use Rattle.oer_checker.specs.Check.{most}
 use Rattle.oer_rows.specs.Lines.{AreLines}
 use Rattle.oer_rows.specs.Rows.{Line, Walk, halted, line, walk_value, went}

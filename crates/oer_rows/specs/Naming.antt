@@ -1,12 +1,12 @@
 -- Rows name parts: which rows are those of a part of an encoding.
 use Rattle.std.specs.Prelude.{◌≡◌, ℕ, List, [], ◌∷◌, ◌++◌, length, Bool, true, false, not, ◌&&◌, Option, Some, None}
 use Rattle.std.specs.List.{Contains, filter}
-use Rattle.oer_types.specs.AsnType.{AsnType}
-use Rattle.oer_types.specs.AsnValue.{AsnValue}
-use Rattle.oer_types.specs.Constraints.{KeepsLimits}
-use Rattle.oer_types.specs.Encoding.{IsSpelling}
-use Rattle.oer_types.specs.Fits.{DefaultsFit}
-use Rattle.oer_types.specs.Parts.{Step, Within, same_step}
+use Rattle.oer_model.specs.AsnType.{AsnType}
+use Rattle.oer_model.specs.AsnValue.{AsnValue}
+use Rattle.oer_model.specs.Constraints.{KeepsLimits}
+use Rattle.oer_model.specs.Encoding.{IsSpelling}
+use Rattle.oer_model.specs.Fits.{DefaultsFit}
+use Rattle.oer_model.specs.Parts.{Step, Within, same_step}
 use Rattle.oer_rows.specs.Lines.{AreLines, IsOne}
 use Rattle.oer_rows.specs.Rows.{Line, line}
 use Rattle.oer_rows.specs.declared.row.Role.{Role}

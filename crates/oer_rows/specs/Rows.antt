@@ -4,14 +4,14 @@ use Rattle.std.specs.declared.alloc.Global.{Global}
 use Rattle.oer_units.specs.Reader.{Outcome, Place, Reader, at, got, group, refused}
 use Rattle.oer_units.specs.Reading.{tag}
 use Rattle.oer_units.specs.declared.tagging.Tag.{Tag}
-use Rattle.oer_types.specs.AsnType.{Additions, Alternatives, AsnType, Fields, addition, alternative, choice, extensible_sequence, field, later, leaf, no_additions, no_alternatives, no_fields, sequence, sequence_of}
-use Rattle.oer_types.specs.Bits.{first_bit, later_bits}
-use Rattle.oer_types.specs.Checking.{check_value}
-use Rattle.oer_types.specs.Constraints.{addition_count, has_tag, optional, same_tag}
-use Rattle.oer_types.specs.Parts.{Step, to_addition, to_chosen, to_component, to_item}
-use Rattle.oer_types.specs.Reading.{preamble}
+use Rattle.oer_model.specs.AsnType.{Additions, Alternatives, AsnType, Fields, addition, alternative, choice, extensible_sequence, field, later, leaf, no_additions, no_alternatives, no_fields, sequence, sequence_of}
+use Rattle.oer_model.specs.Bits.{first_bit, later_bits}
+use Rattle.oer_model.specs.Checking.{check_value}
+use Rattle.oer_model.specs.Constraints.{addition_count, has_tag, optional, same_tag}
+use Rattle.oer_model.specs.Parts.{Step, to_addition, to_chosen, to_component, to_item}
+use Rattle.oer_model.specs.Reading.{preamble}
 use Rattle.oer_checker.specs.Places.{place_of}
-use Rattle.oer_types.specs.SharedSteps.{bits_left, is_there}
+use Rattle.oer_model.specs.SharedSteps.{bits_left, is_there}
 use Rattle.oer_checker.specs.Steps.{addition_map, between, sized_length, sized_quantity}
 use Rattle.oer_checker.specs.Walk.{path_of}
 use Rattle.oer_checker.specs.declared.cursor.Cursor.{Cursor}

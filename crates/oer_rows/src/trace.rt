@@ -1,11 +1,11 @@
 //! How the rows of an encoding are made.
-ghost use Rattle.oer_types.specs.AsnType.{no_alternatives, sequence, sequence_of};
-ghost use Rattle.oer_types.specs.ShapeView.{additions_of, fields_of, later_of, root_of, type_of};
+ghost use Rattle.oer_model.specs.AsnType.{no_alternatives, sequence, sequence_of};
+ghost use Rattle.oer_values.specs.ShapeView.{additions_of, fields_of, later_of, root_of, type_of};
 ghost use Rattle.oer_checker.specs.BitView.{IsWhole, bits_in};
 ghost use Rattle.oer_checker.specs.Facts.{IsChoice, IsExtensible, IsLeaf};
 ghost use Rattle.oer_checker.specs.Places.{place_of};
 ghost use Rattle.oer_rows.specs.Rows.{Walks, lines_of, path_in, walk_additions, walk_alternative, walk_extension, walk_fields, walk_if, walk_later, walk_open, walk_rest, walk_times, walk_unknown, walk_value};
-ghost use Rattle.oer_types.specs.Parts.{to_addition, to_component, to_item};
+ghost use Rattle.oer_model.specs.Parts.{to_addition, to_component, to_item};
 ghost use Rattle.std.specs.Prelude.{◌++◌, ◌∷◌, [], drop};
 
 use crate::row::{Halt, Role, Row};
@@ -15,7 +15,7 @@ use oer_checker::readers::{
     Bits, Cursor, addition_map, check_leaf, group_at, preamble, presence, sized_length_at,
     sized_quantity_at, tag_at,
 };
-use oer_types::{Addition, Alt, Field, Shape, Size, contains_tag, is_same_tag, optional};
+use oer_types::{Addition, Alt, Field, Shape, Size, contains_tag, optional, with_tag};
 use oer_units::Tag;
 
 /// A value of a type without parts.
@@ -75,7 +75,7 @@ fn list_rest<'a>(
 
 /// The encoding of a value of the type.
 #[cycle(list)]
-#[tactic(auto, using(oer_types::proofs::Shapes::shapes))]
+#[tactic(auto, using(oer_values::proofs::Shapes::shapes))]
 pub(crate) fn list_shape<'a>(
     spot: &Spot,
     shape: &Shape,
@@ -338,12 +338,10 @@ fn list_alternative<'a>(
 ) -> Result<Cursor<'a>, Halt>
     ensures { Walks result (lines_of rows.new.items) (walk_alternative (root_of alternatives.now no_alternatives) spot.now.total (path_in spot.now) tag (lines_of rows.old.items) (place_of cursor.entry)) }
 {
-    for alternative in alternatives {
-        if is_same_tag(alternative.tag, tag) {
-            return list_shape(spot, &alternative.shape, cursor, rows);
-        }
+    match with_tag(alternatives, tag) {
+        Some(alternative) => list_shape(spot, &alternative.shape, cursor, rows),
+        None => Err(Halt::Refused),
     }
-    Err(Halt::Refused)
 }
 
 /// What follows a tag that no alternative of the root has (X.696, 20).
@@ -357,10 +355,8 @@ fn list_later<'a>(
 ) -> Result<Cursor<'a>, Halt>
     ensures { Walks result (lines_of rows.new.items) (walk_later (later_of alternatives.now) spot.now.total (path_in spot.now) tag (lines_of rows.old.items) (place_of cursor.entry)) }
 {
-    for alternative in alternatives {
-        if is_same_tag(alternative.tag, tag) {
-            return list_open(spot, &alternative.shape, cursor, rows);
-        }
+    match with_tag(alternatives, tag) {
+        Some(alternative) => list_open(spot, &alternative.shape, cursor, rows),
+        None => list_unknown(spot, cursor, rows),
     }
-    list_unknown(spot, cursor, rows)
 }

@@ -6,9 +6,11 @@ use oer_reader::read;
 use oer_text::parse_type;
 use oer_types::{
     Alphabet, Alt, Bits, Field, Item, Need, Schema, Shape, Size, Unknown, Value, are_characters,
-    contains_tag, filled, fits, is_same_tag, optional, same_filled, same_filled_at,
+    contains_tag, filled, find_alternative, fits, is_same_tag, optional, same_filled,
+    same_filled_at, with_tag,
 };
 use oer_units::{Class, Metered, Tag};
+use oer_values::{fill_in, known_additions, known_later};
 use oer_vectors::{expanded, row_of};
 use std::alloc::{AllocError, Global};
 use std::test::Fail;
@@ -318,6 +320,37 @@ fn has_alternative(shape: &Shape, number: u32) -> bool {
     }
 }
 
+// The name of the alternative with the number as its tag in context: of the root, and of those after
+// the extension marker.
+fn are_named(shape: &Shape, number: u32, of_root: Option<&str>, later: Option<&str>) -> bool {
+    let class = Class::Context;
+    let tag = Tag { class, number };
+    match shape {
+        Shape::Choice { root, additions } => {
+            is_named(with_tag(root, tag), of_root)
+                && is_named(with_tag(known_later(additions), tag), later)
+                && is_named(find_alternative(root, additions, tag), of_root.or(later))
+        }
+        _ => false,
+    }
+}
+
+fn is_named(found: Option<&Alt>, name: Option<&str>) -> bool {
+    match (found, name) {
+        (Some(alternative), Some(name)) => alternative.name == name,
+        (None, None) => true,
+        _ => false,
+    }
+}
+
+// How many additions of the SEQUENCE are known.
+fn count_additions(shape: &Shape) -> usize {
+    match shape {
+        Shape::Sequence { additions, .. } => known_additions(additions).len(),
+        _ => 0,
+    }
+}
+
 // How many components of the SEQUENCE's root may be absent.
 fn count_optional(shape: &Shape) -> usize {
     match shape {
@@ -337,6 +370,26 @@ fn parts_of_types(rt: HostRuntime) -> Result<(), Fail> {
         "SEQUENCE {a NULL, b NULL OPTIONAL, c BOOLEAN DEFAULT TRUE}",
     )?;
     is_well("two of three", count_optional(sequence.shape()) == 2)
+}
+
+#[test]
+fn alternatives_by_tag(rt: HostRuntime) -> Result<(), Fail> {
+    let at = rt.alloc();
+    let open = parse_type(at, "CHOICE {a [1] NULL, b [2] NULL, ..., c [3] NULL}")?;
+    is_well("b", are_named(open.shape(), 2, Some("b"), None))?;
+    is_well("c", are_named(open.shape(), 3, None, Some("c")))?;
+    is_well("none", are_named(open.shape(), 4, None, None))?;
+    let closed = parse_type(at, "CHOICE {a [1] NULL}")?;
+    is_well("no marker", are_named(closed.shape(), 1, Some("a"), None))
+}
+
+#[test]
+fn additions_of_types(rt: HostRuntime) -> Result<(), Fail> {
+    let at = rt.alloc();
+    let open = parse_type(at, "SEQUENCE {a NULL, ..., b NULL, c NULL}")?;
+    is_well("two", count_additions(open.shape()) == 2)?;
+    let closed = parse_type(at, "SEQUENCE {a NULL}")?;
+    is_well("no marker", count_additions(closed.shape()) == 0)
 }
 
 #[test]
@@ -443,7 +496,8 @@ fn compared(at: Global, schema: &Schema, one: &Value, other: &Value) -> Result<S
     let there = same_filled(schema, one, other);
     let back = same_filled_at(schema.shape(), other, one);
     let full = filled(at, schema, one)?.same(other);
-    if there != back || !fits(schema, one) || !fits(schema, other) {
+    let filled_in = fill_in(schema.shape(), at, one)?.same(other);
+    if there != back || full != filled_in || !fits(schema, one) || !fits(schema, other) {
         return Err(Fail::new("a misfit"));
     }
     Ok(format!(in at; "{same} {there} {full}")?)

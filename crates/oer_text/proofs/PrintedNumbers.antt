@@ -11,8 +11,8 @@ use Rattle.std.proofs.lemmas.Fmt.{decimal_by_steps_wide, decimal_is_IsNumeral_wi
 use Rattle.oer_lexer.specs.Characters.{is_letter_or_digit, is_first_digit}
 use Rattle.oer_lexer.specs.FallsInto.{IsToken, word_token, number_token, IsTail, tail_end, tail_char, tail_hyphen, a_word, IsRun, run_end, run_char, IsNumeral as IsNumber, nought, positive, negative}
 use Rattle.oer_lexer.specs.Token.{Token, word}
-use Rattle.oer_types.specs.Constraints.{is_within}
-use Rattle.oer_types.specs.WellFormed.{AnyOf, is_alphanumeric, goes_on, is_identifier}
+use Rattle.oer_model.specs.Constraints.{is_within}
+use Rattle.oer_model.specs.WellFormed.{AnyOf, is_alphanumeric, goes_on, is_identifier}
 use Rattle.oer_notation.specs.Grammar.{IsId, an_id, IsInteger, an_integer, IsNatural, a_natural}
 use Rattle.oer_printer.specs.Printing.{integer_token, natural_token}
 use Rattle.oer_text.proofs.PrintedText.{AreTokens, plain}

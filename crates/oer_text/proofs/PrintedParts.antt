@@ -7,16 +7,16 @@ use Rattle.std.proofs.lemmas.Bool.{eqb-true}
 use Rattle.std.proofs.lemmas.Bool.Decides.{Decides-int_eq}
 use Rattle.oer_lexer.specs.Token.{Token, word, sign}
 use Rattle.oer_lexer.specs.declared.token.Sign.TheVariants.{CloseParenthesis, Range}
-use Rattle.oer_types.specs.AsnType.{NamedNumber}
-use Rattle.oer_types.specs.WellFormed.{item_names}
-use Rattle.oer_types.specs.declared.size.Size.{Size}
+use Rattle.oer_model.specs.AsnType.{NamedNumber}
+use Rattle.oer_model.specs.WellFormed.{item_names}
+use Rattle.oer_model.specs.declared.size.Size.{Size}
 use Rattle.oer_units.specs.Laws.{HasTagNumber}
 use Rattle.oer_units.specs.declared.tagging.Class.{Class}
 use Rattle.oer_units.specs.declared.tagging.Class.TheVariants.{Universal, Application, Context, Private}
 use Rattle.oer_units.specs.declared.tagging.Tag.{Tag}
 use Rattle.oer_notation.specs.Grammar.{no_bound, a_bound, AreBounds, no_bounds, one_number, range, no_end, an_end, IsBracketedSize, any_size, bracketed, one_size, sizes, own_number, AreItems, no_items, item, items_marker, IsClass, universal, application, private, context, IsTag, own_tag}
 use Rattle.oer_printer.specs.Printing.{integer_token, natural_token, in_brackets, after_commas, marker_if, bounds_tokens, sized, ends_tokens, size_tokens, item_tokens, class_tokens, tag_tokens}
-use Rattle.oer_types.specs.Widths.{HasBoundWidth, HaveItemWidths, HasEndWidth, HasSizeWidths}
+use Rattle.oer_model.specs.Widths.{HasBoundWidth, HaveItemWidths, HasEndWidth, HasSizeWidths}
 use Rattle.oer_text.proofs.PrintedNumbers.{AllIds, id_given, integer_given, integer_spelt, natural_given, natural_spelt, short_64, short_128, worded}
 use Rattle.oer_text.proofs.PrintedText.{AreTokens, no_tokens, plain, single, ranged, both}
 

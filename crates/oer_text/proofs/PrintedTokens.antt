@@ -8,15 +8,15 @@ use Rattle.oer_lexer.specs.Token.{Token, sign}
 use Rattle.oer_lexer.specs.declared.leaf.LeafWord.{LeafWord}
 use Rattle.oer_lexer.specs.declared.leaf.LeafWord.TheVariants as words
 use Rattle.oer_lexer.specs.declared.token.Sign.TheVariants.{Comma}
-use Rattle.oer_types.specs.LeafType as kind
-use Rattle.oer_types.specs.LeafType.{LeafType, string_size}
-use Rattle.oer_types.specs.AsnType.{Additions, Alternatives, AsnType, Fields, Need, addition, alternative, choice, default, extensible_sequence, field, ia5, later, leaf, may, must, no_additions, no_alternatives, no_fields, numeric, printable, sequence, sequence_of, visible}
-use Rattle.oer_types.specs.Fits.{Fits, DefaultFits, DefaultsFit, FieldDefaultsFit, AdditionDefaultsFit, AlternativeDefaultsFit}
-use Rattle.oer_types.specs.Laws.{WellFormedDefaults}
-use Rattle.oer_types.specs.WellFormed.{AnyOf, Repeats, Somewhere, InFields, InAdditions, InAlternatives, HasNoItems, IsWellFormed, is_identifier, names, item_names, field_names, addition_names, alternative_names}
-use Rattle.oer_types.specs.Widths.{AdditionsHaveWidths, AlternativesHaveWidths, AreInOrder, AreLater as AllLater, FieldsHaveWidths, HasWidths, HasSizeWidths, LeafHasWidths}
-use Rattle.oer_types.specs.declared.fault.SchemaFault.TheVariants.{BadName, RepeatedName, NoItems}
-use Rattle.oer_types.specs.declared.size.Size.{Size}
+use Rattle.oer_model.specs.LeafType as kind
+use Rattle.oer_model.specs.LeafType.{LeafType, string_size}
+use Rattle.oer_model.specs.AsnType.{Additions, Alternatives, AsnType, Fields, Need, addition, alternative, choice, default, extensible_sequence, field, ia5, later, leaf, may, must, no_additions, no_alternatives, no_fields, numeric, printable, sequence, sequence_of, visible}
+use Rattle.oer_model.specs.Fits.{Fits, DefaultFits, DefaultsFit, FieldDefaultsFit, AdditionDefaultsFit, AlternativeDefaultsFit}
+use Rattle.oer_model.specs.Laws.{WellFormedDefaults}
+use Rattle.oer_model.specs.WellFormed.{AnyOf, Repeats, Somewhere, InFields, InAdditions, InAlternatives, HasNoItems, IsWellFormed, is_identifier, names, item_names, field_names, addition_names, alternative_names}
+use Rattle.oer_model.specs.Widths.{AdditionsHaveWidths, AlternativesHaveWidths, AreInOrder, AreLater as AllLater, FieldsHaveWidths, HasWidths, HasSizeWidths, LeafHasWidths}
+use Rattle.oer_model.specs.declared.fault.SchemaFault.TheVariants.{BadName, RepeatedName, NoItems}
+use Rattle.oer_model.specs.declared.size.Size.{Size}
 use Rattle.oer_units.specs.Laws.{HasTagNumber}
 use Rattle.oer_units.specs.declared.tagging.Tag.{Tag}
 use Rattle.oer_notation.specs.Grammar.{Spells, IsNeed, needed, optional, with_default, plain_addition, in_brackets, IsLeaf, bounds_behind, items_behind, nothing_behind, size_behind, IsType, leaf_type, empty_sequence_type, sequence_type, extensible_sequence_type, sequence_of_type, choice_type, AreComponents, no_components, component, components_marker, AreAdditions, none_added, added, AreAlternatives, none_left, an_alternative, alternatives_marker, AreLater, none_later, a_later}

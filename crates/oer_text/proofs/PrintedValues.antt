@@ -15,14 +15,14 @@ use Rattle.oer_lexer.specs.Characters.{is_bit}
 use Rattle.oer_lexer.specs.FallsInto.{IsToken, bits_token, digits_token, text_token, IsRun, run_end, run_char, IsQuoted, quote_end, quote_char, quote_twice}
 use Rattle.oer_lexer.specs.Token.{word, bits, text}
 use Rattle.oer_units.specs.Octets.{IsOctets}
-use Rattle.oer_types.specs.LeafType as kind
-use Rattle.oer_types.specs.LeafType.{LeafType}
-use Rattle.oer_types.specs.AsnType.{Alphabet, AsnType, NamedNumber, bit_string, boolean, choice, enumerated, extensible_sequence, ia5, integer, leaf, null, numeric, object_id, octet_string, printable, restricted_string, sequence, sequence_of, utf8_string, visible}
-use Rattle.oer_types.specs.AsnValue.{AsnValue, bit_list, bool, enum, int, octets, oid, text as string}
-use Rattle.oer_types.specs.Constraints.{in_range, is_character, all_characters}
-use Rattle.oer_types.specs.Fits.{AllBelow, Fits, FitsLeaf}
-use Rattle.oer_types.specs.WellFormed.{AnyOf, Repeats, item_names}
-use Rattle.oer_types.specs.declared.size.Size.{Size}
+use Rattle.oer_model.specs.LeafType as kind
+use Rattle.oer_model.specs.LeafType.{LeafType}
+use Rattle.oer_model.specs.AsnType.{Alphabet, AsnType, NamedNumber, bit_string, boolean, choice, enumerated, extensible_sequence, ia5, integer, leaf, null, numeric, object_id, octet_string, printable, restricted_string, sequence, sequence_of, utf8_string, visible}
+use Rattle.oer_model.specs.AsnValue.{AsnValue, bit_list, bool, enum, int, octets, oid, text as string}
+use Rattle.oer_model.specs.Constraints.{in_range, is_character, all_characters}
+use Rattle.oer_model.specs.Fits.{AllBelow, Fits, FitsLeaf}
+use Rattle.oer_model.specs.WellFormed.{AnyOf, Repeats, item_names}
+use Rattle.oer_model.specs.declared.size.Size.{Size}
 use Rattle.oer_literals.specs.Bits.{is_one, bit_digit}
 use Rattle.oer_literals.specs.Items.{items_of, name_of, leaf_items}
 use Rattle.oer_literals.proofs.Numerals.{range_128}

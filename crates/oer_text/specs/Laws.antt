@@ -1,7 +1,7 @@
 -- A law of printing and reading.
 use Rattle.std.specs.Prelude.{◌≡◌, ℕ, List, Some, Ok}
-use Rattle.oer_types.specs.AsnType.{AsnType}
-use Rattle.oer_types.specs.WellFormed.{IsWellFormed}
+use Rattle.oer_model.specs.AsnType.{AsnType}
+use Rattle.oer_model.specs.WellFormed.{IsWellFormed}
 use Rattle.oer_notation.specs.Parsing.{parse}
 use Rattle.oer_printer.specs.Printing.{printed}
 

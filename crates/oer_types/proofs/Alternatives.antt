@@ -1,18 +1,18 @@
 -- The alternatives of a CHOICE: its root and its additions.
 use Rattle.std.proofs.Common.{◌≡◌, ℕ, suc, ◌+◌, ◌-◌, ◌<◌, ◌≤◌, max, not, List, [], ◌∷◌, ◌++◌, Bool, true, false, ◌||◌, string_bytes, append-nil, Option, Some, None, Vec, Global, refl, sym, ap, ap₂, ◌∙◌, arith}
-use Rattle.oer_types.specs.AsnType.{AsnType, no_alternatives}
-use Rattle.oer_types.specs.Nodes.{alternatives_nodes, type_nodes}
+use Rattle.oer_model.specs.AsnType.{AsnType, no_alternatives}
+use Rattle.oer_model.specs.Nodes.{alternatives_nodes, type_nodes}
 use Rattle.std.specs.Str.{bytes_eq}
 use Rattle.oer_units.specs.declared.tagging.Tag.{Tag}
-use Rattle.oer_types.specs.Constraints.{has_tag, same_tag}
+use Rattle.oer_model.specs.Constraints.{has_tag, same_tag}
 use Rattle.oer_types.specs.Counting.{Leaves}
-use Rattle.oer_types.specs.FaultTest.{any_bad_name, contains_name, has_repeated_tag, in_alternatives, somewhere, tags_repeat}
-use Rattle.oer_types.specs.ShapeView.{type_of, additions_of, fields_of, later_of, root_of, choice_with, sequence_with, known_additions, known_later}
-use Rattle.oer_types.specs.WellFormed.{addition_names, alternative_names, alternatives_depth, depth, field_names, is_identifier, names}
-use Rattle.oer_types.specs.Widths.{AreInOrder, AreLater, AlternativesHaveWidths}
-use Rattle.oer_types.specs.declared.shape.Addition.{Addition}
-use Rattle.oer_types.specs.declared.shape.Field.{Field}
-use Rattle.oer_types.specs.declared.shape.Alt.{Alt}
+use Rattle.oer_model.specs.FaultTest.{any_bad_name, contains_name, has_repeated_tag, in_alternatives, somewhere, tags_repeat}
+use Rattle.oer_values.specs.ShapeView.{type_of, additions_of, fields_of, later_of, root_of, choice_with, sequence_with, known_additions, known_later}
+use Rattle.oer_model.specs.WellFormed.{addition_names, alternative_names, alternatives_depth, depth, field_names, is_identifier, names}
+use Rattle.oer_model.specs.Widths.{AreInOrder, AreLater, AlternativesHaveWidths}
+use Rattle.oer_values.specs.declared.shape.Addition.{Addition}
+use Rattle.oer_values.specs.declared.shape.Field.{Field}
+use Rattle.oer_values.specs.declared.shape.Alt.{Alt}
 
 pub later_depth : (ys : List Alt) → alternatives_depth (later_of ys) ≡ alternatives_depth (root_of ys no_alternatives)
 later_depth [] = refl

@@ -1,14 +1,14 @@
 -- What a shape's parts say of its type.
 use Rattle.std.proofs.Common.{◌≡◌, ◌==◌, List, [], ◌∷◌, length, Bool, true, Option, Some, None, Vec, Global, map, refl, sym}
 use Rattle.std.proofs.Math.Dec.{eqb-suc-zero}
-use Rattle.oer_types.specs.AsnType.{choice, enumerated}
-use Rattle.oer_types.specs.FaultTest.{any_misfit, has_misfit, has_no_items}
-use Rattle.oer_types.specs.ShapeView.{choice_with, fields_of, later_of, named_number, sequence_with}
-use Rattle.oer_types.specs.declared.shape.Addition.{Addition}
-use Rattle.oer_types.specs.declared.shape.Alt.{Alt}
-use Rattle.oer_types.specs.declared.shape.Field.{Field}
-use Rattle.oer_types.specs.declared.shape.Item.{Item}
-use Rattle.oer_types.proofs.Shapes.{type_of-Enumerated, type_of-Sequence, type_of-Choice, shapes}
+use Rattle.oer_model.specs.AsnType.{choice, enumerated}
+use Rattle.oer_model.specs.FaultTest.{any_misfit, has_misfit, has_no_items}
+use Rattle.oer_values.specs.ShapeView.{choice_with, fields_of, later_of, named_number, sequence_with}
+use Rattle.oer_values.specs.declared.shape.Addition.{Addition}
+use Rattle.oer_values.specs.declared.shape.Alt.{Alt}
+use Rattle.oer_values.specs.declared.shape.Field.{Field}
+use Rattle.oer_values.specs.declared.shape.Item.{Item}
+use Rattle.oer_values.proofs.Shapes.{type_of-Enumerated, type_of-Sequence, type_of-Choice, shapes}
 use Rattle.oer_types.proofs.Alternatives.{sequence_names, choice_all_names, choice_tags, bad_in_both}
 
 pub no_item : (xs : List Item) (e : Bool) → has_no_items (enumerated (map named_number xs) e) ≡ (length xs == 0)

@@ -1,8 +1,8 @@
 -- The shape and the type of a `Schema`.
-use Rattle.oer_types.specs.AsnType.{AsnType}
-use Rattle.oer_types.specs.ShapeView.{type_of}
+use Rattle.oer_model.specs.AsnType.{AsnType}
+use Rattle.oer_values.specs.ShapeView.{type_of}
 use Rattle.oer_types.specs.declared.schema.Schema.{Schema}
-use Rattle.oer_types.specs.declared.shape.Shape.{Shape}
+use Rattle.oer_values.specs.declared.shape.Shape.{Shape}
 
 abbrev pub shape_of : Schema → Shape
 shape_of schema = schema.shape

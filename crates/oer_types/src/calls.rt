@@ -1,15 +1,12 @@
 //! Values of a well-formed type.
 ghost use Rattle.std.specs.Prelude.{◌≡◌, ◌↔◌, IfOk, IsTrue};
-ghost use Rattle.oer_types.specs.Filling.{filled as spec_filled};
-ghost use Rattle.oer_types.specs.Fits.{Fits};
+ghost use Rattle.oer_model.specs.Filling.{filled as spec_filled};
+ghost use Rattle.oer_model.specs.Fits.{Fits};
 ghost use Rattle.oer_types.specs.Schema.{the_type};
-ghost use Rattle.oer_types.specs.ValueView.{value_of};
+ghost use Rattle.oer_values.specs.ValueView.{value_of};
 
-use crate::defaults::fill_in;
-use crate::fill::same_filled_at;
-use crate::fit::fits_shape;
 use crate::schema::Schema;
-use crate::value::Value;
+use oer_values::{Value, fill_in, fits_shape, same_filled_at};
 use std::alloc::{AllocError, Global};
 
 /// Whether the value is one of the type: of its kind, within its bounds and sizes, with a place for

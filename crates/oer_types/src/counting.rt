@@ -1,21 +1,21 @@
 //! How many parts a type has.
 ghost use Rattle.std.specs.Prelude.{◌≡◌, ◌^◌, ◌<◌, FitsSigned, length, map};
 ghost use Rattle.std.specs.Int.{w64};
-ghost use Rattle.oer_types.specs.AsnType.{no_alternatives};
+ghost use Rattle.oer_model.specs.AsnType.{no_alternatives};
 ghost use Rattle.oer_units.specs.Laws.{HasTagNumber};
 ghost use Rattle.oer_types.specs.Counting.{Leaves};
-ghost use Rattle.oer_types.specs.Nodes.{additions_nodes, alternatives_nodes, fields_nodes, type_nodes};
-ghost use Rattle.oer_types.specs.ShapeView.{additions_of, fields_of, named_number, root_of, type_of};
-ghost use Rattle.oer_types.specs.Widths.{AdditionsHaveWidths, AlternativesHaveWidths, FieldsHaveWidths, HasBoundWidth, HasEndWidth, HasSizeWidths, HasWidths, HaveItemWidths};
+ghost use Rattle.oer_model.specs.Nodes.{additions_nodes, alternatives_nodes, fields_nodes, type_nodes};
+ghost use Rattle.oer_values.specs.ShapeView.{additions_of, fields_of, named_number, root_of, type_of};
+ghost use Rattle.oer_model.specs.Widths.{AdditionsHaveWidths, AlternativesHaveWidths, FieldsHaveWidths, HasBoundWidth, HasEndWidth, HasSizeWidths, HasWidths, HaveItemWidths};
 
-use crate::shape::{Addition, Alt, Field, Item, Shape};
-use crate::size::Size;
+use oer_model::Size;
 use oer_units::Tag;
+use oer_values::{Addition, Alt, Field, Item, Shape};
 
 /// Of so many parts that may be left, what is left after those of the type: each type in it, itself
 /// included, and each item of an enumeration. None where there are more; it counts no further.
 #[cycle(counting)]
-#[tactic(auto, using(crate::proofs::Shapes::shapes))]
+#[tactic(auto, using(oer_values::proofs::Shapes::shapes))]
 pub fn parts_left(shape: &Shape, left: u16) -> Option<u16>
     ensures { Leaves result left (type_nodes (type_of shape.now)) (HasWidths (type_of shape.now)) }
 {

@@ -1,14 +1,14 @@
 //! How deep a type is.
 ghost use Rattle.std.specs.Prelude.{◌≡◌, ◌↔◌, ◌≤◌, ◌<◌, IsTrue};
-ghost use Rattle.oer_types.specs.AsnType.{no_alternatives};
-ghost use Rattle.oer_types.specs.ShapeView.{type_of, fields_of, additions_of, root_of};
-ghost use Rattle.oer_types.specs.WellFormed.{depth, fields_depth, additions_depth, alternatives_depth};
+ghost use Rattle.oer_model.specs.AsnType.{no_alternatives};
+ghost use Rattle.oer_values.specs.ShapeView.{type_of, fields_of, additions_of, root_of};
+ghost use Rattle.oer_model.specs.WellFormed.{depth, fields_depth, additions_depth, alternatives_depth};
 
-use crate::shape::{Addition, Alt, Field, Shape};
+use oer_values::{Addition, Alt, Field, Shape};
 
 /// Whether the type has no more than so many levels. It looks no deeper.
 #[cycle(depth)]
-#[tactic(auto, using(crate::proofs::Shapes::shapes))]
+#[tactic(auto, using(oer_values::proofs::Shapes::shapes))]
 pub fn is_within_depth(shape: &Shape, levels: u8) -> bool
     requires { 0 < levels }
     ensures { IsTrue result ↔ depth (type_of shape.now) ≤ levels }

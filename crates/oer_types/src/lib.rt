@@ -1,39 +1,23 @@
-//! Types of ASN.1, their values, and what encodes them.
+//! Types of ASN.1, their values, and what encodes them. A `Schema` is a well-formed type. Shapes and
+//! values are those of `oer_values`, sizes, errors and laws those of `oer_model`: here all are under
+//! one name.
 #![tactic(auto)]
 
-mod alphabet;
-mod bits;
 mod calls;
-mod copy;
 mod counting;
-mod defaults;
 mod depth;
-mod fault;
-mod fill;
-mod fit;
-mod form;
-pub mod laws;
 mod name;
-mod octet_bits;
 mod rule;
 mod schema;
-mod shape;
-mod size;
-mod tag;
-mod value;
 
-pub use alphabet::{Alphabet, are_characters};
-pub use bits::Bits;
 pub use calls::{filled, fits, same_filled};
 pub use counting::parts_left;
 pub use depth::is_within_depth;
-pub use fault::SchemaFault;
-pub use fill::same_filled_at;
-pub use fit::{contains_number, fits_shape, is_in_range};
-pub use form::Form;
-pub use octet_bits::{are_last_zero, bit_of, may_be_unused, octets_needed, spare_bits};
+pub use oer_model::{SchemaFault, Size, laws};
+pub use oer_values::{
+    Addition, Alphabet, Alt, Bits, Field, Form, Item, Need, Shape, Unknown, Value, are_characters,
+    are_last_zero, bit_of, contains_number, contains_tag, find_alternative, fits_shape,
+    is_in_range, is_same_tag, may_be_unused, octets_needed, optional, same_filled_at, spare_bits,
+    with_tag,
+};
 pub use schema::{ADDITION_PLACES, MAX_DEPTH, MAX_PARTS, Schema};
-pub use shape::{Addition, Alt, Field, Item, Need, Shape, optional};
-pub use size::Size;
-pub use tag::{contains_tag, is_same_tag};
-pub use value::{Unknown, Value};

@@ -1,12 +1,12 @@
 //! Names of components, alternatives and items.
 ghost use Rattle.std.specs.Prelude.{◌≡◌, ◌++◌, false, map, string_bytes};
 ghost use Rattle.std.specs.Str.{bytes_eq};
-ghost use Rattle.oer_types.specs.AsnType.{no_alternatives};
-ghost use Rattle.oer_types.specs.FaultTest.{any_bad_name, contains_name, names_repeat, rest_after};
-ghost use Rattle.oer_types.specs.ShapeView.{additions_of, fields_of, named_number, root_of};
-ghost use Rattle.oer_types.specs.WellFormed.{addition_names, alternative_names, field_names, is_alphanumeric as spec_is_alphanumeric, is_identifier as spec_is_identifier, item_names};
+ghost use Rattle.oer_model.specs.AsnType.{no_alternatives};
+ghost use Rattle.oer_model.specs.FaultTest.{any_bad_name, contains_name, names_repeat, rest_after};
+ghost use Rattle.oer_values.specs.ShapeView.{additions_of, fields_of, named_number, root_of};
+ghost use Rattle.oer_model.specs.WellFormed.{addition_names, alternative_names, field_names, is_alphanumeric as spec_is_alphanumeric, is_identifier as spec_is_identifier, item_names};
 
-use crate::shape::{Addition, Alt, Field, Item};
+use oer_values::{Addition, Alt, Field, Item};
 
 fn is_alphanumeric(octet: u8) -> bool
     ensures { result ≡ spec_is_alphanumeric octet }

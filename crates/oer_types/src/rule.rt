@@ -1,19 +1,19 @@
 //! Faults that a type has of itself or in a type in it.
 ghost use Rattle.std.specs.Prelude.{◌≡◌, ◌==◌, ◌||◌, map};
-ghost use Rattle.oer_types.specs.AsnType.{no_alternatives};
-ghost use Rattle.oer_types.specs.Constraints.{fixed, is_zero as spec_is_zero, may_all_be_empty as spec_may_all_be_empty, may_be_empty as spec_may_be_empty, optional};
-ghost use Rattle.oer_types.specs.FaultTest.{any_bad_name, any_misfit as spec_any_misfit, has_crossed_bounds as spec_has_crossed_bounds, has_crossed_size as spec_has_crossed_size, has_empty_element as spec_has_empty_element, has_fault_here as spec_has_fault_here, has_misfit as spec_has_misfit, has_no_items as spec_has_no_items, has_repeated_number as spec_has_repeated_number, has_repeated_tag as spec_has_repeated_tag, in_additions, in_alternatives, in_fields, is_crossed, names_repeat, numbers_repeat as spec_numbers_repeat, somewhere, tags_repeat as spec_tags_repeat};
-ghost use Rattle.oer_types.specs.ShapeView.{additions_of, choice_with, fields_of, later_of, named_number, root_of, sequence_with, type_of};
-ghost use Rattle.oer_types.specs.WellFormed.{names};
+ghost use Rattle.oer_model.specs.AsnType.{no_alternatives};
+ghost use Rattle.oer_model.specs.Constraints.{fixed, is_zero as spec_is_zero, may_all_be_empty as spec_may_all_be_empty, may_be_empty as spec_may_be_empty, optional};
+ghost use Rattle.oer_model.specs.FaultTest.{any_bad_name, any_misfit as spec_any_misfit, has_crossed_bounds as spec_has_crossed_bounds, has_crossed_size as spec_has_crossed_size, has_empty_element as spec_has_empty_element, has_fault_here as spec_has_fault_here, has_misfit as spec_has_misfit, has_no_items as spec_has_no_items, has_repeated_number as spec_has_repeated_number, has_repeated_tag as spec_has_repeated_tag, in_additions, in_alternatives, in_fields, is_crossed as spec_is_crossed, names_repeat, numbers_repeat as spec_numbers_repeat, somewhere, tags_repeat as spec_tags_repeat};
+ghost use Rattle.oer_values.specs.ShapeView.{additions_of, choice_with, fields_of, later_of, named_number, root_of, sequence_with, type_of};
+ghost use Rattle.oer_model.specs.WellFormed.{names};
 
-use crate::fault::SchemaFault;
-use crate::fit::{contains_number, fits_shape};
 use crate::name;
-use crate::shape::{Addition, Alt, Field, Item, Need, Shape, known_additions, known_later};
-use crate::size::Size;
-use crate::tag::contains_tag;
+use oer_model::{SchemaFault, Size};
+use oer_values::{
+    Addition, Alt, Field, Item, Need, Shape, contains_number, contains_tag, fits_shape,
+    known_additions, known_later,
+};
 
-#[tactic(auto, using(crate::proofs::Shapes::shapes))]
+#[tactic(auto, using(oer_values::proofs::Shapes::shapes))]
 fn has_crossed_bounds(shape: &Shape) -> bool
     ensures { result ≡ spec_has_crossed_bounds (type_of shape.now) }
 {
@@ -26,40 +26,38 @@ fn has_crossed_bounds(shape: &Shape) -> bool
     }
 }
 
-impl Size {
-    fn is_crossed(self) -> bool
-        ensures { result ≡ is_crossed self }
-    {
-        match self.high {
-            Some(high) => high < self.low,
-            None => false,
-        }
-    }
-
-    /// Whether 0 is the one size.
-    fn is_zero(self) -> bool
-        ensures { result ≡ spec_is_zero (fixed self) }
-    {
-        match self.high {
-            Some(high) => self.low == 0 && high == 0,
-            None => false,
-        }
+fn is_crossed(size: Size) -> bool
+    ensures { result ≡ spec_is_crossed size }
+{
+    match size.high {
+        Some(high) => high < size.low,
+        None => false,
     }
 }
 
-#[tactic(auto, using(crate::proofs::Shapes::shapes))]
+/// Whether 0 is the one size.
+fn is_zero(size: Size) -> bool
+    ensures { result ≡ spec_is_zero (fixed size) }
+{
+    match size.high {
+        Some(high) => size.low == 0 && high == 0,
+        None => false,
+    }
+}
+
+#[tactic(auto, using(oer_values::proofs::Shapes::shapes))]
 fn has_crossed_size(shape: &Shape) -> bool
     ensures { result ≡ spec_has_crossed_size (type_of shape.now) }
 {
     match shape {
-        Shape::BitString(size) => size.is_crossed(),
-        Shape::OctetString(size) => size.is_crossed(),
-        Shape::Ia5(size) => size.is_crossed(),
-        Shape::Visible(size) => size.is_crossed(),
-        Shape::Numeric(size) => size.is_crossed(),
-        Shape::Printable(size) => size.is_crossed(),
-        Shape::Utf8(size) => size.is_crossed(),
-        Shape::SequenceOf { size, .. } => size.is_crossed(),
+        Shape::BitString(size) => is_crossed(*size),
+        Shape::OctetString(size) => is_crossed(*size),
+        Shape::Ia5(size) => is_crossed(*size),
+        Shape::Visible(size) => is_crossed(*size),
+        Shape::Numeric(size) => is_crossed(*size),
+        Shape::Printable(size) => is_crossed(*size),
+        Shape::Utf8(size) => is_crossed(*size),
+        Shape::SequenceOf { size, .. } => is_crossed(*size),
         _ => false,
     }
 }
@@ -126,7 +124,7 @@ fn numbers_repeat(items: &[Item]) -> bool
     false
 }
 
-#[tactic(auto, using(crate::proofs::Shapes::shapes))]
+#[tactic(auto, using(oer_values::proofs::Shapes::shapes))]
 fn has_repeated_number(shape: &Shape) -> bool
     ensures { result ≡ spec_has_repeated_number (type_of shape.now) }
 {
@@ -137,7 +135,7 @@ fn has_repeated_number(shape: &Shape) -> bool
 }
 
 /// Whether one tag stands twice among the alternatives, or in both lists.
-#[tactic(auto, using(crate::proofs::FitSteps::tag_in_root))]
+#[tactic(auto, using(oer_values::proofs::FitSteps::tag_in_root))]
 fn tags_repeat(alts: &[Alt], later: &[Alt]) -> bool
     ensures { result ≡ spec_tags_repeat (root_of alts.now (later_of later.now)) }
 {
@@ -214,18 +212,18 @@ fn are_all_needed(fields: &[Field]) -> bool
 /// Whether the type may take no octets: a NULL, a string of the one size 0, or a SEQUENCE without
 /// extension marker and optional components whose components all may.
 #[cycle(empty)]
-#[tactic(auto, using(crate::proofs::Shapes::shapes))]
+#[tactic(auto, using(oer_values::proofs::Shapes::shapes))]
 fn may_be_empty(shape: &Shape) -> bool
     ensures { result ≡ spec_may_be_empty (type_of shape.now) }
 {
     match shape {
         Shape::Null => true,
-        Shape::BitString(size) => size.is_zero(),
-        Shape::OctetString(size) => size.is_zero(),
-        Shape::Ia5(size) => size.is_zero(),
-        Shape::Visible(size) => size.is_zero(),
-        Shape::Numeric(size) => size.is_zero(),
-        Shape::Printable(size) => size.is_zero(),
+        Shape::BitString(size) => is_zero(*size),
+        Shape::OctetString(size) => is_zero(*size),
+        Shape::Ia5(size) => is_zero(*size),
+        Shape::Visible(size) => is_zero(*size),
+        Shape::Numeric(size) => is_zero(*size),
+        Shape::Printable(size) => is_zero(*size),
         Shape::Sequence {
             root,
             additions: None,
@@ -251,7 +249,7 @@ fn may_all_be_empty(fields: &[Field]) -> bool
     true
 }
 
-#[tactic(auto, using(crate::proofs::Shapes::shapes))]
+#[tactic(auto, using(oer_values::proofs::Shapes::shapes))]
 fn has_empty_element(shape: &Shape) -> bool
     ensures { result ≡ spec_has_empty_element (type_of shape.now) }
 {
@@ -282,7 +280,7 @@ fn has_fault_here(fault: SchemaFault, shape: &Shape) -> bool
 
 /// Whether the type or a type in it has the fault.
 #[cycle(somewhere)]
-#[tactic(auto, using(crate::proofs::Shapes::shapes))]
+#[tactic(auto, using(oer_values::proofs::Shapes::shapes))]
 pub(crate) fn is_somewhere(fault: SchemaFault, shape: &Shape) -> bool
     ensures { result ≡ somewhere (spec_has_fault_here fault) (type_of shape.now) }
 {

@@ -1,13 +1,13 @@
 //! Well-formed types.
-ghost use Rattle.oer_types.specs.AtMostOne.{IsWellFormed-prop};
-ghost use Rattle.oer_types.specs.ShapeView.{type_of};
-ghost use Rattle.oer_types.specs.WellFormed.{IsWellFormed};
+ghost use Rattle.oer_model.specs.AtMostOne.{IsWellFormed-prop};
+ghost use Rattle.oer_values.specs.ShapeView.{type_of};
+ghost use Rattle.oer_model.specs.WellFormed.{IsWellFormed};
 
 use crate::counting::parts_left;
 use crate::depth::is_within_depth;
-use crate::fault::SchemaFault;
 use crate::rule::is_somewhere;
-use crate::shape::Shape;
+use oer_model::SchemaFault;
+use oer_values::Shape;
 
 /// How many levels of types a type may have. The innermost type counts, as does the outermost.
 pub const MAX_DEPTH: u8 = 32;
@@ -28,10 +28,10 @@ pub struct Schema {
 
 impl Schema {
     ghost use Rattle.std.specs.Prelude.{◌≡◌, MatchResult};
-    ghost use Rattle.oer_types.specs.Constraints.{KeepsLimits};
-    ghost use Rattle.oer_types.specs.Fits.{DefaultsFit};
+    ghost use Rattle.oer_model.specs.Constraints.{KeepsLimits};
+    ghost use Rattle.oer_model.specs.Fits.{DefaultsFit};
     ghost use Rattle.oer_types.specs.Schema.{shape_of};
-    ghost use Rattle.oer_types.specs.WellFormed.{IsFirstFault};
+    ghost use Rattle.oer_model.specs.WellFormed.{IsFirstFault};
 
     /// The type, exactly where no fault holds of the shape. Else the fault of least number that
     /// holds anywhere in it, and the shape. It looks no deeper than 32 levels and counts no further
@@ -65,9 +65,9 @@ impl Schema {
 }
 
 ghost use Rattle.std.specs.Prelude.{◌≡◌, None, false};
-ghost use Rattle.oer_types.specs.FaultTest.{first_fault as spec_first_fault, first_in, has_fault, later_faults};
-ghost use Rattle.oer_types.specs.Widths.{HasWidths};
-ghost use Rattle.oer_types.specs.declared.fault.SchemaFault.TheVariants.{TooManyParts};
+ghost use Rattle.oer_model.specs.FaultTest.{first_fault as spec_first_fault, first_in, has_fault, later_faults};
+ghost use Rattle.oer_model.specs.Widths.{HasWidths};
+ghost use Rattle.oer_model.specs.declared.fault.SchemaFault.TheVariants.{TooManyParts};
 
 /// Whether the type has more parts than it may have. Where it hasn't, its numbers are known.
 fn has_too_many_parts(shape: &Shape) -> bool

@@ -7,18 +7,18 @@ use Rattle.oer_units.specs.Least.{counted, enumerated_octets, length_octets, sig
 use Rattle.oer_units.specs.declared.tagging.Tag.{Tag}
 use Rattle.oer_units.proofs.Needed.{needed_sixteen}
 use Rattle.oer_units.proofs.Numbers.{length-big_endian, length-signed_octets, length-unsigned_octets, length_octets_above, length_octets_below, needed_least}
-use Rattle.oer_types.specs.LeafType as kind
-use Rattle.oer_types.specs.LeafType.{LeafType}
-use Rattle.oer_types.specs.LeafValue as leaf_kind
-use Rattle.oer_types.specs.LeafValue.{LeafValue}
-use Rattle.oer_types.specs.AsnType.{Alternatives, AsnType, Fields, Need, alternative, choice, default, extensible_sequence, field, later, leaf, may, must, no_alternatives, no_fields, sequence, sequence_of}
-use Rattle.oer_types.specs.AsnValue.{AsnValue, Places, Unknown, Values, bool, chosen, enum, int, items, leaf_value, no_places, nothing, octets, seq, text}
-use Rattle.oer_types.specs.Bits.{octets_for, padded}
-use Rattle.oer_types.specs.Canonical.{any_present, any_unknown, canonical_octets, integer_octets, leaf_octets, string_octets}
-use Rattle.oer_types.specs.Constraints.{Form, fixed, form_of, high_to, low_from, same_tag, signed_counted, signed_fixed, signed_form, signed_within, unsigned_counted, unsigned_fixed, unsigned_form}
-use Rattle.oer_types.specs.ValueView.{places_from, places_of, value_of, values_of}
-use Rattle.oer_types.specs.declared.value.Value.{Value}
-use Rattle.oer_types.proofs.LeastBits.{length-padded}
+use Rattle.oer_model.specs.LeafType as kind
+use Rattle.oer_model.specs.LeafType.{LeafType}
+use Rattle.oer_model.specs.LeafValue as leaf_kind
+use Rattle.oer_model.specs.LeafValue.{LeafValue}
+use Rattle.oer_model.specs.AsnType.{Alternatives, AsnType, Fields, Need, alternative, choice, default, extensible_sequence, field, later, leaf, may, must, no_alternatives, no_fields, sequence, sequence_of}
+use Rattle.oer_model.specs.AsnValue.{AsnValue, Places, Unknown, Values, bool, chosen, enum, int, items, leaf_value, no_places, nothing, octets, seq, text}
+use Rattle.oer_model.specs.Bits.{octets_for, padded}
+use Rattle.oer_model.specs.Canonical.{any_present, any_unknown, canonical_octets, integer_octets, leaf_octets, string_octets}
+use Rattle.oer_model.specs.Constraints.{Form, fixed, form_of, high_to, low_from, same_tag, signed_counted, signed_fixed, signed_form, signed_within, unsigned_counted, unsigned_fixed, unsigned_form}
+use Rattle.oer_values.specs.ValueView.{places_from, places_of, value_of, values_of}
+use Rattle.oer_values.specs.declared.value.Value.{Value}
+use Rattle.oer_model.proofs.bits.LeastBits.{length-padded}
 use Rattle.oer_writer.specs.Bounds.{Bounds, BoundsPlaces, BoundsValues}
 use Rattle.oer_writer.specs.Parts.{chosen_octets, field_bits, field_octets, first_bits, is_kept, kept_place, place_bit, place_octets_of, root_octets, values_octets}
 use Rattle.oer_writer.proofs.Components.{count_of, extended_is, field_first, values_len}

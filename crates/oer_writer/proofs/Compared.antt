@@ -4,13 +4,13 @@ use Rattle.std.proofs.lemmas.List.{append_cancel_left, length-take, take-append-
 use Rattle.std.proofs.Math.Seq.{drop-append_seam, take-append_seam}
 use Rattle.std.specs.Io.KnownBytes.{Appends}
 use Rattle.std.specs.Result.{is_ok}
-use Rattle.oer_types.specs.AsnType.{AsnType}
-use Rattle.oer_types.specs.AsnValue.{AsnValue}
-use Rattle.oer_types.specs.Canonical.{canonical_octets}
-use Rattle.oer_types.specs.Constraints.{KeepsLimits}
-use Rattle.oer_types.specs.Fits.{Fits}
-use Rattle.oer_types.specs.Laws.{CanonicalComputed, CanonicalGiven}
-use Rattle.oer_types.specs.Strict.{IsCanonical}
+use Rattle.oer_model.specs.AsnType.{AsnType}
+use Rattle.oer_model.specs.AsnValue.{AsnValue}
+use Rattle.oer_model.specs.Canonical.{canonical_octets}
+use Rattle.oer_model.specs.Constraints.{KeepsLimits}
+use Rattle.oer_model.specs.Fits.{Fits}
+use Rattle.oer_model.specs.Laws.{CanonicalComputed, CanonicalGiven}
+use Rattle.oer_model.specs.Strict.{IsCanonical}
 use Rattle.oer_writer.specs.Comparing.{begins_with, beside, failures_at, held_at}
 use Rattle.oer_writer.specs.Wrote.{Stopped, Wrote}
 use Rattle.oer_writer.specs.declared.comparison.Differing.{Differing}

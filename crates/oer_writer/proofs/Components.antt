@@ -4,22 +4,23 @@ use Rattle.std.proofs.lemmas.Bool.{false≢true}
 use Rattle.std.proofs.lemmas.List.{drop_more, drop_all, length-map}
 use Rattle.oer_units.specs.Least.{counted, tag_octets, unsigned_octets}
 use Rattle.oer_units.specs.declared.tagging.Tag.{Tag}
-use Rattle.oer_types.specs.AsnType.{AsnType, Need, must, may, default, Fields, Additions, Alternatives, no_fields, field, no_additions, addition, no_alternatives, extensible_sequence, choice}
-use Rattle.oer_types.specs.AsnValue.{AsnValue, Places, Unknown, no_places, absent, present, seq, items, chosen}
-use Rattle.oer_types.specs.Bits.{padded}
-use Rattle.oer_types.specs.Canonical.{any_present, any_unknown, bitmap_octets, canonical_octets, count, extension_octets, same, trimmed, trimmed_additions, unknown_marks, unknown_octets}
-use Rattle.oer_types.specs.Constraints.{has_tag, same_tag}
-use Rattle.oer_types.specs.Filling.{filled, map_values}
-use Rattle.oer_types.specs.ShapeView.{additions_of, fields_of, later_of, root_of, choice_with, seen_field, seen_addition, need_of, type_of}
-use Rattle.oer_types.specs.ValueView.{places_of, places_from, unknown_of, value_of, values_of, values_from}
-use Rattle.oer_types.specs.declared.shape.Addition.{Addition}
-use Rattle.oer_types.specs.declared.shape.Alt.{Alt}
-use Rattle.oer_types.specs.declared.shape.Field.{Field}
-use Rattle.oer_types.specs.declared.shape.Shape.{Shape, Sequence, SequenceOf, Choice}
-use Rattle.oer_types.specs.declared.size.Size.{Size}
-use Rattle.oer_types.specs.declared.value.Unknown as rust_unknown
-use Rattle.oer_types.specs.declared.value.Value.{Value}
-use Rattle.oer_types.proofs.Shapes.{type_of-Sequence, type_of-SequenceOf, type_of-Choice}
+use Rattle.oer_model.specs.AsnType.{AsnType, Need, must, may, default, Fields, Additions, Alternatives, no_fields, field, no_additions, addition, no_alternatives, extensible_sequence, choice}
+use Rattle.oer_model.specs.AsnValue.{AsnValue, Places, Unknown, no_places, absent, present, seq, items, chosen}
+use Rattle.oer_model.specs.Bits.{padded}
+use Rattle.oer_model.specs.Canonical.{any_present, any_unknown, bitmap_octets, canonical_octets, count, extension_octets, same, trimmed, trimmed_additions, unknown_marks, unknown_octets}
+use Rattle.oer_model.specs.Constraints.{has_tag, same_tag}
+use Rattle.oer_model.specs.Filling.{filled, map_values}
+use Rattle.oer_values.specs.Lookup.{first_with}
+use Rattle.oer_values.specs.ShapeView.{additions_of, fields_of, later_of, root_of, choice_with, seen_field, seen_addition, need_of, type_of}
+use Rattle.oer_values.specs.ValueView.{places_of, places_from, unknown_of, value_of, values_of, values_from}
+use Rattle.oer_values.specs.declared.shape.Addition.{Addition}
+use Rattle.oer_values.specs.declared.shape.Alt.{Alt}
+use Rattle.oer_values.specs.declared.shape.Field.{Field}
+use Rattle.oer_values.specs.declared.shape.Shape.{Shape, Sequence, SequenceOf, Choice}
+use Rattle.oer_model.specs.declared.size.Size.{Size}
+use Rattle.oer_values.specs.declared.value.Unknown as rust_unknown
+use Rattle.oer_values.specs.declared.value.Value.{Value}
+use Rattle.oer_values.proofs.Shapes.{type_of-Sequence, type_of-SequenceOf, type_of-Choice}
 use Rattle.oer_writer.specs.Parts.{addition_octets, chosen_octets, counted_place, field_bits, field_octets, kept_place, known_bits, known_octets, place_octets_of, root_octets, values_octets}
 use Rattle.oer_writer.proofs.Places.{counted_additions}
 
@@ -98,43 +99,38 @@ count_of T vs = count_values (trimmed T) (map value_of vs) ∙ length-map vs val
 
 -- ---- alternatives
 
-root_first : (x : Alt) (xs : List Alt) (t : Tag) (v : AsnValue) → chosen_octets (root_of (x ∷ xs) no_alternatives) t v ≡ (if same_tag x.tag t then canonical_octets (type_of x.shape) v else chosen_octets (root_of xs no_alternatives) t v)
-root_first x xs t v = by (same_tag x.tag t) refl
+-- the octets of the value by the alternative, in their way; none where there is no alternative
+abbrev chosen_or : (List ℕ → List ℕ) → AsnValue → Option Alt → List ℕ
+chosen_or f v None = []
+chosen_or f v (Some x) = f (canonical_octets (type_of x.shape) v)
+
+root_first : (xs : List Alt) (t : Tag) (v : AsnValue) → chosen_octets (root_of xs no_alternatives) t v ≡ chosen_or (λ b. b) v (first_with t xs)
+root_first [] t v = refl
+root_first (x ∷ xs) t v = by (same_tag x.tag t) refl (root_first xs t v)
   where
-    by : (b : Bool) → same_tag x.tag t ≡ b → chosen_octets (root_of (x ∷ xs) no_alternatives) t v ≡ (if same_tag x.tag t then canonical_octets (type_of x.shape) v else chosen_octets (root_of xs no_alternatives) t v)
-    by true e = rw (e) refl
-    by false e = rw (e) refl
+    by : (b : Bool) → same_tag x.tag t ≡ b → chosen_octets (root_of xs no_alternatives) t v ≡ chosen_or (λ o. o) v (first_with t xs) → chosen_octets (root_of (x ∷ xs) no_alternatives) t v ≡ chosen_or (λ o. o) v (first_with t (x ∷ xs))
+    by true e h = rw (e) refl
+    by false e h = rw (e) h
 
-later_first : (x : Alt) (xs : List Alt) (t : Tag) (v : AsnValue) → chosen_octets (later_of (x ∷ xs)) t v ≡ (if same_tag x.tag t then counted (canonical_octets (type_of x.shape) v) else chosen_octets (later_of xs) t v)
-later_first x xs t v = by (same_tag x.tag t) refl
+later_first : (xs : List Alt) (t : Tag) (v : AsnValue) → chosen_octets (later_of xs) t v ≡ chosen_or counted v (first_with t xs)
+later_first [] t v = refl
+later_first (x ∷ xs) t v = by (same_tag x.tag t) refl (later_first xs t v)
   where
-    by : (b : Bool) → same_tag x.tag t ≡ b → chosen_octets (later_of (x ∷ xs)) t v ≡ (if same_tag x.tag t then counted (canonical_octets (type_of x.shape) v) else chosen_octets (later_of xs) t v)
-    by true e = rw (e) refl
-    by false e = rw (e) refl
+    by : (b : Bool) → same_tag x.tag t ≡ b → chosen_octets (later_of xs) t v ≡ chosen_or counted v (first_with t xs) → chosen_octets (later_of (x ∷ xs)) t v ≡ chosen_or counted v (first_with t (x ∷ xs))
+    by true e h = rw (e) refl
+    by false e h = rw (e) h
 
-pub root_found : (xs : List Alt) (i : ℕ) (x : Alt) (t : Tag) (v : AsnValue) → i < length xs → x ≡ get_or xs i x → same_tag x.tag t ≡ true → chosen_octets (root_of (drop i xs) no_alternatives) t v ≡ canonical_octets (type_of x.shape) v
-root_found xs i x t v h is e =
-    let rest = drop (i + 1) xs in
-    ap (λ l. chosen_octets (root_of l no_alternatives) t v) (drop_more xs i x h ∙ ap (λ y. y ∷ rest) (sym is)) ∙ root_first x rest t v
-    ∙ ap (λ b. if b then canonical_octets (type_of x.shape) v else chosen_octets (root_of rest no_alternatives) t v) e
+pub root_found : (xs : List Alt) (x : Alt) (t : Tag) (v : AsnValue) → Some x ≡ first_with t xs → chosen_octets (root_of xs no_alternatives) t v ≡ canonical_octets (type_of x.shape) v
+root_found xs x t v is = root_first xs t v ∙ ap (chosen_or (λ b. b) v) (sym is)
 
-pub root_passed : (xs : List Alt) (i : ℕ) (x : Alt) (t : Tag) (v : AsnValue) → i < length xs → x ≡ get_or xs i x → same_tag x.tag t ≡ false → chosen_octets (root_of (drop i xs) no_alternatives) t v ≡ chosen_octets (root_of (drop (i + 1) xs) no_alternatives) t v
-root_passed xs i x t v h is e =
-    let rest = drop (i + 1) xs in
-    ap (λ l. chosen_octets (root_of l no_alternatives) t v) (drop_more xs i x h ∙ ap (λ y. y ∷ rest) (sym is)) ∙ root_first x rest t v
-    ∙ ap (λ b. if b then canonical_octets (type_of x.shape) v else chosen_octets (root_of rest no_alternatives) t v) e
+pub root_none : (xs : List Alt) (t : Tag) (v : AsnValue) → None ≡ first_with t xs → chosen_octets (root_of xs no_alternatives) t v ≡ []
+root_none xs t v is = root_first xs t v ∙ ap (chosen_or (λ b. b) v) (sym is)
 
-pub later_found : (xs : List Alt) (i : ℕ) (x : Alt) (t : Tag) (v : AsnValue) → i < length xs → x ≡ get_or xs i x → same_tag x.tag t ≡ true → chosen_octets (later_of (drop i xs)) t v ≡ counted (canonical_octets (type_of x.shape) v)
-later_found xs i x t v h is e =
-    let rest = drop (i + 1) xs in
-    ap (λ l. chosen_octets (later_of l) t v) (drop_more xs i x h ∙ ap (λ y. y ∷ rest) (sym is)) ∙ later_first x rest t v
-    ∙ ap (λ b. if b then counted (canonical_octets (type_of x.shape) v) else chosen_octets (later_of rest) t v) e
+pub later_found : (xs : List Alt) (x : Alt) (t : Tag) (v : AsnValue) → Some x ≡ first_with t xs → chosen_octets (later_of xs) t v ≡ counted (canonical_octets (type_of x.shape) v)
+later_found xs x t v is = later_first xs t v ∙ ap (chosen_or counted v) (sym is)
 
-pub later_passed : (xs : List Alt) (i : ℕ) (x : Alt) (t : Tag) (v : AsnValue) → i < length xs → x ≡ get_or xs i x → same_tag x.tag t ≡ false → chosen_octets (later_of (drop i xs)) t v ≡ chosen_octets (later_of (drop (i + 1) xs)) t v
-later_passed xs i x t v h is e =
-    let rest = drop (i + 1) xs in
-    ap (λ l. chosen_octets (later_of l) t v) (drop_more xs i x h ∙ ap (λ y. y ∷ rest) (sym is)) ∙ later_first x rest t v
-    ∙ ap (λ b. if b then counted (canonical_octets (type_of x.shape) v) else chosen_octets (later_of rest) t v) e
+pub later_none : (xs : List Alt) (t : Tag) (v : AsnValue) → None ≡ first_with t xs → chosen_octets (later_of xs) t v ≡ []
+later_none xs t v is = later_first xs t v ∙ ap (chosen_or counted v) (sym is)
 
 by_root : (x : Alt) (xs : List Alt) (after : Alternatives) (t : Tag) (v : AsnValue) (b : Bool) → same_tag x.tag t ≡ b → chosen_octets (root_of (x ∷ xs) after) t v ≡ (if b then canonical_octets (type_of x.shape) v else chosen_octets (root_of xs after) t v)
 by_root x xs after t v true e = rw (e) refl

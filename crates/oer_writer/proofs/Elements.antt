@@ -1,10 +1,10 @@
 -- The elements of a list of BOOLEANs.
 use Rattle.std.proofs.Common.{◌≡◌, ◌∙◌, ℕ, List, Option, Result, ap, rules, subst, sym}
-use Rattle.oer_types.specs.AsnType.{boolean}
-use Rattle.oer_types.specs.ShapeView.{type_of}
-use Rattle.oer_types.specs.ValueView.{values_of}
-use Rattle.oer_types.specs.declared.shape.Shape.{Shape, Boolean, the_lemmas}
-use Rattle.oer_types.specs.declared.value.Value.{Value}
+use Rattle.oer_model.specs.AsnType.{boolean}
+use Rattle.oer_values.specs.ShapeView.{type_of}
+use Rattle.oer_values.specs.ValueView.{values_of}
+use Rattle.oer_values.specs.declared.shape.Shape.{Shape, Boolean, the_lemmas}
+use Rattle.oer_values.specs.declared.value.Value.{Value}
 use Rattle.oer_units.specs.declared.fault.SinkFault.{SinkFault}
 use Rattle.oer_writer.specs.Parts.{values_octets}
 use Rattle.oer_writer.specs.Wrote.{Measures, Wrote}

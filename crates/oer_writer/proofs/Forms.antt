@@ -6,8 +6,8 @@ use Rattle.std.specs.Int.{w64}
 use Rattle.oer_units.specs.Reading.{is_int64}
 use Rattle.oer_units.proofs.Lengths.{both_true}
 use Rattle.oer_units.proofs.Lowest.{held_64}
-use Rattle.oer_types.specs.Constraints.{Form, form_of, signed_form, signed_within, unsigned_form}
-use Rattle.oer_types.proofs.Ranges.{is_64_bits}
+use Rattle.oer_model.specs.Constraints.{Form, form_of, signed_form, signed_within, unsigned_form}
+use Rattle.oer_model.proofs.fitting.Ranges.{is_64_bits}
 
 -- each is below 2^64
 pub high_wide : (z : ℤ) → FitsSigned w64 z → int_le z (pos 18446744073709551615) ≡ true

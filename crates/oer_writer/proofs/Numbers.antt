@@ -7,9 +7,9 @@ use Rattle.oer_units.proofs.Lowest.{low_above}
 use Rattle.oer_units.proofs.Numbers.{length-big_endian}
 use Rattle.oer_units.proofs.Needed.{last_bytes}
 use Rattle.oer_units.proofs.WrittenDigits.{upper, upper_step, base128_is}
-use Rattle.oer_types.specs.Bits.{octets_for, padded, spare_bits}
-use Rattle.oer_types.specs.Canonical.{bitmap_octets}
-use Rattle.oer_types.proofs.LeastBits.{length-padded}
+use Rattle.oer_model.specs.Bits.{octets_for, padded, spare_bits}
+use Rattle.oer_model.specs.Canonical.{bitmap_octets}
+use Rattle.oer_model.proofs.bits.LeastBits.{length-padded}
 
 -- the lowest octets are those of the lowest 64 bits
 low_bits : (n k : ℕ) → k ≤ 8 → big_endian k (n % 2 ^ 64) ≡ big_endian k n

@@ -5,7 +5,7 @@ use Rattle.std.proofs.lemmas.Result.{err_from_is_err_and}
 use Rattle.oer_units.specs.declared.fault.SinkFault.{SinkFault}
 use Rattle.oer_writer.specs.declared.packer.Packer.{Packer}
 use Rattle.oer_writer.specs.Packing.{packed_from, pending, IsReady, Packs}
-use Rattle.oer_types.specs.Bits.{bit_value, packed, padded, spare_bits}
+use Rattle.oer_model.specs.Bits.{bit_value, packed, padded, spare_bits}
 use Rattle.oer_writer.specs.Wrote.{Wrote, Ahead}
 use Rattle.oer_writer.proofs.Steps.{ahead_start, ahead_then, ahead_stopped, ahead_last}
 

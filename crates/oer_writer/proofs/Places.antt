@@ -1,22 +1,22 @@
 -- Components, one after another.
 use Rattle.std.proofs.Common.{◌≡◌, ℕ, zero, suc, ◌+◌, ◌-◌, ◌<◌, ◌≤◌, List, [], ◌∷◌, ◌++◌, length, drop, get_or, map, replicate, Bool, true, false, not, if◌then◌else◌, is_some, Option, Some, None, option_map, arith, refl, sym, ap, ◌∙◌, append_assoc, length-append, min}
 use Rattle.std.proofs.lemmas.List.{drop_more, drop_all, length-replicate}
-use Rattle.oer_types.specs.AsnType.{AsnType, Need, must, may, default, Fields, Additions, field, addition}
-use Rattle.oer_types.specs.AsnValue.{AsnValue, no_places, present}
+use Rattle.oer_model.specs.AsnType.{AsnType, Need, must, may, default, Fields, Additions, field, addition}
+use Rattle.oer_model.specs.AsnValue.{AsnValue, no_places, present}
 use Rattle.oer_units.specs.Least.{counted}
-use Rattle.oer_types.proofs.Same.{same-true, same-refl}
-use Rattle.oer_types.specs.Constraints.{addition_count}
+use Rattle.oer_model.proofs.filling.Same.{same-true, same-refl}
+use Rattle.oer_model.specs.Constraints.{addition_count}
 use Rattle.std.proofs.lemmas.Bool.{false≢true}
-use Rattle.oer_types.specs.Canonical.{any_present, same, unknown_marks, unknown_octets}
-use Rattle.oer_types.specs.Filling.{filled}
-use Rattle.oer_types.specs.ShapeView.{additions_of, fields_of, seen_field, seen_addition, need_of, type_of}
-use Rattle.oer_types.specs.ValueView.{places_of, places_from, unknown_of, value_of}
-use Rattle.oer_types.specs.declared.shape.Addition.{Addition}
-use Rattle.oer_types.specs.declared.shape.Field.{Field}
-use Rattle.oer_types.specs.declared.shape.Need as rust_need
-use Rattle.oer_types.specs.declared.shape.Need.TheVariants.{Default}
-use Rattle.oer_types.specs.declared.value.Unknown as rust_unknown
-use Rattle.oer_types.specs.declared.value.Value.{Value}
+use Rattle.oer_model.specs.Canonical.{any_present, same, unknown_marks, unknown_octets}
+use Rattle.oer_model.specs.Filling.{filled}
+use Rattle.oer_values.specs.ShapeView.{additions_of, fields_of, seen_field, seen_addition, need_of, type_of}
+use Rattle.oer_values.specs.ValueView.{places_of, places_from, unknown_of, value_of}
+use Rattle.oer_values.specs.declared.shape.Addition.{Addition}
+use Rattle.oer_values.specs.declared.shape.Field.{Field}
+use Rattle.oer_values.specs.declared.shape.Need as rust_need
+use Rattle.oer_values.specs.declared.shape.Need.TheVariants.{Default}
+use Rattle.oer_values.specs.declared.value.Unknown as rust_unknown
+use Rattle.oer_values.specs.declared.value.Value.{Value}
 use Rattle.oer_writer.specs.Parts.{field_bits, kept_place, known_bits, place_bit}
 
 -- ---- additions

@@ -2,14 +2,14 @@
 use Rattle.std.proofs.Common.{◌≡◌, ℕ, ◌+◌, ◌*◌, ◌<◌, Option, Some, Vec, Global, arith, sym, rules}
 use borrow.Author.Sizes.{Under, under, sizes, deeper, same_size}
 use denote.Param.Weighed.{most}
-use Rattle.oer_types.specs.declared.shape.Addition.{Addition}
-use Rattle.oer_types.specs.declared.shape.Alt.{Alt}
-use Rattle.oer_types.specs.declared.shape.Field.{Field}
-use Rattle.oer_types.specs.declared.shape.Shape.{Shape, Sequence, Choice, the_lemmas}
-use Rattle.oer_types.proofs.shape.Shape.TheLaws.{the_size}
-use Rattle.oer_types.proofs.shape.Field.TheLaws as field
-use Rattle.oer_types.proofs.shape.Addition.TheLaws as addition
-use Rattle.oer_types.proofs.shape.Alt.TheLaws as alt
+use Rattle.oer_values.specs.declared.shape.Addition.{Addition}
+use Rattle.oer_values.specs.declared.shape.Alt.{Alt}
+use Rattle.oer_values.specs.declared.shape.Field.{Field}
+use Rattle.oer_values.specs.declared.shape.Shape.{Shape, Sequence, Choice, the_lemmas}
+use Rattle.oer_values.proofs.shape.Shape.TheLaws.{the_size}
+use Rattle.oer_values.proofs.shape.Field.TheLaws as field
+use Rattle.oer_values.proofs.shape.Addition.TheLaws as addition
+use Rattle.oer_values.proofs.shape.Alt.TheLaws as alt
 
 thrice : (m n t : ℕ) → Under m n → t ≡ 3 * n + 0 → 3 * m + 2 < t
 thrice m n t (under h) e = omega arith

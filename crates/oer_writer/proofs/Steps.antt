@@ -40,6 +40,10 @@ wrote_then (Ok n) done mid a b whole old now new f f' f'' e (m, app, same) (m', 
     (omega (arith, ap length e, length-append a b), subst (λ l. Appends old new l) (sym e) (appends_both old now new a b app app'), same' ∙ same)
 wrote_then (Err x) done mid a b whole old now new f f' f'' e one two = stopped_then x done mid a b whole old now new f f' f'' e one two
 
+-- nothing was to be written
+pub nothing_wrote : (done : ℕ) (o : List ℕ) (old : Option (List ℕ)) (f : ℕ) → o ≡ [] → Wrote done o old f (Ok done) old f
+nothing_wrote done o old f e = (omega (arith, ap length e), subst (λ l. Appends old old l) (sym e) (appends_none old), refl)
+
 pub same_wrote : (r : Result ℕ SinkFault) (done : ℕ) (a whole : List ℕ) (old new : Option (List ℕ)) (f f' : ℕ) → whole ≡ a → Wrote done a old f r new f' → Wrote done whole old f r new f'
 same_wrote r done a whole old new f f' e h = subst (λ l. Wrote done l old f r new f') (sym e) h
 

@@ -1,5 +1,5 @@
 -- At most how many octets the values that fit a type have.
-use Rattle.std.proofs.Common.{inl, inr, ◌≡◌, ◌∙◌, ℕ, suc, ◌+◌, ◌*◌, ◌/◌, ◌^◌, ◌<◌, ◌≤◌, List, [], ◌∷◌, ◌++◌, length, drop, get_or, map, Bool, true, false, ◌&&◌, ◌||◌, ℤ, pos, negsuc, ◌-ℤ◌, neg_ℤ, int_le, leb, FitsSigned, Option, Some, None, IfSome, option_map, Vec, Box, Global, arith, refl, sym, ap, subst, append-nil, length-append}
+use Rattle.std.proofs.Common.{inl, inr, ◌≡◌, ◌∙◌, ℕ, suc, ◌+◌, ◌*◌, ◌/◌, ◌^◌, ◌<◌, ◌≤◌, List, [], ◌∷◌, ◌++◌, length, drop, get_or, map, Bool, true, false, ◌&&◌, ◌||◌, ℤ, pos, negsuc, ◌-ℤ◌, neg_ℤ, int_le, leb, FitsSigned, Option, Some, None, IfSome, option_map, Vec, Global, arith, refl, sym, ap, subst, append-nil, length-append}
 use Rattle.std.proofs.lemmas.Bool.{leb-true}
 use Rattle.std.proofs.lemmas.Int.{ints}
 use Rattle.std.proofs.lemmas.List.{drop_more, drop_all, length-map}
@@ -8,22 +8,22 @@ use Rattle.oer_units.specs.Least.{counted, unsigned_octets}
 use Rattle.oer_units.specs.Reading.{is_int128, is_int64}
 use Rattle.oer_units.proofs.Lengths.{both_true}
 use Rattle.oer_units.proofs.Ranges.{int_le-true}
-use Rattle.oer_types.specs.AsnType.{AsnType, Additions, Fields, NamedNumber, Need, boolean, default, enumerated, extensible_sequence, field, integer, leaf, may, must, no_fields, null, octet_string, sequence, sequence_of}
-use Rattle.oer_types.specs.AsnValue.{AsnValue, Places, Unknown, Values, absent, bool, enum, int, items, no_places, no_values, nothing, octets, present, seq, value}
-use Rattle.oer_types.specs.Bits.{octets_for, padded}
-use Rattle.oer_types.specs.Canonical.{any_present, any_unknown, canonical_octets, count, same, string_octets}
-use Rattle.oer_types.specs.Constraints.{at_most, fixed, in_range, size_fits}
-use Rattle.oer_types.specs.Filling.{filled}
-use Rattle.oer_types.specs.Fits.{AllFit, Fits, FitsFields, listed}
-use Rattle.oer_types.specs.ShapeView.{SeenField, additions_of, fields_from, fields_of, need_of, seen_field, sequence_with, type_of}
-use Rattle.oer_types.specs.ValueView.{places_from, places_of, value_of, values_from, values_of}
-use Rattle.oer_types.specs.declared.shape.Addition.{Addition}
-use Rattle.oer_types.specs.declared.shape.Field.{Field}
-use Rattle.oer_types.specs.declared.size.Size.{Size}
-use Rattle.oer_types.specs.declared.value.Value.{Value}
-use Rattle.oer_types.proofs.LeastBits.{length-padded}
-use Rattle.oer_types.proofs.NumberSteps.{wide}
-use Rattle.oer_writer.specs.Parts.{field_bits, field_octets, first_bits, kept_place, place_octets_of, root_octets, values_octets}
+use Rattle.oer_model.specs.AsnType.{AsnType, Fields, NamedNumber, Need, boolean, default, enumerated, field, integer, may, must, null, octet_string, sequence}
+use Rattle.oer_model.specs.AsnValue.{AsnValue, Places, Unknown, Values, absent, items, no_places, no_values, present, seq}
+use Rattle.oer_model.specs.Bits.{octets_for, padded}
+use Rattle.oer_model.specs.Canonical.{any_present, any_unknown, canonical_octets, count, same}
+use Rattle.oer_model.specs.Constraints.{at_most, fixed}
+use Rattle.oer_model.specs.Filling.{filled}
+use Rattle.oer_model.specs.Fits.{AllFit, Fits, FitsFields, listed}
+use Rattle.oer_values.specs.ShapeView.{SeenField, additions_of, fields_from, fields_of, need_of, seen_field, sequence_with, type_of}
+use Rattle.oer_values.specs.ValueView.{places_from, places_of, value_of, values_from, values_of}
+use Rattle.oer_values.specs.declared.shape.Addition.{Addition}
+use Rattle.oer_values.specs.declared.shape.Field.{Field}
+use Rattle.oer_model.specs.declared.size.Size.{Size}
+use Rattle.oer_values.specs.declared.value.Value.{Value}
+use Rattle.oer_model.proofs.bits.LeastBits.{length-padded}
+use Rattle.oer_model.proofs.fitting.NumberSteps.{wide}
+use Rattle.oer_writer.specs.Parts.{field_bits, field_octets, root_octets, values_octets}
 use Rattle.oer_writer.specs.TypeBounds.{BoundsFieldsIn, BoundsIn, BoundsListIn, BoundsPlaceIn, BoundsRootIn, BoundsValuesIn, FieldsHaveMost, HasMost, StringsHaveMost}
 use Rattle.oer_writer.proofs.Bounds.{bool_bound, int_bound, item_bound, kept_few, nil, null_bound, root_few, string_few}
 use Rattle.oer_writer.proofs.Components.{count_of, extended_is, field_end, field_len, field_none}

@@ -2,14 +2,14 @@
 use Rattle.std.proofs.Common.{inl, inr, ◌≡◌, ◌↔◌, ◌⊎◌, ℕ, ◌-◌, ◌<◌, ◌≤◌, ◌^◌, List, length, take, Option, Some, None, Result, Ok, Err, arith, refl, sym, ap, ◌∙◌, subst}
 use Rattle.std.specs.Io.KnownBytes.{Appends}
 use Rattle.oer_units.specs.Stream.{one_more}
-use Rattle.oer_types.specs.AsnType.{AsnType}
-use Rattle.oer_types.specs.AsnValue.{AsnValue}
-use Rattle.oer_types.specs.Canonical.{canonical_octets}
-use Rattle.oer_types.specs.Constraints.{KeepsLimits}
-use Rattle.oer_types.specs.Fits.{Fits}
-use Rattle.oer_types.specs.Laws.{CanonicalComputed, CanonicalGiven}
-use Rattle.oer_types.specs.ShapeView.{type_of}
-use Rattle.oer_types.specs.declared.shape.Shape.{Shape}
+use Rattle.oer_model.specs.AsnType.{AsnType}
+use Rattle.oer_model.specs.AsnValue.{AsnValue}
+use Rattle.oer_model.specs.Canonical.{canonical_octets}
+use Rattle.oer_model.specs.Constraints.{KeepsLimits}
+use Rattle.oer_model.specs.Fits.{Fits}
+use Rattle.oer_model.specs.Laws.{CanonicalComputed, CanonicalGiven}
+use Rattle.oer_values.specs.ShapeView.{type_of}
+use Rattle.oer_values.specs.declared.shape.Shape.{Shape}
 use Rattle.oer_units.specs.declared.fault.SinkFault.{SinkFault}
 use Rattle.oer_writer.specs.declared.fault.WriteFault.{WriteFault}
 use Rattle.oer_writer.specs.declared.fault.WriteFault.TheVariants.{Device, TooLong}

@@ -1,8 +1,8 @@
 -- At most how many octets a value has, by what it holds, whatever its type.
 use Rattle.std.specs.Prelude.{ℕ, ◌+◌, ◌≤◌, length, Option, IfSome}
-use Rattle.oer_types.specs.AsnType.{AsnType, Fields}
-use Rattle.oer_types.specs.AsnValue.{AsnValue, Places, Values}
-use Rattle.oer_types.specs.Canonical.{canonical_octets}
+use Rattle.oer_model.specs.AsnType.{AsnType, Fields}
+use Rattle.oer_model.specs.AsnValue.{AsnValue, Places, Values}
+use Rattle.oer_model.specs.Canonical.{canonical_octets}
 use Rattle.oer_writer.specs.Parts.{field_octets, values_octets}
 
 -- Those done before come to the answer at most, with the octets of v by any type. Nothing is said where there is none.

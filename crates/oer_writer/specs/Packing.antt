@@ -1,6 +1,6 @@
 -- Bits on their way into octets.
 use Rattle.std.specs.Prelude.{ℕ, ◌+◌, ◌*◌, ◌/◌, ◌≤◌, List, [], ◌∷◌, ◌++◌, Bool, eqb, if◌then◌else◌, Option, Result, MatchResult}
-use Rattle.oer_types.specs.Bits.{bit_value}
+use Rattle.oer_model.specs.Bits.{bit_value}
 use Rattle.oer_units.specs.declared.fault.SinkFault.{SinkFault}
 use Rattle.oer_writer.specs.declared.packer.Packer.{Packer}
 use Rattle.oer_writer.specs.Wrote.{Ahead, Stopped}

@@ -1,12 +1,12 @@
 -- The canonical octets of the parts of values.
 use Rattle.std.specs.Prelude.{ℕ, List, [], ◌∷◌, ◌++◌, Bool, true, not, Option, Some, None, is_some, if◌then◌else◌}
-use Rattle.oer_types.specs.AsnType.{Additions, Alternatives, AsnType, Fields, Need, choice, default, extensible_sequence, may, must, sequence, sequence_of}
-use Rattle.oer_types.specs.AsnValue.{AsnValue, Places, Unknown, Values, foreign}
-use Rattle.oer_types.specs.Canonical.{addition_bits, all_octets, bitmap_octets, canonical_octets, plain_addition_octets, plain_alternative_octets, plain_field_octets, plain_octets, root_bits, same, trimmed, trimmed_additions, trimmed_alternative, trimmed_fields, unknown_marks, unknown_octets}
+use Rattle.oer_model.specs.AsnType.{Additions, Alternatives, AsnType, Fields, Need, choice, default, extensible_sequence, may, must, sequence, sequence_of}
+use Rattle.oer_model.specs.AsnValue.{AsnValue, Places, Unknown, Values, foreign}
+use Rattle.oer_model.specs.Canonical.{addition_bits, all_octets, bitmap_octets, canonical_octets, plain_addition_octets, plain_alternative_octets, plain_field_octets, plain_octets, root_bits, same, trimmed, trimmed_additions, trimmed_alternative, trimmed_fields, unknown_marks, unknown_octets}
 use Rattle.oer_units.specs.Least.{counted, tag_octets}
-use Rattle.oer_types.specs.Bits.{padded}
-use Rattle.oer_types.specs.Constraints.{addition_count}
-use Rattle.oer_types.specs.Filling.{filled, map_values}
+use Rattle.oer_model.specs.Bits.{padded}
+use Rattle.oer_model.specs.Constraints.{addition_count}
+use Rattle.oer_model.specs.Filling.{filled, map_values}
 use Rattle.oer_units.specs.declared.tagging.Tag.{Tag}
 
 -- a component that is there is written: it isn't equal to its default, after both are filled

@@ -1,11 +1,11 @@
 -- At most how many octets the values that fit a type have.
 use Rattle.std.specs.Prelude.{◌≡◌, ℕ, ◌+◌, ◌≤◌, List, length, Bool, true, Option, IfSome}
-use Rattle.oer_types.specs.AsnType.{AsnType, Fields, sequence_of}
-use Rattle.oer_types.specs.AsnValue.{AsnValue, Places, Values, items}
-use Rattle.oer_types.specs.Canonical.{canonical_octets, string_octets}
-use Rattle.oer_types.specs.Constraints.{fixed, size_fits}
-use Rattle.oer_types.specs.Fits.{AllFit, Fits, FitsFields, listed}
-use Rattle.oer_types.specs.declared.size.Size.{Size}
+use Rattle.oer_model.specs.AsnType.{AsnType, Fields, sequence_of}
+use Rattle.oer_model.specs.AsnValue.{AsnValue, Places, Values, items}
+use Rattle.oer_model.specs.Canonical.{canonical_octets, string_octets}
+use Rattle.oer_model.specs.Constraints.{fixed, size_fits}
+use Rattle.oer_model.specs.Fits.{AllFit, Fits, FitsFields, listed}
+use Rattle.oer_model.specs.declared.size.Size.{Size}
 use Rattle.oer_writer.specs.Parts.{field_octets, place_octets_of, root_octets, values_octets}
 
 -- ---- by the type alone. Nothing is said where there is no answer, here and below.

@@ -2,9 +2,9 @@
 use Rattle.std.specs.Prelude.{◌≡◌, ◌↔◌, ◌⊎◌, ℕ, ◌-◌, ◌^◌, ◌<◌, ◌≤◌, List, length, take, Option, Some, Result, Ok, Err, MatchOption, MatchResult}
 use Rattle.std.specs.Io.KnownBytes.{Appends}
 use Rattle.oer_units.specs.Stream.{one_more}
-use Rattle.oer_types.specs.AsnType.{AsnType}
-use Rattle.oer_types.specs.AsnValue.{AsnValue}
-use Rattle.oer_types.specs.Strict.{IsCanonical}
+use Rattle.oer_model.specs.AsnType.{AsnType}
+use Rattle.oer_model.specs.AsnValue.{AsnValue}
+use Rattle.oer_model.specs.Strict.{IsCanonical}
 use Rattle.oer_writer.specs.declared.fault.WriteFault.{WriteFault}
 use Rattle.oer_writer.specs.declared.fault.WriteFault.TheVariants.{Device, TooLong}
 

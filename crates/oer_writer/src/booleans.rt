@@ -1,7 +1,7 @@
 //! Lists of BOOLEANs, of an octet each.
-ghost use Rattle.oer_types.specs.AsnType.{boolean};
-ghost use Rattle.oer_types.specs.Canonical.{canonical_octets};
-ghost use Rattle.oer_types.specs.ValueView.{value_of, values_of};
+ghost use Rattle.oer_model.specs.AsnType.{boolean};
+ghost use Rattle.oer_model.specs.Canonical.{canonical_octets};
+ghost use Rattle.oer_values.specs.ValueView.{value_of, values_of};
 ghost use Rattle.oer_writer.specs.Parts.{values_octets};
 ghost use Rattle.oer_writer.specs.Wrote.{Measures, Wrote};
 

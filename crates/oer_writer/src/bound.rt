@@ -2,8 +2,8 @@
 //! come to 2^64 or where it finds no bound. They look at the value alone, and take less time than to
 //! measure it.
 ghost use Rattle.std.specs.Prelude.{map};
-ghost use Rattle.oer_types.specs.AsnValue.{chosen, enum, int, items, octets, seq, text};
-ghost use Rattle.oer_types.specs.ValueView.{places_of, unknown_of, value_of, values_of};
+ghost use Rattle.oer_model.specs.AsnValue.{chosen, enum, int, items, octets, seq, text};
+ghost use Rattle.oer_values.specs.ValueView.{places_of, unknown_of, value_of, values_of};
 ghost use Rattle.oer_writer.specs.Bounds.{Bounds, BoundsPlaces, BoundsValues};
 
 use crate::leaf::quantity_len;

@@ -1,9 +1,9 @@
 //! Lengths and octets of values.
 ghost use Rattle.std.specs.Prelude.{◌≡◌, ◌↔◌, None, Err};
-ghost use Rattle.oer_types.specs.Canonical.{canonical_octets};
-ghost use Rattle.oer_types.specs.Fits.{Fits};
+ghost use Rattle.oer_model.specs.Canonical.{canonical_octets};
+ghost use Rattle.oer_model.specs.Fits.{Fits};
 ghost use Rattle.oer_types.specs.Schema.{the_type};
-ghost use Rattle.oer_types.specs.ValueView.{value_of};
+ghost use Rattle.oer_values.specs.ValueView.{value_of};
 ghost use Rattle.oer_writer.specs.Write.{Counts, IsTooLong, TellsFailure, TellsLength, Writes, WritesAll, WritesCanonical};
 ghost use Rattle.oer_writer.specs.declared.fault.WriteFault.TheVariants.{TooLong};
 

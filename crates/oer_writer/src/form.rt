@@ -1,7 +1,7 @@
 //! The form of an INTEGER. Bounds of 64 bits are compared as such, which takes half the time.
 ghost use Rattle.std.specs.Prelude.{◌≡◌, ◌&&◌, Some, int_le};
-ghost use Rattle.oer_types.specs.Constraints.{form_of, signed_form, unsigned_form};
-ghost use Rattle.oer_types.specs.FormView.{form_seen};
+ghost use Rattle.oer_model.specs.Constraints.{form_of, signed_form, unsigned_form};
+ghost use Rattle.oer_values.specs.FormView.{form_seen};
 
 use oer_types::Form;
 use oer_units::Width;

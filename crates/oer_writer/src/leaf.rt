@@ -3,11 +3,11 @@ ghost use Rattle.std.specs.Prelude.{◌≡◌, ◌≤◌, ◌<◌, ◌^◌, ◌+
 ghost use Rattle.std.specs.Int.{w128, cast_unsigned};
 ghost use Rattle.oer_units.specs.Least.{base128_octets, big_endian, counted, enumerated_octets, fixed_signed_octets, length_octets, object_id_octets, subidentifier_octets, tag_octets, upper_digits, unsigned_octets};
 ghost use Rattle.oer_units.specs.Width.{octets_of_width};
-ghost use Rattle.oer_types.specs.Bits.{spare_bits};
-ghost use Rattle.oer_types.specs.Canonical.{bit_octets, integer_octets, string_octets};
-ghost use Rattle.oer_types.specs.Constraints.{fixed, form_of};
-ghost use Rattle.oer_types.specs.ShapeView.{type_of};
-ghost use Rattle.oer_types.specs.ValueView.{value_of};
+ghost use Rattle.oer_model.specs.Bits.{spare_bits};
+ghost use Rattle.oer_model.specs.Canonical.{bit_octets, integer_octets, string_octets};
+ghost use Rattle.oer_model.specs.Constraints.{fixed, form_of};
+ghost use Rattle.oer_values.specs.ShapeView.{type_of};
+ghost use Rattle.oer_values.specs.ValueView.{value_of};
 ghost use Rattle.oer_writer.specs.Parts.{leaf_octets};
 ghost use Rattle.oer_writer.specs.Wrote.{Wrote};
 

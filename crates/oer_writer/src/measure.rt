@@ -1,12 +1,12 @@
 //! How many canonical octets a value has.
 ghost use Rattle.std.specs.Prelude.{◌≡◌, ◌++◌, ℕ, List, length, map, option_map};
 ghost use Rattle.oer_units.specs.Least.{counted, tag_octets, unsigned_octets};
-ghost use Rattle.oer_types.specs.AsnType.{no_alternatives};
-ghost use Rattle.oer_types.specs.AsnValue.{chosen, items, seq};
-ghost use Rattle.oer_types.specs.Bits.{padded};
-ghost use Rattle.oer_types.specs.Canonical.{bitmap_octets, canonical_octets, unknown_marks, unknown_octets};
-ghost use Rattle.oer_types.specs.ShapeView.{additions_of, fields_of, later_of, need_of, root_of, type_of};
-ghost use Rattle.oer_types.specs.ValueView.{places_of, unknown_of, value_of, values_of};
+ghost use Rattle.oer_model.specs.AsnType.{no_alternatives};
+ghost use Rattle.oer_model.specs.AsnValue.{chosen, items, seq};
+ghost use Rattle.oer_model.specs.Bits.{padded};
+ghost use Rattle.oer_model.specs.Canonical.{bitmap_octets, canonical_octets, unknown_marks, unknown_octets};
+ghost use Rattle.oer_values.specs.ShapeView.{additions_of, fields_of, later_of, need_of, root_of, type_of};
+ghost use Rattle.oer_values.specs.ValueView.{places_of, unknown_of, value_of, values_of};
 ghost use Rattle.oer_writer.specs.Parts.{addition_octets, chosen_octets, counted_place, field_bits, field_octets, first_bits, kept_place, known_bits, known_octets, leaf_octets, place_octets_of, root_octets, values_octets};
 ghost use Rattle.oer_writer.specs.Wrote.{Measures};
 
@@ -14,7 +14,7 @@ use crate::booleans::measured_booleans;
 use crate::leaf::{put_leaf, put_quantity, put_tag_octets};
 use crate::presence::{is_extended, kept, measured_preamble, put_bitmap, put_unknown};
 use crate::slice::Nowhere;
-use oer_types::{Addition, Alt, Field, Shape, Unknown, Value, contains_tag, is_same_tag};
+use oer_types::{Addition, Alt, Field, Shape, Unknown, Value, contains_tag, with_tag};
 use oer_units::{Tag, length_len};
 
 // Each of these adds the octets to those done, and answers none where they come to 2^64.
@@ -201,23 +201,21 @@ fn measured_values(item: &Shape, values: &[Value], done: u64) -> Option<u64>
 fn measured_alternative(alternatives: &[Alt], tag: Tag, value: &Value, done: u64) -> Option<u64>
     ensures { Measures done (chosen_octets (root_of alternatives.now no_alternatives) tag (value_of value.now)) result }
 {
-    for alternative in alternatives {
-        if is_same_tag(alternative.tag, tag) {
-            return measured(&alternative.shape, value, done);
-        }
+    match with_tag(alternatives, tag) {
+        Some(alternative) => measured(&alternative.shape, value, done),
+        None => Some(done),
     }
-    Some(done)
 }
 
 #[cycle(measured)]
 fn measured_later(alternatives: &[Alt], tag: Tag, value: &Value, done: u64) -> Option<u64>
     ensures { Measures done (chosen_octets (later_of alternatives.now) tag (value_of value.now)) result }
 {
-    for alternative in alternatives {
-        if is_same_tag(alternative.tag, tag) {
+    match with_tag(alternatives, tag) {
+        Some(alternative) => {
             let length = measured(&alternative.shape, value, 0)?;
-            return open_len(length, done);
+            open_len(length, done)
         }
+        None => Some(done),
     }
-    Some(done)
 }

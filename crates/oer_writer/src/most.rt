@@ -1,8 +1,8 @@
 //! At most how many octets the values of a type have. None where the type sets no bound, or where it isn't
 //! looked for.
 ghost use Rattle.std.specs.Prelude.{◌≡◌, ◌+◌, ◌*◌, IfSome};
-ghost use Rattle.oer_types.specs.AsnType.{sequence};
-ghost use Rattle.oer_types.specs.ShapeView.{fields_of, type_of};
+ghost use Rattle.oer_model.specs.AsnType.{sequence};
+ghost use Rattle.oer_values.specs.ShapeView.{fields_of, type_of};
 ghost use Rattle.oer_writer.specs.TypeBounds.{FieldsHaveMost, HasMost, StringsHaveMost};
 
 use oer_types::{Field, Shape, Size};

@@ -1,6 +1,6 @@
 //! Bits, eight to an octet.
 ghost use Rattle.std.specs.Prelude.{◌≡◌, ◌+◌, ◌*◌, ◌≤◌, ◌∷◌, [], List, Bool, MatchOption};
-ghost use Rattle.oer_types.specs.Bits.{bit_value};
+ghost use Rattle.oer_model.specs.Bits.{bit_value};
 ghost use Rattle.oer_writer.specs.Packing.{pending, IsReady, Packs};
 ghost use Rattle.oer_writer.specs.Wrote.{Wrote};
 

@@ -1,10 +1,10 @@
 //! Parts of values, for the crate that checks octets.
 ghost use Rattle.std.specs.Prelude.{◌↔◌, IsTrue};
-ghost use Rattle.oer_types.specs.Constraints.{KeepsLimits};
-ghost use Rattle.oer_types.specs.Fits.{Fits};
-ghost use Rattle.oer_types.specs.ShapeView.{type_of};
-ghost use Rattle.oer_types.specs.Strict.{IsCanonical};
-ghost use Rattle.oer_types.specs.ValueView.{value_of};
+ghost use Rattle.oer_model.specs.Constraints.{KeepsLimits};
+ghost use Rattle.oer_model.specs.Fits.{Fits};
+ghost use Rattle.oer_values.specs.ShapeView.{type_of};
+ghost use Rattle.oer_model.specs.Strict.{IsCanonical};
+ghost use Rattle.oer_values.specs.ValueView.{value_of};
 
 use crate::comparison::Comparison;
 use crate::put::put;

@@ -1,10 +1,10 @@
 //! Which components are there, and their bits.
 ghost use Rattle.std.specs.Prelude.{◌≡◌, ◌↔◌, ◌≤◌, ◌<◌, ◌*◌, ◌++◌, ◌||◌, ◌∷◌, [], IsTrue, Option, Some, None, List, Bool, false, true, length, map, option_map, replicate};
-ghost use Rattle.oer_types.specs.Canonical.{any_present, any_unknown, bitmap_octets, unknown_marks, unknown_octets};
-ghost use Rattle.oer_types.specs.AsnValue.{AsnValue};
-ghost use Rattle.oer_types.specs.Bits.{padded};
-ghost use Rattle.oer_types.specs.ShapeView.{additions_of, fields_of, need_of, type_of};
-ghost use Rattle.oer_types.specs.ValueView.{places_of, unknown_of, value_of};
+ghost use Rattle.oer_model.specs.Canonical.{any_present, any_unknown, bitmap_octets, unknown_marks, unknown_octets};
+ghost use Rattle.oer_model.specs.AsnValue.{AsnValue};
+ghost use Rattle.oer_model.specs.Bits.{padded};
+ghost use Rattle.oer_values.specs.ShapeView.{additions_of, fields_of, need_of, type_of};
+ghost use Rattle.oer_values.specs.ValueView.{places_of, unknown_of, value_of};
 ghost use Rattle.oer_writer.specs.Packing.{IsReady, Packs};
 ghost use Rattle.oer_writer.specs.Parts.{field_bits, first_bits, kept_place, known_bits, place_bit};
 ghost use Rattle.oer_writer.specs.Wrote.{Measures, Wrote};

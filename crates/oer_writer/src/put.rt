@@ -1,10 +1,10 @@
 //! The canonical octets of a value, to a sink.
 ghost use Rattle.std.specs.Prelude.{◌≡◌, List, map, option_map};
-ghost use Rattle.oer_types.specs.AsnType.{no_alternatives};
-ghost use Rattle.oer_types.specs.AsnValue.{chosen, items, seq};
-ghost use Rattle.oer_types.specs.Canonical.{canonical_octets};
-ghost use Rattle.oer_types.specs.ShapeView.{additions_of, fields_of, later_of, need_of, root_of, type_of};
-ghost use Rattle.oer_types.specs.ValueView.{places_of, unknown_of, value_of, values_of};
+ghost use Rattle.oer_model.specs.AsnType.{no_alternatives};
+ghost use Rattle.oer_model.specs.AsnValue.{chosen, items, seq};
+ghost use Rattle.oer_model.specs.Canonical.{canonical_octets};
+ghost use Rattle.oer_values.specs.ShapeView.{additions_of, fields_of, later_of, need_of, root_of, type_of};
+ghost use Rattle.oer_values.specs.ValueView.{places_of, unknown_of, value_of, values_of};
 ghost use Rattle.oer_writer.specs.Parts.{addition_octets, chosen_octets, counted_place, field_octets, kept_place, known_octets, place_octets_of, root_octets, values_octets};
 ghost use Rattle.oer_writer.specs.Wrote.{Wrote, WroteHead};
 
@@ -13,7 +13,7 @@ use crate::leaf::{put_leaf, put_quantity, put_tag_octets};
 use crate::measure::measured;
 use crate::presence::{is_extended, kept, put_bitmap, put_preamble, put_unknown};
 use crate::slice::put_count;
-use oer_types::{Addition, Alt, Field, Shape, Unknown, Value, contains_tag, is_same_tag};
+use oer_types::{Addition, Alt, Field, Shape, Unknown, Value, contains_tag, with_tag};
 use oer_units::{Sink, SinkFault, Tag};
 
 // Writes the length of a value in an open type.
@@ -265,12 +265,10 @@ fn put_alternative<W: Sink>(
 ) -> Result<u64, SinkFault>
     ensures { Wrote done (chosen_octets (root_of alternatives.now no_alternatives) tag (value_of value.now)) (W.contents sink.old) (W.failed sink.old) result (W.contents sink.new) (W.failed sink.new) }
 {
-    for alternative in alternatives {
-        if is_same_tag(alternative.tag, tag) {
-            return put(&alternative.shape, value, done, sink);
-        }
+    match with_tag(alternatives, tag) {
+        Some(alternative) => put(&alternative.shape, value, done, sink),
+        None => Ok(done),
     }
-    Ok(done)
 }
 
 // The same after the extension marker, as an open type (X.696, 20).
@@ -284,11 +282,11 @@ fn put_later<W: Sink>(
 ) -> Result<u64, SinkFault>
     ensures { Wrote done (chosen_octets (later_of alternatives.now) tag (value_of value.now)) (W.contents sink.old) (W.failed sink.old) result (W.contents sink.new) (W.failed sink.new) }
 {
-    for alternative in alternatives {
-        if is_same_tag(alternative.tag, tag) {
+    match with_tag(alternatives, tag) {
+        Some(alternative) => {
             let done = put_open_head(&alternative.shape, value, done, sink)?;
-            return put(&alternative.shape, value, done, sink);
+            put(&alternative.shape, value, done, sink)
         }
+        None => Ok(done),
     }
-    Ok(done)
 }

@@ -4,8 +4,8 @@ ghost use Rattle.std.specs.Io.{WritesAtMost};
 ghost use Rattle.std.specs.Io.KnownBytes.{WriteAppends};
 ghost use Rattle.oer_units.specs.Least.{counted, length_octets};
 ghost use Rattle.oer_units.specs.Stream.{counted_write};
-ghost use Rattle.oer_types.specs.Canonical.{string_octets};
-ghost use Rattle.oer_types.specs.Constraints.{fixed};
+ghost use Rattle.oer_model.specs.Canonical.{string_octets};
+ghost use Rattle.oer_model.specs.Constraints.{fixed};
 ghost use Rattle.oer_writer.specs.Wrote.{Measures, Wrote, Settles};
 
 use oer_types::Size;

@@ -2,8 +2,8 @@
 //! where they come to 2^64 or where it finds no bound. Where the type of an element sets a bound, no
 //! element is looked at.
 ghost use Rattle.std.specs.Prelude.{option_map};
-ghost use Rattle.oer_types.specs.ShapeView.{fields_of, type_of};
-ghost use Rattle.oer_types.specs.ValueView.{places_of, value_of, values_of};
+ghost use Rattle.oer_values.specs.ShapeView.{fields_of, type_of};
+ghost use Rattle.oer_values.specs.ValueView.{places_of, value_of, values_of};
 ghost use Rattle.oer_writer.specs.TypeBounds.{BoundsFieldsIn, BoundsIn, BoundsListIn, BoundsPlaceIn, BoundsRootIn, BoundsValuesIn};
 
 use crate::bound::{bound, bound_values};

@@ -1,9 +1,9 @@
 //! A value from its first octet to its last.
 ghost use Rattle.std.specs.Prelude.{◌↔◌, ◌<◌, ◌^◌, IsTrue, length};
-ghost use Rattle.oer_types.specs.Canonical.{canonical_octets};
-ghost use Rattle.oer_types.specs.Fits.{Fits};
-ghost use Rattle.oer_types.specs.ShapeView.{type_of};
-ghost use Rattle.oer_types.specs.ValueView.{value_of};
+ghost use Rattle.oer_model.specs.Canonical.{canonical_octets};
+ghost use Rattle.oer_model.specs.Fits.{Fits};
+ghost use Rattle.oer_values.specs.ShapeView.{type_of};
+ghost use Rattle.oer_values.specs.ValueView.{value_of};
 ghost use Rattle.oer_writer.specs.Write.{Counts, Writes};
 
 use crate::fault::WriteFault;

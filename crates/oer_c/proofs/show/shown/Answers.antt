@@ -2,7 +2,7 @@ use Rattle.std.proofs.Common.{ap, Bor, List, ℕ}
 use Rattle.std.specs.Prelude.{string_bytes}
 use Rattle.serde_json.specs.View.{view}
 use Rattle.oer_types.specs.Schema.{the_type}
-use Rattle.oer_types.specs.ValueView.{value_of}
+use Rattle.oer_values.specs.ValueView.{value_of}
 use Rattle.oer_units.specs.Stream.{inner_of}
 use Rattle.oer_c.proofs.Rewritten.{text_of, unread}
 use Rattle.oer_c.proofs.show.shown.Goals as goal

@@ -1,7 +1,7 @@
 use Rattle.oer_checker.proofs.Exits.{at_stop}
 use Rattle.std.proofs.Common.{◌∙◌, ◌&&◌, Bool, ap, ap₂, sym}
-use Rattle.oer_types.specs.Canonical.{bitmap_octets}
-use Rattle.oer_types.specs.Checking.{are_least_bits}
+use Rattle.oer_model.specs.Canonical.{bitmap_octets}
+use Rattle.oer_model.specs.Checking.{are_least_bits}
 use Rattle.oer_checker.specs.BitView.{bits_in}
 use Rattle.oer_checker.proofs.BitSteps.{any_is, map_got, map_out, map_stop}
 use Rattle.oer_checker.proofs.bit_strings.addition_map.Goals as goal

@@ -1,8 +1,8 @@
 use Rattle.oer_checker.proofs.Exits.{at_stop}
 use Rattle.std.proofs.Common.{◌∙◌, ap}
-use Rattle.oer_types.specs.Canonical.{bitmap_octets}
-use Rattle.oer_types.specs.Checking.{are_least_bits}
-use Rattle.oer_types.specs.Constraints.{fixed}
+use Rattle.oer_model.specs.Canonical.{bitmap_octets}
+use Rattle.oer_model.specs.Checking.{are_least_bits}
+use Rattle.oer_model.specs.Constraints.{fixed}
 use Rattle.oer_checker.specs.BitView.{bits_in}
 use Rattle.oer_checker.proofs.BitSteps.{counted_got, counted_stop, fixed_got, fixed_stop}
 use Rattle.oer_checker.proofs.bit_strings.check_bit_string.Goals as goal

@@ -1,6 +1,6 @@
 use Rattle.std.proofs.Common.{◌-◌, ◌+◌, arith}
-use Rattle.oer_types.specs.AsnType.{boolean}
-use Rattle.oer_types.specs.Checking.{check_value}
+use Rattle.oer_model.specs.AsnType.{boolean}
+use Rattle.oer_model.specs.Checking.{check_value}
 use Rattle.oer_checker.proofs.Exits.{at_stop}
 use Rattle.oer_checker.proofs.FieldSteps.{times_end, times_next, times_start, times_stop}
 use Rattle.oer_checker.proofs.booleans.check_booleans.Goals as goal

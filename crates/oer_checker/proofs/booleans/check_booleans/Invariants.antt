@@ -1,6 +1,6 @@
 use Rattle.std.proofs.Common.{◌≡◌, ◌-◌}
-use Rattle.oer_types.specs.AsnType.{boolean}
-use Rattle.oer_types.specs.Checking.{check_times, check_value}
+use Rattle.oer_model.specs.AsnType.{boolean}
+use Rattle.oer_model.specs.Checking.{check_times, check_value}
 use Rattle.oer_checker.specs.Places.{place_of}
 use Rattle.oer_checker.specs.Steps.{and_after}
 use Rattle.oer_checker.proofs.booleans.check_booleans.Given as goal

@@ -1,5 +1,5 @@
 use Rattle.std.proofs.Common.{arith}
-use Rattle.oer_types.specs.Parts.{find_part}
+use Rattle.oer_model.specs.Parts.{find_part}
 use Rattle.oer_checker.specs.Walk.{path_of, type_in}
 use Rattle.oer_checker.specs.declared.step.Step.TheVariants.{Component}
 use Rattle.oer_checker.proofs.Exits.{at_stop}

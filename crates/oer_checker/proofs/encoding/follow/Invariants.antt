@@ -1,5 +1,5 @@
 use Rattle.std.proofs.Common.{◌≡◌, ◌+◌, ◌≤◌, drop, length}
-use Rattle.oer_types.specs.Parts.{find_part}
+use Rattle.oer_model.specs.Parts.{find_part}
 use Rattle.oer_checker.specs.Walk.{CanSplit, path_of, type_in}
 use Rattle.oer_checker.proofs.Ranging.{Reached}
 use Rattle.oer_checker.proofs.encoding.follow.Given as goal

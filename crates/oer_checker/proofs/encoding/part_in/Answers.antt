@@ -1,10 +1,10 @@
 use Rattle.std.proofs.Common.{◌^◌, ◌<◌, IfOk, Some, length, rules, ap, sym, subst, take}
-use Rattle.oer_types.specs.Constraints.{KeepsLimits}
-use Rattle.oer_types.specs.Fits.{DefaultsFit}
-use Rattle.oer_types.specs.Parts.{find_part}
+use Rattle.oer_model.specs.Constraints.{KeepsLimits}
+use Rattle.oer_model.specs.Fits.{DefaultsFit}
+use Rattle.oer_model.specs.Parts.{find_part}
 use Rattle.oer_types.specs.Schema.{the_type}
-use Rattle.oer_types.specs.ShapeView.{type_of}
-use Rattle.oer_types.proofs.Packing.{octets_from}
+use Rattle.oer_values.specs.ShapeView.{type_of}
+use Rattle.oer_model.proofs.bits.Packing.{octets_from}
 use Rattle.oer_checker.specs.Handing.{Agrees}
 use Rattle.oer_checker.specs.Walk.{CanSplit, IsWithin, path_of}
 use Rattle.oer_checker.proofs.FrontSteps.{found_again, front_splits}

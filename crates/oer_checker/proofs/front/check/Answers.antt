@@ -1,12 +1,12 @@
 use Rattle.std.proofs.Common.{◌∙◌, ◌^◌, ◌<◌, length, refl, rules, ap, subst}
 use Rattle.oer_units.specs.Reader.{at}
-use Rattle.oer_types.specs.AsnType.{AsnType}
-use Rattle.oer_types.specs.Checking.{check_value}
-use Rattle.oer_types.specs.Constraints.{KeepsLimits}
-use Rattle.oer_types.specs.Fits.{DefaultsFit}
+use Rattle.oer_model.specs.AsnType.{AsnType}
+use Rattle.oer_model.specs.Checking.{check_value}
+use Rattle.oer_model.specs.Constraints.{KeepsLimits}
+use Rattle.oer_model.specs.Fits.{DefaultsFit}
 use Rattle.oer_types.specs.Schema.{the_type}
-use Rattle.oer_types.specs.ShapeView.{type_of}
-use Rattle.oer_types.proofs.Packing.{octets_from}
+use Rattle.oer_values.specs.ShapeView.{type_of}
+use Rattle.oer_model.proofs.bits.Packing.{octets_from}
 use Rattle.oer_checker.specs.Check.{most}
 use Rattle.oer_checker.proofs.FrontSteps.{found_comes, found_exact, found_told, stopped_comes, stopped_exact, stopped_told}
 use Rattle.oer_checker.proofs.front.check.Goals as goal

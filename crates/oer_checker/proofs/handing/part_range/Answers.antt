@@ -1,5 +1,5 @@
 use Rattle.std.proofs.Common.{ℕ, List, subst}
-use Rattle.oer_types.specs.AsnType.{AsnType}
+use Rattle.oer_model.specs.AsnType.{AsnType}
 use Rattle.oer_types.specs.Schema.{the_type}
 use Rattle.oer_checker.specs.Encoding.{octets_in}
 use Rattle.oer_checker.specs.Handing.{Follows}

@@ -1,7 +1,7 @@
 use Rattle.std.proofs.Common.{◌∙◌, true, ap}
-use Rattle.oer_types.specs.AsnType.{ia5, null, numeric, printable, restricted_string, visible}
-use Rattle.oer_types.specs.ShapeView.{type_of}
-use Rattle.oer_types.proofs.Shapes.{type_of-Ia5, type_of-Numeric, type_of-Printable, type_of-Visible}
+use Rattle.oer_model.specs.AsnType.{ia5, null, numeric, printable, restricted_string, visible}
+use Rattle.oer_values.specs.ShapeView.{type_of}
+use Rattle.oer_values.proofs.Shapes.{type_of-Ia5, type_of-Numeric, type_of-Printable, type_of-Visible}
 use Rattle.oer_checker.proofs.Joins.{give_got}
 use Rattle.oer_checker.proofs.Shapes.{type_of-Null}
 use Rattle.oer_checker.proofs.TypeSteps.{by_type}

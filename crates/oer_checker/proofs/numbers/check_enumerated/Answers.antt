@@ -2,7 +2,7 @@ use Rattle.oer_checker.proofs.Exits.{at_stop}
 use Rattle.std.proofs.Common.{SFits, map, sym}
 use Rattle.std.specs.Int.{w64}
 use Rattle.std.proofs.lemmas.Int.{to_z-of_z}
-use Rattle.oer_types.specs.ShapeView.{named_number}
+use Rattle.oer_values.specs.ShapeView.{named_number}
 use Rattle.oer_checker.proofs.NumberSteps.{enumerated_got, enumerated_out, enumerated_stop}
 use Rattle.oer_checker.proofs.numbers.check_enumerated.Goals as goal
 

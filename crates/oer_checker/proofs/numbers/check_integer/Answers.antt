@@ -4,8 +4,8 @@ use Rattle.std.specs.Int.{w64, w128}
 use Rattle.std.proofs.lemmas.Int.{to_z-of_z}
 use Rattle.oer_units.specs.Least.{counted, signed_octets, unsigned_octets}
 use Rattle.oer_units.specs.Width.{octets_of_width}
-use Rattle.oer_types.specs.Constraints.{signed_counted, signed_fixed, unsigned_counted, unsigned_fixed}
-use Rattle.oer_types.specs.FormView.{form_seen}
+use Rattle.oer_model.specs.Constraints.{signed_counted, signed_fixed, unsigned_counted, unsigned_fixed}
+use Rattle.oer_values.specs.FormView.{form_seen}
 use Rattle.oer_checker.specs.Places.{place_of}
 use Rattle.oer_checker.specs.Steps.{between}
 use Rattle.oer_checker.proofs.NumberSteps.{integer_stop, integer_then, least_natural, signed_any, unsigned_got, unsigned_stop}

@@ -3,7 +3,7 @@ use Rattle.std.specs.Int.{w128}
 use Rattle.std.proofs.lemmas.Int.{to_z-of_z}
 use Rattle.oer_units.specs.Reader.{give}
 use Rattle.oer_units.specs.declared.fault.Why.TheVariants.{IntegerRange}
-use Rattle.oer_types.specs.Constraints.{in_range}
+use Rattle.oer_model.specs.Constraints.{in_range}
 use Rattle.oer_checker.proofs.Joins.{give_got, guard_no, guard_yes}
 use Rattle.oer_checker.proofs.numbers.in_bounds.Goals as goal
 

@@ -1,5 +1,5 @@
 use Rattle.std.proofs.Common.{◌≡◌, drop}
-use Rattle.oer_types.specs.Checking.{check_unknown}
+use Rattle.oer_model.specs.Checking.{check_unknown}
 use Rattle.oer_checker.specs.BitView.{bits_in}
 use Rattle.oer_checker.specs.Places.{place_of}
 use Rattle.oer_checker.specs.Steps.{and_after}

@@ -1,6 +1,6 @@
 use Rattle.std.proofs.Common.{◌^◌, ◌<◌, length, rules}
-use Rattle.oer_types.specs.ShapeView.{type_of}
-use Rattle.oer_types.specs.ValueView.{value_of}
+use Rattle.oer_values.specs.ShapeView.{type_of}
+use Rattle.oer_values.specs.ValueView.{value_of}
 use Rattle.oer_checker.proofs.FieldSteps.{default_is}
 use Rattle.oer_checker.proofs.parts.is_default.Goals as goal
 

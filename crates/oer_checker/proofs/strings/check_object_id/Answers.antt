@@ -3,7 +3,7 @@ use Rattle.std.proofs.lemmas.Bool.{le-leb}
 use Rattle.oer_units.specs.declared.fault.Why.{Why}
 use Rattle.oer_units.specs.declared.fault.Why.TheVariants.{ObjectId}
 use Rattle.oer_units.specs.Reader.{Outcome, Place, Reader, got, guard, refuse, refused}
-use Rattle.oer_types.specs.Checking.{check_object_id, check_subidentifiers}
+use Rattle.oer_model.specs.Checking.{check_object_id, check_subidentifiers}
 use Rattle.oer_checker.specs.Steps.{and_after, got_both, sized_length}
 use Rattle.oer_checker.proofs.Exits.{at_stop}
 use Rattle.oer_checker.proofs.LengthSteps.{length_stop, length_then}

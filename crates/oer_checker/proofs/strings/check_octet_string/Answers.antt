@@ -1,5 +1,5 @@
 use Rattle.oer_checker.proofs.Exits.{at_stop}
-use Rattle.oer_types.specs.Constraints.{fixed}
+use Rattle.oer_model.specs.Constraints.{fixed}
 use Rattle.oer_checker.proofs.StringSteps.{string_got, string_stop}
 use Rattle.oer_checker.proofs.strings.check_octet_string.Goals as goal
 

@@ -1,5 +1,5 @@
 use Rattle.std.proofs.Common.{◌≡◌, ◌≤◌, ◌-◌}
-use Rattle.oer_types.specs.Checking.{check_subidentifiers}
+use Rattle.oer_model.specs.Checking.{check_subidentifiers}
 use Rattle.oer_checker.specs.Places.{place_of}
 use Rattle.oer_checker.proofs.strings.check_subidentifiers.Given as goal
 

@@ -1,7 +1,7 @@
 use Rattle.oer_checker.proofs.Exits.{at_stop}
 use Rattle.std.proofs.Common.{sym}
-use Rattle.oer_types.specs.Constraints.{all_characters, fixed}
-use Rattle.oer_types.specs.AlphabetView.{alphabet_of}
+use Rattle.oer_model.specs.Constraints.{all_characters, fixed}
+use Rattle.oer_values.specs.AlphabetView.{alphabet_of}
 use Rattle.oer_checker.proofs.StringSteps.{text_got, text_out, text_stop}
 use Rattle.oer_checker.proofs.strings.check_text.Goals as goal
 

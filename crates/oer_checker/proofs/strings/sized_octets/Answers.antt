@@ -1,6 +1,6 @@
 use Rattle.oer_checker.proofs.Exits.{at_stop}
 use Rattle.std.proofs.Common.{sym}
-use Rattle.oer_types.specs.Constraints.{fixed}
+use Rattle.oer_model.specs.Constraints.{fixed}
 use Rattle.oer_checker.proofs.StringSteps.{fixed_got, fixed_stop, sized_cut, sized_got, sized_misfit, sized_stop}
 use Rattle.oer_checker.proofs.strings.sized_octets.Goals as goal
 

@@ -1,21 +1,22 @@
 use Rattle.std.proofs.Common.{◌∙◌, subst, Global, Option, Vec, Some, ◌-◌, ◌+◌, Bool, true, false, length, arith, rules, refl, sym, ap}
 use Rattle.oer_units.specs.Reader.{Reader}
-use Rattle.oer_types.specs.AsnType.{choice, extensible_sequence, no_alternatives, sequence, sequence_of}
-use Rattle.oer_types.specs.Checking.{check_open, check_value}
-use Rattle.oer_types.specs.Constraints.{KeepsLimits}
-use Rattle.oer_types.specs.Fits.{DefaultsFit}
-use Rattle.oer_types.specs.ShapeView.{additions_of, fields_of, later_of, need_of, root_of, type_of}
-use Rattle.oer_types.specs.declared.shape.Addition.{Addition}
-use Rattle.oer_types.specs.declared.shape.Shape.{Sequence, Shape}
+use Rattle.oer_model.specs.AsnType.{choice, extensible_sequence, no_alternatives, sequence, sequence_of}
+use Rattle.oer_model.specs.Checking.{check_open, check_value}
+use Rattle.oer_model.specs.Constraints.{KeepsLimits}
+use Rattle.oer_model.specs.Fits.{DefaultsFit}
+use Rattle.oer_values.proofs.Lookups.{first_falls}
+use Rattle.oer_values.specs.ShapeView.{additions_of, fields_of, later_of, need_of, root_of, type_of}
+use Rattle.oer_values.specs.declared.shape.Addition.{Addition}
+use Rattle.oer_values.specs.declared.shape.Shape.{Sequence, Shape}
 use Rattle.oer_checker.specs.BitView.{bits_in}
 use Rattle.oer_checker.specs.Places.{place_of}
-use Rattle.oer_checker.specs.Steps.{and_after, check_later, check_there, is_default, left_open}
+use Rattle.oer_checker.specs.Steps.{and_after, check_there, is_default, left_open}
 use Rattle.oer_checker.proofs.Exits.{at_stop}
 use Rattle.oer_checker.proofs.FieldSteps.{additions_end, additions_next, additions_stop, count_is, extensible_stop, fields_end, fields_next, fields_stop, if_absent, items_stop, items_then, known_stop, later_got, later_stop, map_stop, no_extension, root_stop, sequence_stop, sequence_then, there_got, there_stop, times_end, times_next, times_start, times_stop, unknown_got, unknown_stop}
 use Rattle.oer_checker.proofs.LengthSteps.{open_stop, open_then}
 use Rattle.oer_checker.proofs.ShapeCases.{is_leaf}
 use Rattle.oer_checker.proofs.Shapes.{type_of-Boolean}
-use Rattle.oer_checker.proofs.TagSteps.{choice_later, choice_none, choice_root, choice_stop, later_end, later_here, later_next, first_value, root_defaults, root_limits}
+use Rattle.oer_checker.proofs.TagSteps.{choice_later, choice_none, choice_root, choice_stop, later_found, later_none, first_value, root_defaults, root_limits}
 use Rattle.oer_checker.proofs.Sizes.{additions_fall, alternative_falls, fields_fall, later_fall}
 use Rattle.oer_checker.proofs.TypeSteps.{as_choice, as_closed, as_extensible, as_items, as_open, as_sequence, by_type, choice_defaults, choice_limits, open_defaults, open_limits}
 use Rattle.oer_checker.proofs.value.+check.Goals as goal
@@ -44,17 +45,16 @@ check_fields-returns-in_err-is_field t c = rw (at_stop c.from_residual.result c.
 pub check_fields-returns : goal.check_fields-returns
 check_fields-returns t c = fields_end c.args.fields.now c.loop-field.field-index (bits_in c.loop-field.left) c.loop-field.is_canonical _ _ c.loop-field-test.false c.loop-field.invariant
 
-pub check_later-returns-then-is_same_tag : goal.check_later-returns-then-is_same_tag
-check_later-returns-then-is_same_tag t c = c.check_open.ensures ∙ ap (λ (r : Reader Bool). r (place_of c.loop-alternative.at)) (later_here c.args.alternatives.now c.loop-alternative.alternative-index c.alternative-item.result c.args.tag _ c.loop-alternative-test.true c.alternative-item.is (sym c.if-is_same_tag.true ∙ c.is_same_tag.ensures) c.loop-alternative.invariant.same) ∙ ap (check_later (later_of c.args.alternatives.now) c.args.tag) c.loop-alternative.invariant.still
-
-pub check_later-loop-alternative-preserved : goal.check_later-loop-alternative-preserved
-check_later-loop-alternative-preserved t c = record {
-  same = later_next c.args.alternatives.now c.loop-alternative.alternative-index c.alternative-item.result c.args.tag _ c.loop-alternative-test.true c.alternative-item.is (sym c.if-is_same_tag.false ∙ c.is_same_tag.ensures) c.loop-alternative.invariant.same;
-  still = c.loop-alternative.invariant.still;
-}
+pub check_later-returns-in_default : goal.check_later-returns-in_default
+check_later-returns-in_default t c = c.check_octets.ensures ∙ ap (λ (r : Reader Bool). r (place_of c.args.at.now)) (later_none c.args.alternatives.now c.args.tag c.in_default.ensures.is)
 
 pub check_later-returns : goal.check_later-returns
-check_later-returns t c = c.check_octets.ensures ∙ ap (λ (r : Reader Bool). r (place_of c.loop-alternative.at)) (later_end c.args.alternatives.now c.loop-alternative.alternative-index c.args.tag _ c.loop-alternative-test.false c.loop-alternative.invariant.same) ∙ ap (check_later (later_of c.args.alternatives.now) c.args.tag) c.loop-alternative.invariant.still
+check_later-returns t c = c.check_open.ensures ∙ ap (λ (r : Reader Bool). r (place_of c.args.at.now)) (later_found c.args.alternatives.now c.in-Some.alternative.now c.args.tag c.in-Some.ensures.is)
+
+pub check_later-check_open-requires : goal.check_later-check_open-requires
+check_later-check_open-requires t c =
+    let smaller = first_falls c.args.tag c.args.alternatives.now c.in-Some.alternative.now c.in-Some.ensures.is in
+    (omega (arith, smaller, c.decreases), (c.later_fits.ensures.limits, c.later_fits.ensures.defaults))
 
 pub check_elements-returns-in-Boolean : goal.check_elements-returns-in-Boolean
 check_elements-returns-in-Boolean t c = rw (c.in-Boolean.is, type_of-Boolean) c.check_booleans.ensures
@@ -173,7 +173,7 @@ check_choice-returns-in-Some t c =
     let h = c.requires.is in
     let xs = c.args.alternatives.now in
     let o = as_choice c.args.shape.now h.0 c.args.additions.now xs h.1 h.2 in
-    let first = c.in-Some.ensures in
+    let first = c.in-Some.ensures.first in
     let found = first_value xs first.0 c.in-Some.alternative.now c.in_ok-tag.tag first.1 first.2 first.3 first.4 in
     by_type (type_of c.args.shape.now) (choice o.extensible (root_of xs o.after)) _ _ o.is (choice_root o.extensible xs o.after _ _ c.in_ok-tag.tag _ c.in_ok-tag.ensures found.0 (c.check_shape.ensures ∙ ap (λ (r : Reader Bool). r (place_of c.tag_at.new.at)) found.1))
 
@@ -181,7 +181,7 @@ pub check_choice-returns-in-None : goal.check_choice-returns-in-None
 check_choice-returns-in-None t c =
     let h = c.requires.is in
     let xs = c.args.alternatives.now in
-    by_type (type_of c.args.shape.now) (choice false (root_of xs no_alternatives)) _ _ (as_closed c.args.shape.now h.0 c.args.additions.now xs h.1 c.in-None.is h.2) (choice_none xs _ _ c.in_ok-tag.tag c.in_ok-tag.ensures (sym c.in_default.ensures))
+    by_type (type_of c.args.shape.now) (choice false (root_of xs no_alternatives)) _ _ (as_closed c.args.shape.now h.0 c.args.additions.now xs h.1 c.in-None.is h.2) (choice_none xs _ _ c.in_ok-tag.tag c.in_ok-tag.ensures (sym c.in_default.ensures.first))
 
 pub check_choice-returns-in-Some-additions : goal.check_choice-returns-in-Some-additions
 check_choice-returns-in-Some-additions t c =
@@ -189,14 +189,14 @@ check_choice-returns-in-Some-additions t c =
     let xs = c.args.alternatives.now in
     let ys = c.deref.result.now in
     let is = as_open c.args.shape.now h.0 c.args.additions.now c.in-Some-additions.additions xs ys h.1 c.in-Some-additions.is h.2 c.deref.ensures.value in
-    by_type (type_of c.args.shape.now) (choice true (root_of xs (later_of ys))) _ _ is (choice_later xs ys _ _ c.in_ok-tag.tag _ c.in_ok-tag.ensures (sym c.in_default.ensures) c.check_later.ensures)
+    by_type (type_of c.args.shape.now) (choice true (root_of xs (later_of ys))) _ _ is (choice_later xs ys _ _ c.in_ok-tag.tag _ c.in_ok-tag.ensures (sym c.in_default.ensures.first) c.check_later.ensures)
 
 pub check_choice-check_shape-requires : goal.check_choice-check_shape-requires
 check_choice-check_shape-requires t c =
     let h = c.requires.is in
     let xs = c.args.alternatives.now in
     let more = c.args.additions.now in
-    let first = c.in-Some.ensures in
+    let first = c.in-Some.ensures.first in
     let a = c.in-Some.alternative.now in
     (alternative_falls c.args.shape.now h.0 more xs first.0 a _ _ t h.1 h.2 first.1 first.2 (omega arith) c.decreases, (root_limits xs first.0 a first.1 first.2 (choice_limits c.args.shape.now h.0 more xs h.1 h.2 c.requires.limits), root_defaults xs first.0 a first.1 first.2 (choice_defaults c.args.shape.now h.0 more xs h.1 h.2 c.requires.defaults)))
 
@@ -227,7 +227,9 @@ pub check_additions-addition_fits-requires : goal.check_additions-addition_fits-
 check_additions-addition_fits-requires t c = record { one = (c.loop-addition.addition-index, c.loop-addition-test.true, c.addition-item.is); limits = c.requires.limits; defaults = c.requires.defaults }
 
 pub check_later-later_fits-requires : goal.check_later-later_fits-requires
-check_later-later_fits-requires t c = record { one = (c.loop-alternative.alternative-index, c.loop-alternative-test.true, c.alternative-item.is); limits = c.requires.limits; defaults = c.requires.defaults }
+check_later-later_fits-requires t c =
+    let first = c.in-Some.ensures.first in
+    record { one = (first.0, first.1, first.2); limits = c.requires.limits; defaults = c.requires.defaults }
 
 pub check_shape-check_extensible-requires : goal.check_shape-check_extensible-requires
 check_shape-check_extensible-requires t c =

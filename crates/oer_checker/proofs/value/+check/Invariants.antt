@@ -1,9 +1,9 @@
 use Rattle.std.proofs.Common.{◌≡◌, ◌-◌, drop}
-use Rattle.oer_types.specs.Checking.{check_additions, check_fields, check_times, check_value}
-use Rattle.oer_types.specs.ShapeView.{additions_of, fields_of, later_of, type_of}
+use Rattle.oer_model.specs.Checking.{check_additions, check_fields, check_times, check_value}
+use Rattle.oer_values.specs.ShapeView.{additions_of, fields_of, type_of}
 use Rattle.oer_checker.specs.BitView.{bits_in}
 use Rattle.oer_checker.specs.Places.{place_of}
-use Rattle.oer_checker.specs.Steps.{and_after, check_later}
+use Rattle.oer_checker.specs.Steps.{and_after}
 use Rattle.oer_checker.proofs.value.+check.Given as goal
 
 abbrev pub invariant-check_additions-loop-addition : goal.invariant-check_additions-loop-addition
@@ -14,9 +14,3 @@ invariant-check_elements-loop-turn l = and_after l.is_canonical (check_times (l.
 
 abbrev pub invariant-check_fields-loop-field : goal.invariant-check_fields-loop-field
 invariant-check_fields-loop-field l = and_after l.is_canonical (check_fields (fields_of (drop l.field-index l.fields)) (bits_in l.left) (place_of l.at)) ≡ check_fields (fields_of l.fields) (bits_in l.bits) (place_of l.fn.at)
-
-abbrev pub invariant-check_later-loop-alternative : goal.invariant-check_later-loop-alternative
-invariant-check_later-loop-alternative l = record {
-  same : check_later (later_of (drop l.alternative-index l.alternatives)) l.tag ≡ check_later (later_of l.alternatives) l.tag;
-  still : place_of l.at ≡ place_of l.fn.at;
-}

@@ -1,8 +1,8 @@
 use Rattle.std.proofs.Common.{◌∙◌, drop, length, refl, sym, ap}
-use Rattle.oer_types.specs.Bits.{first_bit}
-use Rattle.oer_types.specs.Checking.{check_additions, check_unknown}
-use Rattle.oer_types.specs.Parts.{lookup, parts_in, to_addition, unknown_parts}
-use Rattle.oer_types.specs.ShapeView.{additions_of}
+use Rattle.oer_model.specs.Bits.{first_bit}
+use Rattle.oer_model.specs.Checking.{check_additions, check_unknown}
+use Rattle.oer_model.specs.Parts.{lookup, parts_in, to_addition, unknown_parts}
+use Rattle.oer_values.specs.ShapeView.{additions_of}
 use Rattle.oer_checker.specs.BitView.{bits_in}
 use Rattle.oer_checker.specs.Places.{place_of}
 use Rattle.oer_checker.proofs.FieldSteps.{addition_defaults, addition_limits}

@@ -1,10 +1,10 @@
 use Rattle.std.proofs.Common.{◌∙◌, ◌+◌, add-one, ap, length, refl, sym, subst}
-use Rattle.oer_types.specs.AsnType.{extensible_sequence}
-use Rattle.oer_types.specs.Bits.{first_bit}
-use Rattle.oer_types.specs.Checking.{check_value}
-use Rattle.oer_types.specs.Constraints.{optional}
-use Rattle.oer_types.specs.Parts.{to_addition}
-use Rattle.oer_types.specs.ShapeView.{additions_of, fields_of, type_of}
+use Rattle.oer_model.specs.AsnType.{extensible_sequence}
+use Rattle.oer_model.specs.Bits.{first_bit}
+use Rattle.oer_model.specs.Checking.{check_value}
+use Rattle.oer_model.specs.Constraints.{optional}
+use Rattle.oer_model.specs.Parts.{to_addition}
+use Rattle.oer_values.specs.ShapeView.{additions_of, fields_of, type_of}
 use Rattle.oer_checker.specs.BitView.{bits_in}
 use Rattle.oer_checker.specs.Places.{place_of}
 use Rattle.oer_checker.proofs.FieldSteps.{count_is, extensible_stop, map_stop}
@@ -12,8 +12,8 @@ use Rattle.oer_checker.proofs.Inside.{extension_checked, extension_look, marks_c
 use Rattle.oer_checker.proofs.PartSteps.{has_step, no_such}
 use Rattle.oer_checker.proofs.ShapeCases.{not_sequence}
 use Rattle.oer_checker.proofs.TypeSteps.{as_extensible, as_sequence, by_type}
-use Rattle.oer_types.specs.Constraints.{KeepsLimits}
-use Rattle.oer_types.specs.Fits.{DefaultsFit}
+use Rattle.oer_model.specs.Constraints.{KeepsLimits}
+use Rattle.oer_model.specs.Fits.{DefaultsFit}
 use Rattle.oer_checker.proofs.Standing.{added_stands}
 use Rattle.oer_checker.proofs.walk.addition_of.Goals as goal
 

@@ -1,9 +1,9 @@
 use Rattle.std.proofs.Common.{◌∙◌, Some, None, false, refl, sym}
 use Rattle.oer_units.specs.Reading.{counted_octets, open_type}
-use Rattle.oer_types.specs.AsnType.{choice, no_alternatives}
-use Rattle.oer_types.specs.Checking.{check_value}
-use Rattle.oer_types.specs.Parts.{octets_of, to_chosen}
-use Rattle.oer_types.specs.ShapeView.{root_of, type_of}
+use Rattle.oer_model.specs.AsnType.{choice, no_alternatives}
+use Rattle.oer_model.specs.Checking.{check_value}
+use Rattle.oer_model.specs.Parts.{octets_of, to_chosen}
+use Rattle.oer_values.specs.ShapeView.{root_of, type_of}
 use Rattle.oer_checker.specs.Places.{place_of}
 use Rattle.oer_checker.proofs.Inside.{not_got}
 use Rattle.oer_checker.proofs.PartSteps.{no_such}
@@ -28,14 +28,14 @@ pub encoding_at-requires-clause-limits : goal.encoding_at-requires-clause-limits
 encoding_at-requires-clause-limits c =
     let s = c.in-Choice in
     let xs = c.deref.result.now in
-    let first = c.in-Some.ensures in
+    let first = c.in-Some.ensures.first in
     root_limits xs first.0 c.in-Some.alternative.now first.1 first.2 (choice_limits c.args.shape.now s.root s.additions xs s.is c.deref.ensures.value c.requires.limits)
 
 pub encoding_at-requires-clause-defaults : goal.encoding_at-requires-clause-defaults
 encoding_at-requires-clause-defaults c =
     let s = c.in-Choice in
     let xs = c.deref.result.now in
-    let first = c.in-Some.ensures in
+    let first = c.in-Some.ensures.first in
     root_defaults xs first.0 c.in-Some.alternative.now first.1 first.2 (choice_defaults c.args.shape.now s.root s.additions xs s.is c.deref.ensures.value c.requires.defaults)
 
 pub returns-in_err-octets-clause-found : goal.returns-in_err-octets-clause-found
@@ -45,7 +45,7 @@ returns-in_err-octets-clause-found c =
     let xs = c.deref.result.now in
     let k = as_choice c.args.shape.now s.root s.additions xs s.is c.deref.ensures.value in
     let a = c.in-Some.alternative.now in
-    rw c.from_residual.ensures (λ o. alone_missing (Some (type_of a.shape)) (octets_of (check_value (type_of a.shape))) (place_of c.tag_at.new.at) (rw c.in_err-octets.was at c.encoding_at.ensures) o ∙ root_part T k.extensible xs k.after k.is (place_of c.args.cursor) (place_of c.tag_at.new.at) c.in-Ok.tag c.in-Ok.ensures a c.in-Some.ensures o)
+    rw c.from_residual.ensures (λ o. alone_missing (Some (type_of a.shape)) (octets_of (check_value (type_of a.shape))) (place_of c.tag_at.new.at) (rw c.in_err-octets.was at c.encoding_at.ensures) o ∙ root_part T k.extensible xs k.after k.is (place_of c.args.cursor) (place_of c.tag_at.new.at) c.in-Ok.tag c.in-Ok.ensures a c.in-Some.ensures.first o)
 
 pub returns-in-Some-clause-found : goal.returns-in-Some-clause-found
 returns-in-Some-clause-found c =
@@ -54,7 +54,7 @@ returns-in-Some-clause-found c =
     let xs = c.deref.result.now in
     let k = as_choice c.args.shape.now s.root s.additions xs s.is c.deref.ensures.value in
     let a = c.in-Some.alternative.now in
-    λ o. alone_found (Some (type_of a.shape)) (octets_of (check_value (type_of a.shape))) (place_of c.tag_at.new.at) _ c.in_ok-octets.ensures o ∙ root_part T k.extensible xs k.after k.is (place_of c.args.cursor) (place_of c.tag_at.new.at) c.in-Ok.tag c.in-Ok.ensures a c.in-Some.ensures o
+    λ o. alone_found (Some (type_of a.shape)) (octets_of (check_value (type_of a.shape))) (place_of c.tag_at.new.at) _ c.in_ok-octets.ensures o ∙ root_part T k.extensible xs k.after k.is (place_of c.args.cursor) (place_of c.tag_at.new.at) c.in-Ok.tag c.in-Ok.ensures a c.in-Some.ensures.first o
 
 pub returns-in_default-additions-clause-found : goal.returns-in_default-additions-clause-found
 returns-in_default-additions-clause-found c =
@@ -62,20 +62,20 @@ returns-in_default-additions-clause-found c =
     let T = type_of c.args.shape.now in
     let xs = c.deref.result.now in
     let is = as_closed c.args.shape.now s.root s.additions xs s.is c.in_default-additions.is c.deref.ensures.value in
-    absurd (not_got (check_value T (place_of c.args.cursor)) _ _ c.requires.checked (by_type T (choice false (root_of xs no_alternatives)) _ _ is (choice_none xs _ _ c.in-Ok.tag c.in-Ok.ensures (sym c.in_default-with_tag.ensures))))
+    absurd (not_got (check_value T (place_of c.args.cursor)) _ _ c.requires.checked (by_type T (choice false (root_of xs no_alternatives)) _ _ is (choice_none xs _ _ c.in-Ok.tag c.in-Ok.ensures (sym c.in_default-with_tag.ensures.first))))
 
 pub content_at-requires-clause-limits : goal.content_at-requires-clause-limits
 content_at-requires-clause-limits c =
     let s = c.in-Choice in
     let ys = c.deref-2.result.now in
-    let first = c.in-Some-with_tag.ensures in
+    let first = c.in-Some-with_tag.ensures.first in
     later_limits ys first.0 c.in-Some-with_tag.alternative.now first.1 first.2 (open_limits c.args.shape.now s.root s.additions c.in-Some-additions.additions ys s.is c.in-Some-additions.is c.deref-2.ensures.value c.requires.limits)
 
 pub content_at-requires-clause-defaults : goal.content_at-requires-clause-defaults
 content_at-requires-clause-defaults c =
     let s = c.in-Choice in
     let ys = c.deref-2.result.now in
-    let first = c.in-Some-with_tag.ensures in
+    let first = c.in-Some-with_tag.ensures.first in
     later_defaults ys first.0 c.in-Some-with_tag.alternative.now first.1 first.2 (open_defaults c.args.shape.now s.root s.additions c.in-Some-additions.additions ys s.is c.in-Some-additions.is c.deref-2.ensures.value c.requires.defaults)
 
 pub returns-in_err-content-in-Some-with_tag-clause-found : goal.returns-in_err-content-in-Some-with_tag-clause-found
@@ -86,7 +86,7 @@ returns-in_err-content-in-Some-with_tag-clause-found c =
     let ys = c.deref-2.result.now in
     let is = as_open c.args.shape.now s.root s.additions c.in-Some-additions.additions xs ys s.is c.in-Some-additions.is c.deref.ensures.value c.deref-2.ensures.value in
     let a = c.in-Some-with_tag.alternative.now in
-    rw c.from_residual-in_err-content-in-Some-with_tag.ensures (λ o. alone_missing (Some (type_of a.shape)) (open_type (octets_of (check_value (type_of a.shape)))) (place_of c.tag_at.new.at) (rw c.in_err-content-in-Some-with_tag.was at c.content_at.ensures.read) o ∙ later_part T _ xs ys is (place_of c.args.cursor) (place_of c.tag_at.new.at) c.in-Ok.tag c.in-Ok.ensures c.in_default-with_tag.ensures a c.in-Some-with_tag.ensures o)
+    rw c.from_residual-in_err-content-in-Some-with_tag.ensures (λ o. alone_missing (Some (type_of a.shape)) (open_type (octets_of (check_value (type_of a.shape)))) (place_of c.tag_at.new.at) (rw c.in_err-content-in-Some-with_tag.was at c.content_at.ensures.read) o ∙ later_part T _ xs ys is (place_of c.args.cursor) (place_of c.tag_at.new.at) c.in-Ok.tag c.in-Ok.ensures c.in_default-with_tag.ensures.first a c.in-Some-with_tag.ensures.first o)
 
 pub returns-in_err-content-in-None-clause-found : goal.returns-in_err-content-in-None-clause-found
 returns-in_err-content-in-None-clause-found c =
@@ -95,7 +95,7 @@ returns-in_err-content-in-None-clause-found c =
     let xs = c.deref.result.now in
     let ys = c.deref-2.result.now in
     let is = as_open c.args.shape.now s.root s.additions c.in-Some-additions.additions xs ys s.is c.in-Some-additions.is c.deref.ensures.value c.deref-2.ensures.value in
-    rw c.from_residual-in_err-content-in-None.ensures (λ o. alone_missing None counted_octets (place_of c.tag_at.new.at) (rw c.in_err-content-in-None.was at c.counted_at.ensures.read) o ∙ foreign_part T _ xs ys is (place_of c.args.cursor) (place_of c.tag_at.new.at) c.in-Ok.tag c.in-Ok.ensures c.in_default-with_tag.ensures c.in-None.ensures o)
+    rw c.from_residual-in_err-content-in-None.ensures (λ o. alone_missing None counted_octets (place_of c.tag_at.new.at) (rw c.in_err-content-in-None.was at c.counted_at.ensures.read) o ∙ foreign_part T _ xs ys is (place_of c.args.cursor) (place_of c.tag_at.new.at) c.in-Ok.tag c.in-Ok.ensures c.in_default-with_tag.ensures.first c.in-None.ensures.first o)
 
 pub returns-in_ok-content-in-Some-with_tag-clause-found : goal.returns-in_ok-content-in-Some-with_tag-clause-found
 returns-in_ok-content-in-Some-with_tag-clause-found c =
@@ -105,7 +105,7 @@ returns-in_ok-content-in-Some-with_tag-clause-found c =
     let ys = c.deref-2.result.now in
     let is = as_open c.args.shape.now s.root s.additions c.in-Some-additions.additions xs ys s.is c.in-Some-additions.is c.deref.ensures.value c.deref-2.ensures.value in
     let a = c.in-Some-with_tag.alternative.now in
-    λ o. alone_found (Some (type_of a.shape)) (open_type (octets_of (check_value (type_of a.shape)))) (place_of c.tag_at.new.at) _ c.in_ok-content-in-Some-with_tag.ensures.read o ∙ later_part T _ xs ys is (place_of c.args.cursor) (place_of c.tag_at.new.at) c.in-Ok.tag c.in-Ok.ensures c.in_default-with_tag.ensures a c.in-Some-with_tag.ensures o
+    λ o. alone_found (Some (type_of a.shape)) (open_type (octets_of (check_value (type_of a.shape)))) (place_of c.tag_at.new.at) _ c.in_ok-content-in-Some-with_tag.ensures.read o ∙ later_part T _ xs ys is (place_of c.args.cursor) (place_of c.tag_at.new.at) c.in-Ok.tag c.in-Ok.ensures c.in_default-with_tag.ensures.first a c.in-Some-with_tag.ensures.first o
 
 pub returns-in_ok-content-in-None-clause-found : goal.returns-in_ok-content-in-None-clause-found
 returns-in_ok-content-in-None-clause-found c =
@@ -114,7 +114,7 @@ returns-in_ok-content-in-None-clause-found c =
     let xs = c.deref.result.now in
     let ys = c.deref-2.result.now in
     let is = as_open c.args.shape.now s.root s.additions c.in-Some-additions.additions xs ys s.is c.in-Some-additions.is c.deref.ensures.value c.deref-2.ensures.value in
-    λ o. alone_found None counted_octets (place_of c.tag_at.new.at) _ c.in_ok-content-in-None.ensures.read o ∙ foreign_part T _ xs ys is (place_of c.args.cursor) (place_of c.tag_at.new.at) c.in-Ok.tag c.in-Ok.ensures c.in_default-with_tag.ensures c.in-None.ensures o
+    λ o. alone_found None counted_octets (place_of c.tag_at.new.at) _ c.in_ok-content-in-None.ensures.read o ∙ foreign_part T _ xs ys is (place_of c.args.cursor) (place_of c.tag_at.new.at) c.in-Ok.tag c.in-Ok.ensures c.in_default-with_tag.ensures.first c.in-None.ensures.first o
 
 pub returns-in-Some-clause-stands : goal.returns-in-Some-clause-stands
 returns-in-Some-clause-stands c =
@@ -123,7 +123,7 @@ returns-in-Some-clause-stands c =
     let xs = c.deref.result.now in
     let k = as_choice c.args.shape.now s.root s.additions xs s.is c.deref.ensures.value in
     let a = c.in-Some.alternative.now in
-    let (i, less, at, same, before) = c.in-Some.ensures in
+    let (i, less, at, same, before) = c.in-Some.ensures.first in
     let w = root_limits xs i a less at (choice_limits c.args.shape.now s.root s.additions xs s.is c.deref.ensures.value c.requires.limits) in
     let d = root_defaults xs i a less at (choice_defaults c.args.shape.now s.root s.additions xs s.is c.deref.ensures.value c.requires.defaults) in
     root_alternative_stands T k.extensible xs k.after k.is (place_of c.args.cursor) (place_of c.tag_at.new.at) c.in-Ok.tag a _ _ i w d c.in-Ok.ensures less at same before c.in_ok-octets.ensures refl
@@ -134,7 +134,7 @@ returns-in_ok-content-in-Some-with_tag-clause-stands c =
     let xs = c.deref.result.now in
     let ys = c.deref-2.result.now in
     let is = as_open c.args.shape.now s.root s.additions c.in-Some-additions.additions xs ys s.is c.in-Some-additions.is c.deref.ensures.value c.deref-2.ensures.value in
-    open_alternative_stands (type_of c.args.shape.now) xs ys is (place_of c.args.cursor) (place_of c.tag_at.new.at) c.in-Ok.tag _ _ c.in-Ok.ensures c.in_default-with_tag.ensures c.in_ok-content-in-Some-with_tag.ensures.stands
+    open_alternative_stands (type_of c.args.shape.now) xs ys is (place_of c.args.cursor) (place_of c.tag_at.new.at) c.in-Ok.tag _ _ c.in-Ok.ensures c.in_default-with_tag.ensures.first c.in_ok-content-in-Some-with_tag.ensures.stands
 
 pub returns-in_ok-content-in-None-clause-stands : goal.returns-in_ok-content-in-None-clause-stands
 returns-in_ok-content-in-None-clause-stands c =
@@ -142,4 +142,4 @@ returns-in_ok-content-in-None-clause-stands c =
     let xs = c.deref.result.now in
     let ys = c.deref-2.result.now in
     let is = as_open c.args.shape.now s.root s.additions c.in-Some-additions.additions xs ys s.is c.in-Some-additions.is c.deref.ensures.value c.deref-2.ensures.value in
-    open_alternative_stands (type_of c.args.shape.now) xs ys is (place_of c.args.cursor) (place_of c.tag_at.new.at) c.in-Ok.tag _ _ c.in-Ok.ensures c.in_default-with_tag.ensures c.in_ok-content-in-None.ensures.stands
+    open_alternative_stands (type_of c.args.shape.now) xs ys is (place_of c.args.cursor) (place_of c.tag_at.new.at) c.in-Ok.tag _ _ c.in-Ok.ensures c.in_default-with_tag.ensures.first c.in_ok-content-in-None.ensures.stands

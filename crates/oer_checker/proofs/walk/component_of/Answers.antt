@@ -1,9 +1,9 @@
 use Rattle.std.proofs.Common.{◌∙◌, ◌+◌, add-one, ap, refl}
-use Rattle.oer_types.specs.AsnType.{extensible_sequence, sequence}
-use Rattle.oer_types.specs.Constraints.{optional}
-use Rattle.oer_types.specs.Checking.{check_value}
-use Rattle.oer_types.specs.Parts.{to_component}
-use Rattle.oer_types.specs.ShapeView.{additions_of, fields_of, type_of}
+use Rattle.oer_model.specs.AsnType.{extensible_sequence, sequence}
+use Rattle.oer_model.specs.Constraints.{optional}
+use Rattle.oer_model.specs.Checking.{check_value}
+use Rattle.oer_model.specs.Parts.{to_component}
+use Rattle.oer_values.specs.ShapeView.{additions_of, fields_of, type_of}
 use Rattle.oer_checker.specs.BitView.{bits_in}
 use Rattle.oer_checker.specs.Places.{place_of}
 use Rattle.oer_checker.proofs.FieldSteps.{extensible_stop, sequence_stop}

@@ -1,6 +1,6 @@
 use Rattle.std.proofs.Common.{rules, refl}
-use Rattle.oer_types.specs.Checking.{check_value}
-use Rattle.oer_types.specs.ShapeView.{type_of}
+use Rattle.oer_model.specs.Checking.{check_value}
+use Rattle.oer_values.specs.ShapeView.{type_of}
 use Rattle.oer_checker.proofs.Pairs.{content_longer, content_read, content_unread, open_unread}
 use Rattle.oer_checker.specs.Places.{place_of}
 use Rattle.oer_checker.proofs.Standing.{content_stands}

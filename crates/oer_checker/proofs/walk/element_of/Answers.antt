@@ -1,9 +1,9 @@
 use Rattle.std.proofs.Common.{◌∙◌, ap, refl, sym, subst}
-use Rattle.oer_types.specs.AsnType.{sequence_of}
-use Rattle.oer_types.specs.Checking.{check_value}
-use Rattle.oer_types.specs.Parts.{to_item}
-use Rattle.oer_types.specs.ShapeView.{type_of}
-use Rattle.oer_types.specs.declared.shape.Shape.{Shape}
+use Rattle.oer_model.specs.AsnType.{sequence_of}
+use Rattle.oer_model.specs.Checking.{check_value}
+use Rattle.oer_model.specs.Parts.{to_item}
+use Rattle.oer_values.specs.ShapeView.{type_of}
+use Rattle.oer_values.specs.declared.shape.Shape.{Shape}
 use Rattle.oer_checker.specs.Places.{place_of}
 use Rattle.oer_checker.proofs.FieldSteps.{items_stop}
 use Rattle.oer_checker.proofs.Finds.{is_read, is_unread, item_found, item_missing, no_refusal, same_end}
@@ -12,8 +12,8 @@ use Rattle.oer_checker.proofs.PartSteps.{no_such}
 use Rattle.oer_checker.proofs.ShapeCases.{not_list}
 use Rattle.oer_checker.proofs.TypeSteps.{as_items, by_type}
 use Rattle.oer_checker.proofs.Walks.{item_entry}
-use Rattle.oer_types.specs.Constraints.{KeepsLimits}
-use Rattle.oer_types.specs.Fits.{DefaultsFit}
+use Rattle.oer_model.specs.Constraints.{KeepsLimits}
+use Rattle.oer_model.specs.Fits.{DefaultsFit}
 use Rattle.oer_checker.proofs.Standing.{item_stands}
 use Rattle.oer_checker.proofs.walk.element_of.Goals as goal
 

@@ -1,5 +1,5 @@
-use Rattle.oer_types.specs.Checking.{check_value}
-use Rattle.oer_types.specs.ShapeView.{type_of}
+use Rattle.oer_model.specs.Checking.{check_value}
+use Rattle.oer_values.specs.ShapeView.{type_of}
 use Rattle.oer_checker.proofs.Pairs.{unread, value_read}
 use Rattle.oer_checker.proofs.walk.encoding_at.Goals as goal
 

@@ -1,9 +1,9 @@
 use Rattle.std.proofs.Common.{◌∙◌, ◌<◌, drop, take, length, rules, sym, ap, refl}
-use Rattle.oer_types.specs.Constraints.{optional}
-use Rattle.oer_types.specs.ShapeView.{fields_of, need_of, type_of}
+use Rattle.oer_model.specs.Constraints.{optional}
+use Rattle.oer_values.specs.ShapeView.{fields_of, need_of, type_of}
 use Rattle.oer_checker.specs.BitView.{bits_in}
 use Rattle.oer_checker.specs.Places.{place_of}
-use Rattle.oer_types.specs.SharedSteps.{is_there}
+use Rattle.oer_model.specs.SharedSteps.{is_there}
 use Rattle.oer_checker.proofs.FieldSteps.{field_defaults, field_limits}
 use Rattle.oer_checker.proofs.Finds.{field_defaults_front, field_found, field_missing, fields_front, is_read, is_unread, no_refusal, not_there, same_end}
 use Rattle.oer_checker.proofs.Walks.{field_entry}

@@ -1,6 +1,6 @@
 use Rattle.std.proofs.Common.{◌∙◌, ltb, length, ap, sym}
-use Rattle.oer_types.specs.Parts.{knows}
-use Rattle.oer_types.specs.ShapeView.{type_of}
+use Rattle.oer_model.specs.Parts.{knows}
+use Rattle.oer_values.specs.ShapeView.{type_of}
 use Rattle.oer_checker.specs.Walk.{step_of}
 use Rattle.oer_checker.proofs.ShapeCases.{knows_addition, knows_component, not_known}
 use Rattle.oer_checker.proofs.walk.knows.Goals as goal

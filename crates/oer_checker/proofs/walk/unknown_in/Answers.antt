@@ -1,5 +1,5 @@
 use Rattle.std.proofs.Common.{true, drop, refl, ap, ◌∙◌}
-use Rattle.oer_types.specs.Checking.{check_unknown}
+use Rattle.oer_model.specs.Checking.{check_unknown}
 use Rattle.oer_checker.specs.BitView.{bits_in}
 use Rattle.oer_checker.specs.Places.{place_of}
 use Rattle.oer_checker.proofs.Finds.{is_read, is_unread, no_refusal, same_end, unknown_found}

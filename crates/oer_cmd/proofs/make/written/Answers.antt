@@ -2,9 +2,9 @@ use Rattle.std.proofs.Common.{◌∙◌, ap, Vec, ℕ, Global}
 use Rattle.oer_units.specs.Stream.{inner_of}
 use Rattle.oer_cmd.proofs.Front.{appended}
 use Rattle.std.proofs.Common.{List, ◌++◌}
-use Rattle.oer_types.specs.Canonical.{canonical_octets}
+use Rattle.oer_model.specs.Canonical.{canonical_octets}
 use Rattle.oer_types.specs.Schema.{the_type}
-use Rattle.oer_types.specs.ValueView.{value_of}
+use Rattle.oer_values.specs.ValueView.{value_of}
 use Rattle.oer_cmd.proofs.make.written.Goals as goal
 
 pub returns-in-Ok-clause-octets : goal.returns-in-Ok-clause-octets

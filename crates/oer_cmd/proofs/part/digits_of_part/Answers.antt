@@ -1,7 +1,7 @@
 use Rattle.std.proofs.Common.{◌≡◌, ◌++◌, ◌∷◌, ◌∙◌, [], Bool, ℕ, List, Ok, Err, Some, ap, append-nil, arith, length, length-append, subst, sym}
 use Rattle.std.proofs.lemmas.Result.{err_from_is_err_and}
-use Rattle.oer_types.specs.AsnType.{AsnType}
-use Rattle.oer_types.specs.Parts.{Within}
+use Rattle.oer_model.specs.AsnType.{AsnType}
+use Rattle.oer_model.specs.Parts.{Within}
 use Rattle.oer_types.specs.Schema.{the_type}
 use Rattle.oer_checker.specs.Encoding.{octets_in, type_of_encoding}
 use Rattle.oer_checker.specs.Handing.{AnswersPart, Follows, Hands}

@@ -1,6 +1,6 @@
 use Rattle.std.proofs.lemmas.Result.{err_from_is_err_and}
 use Rattle.oer_types.specs.Schema.{the_type}
-use Rattle.oer_types.specs.ValueView.{value_of}
+use Rattle.oer_values.specs.ValueView.{value_of}
 use Rattle.oer_cmd.proofs.Front.{shown_all}
 use Rattle.oer_cmd.proofs.Refusals.{read_more, unread}
 use Rattle.oer_cmd.proofs.Exact.{json_made, json_more, json_none}

@@ -1,5 +1,5 @@
 use Rattle.std.proofs.Common.{◌≡◌, ◌++◌, drop}
-use Rattle.oer_types.specs.Bits.{bits_of}
+use Rattle.oer_model.specs.Bits.{bits_of}
 use Rattle.oer_decoder.proofs.bit_strings.bits_of.Given as goal
 
 abbrev pub invariant-loop-octet : goal.invariant-loop-octet

@@ -1,6 +1,6 @@
 use Rattle.std.proofs.Common.{◌≡◌, ◌-◌, ◌∙◌, sym, ap, arith, ℕ, take, length}
-use Rattle.oer_types.specs.Bits.{bits_of, octets_for}
-use Rattle.oer_types.proofs.Parts.{length-bits_of}
+use Rattle.oer_model.specs.Bits.{bits_of, octets_for}
+use Rattle.oer_model.proofs.reading.Parts.{length-bits_of}
 use Rattle.oer_decoder.proofs.BitReads.{counted_stop, counted_unused, counted_short, counted_got, octets_of_used}
 use Rattle.oer_decoder.proofs.Exits.{at_fault, at_stop, here}
 use Rattle.oer_decoder.proofs.bit_strings.counted_bits.Goals as goal

@@ -1,7 +1,7 @@
 use Rattle.std.proofs.Common.{Ok, take}
 use Rattle.oer_units.specs.Reader.{give, group}
 use Rattle.oer_units.proofs.ReadSteps.{Reads-map, Reads-stop}
-use Rattle.oer_types.specs.Bits.{bits_of, octets_for}
+use Rattle.oer_model.specs.Bits.{bits_of, octets_for}
 use Rattle.oer_decoder.proofs.Exits.{at_fault, here}
 use Rattle.oer_decoder.proofs.bit_strings.fixed_bits.Goals as goal
 

@@ -1,5 +1,5 @@
 use Rattle.std.proofs.Common.{◌≡◌, sym, ◌∙◌, ◌-◌, ap, List, ℕ, Bool, true, false, ◌&&◌, take, length, get_or, ◌∷◌, []}
-use Rattle.oer_types.specs.Bits.{all_false, bits_of}
+use Rattle.oer_model.specs.Bits.{all_false, bits_of}
 use Rattle.oer_decoder.proofs.BitLists.{used-split}
 use Rattle.oer_decoder.proofs.bit_strings.is_clear.Goals as goal
 

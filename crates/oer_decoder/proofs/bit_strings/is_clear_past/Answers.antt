@@ -1,5 +1,5 @@
 use Rattle.std.proofs.Common.{sym, ◌∙◌, ◌-◌, refl, ap, arith, List, ℕ, length, drop, length-drop}
-use Rattle.oer_types.specs.Bits.{all_false}
+use Rattle.oer_model.specs.Bits.{all_false}
 use Rattle.oer_decoder.specs.BitReading.{used}
 use Rattle.oer_decoder.proofs.BitLists.{clear_few, clear_many, take_all}
 use Rattle.oer_decoder.proofs.bit_strings.is_clear_past.Goals as goal

@@ -1,7 +1,7 @@
 use Rattle.std.proofs.Common.{◌≡◌, ◌-◌, ◌∙◌, ap, sym, arith, List, ℕ, Bool, take, length, length-take, refl, Result, Ok, Err, Vec, Global}
 use Rattle.std.specs.Prelude.{IfOk}
 use Rattle.std.specs.declared.alloc.AllocError.{AllocError}
-use Rattle.oer_types.specs.Bits.{bits_of}
+use Rattle.oer_model.specs.Bits.{bits_of}
 use Rattle.oer_decoder.specs.BitReading.{used}
 use Rattle.oer_decoder.proofs.BitLists.{kept_few, kept_many}
 use Rattle.oer_decoder.proofs.bit_strings.kept_bits.Goals as goal

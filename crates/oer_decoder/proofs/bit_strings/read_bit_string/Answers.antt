@@ -1,8 +1,8 @@
 use Rattle.std.proofs.Common.{Ok}
 use Rattle.oer_units.specs.Reader.{give}
-use Rattle.oer_types.specs.AsnValue.{bit_list}
-use Rattle.oer_types.specs.Constraints.{fixed}
-use Rattle.oer_types.specs.Reading.{read_bits}
+use Rattle.oer_model.specs.AsnValue.{bit_list}
+use Rattle.oer_model.specs.Constraints.{fixed}
+use Rattle.oer_model.specs.Reading.{read_bits}
 use Rattle.oer_units.proofs.ReadSteps.{Reads-map, Reads-stop}
 use Rattle.oer_decoder.proofs.Values.{value_of-Bits}
 use Rattle.oer_decoder.proofs.Exits.{at_stop}

@@ -1,5 +1,5 @@
 use Rattle.std.proofs.Common.{refl, ◌∙◌, sym, ap, ℕ}
-use Rattle.oer_types.specs.Constraints.{size_fits}
+use Rattle.oer_model.specs.Constraints.{size_fits}
 use Rattle.oer_decoder.proofs.BitReads.{sized_stop, sized_misfit, sized_got}
 use Rattle.oer_decoder.proofs.Exits.{at_stop}
 use Rattle.oer_decoder.proofs.bit_strings.sized_octet.Goals as goal

@@ -1,8 +1,8 @@
 use Rattle.std.proofs.Common.{◌-◌, ◌+◌, arith, refl}
 use Rattle.std.proofs.lemmas.Grind.{common_steps}
-use Rattle.oer_types.specs.AsnType.{boolean}
-use Rattle.oer_types.specs.Reading.{read_value}
-use Rattle.oer_types.specs.declared.value.Value.{Bool}
+use Rattle.oer_model.specs.AsnType.{boolean}
+use Rattle.oer_model.specs.Reading.{read_value}
+use Rattle.oer_values.specs.declared.value.Value.{Bool}
 use Rattle.oer_decoder.proofs.Values.{value_of-Bool}
 use Rattle.oer_decoder.proofs.Loops.{elements_end, elements_next, elements_none, elements_stop, leads_memory}
 use Rattle.oer_decoder.proofs.Exits.{at_stop}

@@ -1,9 +1,9 @@
 use Rattle.std.proofs.Common.{◌-◌, ◌++◌, map}
 use Rattle.oer_units.specs.Reader.{times}
 use Rattle.oer_units.specs.Reads.{Leads, state}
-use Rattle.oer_types.specs.AsnType.{boolean}
-use Rattle.oer_types.specs.Reading.{read_value}
-use Rattle.oer_types.specs.ValueView.{value_of}
+use Rattle.oer_model.specs.AsnType.{boolean}
+use Rattle.oer_model.specs.Reading.{read_value}
+use Rattle.oer_values.specs.ValueView.{value_of}
 use Rattle.oer_decoder.proofs.booleans.read_booleans.Given as goal
 
 abbrev pub invariant-loop-i : goal.invariant-loop-i

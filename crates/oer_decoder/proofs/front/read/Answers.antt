@@ -1,6 +1,6 @@
 use Rattle.std.proofs.Common.{Ok, Err}
-use Rattle.oer_types.specs.ShapeView.{type_of}
-use Rattle.oer_types.specs.ValueView.{value_of}
+use Rattle.oer_values.specs.ShapeView.{type_of}
+use Rattle.oer_values.specs.ValueView.{value_of}
 use Rattle.oer_units.proofs.ReadExits.{at_exit}
 use Rattle.oer_decoder.proofs.FrontProof.{comes_of, fits_of, tells_of}
 use Rattle.oer_decoder.proofs.front.read.Goals as goal

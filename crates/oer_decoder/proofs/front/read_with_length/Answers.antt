@@ -1,4 +1,4 @@
-use Rattle.oer_types.specs.ShapeView.{type_of}
+use Rattle.oer_values.specs.ShapeView.{type_of}
 use Rattle.oer_decoder.proofs.FrontProof.{value_comes, value_fits, value_taken, value_told}
 use Rattle.oer_decoder.proofs.front.read_with_length.Goals as goal
 

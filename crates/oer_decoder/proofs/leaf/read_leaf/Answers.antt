@@ -1,6 +1,6 @@
 use Rattle.oer_units.proofs.ReadSteps.{Reads-give}
-use Rattle.oer_types.specs.AsnValue.{nothing}
-use Rattle.oer_types.proofs.Shapes.{type_of-Ia5, type_of-Numeric, type_of-Printable, type_of-Visible}
+use Rattle.oer_model.specs.AsnValue.{nothing}
+use Rattle.oer_values.proofs.Shapes.{type_of-Ia5, type_of-Numeric, type_of-Printable, type_of-Visible}
 use Rattle.oer_decoder.proofs.Shapes.{type_of-Null}
 use Rattle.oer_decoder.proofs.Values.{value_of-Null}
 use Rattle.oer_decoder.proofs.leaf.read_leaf.Goals as goal

@@ -1,7 +1,7 @@
 use Rattle.std.proofs.Common.{refl, SFits, sym, map}
 use Rattle.std.specs.Int.{w64}
 use Rattle.std.proofs.lemmas.Int.{to_z-of_z}
-use Rattle.oer_types.specs.ShapeView.{named_number}
+use Rattle.oer_values.specs.ShapeView.{named_number}
 use Rattle.oer_decoder.proofs.Bounds.{enumerated_stop, enumerated_out, enumerated_got}
 use Rattle.oer_decoder.proofs.Values.{value_of-Enum}
 use Rattle.oer_decoder.proofs.Exits.{at_fault, here}

@@ -1,7 +1,7 @@
 use Rattle.std.proofs.Common.{refl, SFits, sym}
 use Rattle.std.specs.Int.{w128}
 use Rattle.std.proofs.lemmas.Int.{to_z-of_z}
-use Rattle.oer_types.specs.FormView.{form_seen}
+use Rattle.oer_values.specs.FormView.{form_seen}
 use Rattle.oer_decoder.proofs.Bounds.{integer_stop, integer_out, integer_got}
 use Rattle.oer_decoder.proofs.Values.{value_of-Int}
 use Rattle.oer_decoder.proofs.Exits.{at_stop}

@@ -1,7 +1,7 @@
 use Rattle.std.proofs.Common.{not, eqb, Ok}
 use Rattle.oer_units.specs.Reading.{octet}
 use Rattle.oer_units.proofs.ReadSteps.{Reads-stop, Reads-map}
-use Rattle.oer_types.specs.AsnValue.{bool}
+use Rattle.oer_model.specs.AsnValue.{bool}
 use Rattle.oer_decoder.proofs.Exits.{at_fault, here}
 use Rattle.oer_decoder.proofs.numbers.truth.Goals as goal
 

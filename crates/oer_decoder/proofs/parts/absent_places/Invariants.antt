@@ -1,8 +1,8 @@
 use Rattle.std.proofs.Common.{◌≡◌, ◌≤◌, ◌+◌, ◌-◌, drop, length, map, option_map}
 use Rattle.std.specs.Prelude.{vec_capacity, vec_len}
-use Rattle.oer_types.specs.Fits.{all_absent}
-use Rattle.oer_types.specs.ShapeView.{additions_of}
-use Rattle.oer_types.specs.ValueView.{value_of}
+use Rattle.oer_model.specs.Fits.{all_absent}
+use Rattle.oer_values.specs.ShapeView.{additions_of}
+use Rattle.oer_values.specs.ValueView.{value_of}
 use Rattle.oer_decoder.specs.Places.{put_all}
 use Rattle.oer_decoder.proofs.parts.absent_places.Given as goal
 

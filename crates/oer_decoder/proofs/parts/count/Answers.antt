@@ -2,7 +2,7 @@ use Rattle.std.proofs.Common.{refl, ◌≡◌, ◌∙◌, sym, ap, SFits, ℕ, O
 use Rattle.std.specs.Prelude.{unsigned_abs}
 use Rattle.std.specs.Int.{w128}
 use Rattle.std.proofs.lemmas.Int.{to_z-of_z}
-use Rattle.oer_types.specs.Constraints.{size_fits}
+use Rattle.oer_model.specs.Constraints.{size_fits}
 use Rattle.oer_decoder.proofs.Loops.{count_stop, count_over, count_misfit, count_got, quantity_any}
 use Rattle.oer_decoder.proofs.Exits.{at_fault, here}
 use Rattle.oer_decoder.proofs.parts.count.Goals as goal

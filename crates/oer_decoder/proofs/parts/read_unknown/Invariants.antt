@@ -1,6 +1,6 @@
 use Rattle.std.proofs.Common.{◌++◌, drop, map}
-use Rattle.oer_types.specs.Reading.{read_unknown}
-use Rattle.oer_types.specs.ValueView.{unknown_of}
+use Rattle.oer_model.specs.Reading.{read_unknown}
+use Rattle.oer_values.specs.ValueView.{unknown_of}
 use Rattle.oer_units.specs.Reads.{Leads, state}
 use Rattle.oer_decoder.proofs.parts.read_unknown.Given as goal
 

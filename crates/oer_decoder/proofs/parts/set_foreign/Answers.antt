@@ -2,8 +2,8 @@ use Rattle.std.proofs.Common.{Ok}
 use Rattle.oer_units.specs.Reader.{give}
 use Rattle.oer_units.specs.Reading.{counted_octets}
 use Rattle.oer_units.proofs.ReadSteps.{Reads-map, Reads-stop}
-use Rattle.oer_types.specs.AsnValue.{foreign}
-use Rattle.oer_types.proofs.Values.{value_of-Foreign}
+use Rattle.oer_model.specs.AsnValue.{foreign}
+use Rattle.oer_values.proofs.Values.{value_of-Foreign}
 use Rattle.oer_decoder.proofs.Exits.{at_stop}
 use Rattle.oer_decoder.proofs.parts.set_foreign.Goals as goal
 

@@ -1,5 +1,5 @@
 use Rattle.std.proofs.Common.{refl, ◌≡◌, ◌∙◌, sym, ap, List, Bool, take, drop}
-use Rattle.oer_types.specs.Bits.{all_false, bits_of}
+use Rattle.oer_model.specs.Bits.{all_false, bits_of}
 use Rattle.oer_decoder.proofs.BitReads.{preamble_stop, preamble_padding, preamble_got}
 use Rattle.oer_decoder.proofs.Exits.{at_fault, here}
 use Rattle.oer_decoder.proofs.preamble.long_preamble.Goals as goal

@@ -1,5 +1,5 @@
 use Rattle.std.proofs.Common.{refl, ◌≡◌, ◌∙◌, sym, ap, ℕ, List, Bool, arith, min, take, Ok, Err}
-use Rattle.oer_types.specs.Bits.{bits_of}
+use Rattle.oer_model.specs.Bits.{bits_of}
 use Rattle.oer_decoder.proofs.BitReads.{as_preamble, one_is, padding_is, preamble_stop, preamble_padding, preamble_got}
 use Rattle.oer_decoder.proofs.Exits.{at_fault, here}
 use Rattle.oer_decoder.proofs.preamble.short_preamble.Goals as goal

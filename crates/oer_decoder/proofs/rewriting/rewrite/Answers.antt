@@ -1,6 +1,6 @@
 use Rattle.std.proofs.Common.{refl, Err, None}
 use Rattle.oer_types.specs.Schema.{the_type}
-use Rattle.oer_types.specs.ValueView.{value_of}
+use Rattle.oer_values.specs.ValueView.{value_of}
 use Rattle.oer_decoder.proofs.FrontProof.{fits_of, tells_of}
 use Rattle.oer_decoder.proofs.Rewritten.{comes_refused, comes_stopped, comes_written, rewritten, stays, stopped}
 use Rattle.oer_decoder.proofs.rewriting.rewrite.Goals as goal

@@ -1,10 +1,10 @@
 use Rattle.std.proofs.Common.{Ok}
 use Rattle.oer_units.specs.Reader.{give}
 use Rattle.oer_units.proofs.ReadSteps.{Reads-map, Reads-stop}
-use Rattle.oer_types.specs.AsnValue.{octets}
-use Rattle.oer_types.specs.Constraints.{fixed}
-use Rattle.oer_types.specs.Reading.{read_octets}
-use Rattle.oer_types.proofs.Values.{value_of-Octets}
+use Rattle.oer_model.specs.AsnValue.{octets}
+use Rattle.oer_model.specs.Constraints.{fixed}
+use Rattle.oer_model.specs.Reading.{read_octets}
+use Rattle.oer_values.proofs.Values.{value_of-Octets}
 use Rattle.oer_decoder.proofs.Exits.{at_stop}
 use Rattle.oer_decoder.proofs.strings.read_octet_string.Goals as goal
 

@@ -1,6 +1,6 @@
 use Rattle.std.proofs.Common.{refl, sym, ◌∙◌}
 use Rattle.std.proofs.lemmas.Bool.{false≢true}
-use Rattle.oer_types.specs.AlphabetView.{alphabet_of}
+use Rattle.oer_values.specs.AlphabetView.{alphabet_of}
 use Rattle.oer_decoder.proofs.Texts.{decodes, text_got, text_out, text_stop}
 use Rattle.oer_decoder.proofs.Values.{value_of-Text}
 use Rattle.oer_decoder.proofs.Exits.{at_stop}

@@ -1,6 +1,6 @@
 use Rattle.std.proofs.Common.{refl, ◌≡◌, sym, ◌∙◌, ap, List, ℕ, length}
 use Rattle.std.specs.Str.{chars}
-use Rattle.oer_types.specs.Constraints.{size_fits}
+use Rattle.oer_model.specs.Constraints.{size_fits}
 use Rattle.oer_decoder.proofs.Texts.{utf8_got, utf8_misfit, utf8_out, utf8_stop}
 use Rattle.oer_decoder.proofs.Values.{value_of-Text}
 use Rattle.oer_decoder.proofs.Exits.{at_stop}

@@ -3,20 +3,21 @@ use Rattle.std.proofs.lemmas.Grind.{common_steps}
 use Rattle.oer_units.specs.Reading.{open_type}
 use Rattle.oer_units.proofs.ReadOpen.{open_filled, open_stop, open_unfilled, open_value_stop}
 use Rattle.oer_units.proofs.ReadSteps.{Reads-memory}
-use Rattle.oer_types.specs.Reading.{read_value}
-use Rattle.oer_types.specs.ShapeView.{additions_of, fields_of, later_of, type_of}
-use Rattle.oer_types.specs.ValueView.{places_of, unknown_of, value_of}
-use Rattle.oer_types.proofs.Shapes.{type_of-Choice, type_of-Sequence}
-use Rattle.oer_types.proofs.Values.{value_of-Chosen, value_of-List, value_of-Seq}
+use Rattle.oer_model.specs.Reading.{read_value}
+use Rattle.oer_values.specs.ShapeView.{additions_of, fields_of, later_of, type_of}
+use Rattle.oer_values.specs.ValueView.{places_of, unknown_of, value_of}
+use Rattle.oer_values.proofs.Lookups.{first_falls, root_falls}
+use Rattle.oer_values.proofs.Shapes.{type_of-Choice, type_of-Sequence}
+use Rattle.oer_values.proofs.Values.{value_of-Chosen, value_of-List, value_of-Seq}
 use Rattle.oer_writer.proofs.Sizes.{additions_fall, fields_fall, later_fall}
-use Rattle.oer_types.specs.declared.shape.Addition.{Addition}
-use Rattle.oer_types.specs.declared.shape.Shape.{Sequence}
-use Rattle.oer_types.specs.declared.value.Value.TheVariants as Value
+use Rattle.oer_values.specs.declared.shape.Addition.{Addition}
+use Rattle.oer_values.specs.declared.shape.Shape.{Sequence}
+use Rattle.oer_values.specs.declared.value.Value.TheVariants as Value
 use Rattle.oer_decoder.specs.MarksView.{bits_in}
 use Rattle.oer_decoder.specs.Starts.{added_of, start_of}
 use Rattle.oer_decoder.proofs.Extensions.{extensible_stop, extensible_then, extension_known, extension_none, extension_stop, extension_then, rest_then}
 use Rattle.oer_decoder.proofs.Loops.{addition_count_is, stored_last, adds_end, adds_next, adds_none, adds_stop, elements_end, elements_next, elements_none, elements_stop, fields_end, fields_next, fields_none, fields_stop, items_stop, items_then, leads_memory, listed_is, place_none, place_then, root_stop, root_then, sequence_stop, sequence_then}
-use Rattle.oer_decoder.proofs.Picks.{choice_found, choice_later, choice_none, choice_with-is, has_marker, more_of, choice_refused, choice_stop, chosen_memory, chosen_stop, chosen_then, later_end, later_foreign, later_found, later_here, later_next, later_stop, root_end, root_here, root_next}
+use Rattle.oer_decoder.proofs.Picks.{choice_found, choice_later, choice_none, choice_with-is, has_marker, more_of, choice_stop, chosen_memory, chosen_stop, chosen_then, later_foreign, later_found}
 use Rattle.oer_decoder.proofs.Shapes.{type_of-Boolean}
 use Rattle.oer_decoder.proofs.Exits.{at_fault, at_stop, here}
 use Rattle.oer_decoder.proofs.value.+read.Goals as goal
@@ -222,74 +223,33 @@ read_rest-returns g t c =
     rw (c.set.ensures, value_of-Seq c.args.start.places c.in_ok-added.added.known c.in_ok-added.added.unknown)
     (rest_then (additions_of c.args.additions.now) (start_of c.args.start) _ _ (Ok (added_of c.in_ok-added.added)) c.in_ok-added.ensures)
 
--- ---- alternatives
-
-pub read_alternative-returns-in_err-inner : goal.read_alternative-returns-in_err-inner
-read_alternative-returns-in_err-inner g t c =
-    rw (at_stop c.from_residual.result c.in_err-inner.field-0.0 c.from_residual.ensures.1)
-    (chosen_memory _ _ _ _ c.loop-alternative.invariant.still c.in_err-inner.ensures refl)
-
-pub read_alternative-returns-in_err-read_shape : goal.read_alternative-returns-in_err-read_shape
-read_alternative-returns-in_err-read_shape g t c =
-    rw (at_stop c.from_residual-in_err-read_shape.result c.in_err-read_shape.field-0.0 c.from_residual-in_err-read_shape.ensures.1)
-    (chosen_stop c.args.tag (read_value (type_of c.alternative-item.result.shape)) _ _ _ _ _ c.loop-alternative.invariant.still
-    (root_here c.args.alternatives.now c.loop-alternative.alternative-index c.alternative-item.result c.args.tag _ c.loop-alternative-test.true c.alternative-item.is c.if-is_same_tag.ensures c.loop-alternative.invariant.same) c.in_err-read_shape.ensures.reads)
-
-pub read_alternative-returns-then-is_same_tag : goal.read_alternative-returns-then-is_same_tag
-read_alternative-returns-then-is_same_tag g t c =
-    rw (c.set.ensures, value_of-Chosen)
-    (chosen_then c.args.tag (read_value (type_of c.alternative-item.result.shape)) _ _ _ _ (value_of c.read_shape.new.value) c.loop-alternative.invariant.still
-    (root_here c.args.alternatives.now c.loop-alternative.alternative-index c.alternative-item.result c.args.tag _ c.loop-alternative-test.true c.alternative-item.is c.if-is_same_tag.ensures c.loop-alternative.invariant.same) c.in_ok-read_shape.ensures.reads)
-
-pub read_alternative-loop-alternative-preserved : goal.read_alternative-loop-alternative-preserved
-read_alternative-loop-alternative-preserved g t c =
-    record {
-      same = root_next c.args.alternatives.now c.loop-alternative.alternative-index c.alternative-item.result c.args.tag _ c.loop-alternative-test.true c.alternative-item.is c.if-is_same_tag.ensures c.loop-alternative.invariant.same;
-      still = c.loop-alternative.invariant.still;
-    }
-
-pub read_alternative-returns : goal.read_alternative-returns
-read_alternative-returns g t c = root_end c.args.alternatives.now c.loop-alternative.alternative-index c.args.tag _ _ _ c.loop-alternative.invariant.still c.loop-alternative-test.false c.loop-alternative.invariant.same
-
-pub read_open_alternative-returns-in_err-inner : goal.read_open_alternative-returns-in_err-inner
-read_open_alternative-returns-in_err-inner g t c =
-    rw (at_stop c.from_residual.result c.in_err-inner.field-0.0 c.from_residual.ensures.1)
-    (chosen_memory _ _ _ _ c.loop-alternative.invariant.still c.in_err-inner.ensures refl)
-
-pub read_open_alternative-returns-in_err-read_open : goal.read_open_alternative-returns-in_err-read_open
-read_open_alternative-returns-in_err-read_open g t c =
-    rw (at_stop c.from_residual-in_err-read_open.result c.in_err-read_open.field-0.0 c.from_residual-in_err-read_open.ensures.1)
-    (chosen_stop c.args.tag (open_type (read_value (type_of c.alternative-item.result.shape))) _ _ _ _ _ c.loop-alternative.invariant.still
-    (later_here c.args.alternatives.now c.loop-alternative.alternative-index c.alternative-item.result c.args.tag _ c.loop-alternative-test.true c.alternative-item.is c.if-is_same_tag.ensures c.loop-alternative.invariant.same) c.in_err-read_open.ensures)
-
-pub read_open_alternative-returns-then-is_same_tag : goal.read_open_alternative-returns-then-is_same_tag
-read_open_alternative-returns-then-is_same_tag g t c =
-    rw (c.set.ensures, value_of-Chosen)
-    (chosen_then c.args.tag (open_type (read_value (type_of c.alternative-item.result.shape))) _ _ _ _ (value_of c.read_open.new.value) c.loop-alternative.invariant.still
-    (later_here c.args.alternatives.now c.loop-alternative.alternative-index c.alternative-item.result c.args.tag _ c.loop-alternative-test.true c.alternative-item.is c.if-is_same_tag.ensures c.loop-alternative.invariant.same) c.in_ok-read_open.ensures)
-
-pub read_open_alternative-loop-alternative-preserved : goal.read_open_alternative-loop-alternative-preserved
-read_open_alternative-loop-alternative-preserved g t c =
-    record {
-      same = later_next c.args.alternatives.now c.loop-alternative.alternative-index c.alternative-item.result c.args.tag _ c.loop-alternative-test.true c.alternative-item.is c.if-is_same_tag.ensures c.loop-alternative.invariant.same;
-      still = c.loop-alternative.invariant.still;
-    }
-
-pub read_open_alternative-returns : goal.read_open_alternative-returns
-read_open_alternative-returns g t c = later_end c.args.alternatives.now c.loop-alternative.alternative-index c.args.tag _ _ _ c.loop-alternative.invariant.still c.loop-alternative-test.false c.loop-alternative.invariant.same
-
 -- ---- what follows a tag that no alternative of the root has
 
-pub read_later_alternative-returns-in_err-is_found : goal.read_later_alternative-returns-in_err-is_found
-read_later_alternative-returns-in_err-is_found g t c =
-    rw (at_stop c.from_residual.result c.in_err-is_found.field-0.0 c.from_residual.ensures.1)
-    (later_stop c.args.alternatives.now c.args.tag _ _ _ c.in_err-is_found.ensures)
+pub read_later_alternative-read_open-requires : goal.read_later_alternative-read_open-requires
+read_later_alternative-read_open-requires g t c κs within =
+    let smaller = first_falls c.args.tag c.args.alternatives.now c.in-Some.alternative.now c.in-Some.ensures.is in
+    (omega (arith, smaller, c.decreases), within)
 
-pub read_later_alternative-returns-then-is_found : goal.read_later_alternative-returns-then-is_found
-read_later_alternative-returns-then-is_found g t c = later_found c.args.alternatives.now c.args.tag _ _ (value_of c.read_open_alternative.new.value) (rw c.if-is_found.true at c.in_ok-is_found.ensures)
+pub read_later_alternative-returns-in_default : goal.read_later_alternative-returns-in_default
+read_later_alternative-returns-in_default g t c = later_foreign c.args.alternatives.now c.args.tag _ _ _ c.in_default.ensures.is c.set_foreign.ensures
+
+pub read_later_alternative-returns-in_err-inner : goal.read_later_alternative-returns-in_err-inner
+read_later_alternative-returns-in_err-inner g t c =
+    let a = c.in-Some.alternative.now in
+    rw (at_stop c.from_residual.result c.in_err-inner.field-0.0 c.from_residual.ensures.1)
+    (later_found c.args.alternatives.now c.args.tag _ _ a _ c.in-Some.ensures.is (chosen_memory c.args.tag (open_type (read_value (type_of a.shape))) _ _ c.in_err-inner.ensures refl))
+
+pub read_later_alternative-returns-in_err-read_open : goal.read_later_alternative-returns-in_err-read_open
+read_later_alternative-returns-in_err-read_open g t c =
+    let a = c.in-Some.alternative.now in
+    rw (at_stop c.from_residual-in_err-read_open.result c.in_err-read_open.field-0.0 c.from_residual-in_err-read_open.ensures.1)
+    (later_found c.args.alternatives.now c.args.tag _ _ a _ c.in-Some.ensures.is (chosen_stop c.args.tag (open_type (read_value (type_of a.shape))) _ _ _ c.in_err-read_open.ensures))
 
 pub read_later_alternative-returns : goal.read_later_alternative-returns
-read_later_alternative-returns g t c = later_foreign c.args.alternatives.now c.args.tag _ _ _ _ (rw c.if-is_found.false at c.in_ok-is_found.ensures) c.set_foreign.ensures
+read_later_alternative-returns g t c =
+    let a = c.in-Some.alternative.now in
+    rw (c.set.ensures, value_of-Chosen)
+    (later_found c.args.alternatives.now c.args.tag _ _ a _ c.in-Some.ensures.is (chosen_then c.args.tag (open_type (read_value (type_of a.shape))) _ _ (value_of c.read_open.new.value) c.in_ok-read_open.ensures))
 
 -- ---- a sequence with an extension marker
 
@@ -334,7 +294,7 @@ read_shape-read_choice-requires g t c κs within =
 pub read_choice-read_later_alternative-requires : goal.read_choice-read_later_alternative-requires
 read_choice-read_later_alternative-requires g t c κs within =
     let h = c.requires.is in
-    let smaller = later_fall c.args.shape.now h.0 c.args.additions.now c.in-Some.additions _ h.1 c.in-Some.is refl in
+    let smaller = later_fall c.args.shape.now h.0 c.args.additions.now c.in-Some-additions.additions _ h.1 c.in-Some-additions.is refl in
     (rw c.deref.ensures.value (omega (arith, smaller, c.decreases)), within)
 
 pub read_choice-returns-in_err-tag : goal.read_choice-returns-in_err-tag
@@ -343,28 +303,42 @@ read_choice-returns-in_err-tag g t c =
     rw (at_fault c.from_residual.result c.in_err-tag.field-0.0 c.from_residual.ensures.1, h.1, type_of-Choice, choice_with-is)
     (here _ _ _ _ (choice_stop (has_marker c.args.additions.now) h.0.items (later_of (more_of c.args.additions.now)) _ _ _ c.in_err-tag.ensures.reads))
 
-pub read_choice-returns-in_err-is_found : goal.read_choice-returns-in_err-is_found
-read_choice-returns-in_err-is_found g t c =
+pub read_choice-read_shape-requires : goal.read_choice-read_shape-requires
+read_choice-read_shape-requires g t c κs within =
     let h = c.requires.is in
-    rw (at_stop c.from_residual-in_err-is_found.result c.in_err-is_found.field-0.0 c.from_residual-in_err-is_found.ensures.1, h.1, type_of-Choice, choice_with-is)
-    (choice_refused (has_marker c.args.additions.now) h.0.items (later_of (more_of c.args.additions.now)) _ _ _ c.in_ok-tag.tag _ c.in_ok-tag.ensures.reads (rw h.2 at c.in_err-is_found.ensures))
+    let smaller = root_falls c.in_ok-tag.tag c.args.shape.now h.0 c.args.additions.now c.in-Some.alternative.now h.1 (rw h.2 at c.in-Some.ensures.is) in
+    (omega (arith, smaller, c.decreases), within)
 
-pub read_choice-returns-then-is_found : goal.read_choice-returns-then-is_found
-read_choice-returns-then-is_found g t c =
+pub read_choice-returns-in_err-inner : goal.read_choice-returns-in_err-inner
+read_choice-returns-in_err-inner g t c =
     let h = c.requires.is in
-    rw (h.1, type_of-Choice, choice_with-is)
-    (choice_found (has_marker c.args.additions.now) h.0.items (later_of (more_of c.args.additions.now)) _ _ _ c.in_ok-tag.tag (value_of c.read_alternative.new.value) c.in_ok-tag.ensures.reads (rw (h.2, c.if-is_found.true) at c.in_ok-is_found.ensures))
+    let a = c.in-Some.alternative.now in
+    rw (at_stop c.from_residual-in_err-inner.result c.in_err-inner.field-0.0 c.from_residual-in_err-inner.ensures.1, h.1, type_of-Choice, choice_with-is)
+    (choice_found (has_marker c.args.additions.now) h.0.items (later_of (more_of c.args.additions.now)) _ _ _ c.in_ok-tag.tag a _ c.in_ok-tag.ensures.reads (rw h.2 at c.in-Some.ensures.is) (chosen_memory c.in_ok-tag.tag (read_value (type_of a.shape)) _ _ c.in_err-inner.ensures refl))
+
+pub read_choice-returns-in_err-read_shape : goal.read_choice-returns-in_err-read_shape
+read_choice-returns-in_err-read_shape g t c =
+    let h = c.requires.is in
+    let a = c.in-Some.alternative.now in
+    rw (at_stop c.from_residual-in_err-read_shape.result c.in_err-read_shape.field-0.0 c.from_residual-in_err-read_shape.ensures.1, h.1, type_of-Choice, choice_with-is)
+    (choice_found (has_marker c.args.additions.now) h.0.items (later_of (more_of c.args.additions.now)) _ _ _ c.in_ok-tag.tag a _ c.in_ok-tag.ensures.reads (rw h.2 at c.in-Some.ensures.is) (chosen_stop c.in_ok-tag.tag (read_value (type_of a.shape)) _ _ _ c.in_err-read_shape.ensures.reads))
 
 pub read_choice-returns-in-Some : goal.read_choice-returns-in-Some
 read_choice-returns-in-Some g t c =
     let h = c.requires.is in
-    rw (h.1, c.in-Some.is, type_of-Choice)
-    (choice_later h.0.items c.in-Some.additions.items _ _ _ _ c.in_ok-tag.tag _ c.in_ok-tag.ensures.reads
-    (rw (h.2, c.if-is_found.false) at c.in_ok-is_found.ensures) (rw c.deref.ensures.value at c.read_later_alternative.ensures))
+    let a = c.in-Some.alternative.now in
+    rw (c.set.ensures, value_of-Chosen, h.1, type_of-Choice, choice_with-is)
+    (choice_found (has_marker c.args.additions.now) h.0.items (later_of (more_of c.args.additions.now)) _ _ _ c.in_ok-tag.tag a _ c.in_ok-tag.ensures.reads (rw h.2 at c.in-Some.ensures.is) (chosen_then c.in_ok-tag.tag (read_value (type_of a.shape)) _ _ (value_of c.read_shape.new.value) c.in_ok-read_shape.ensures.reads))
+
+pub read_choice-returns-in-Some-additions : goal.read_choice-returns-in-Some-additions
+read_choice-returns-in-Some-additions g t c =
+    let h = c.requires.is in
+    rw (h.1, c.in-Some-additions.is, type_of-Choice)
+    (choice_later h.0.items c.in-Some-additions.additions.items _ _ _ c.in_ok-tag.tag _ c.in_ok-tag.ensures.reads
+    (rw h.2 at c.in_default.ensures.is) (rw c.deref.ensures.value at c.read_later_alternative.ensures))
 
 pub read_choice-returns-in-None : goal.read_choice-returns-in-None
 read_choice-returns-in-None g t c =
     let h = c.requires.is in
     rw (h.1, c.in-None.is, type_of-Choice)
-    (choice_none h.0.items _ _ _ c.in_ok-tag.tag _ c.in_ok-tag.ensures.reads
-    (rw (h.2, c.if-is_found.false) at c.in_ok-is_found.ensures) refl refl)
+    (choice_none h.0.items _ _ c.in_ok-tag.tag _ c.in_ok-tag.ensures.reads (rw h.2 at c.in_default.ensures.is) refl refl)

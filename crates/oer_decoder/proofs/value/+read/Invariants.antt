@@ -1,12 +1,10 @@
-use Rattle.std.proofs.Common.{◌≡◌, ◌≤◌, ◌+◌, ◌-◌, ◌++◌, drop, length, map, option_map}
+use Rattle.std.proofs.Common.{◌≤◌, ◌+◌, ◌-◌, ◌++◌, drop, length, map, option_map}
 use Rattle.std.specs.Prelude.{vec_capacity, vec_len}
 use Rattle.oer_units.specs.Reader.{times}
 use Rattle.oer_units.specs.Reads.{Leads, state}
-use Rattle.oer_types.specs.AsnType.{no_alternatives}
-use Rattle.oer_types.specs.Reading.{read_additions, read_fields, read_value}
-use Rattle.oer_types.specs.ShapeView.{additions_of, fields_of, later_of, root_of, type_of}
-use Rattle.oer_types.specs.ValueView.{value_of}
-use Rattle.oer_decoder.specs.Choices.{found_in}
+use Rattle.oer_model.specs.Reading.{read_additions, read_fields, read_value}
+use Rattle.oer_values.specs.ShapeView.{additions_of, fields_of, type_of}
+use Rattle.oer_values.specs.ValueView.{value_of}
 use Rattle.oer_decoder.specs.Places.{put_all}
 use Rattle.oer_decoder.proofs.value.+read.Given as goal
 
@@ -29,20 +27,4 @@ invariant-read_fields-loop-field g l =
     record {
       leads : Leads (read_fields (fields_of (drop l.field-index l.fields)) l.left) (now l.w) (put_all (map (option_map value_of) l.places.items)) (read_fields (fields_of l.fields) l.bits) (now l.fn.w);
       room : vec_len l.places + (length l.fields - l.field-index) ≤ vec_capacity l.places;
-    }
-
-abbrev pub invariant-read_alternative-loop-alternative : goal.invariant-read_alternative-loop-alternative
-invariant-read_alternative-loop-alternative g l =
-    let now = state g.R.Source.remaining g.R.Source.failed in
-    record {
-      same : found_in (root_of (drop l.alternative-index l.alternatives) no_alternatives) l.tag ≡ found_in (root_of l.alternatives no_alternatives) l.tag;
-      still : now l.w ≡ now l.fn.w;
-    }
-
-abbrev pub invariant-read_open_alternative-loop-alternative : goal.invariant-read_open_alternative-loop-alternative
-invariant-read_open_alternative-loop-alternative g l =
-    let now = state g.R.Source.remaining g.R.Source.failed in
-    record {
-      same : found_in (later_of (drop l.alternative-index l.alternatives)) l.tag ≡ found_in (later_of l.alternatives) l.tag;
-      still : now l.w ≡ now l.fn.w;
     }

@@ -1,9 +1,9 @@
 use Rattle.std.proofs.lemmas.Result.{IfOk-weaker, err_from_is_err_and}
 use Rattle.std.proofs.Common.{◌∙◌, ap, pos}
-use Rattle.oer_types.specs.AsnValue.{int}
-use Rattle.oer_types.specs.Fits.{Fits}
+use Rattle.oer_model.specs.AsnValue.{int}
+use Rattle.oer_model.specs.Fits.{Fits}
 use Rattle.oer_types.specs.Schema.{the_type}
-use Rattle.oer_types.specs.ValueView.{value_of}
+use Rattle.oer_values.specs.ValueView.{value_of}
 use Rattle.oer_example.specs.Renewed.{with_component as spec_with_component}
 use Rattle.oer_example.proofs.Renewing.{made, no_fit, no_place, no_value, nothing_seen, something_seen, unfit}
 use Rattle.oer_example.proofs.renewed.renewed.Goals as goal

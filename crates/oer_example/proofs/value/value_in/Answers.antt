@@ -1,7 +1,7 @@
 use Rattle.std.proofs.Common.{Some, arith, refl}
 use Rattle.oer_units.specs.Stream.{inner_of}
 use Rattle.oer_types.specs.Schema.{the_type}
-use Rattle.oer_types.specs.ValueView.{value_of}
+use Rattle.oer_values.specs.ValueView.{value_of}
 use Rattle.oer_example.proofs.Values.{all_taken, not_read}
 use Rattle.oer_example.proofs.value.value_in.Goals as goal
 

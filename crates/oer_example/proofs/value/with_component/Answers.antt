@@ -1,5 +1,5 @@
 use Rattle.std.proofs.Common.{arith}
-use Rattle.oer_types.specs.ValueView.{value_of}
+use Rattle.oer_values.specs.ValueView.{value_of}
 use Rattle.oer_example.proofs.Components.{no_place, put}
 use Rattle.oer_example.proofs.value.with_component.Goals as goal
 

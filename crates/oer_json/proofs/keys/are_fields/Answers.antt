@@ -1,6 +1,6 @@
 use Rattle.std.proofs.Common.{map, sym, ap, ◌∙◌, string_bytes}
-use Rattle.oer_types.specs.ShapeView.{fields_of}
-use Rattle.oer_types.specs.WellFormed.{field_names}
+use Rattle.oer_values.specs.ShapeView.{fields_of}
+use Rattle.oer_model.specs.WellFormed.{field_names}
 use Rattle.oer_json.specs.Keys.{all_pass, is_among}
 use Rattle.oer_json.proofs.KeySteps.{keys_view}
 use Rattle.oer_json.proofs.keys.are_fields.Goals as goal

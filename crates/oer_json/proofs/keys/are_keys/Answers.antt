@@ -1,6 +1,6 @@
 use Rattle.std.proofs.Common.{map, sym, ap, ◌∙◌, string_bytes}
-use Rattle.oer_types.specs.ShapeView.{additions_of, fields_of}
-use Rattle.oer_types.specs.WellFormed.{addition_names, field_names}
+use Rattle.oer_values.specs.ShapeView.{additions_of, fields_of}
+use Rattle.oer_model.specs.WellFormed.{addition_names, field_names}
 use Rattle.oer_json.specs.Keys.{all_pass}
 use Rattle.oer_json.specs.Take.{is_key}
 use Rattle.oer_json.proofs.KeySteps.{keys_view}

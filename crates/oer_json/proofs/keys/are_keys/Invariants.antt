@@ -1,6 +1,6 @@
 use Rattle.std.proofs.Common.{◌≡◌, map, string_bytes}
-use Rattle.oer_types.specs.ShapeView.{additions_of, fields_of}
-use Rattle.oer_types.specs.WellFormed.{addition_names, field_names}
+use Rattle.oer_values.specs.ShapeView.{additions_of, fields_of}
+use Rattle.oer_model.specs.WellFormed.{addition_names, field_names}
 use Rattle.serde_json.specs.View.{members_view}
 use Rattle.oer_json.specs.Keys.{all_pass, keys_of}
 use Rattle.oer_json.specs.Take.{is_key}

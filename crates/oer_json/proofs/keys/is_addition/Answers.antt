@@ -1,7 +1,7 @@
 use Rattle.std.proofs.Common.{◌≡◌, true, false, sym, ap, ◌∙◌, add-one, string_bytes}
 use Rattle.std.specs.Str.{bytes_eq}
-use Rattle.oer_types.specs.ShapeView.{additions_of}
-use Rattle.oer_types.specs.WellFormed.{addition_names}
+use Rattle.oer_values.specs.ShapeView.{additions_of}
+use Rattle.oer_model.specs.WellFormed.{addition_names}
 use Rattle.oer_json.specs.Keys.{is_among}
 use Rattle.oer_literals.proofs.Lists.{split_at}
 use Rattle.oer_json.proofs.Steps.{among_here, among_past}

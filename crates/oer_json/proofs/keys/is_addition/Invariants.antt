@@ -1,6 +1,6 @@
 use Rattle.std.proofs.Common.{◌≡◌, drop}
-use Rattle.oer_types.specs.ShapeView.{additions_of}
-use Rattle.oer_types.specs.WellFormed.{addition_names}
+use Rattle.oer_values.specs.ShapeView.{additions_of}
+use Rattle.oer_model.specs.WellFormed.{addition_names}
 use Rattle.oer_json.specs.Keys.{is_among}
 use Rattle.oer_json.proofs.keys.is_addition.Given as goal
 

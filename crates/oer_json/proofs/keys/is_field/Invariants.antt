@@ -1,6 +1,6 @@
 use Rattle.std.proofs.Common.{◌≡◌, drop}
-use Rattle.oer_types.specs.ShapeView.{fields_of}
-use Rattle.oer_types.specs.WellFormed.{field_names}
+use Rattle.oer_values.specs.ShapeView.{fields_of}
+use Rattle.oer_model.specs.WellFormed.{field_names}
 use Rattle.oer_json.specs.Keys.{is_among}
 use Rattle.oer_json.proofs.keys.is_field.Given as goal
 

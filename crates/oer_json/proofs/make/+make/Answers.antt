@@ -1,13 +1,13 @@
-use Rattle.std.proofs.Common.{map, drop, suc, sym, ap, ◌∙◌, add-one}
+use Rattle.std.proofs.Common.{map, drop, suc, sym, ap, ◌∙◌, add-one, arith}
 use Rattle.serde_json.specs.Data.{object, array}
 use Rattle.serde_json.specs.View.{view}
 use Rattle.serde_json.proofs.Views.{view-Array, view-Object}
-use Rattle.oer_types.specs.AsnType.{no_alternatives}
-use Rattle.oer_types.specs.ShapeView.{later_of, type_of}
-use Rattle.oer_types.specs.ValueView.{value_of, values_of}
-use Rattle.oer_types.proofs.Shapes.{type_of-Sequence, type_of-Choice}
+use Rattle.oer_values.specs.ShapeView.{type_of}
+use Rattle.oer_values.specs.ValueView.{value_of, values_of}
+use Rattle.oer_values.proofs.Lookups.{found_smaller}
+use Rattle.oer_values.proofs.Shapes.{type_of-Sequence, type_of-Choice}
 use Rattle.oer_json.specs.Made.{made, made_items}
-use Rattle.oer_json.proofs.Making.{before_items, before_none, chosen_first, items_step}
+use Rattle.oer_json.proofs.Making.{before_items, before_none, items_step, made_found, made_nowhere}
 use Rattle.oer_json.proofs.Views.{view-Null}
 use Rattle.oer_literals.proofs.Lists.{nothing_left, split_at}
 use Rattle.oer_json.proofs.make.+make.Goals as goal
@@ -41,18 +41,19 @@ sequence_json-returns-in_ok-put_unknown-in-Some t c =
     let k = rw g at c.in_ok-put_unknown-in-Some.ensures in
     rw (c.in-Sequence.is, type_of-Sequence, c.in-Some.is, view-Object c.put_unknown.new.members) (ap object k)
 
-pub chosen_json-returns-in-Some : goal.chosen_json-returns-in-Some
-chosen_json-returns-in-Some t c =
-    let h = rw (c.deref.ensures.value, c.in-Some.is) at c.in_ok-found.ensures in
-    rw (c.in-Choice.is, type_of-Choice) (sym (chosen_first c.in-Choice.root.items c.in-Choice.additions c.args.tag (value_of c.args.value.now) _ h))
+pub chosen_json-value_json-requires : goal.chosen_json-value_json-requires
+chosen_json-value_json-requires t c =
+    let at = c.in-Choice in
+    let smaller = found_smaller c.args.tag c.args.shape.now at.root at.additions c.in-Some.alternative.now at.is (rw c.deref.ensures.value at c.in-Some.ensures) in
+    omega (arith, smaller, c.decreases)
 
-pub chosen_json-returns-in-None-additions : goal.chosen_json-returns-in-None-additions
-chosen_json-returns-in-None-additions t c =
-    let h = rw (c.deref.ensures.value, c.in-None.is) at c.in_ok-found.ensures in
-    rw (c.in-Choice.is, type_of-Choice, c.in-None-additions.is, view-Null) (sym (h no_alternatives))
+pub chosen_json-returns-in_default-find_alternative : goal.chosen_json-returns-in_default-find_alternative
+chosen_json-returns-in_default-find_alternative t c =
+    let at = c.in-Choice in
+    rw (at.is, type_of-Choice, view-Null) (sym (made_nowhere c.args.tag (value_of c.args.value.now) at.root.items at.additions (rw c.deref.ensures.value at c.in_default-find_alternative.ensures)))
 
-pub chosen_json-returns-in-Some-additions : goal.chosen_json-returns-in-Some-additions
-chosen_json-returns-in-Some-additions t c =
-    let h = rw (c.deref.ensures.value, c.in-None.is) at c.in_ok-found.ensures in
-    let k = rw c.deref-in-Some-additions.ensures.value at c.later_json.ensures in
-    rw (c.in-Choice.is, type_of-Choice, c.in-Some-additions.is, h (later_of c.in-Some-additions.additions.items)) k
+pub chosen_json-returns : goal.chosen_json-returns
+chosen_json-returns t c =
+    let at = c.in-Choice in
+    let found = made_found c.args.tag (value_of c.args.value.now) at.root.items at.additions c.in-Some.alternative.now (rw c.deref.ensures.value at c.in-Some.ensures) in
+    rw (at.is, type_of-Choice, found, sym c.in_ok-json.ensures, sym c.as_str.ensures.value) c.object_json.ensures

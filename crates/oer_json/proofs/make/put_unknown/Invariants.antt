@@ -1,6 +1,6 @@
 use Rattle.std.proofs.Common.{◌≡◌, drop, map}
 use Rattle.serde_json.specs.View.{members_view}
-use Rattle.oer_types.specs.ValueView.{unknown_of}
+use Rattle.oer_values.specs.ValueView.{unknown_of}
 use Rattle.oer_json.specs.Made.{put_unknown}
 use Rattle.oer_json.proofs.make.put_unknown.Given as goal
 

@@ -1,7 +1,7 @@
 use Rattle.std.proofs.Common.{◌≡◌, length, arith}
 use Rattle.std.proofs.lemmas.Grind.{common_steps}
-use Rattle.oer_types.proofs.FitSteps.{counted_values}
-use Rattle.oer_types.proofs.Values.{value_of-List}
+use Rattle.oer_values.proofs.FitSteps.{counted_values}
+use Rattle.oer_values.proofs.Values.{value_of-List}
 use Rattle.oer_json.proofs.parts.sized.Goals as goal
 
 pub returns-then-not-allows : goal.returns-then-not-allows

@@ -1,13 +1,13 @@
 use Rattle.std.proofs.Common.{◌≡◌, Ok, drop, suc, length, sym, ap, ◌∙◌, add-one, arith, option_map, Option, Vec, Global}
 use Rattle.std.proofs.lemmas.Result.{err_from_is_err_and}
 use Rattle.serde_json.specs.View.{items_view, members_view, view}
-use Rattle.oer_types.specs.ShapeView.{additions_of, fields_of, type_of}
-use Rattle.oer_types.specs.ValueView.{attached, value_of}
-use Rattle.oer_types.specs.declared.shape.Addition.{Addition}
-use Rattle.oer_types.specs.declared.shape.Shape.TheVariants.{Sequence}
-use Rattle.oer_types.proofs.FitSteps.{counted_additions}
-use Rattle.oer_types.proofs.Shapes.{type_of-Choice, type_of-Sequence}
-use Rattle.oer_types.proofs.Values.{value_of-Seq}
+use Rattle.oer_values.specs.ShapeView.{additions_of, fields_of, type_of}
+use Rattle.oer_values.specs.ValueView.{attached, value_of}
+use Rattle.oer_values.specs.declared.shape.Addition.{Addition}
+use Rattle.oer_values.specs.declared.shape.Shape.TheVariants.{Sequence}
+use Rattle.oer_values.proofs.FitSteps.{counted_additions}
+use Rattle.oer_values.proofs.Shapes.{type_of-Choice, type_of-Sequence}
+use Rattle.oer_values.proofs.Values.{value_of-Seq}
 use Rattle.oer_json.specs.Answer.{◌>>=◌}
 use Rattle.oer_json.specs.Take.{take, take_additions, take_fields, take_items}
 use Rattle.oer_literals.proofs.Lists.{nothing_left, split_at}

@@ -1,9 +1,9 @@
 use Rattle.std.proofs.Common.{◌≡◌, drop, Ok, Result}
 use Rattle.serde_json.specs.View.{items_view, members_view, view}
-use Rattle.oer_types.specs.AsnType.{no_alternatives}
-use Rattle.oer_types.specs.AsnValue.{AsnValue}
-use Rattle.oer_types.specs.ShapeView.{additions_of, fields_of, root_of, type_of}
-use Rattle.oer_types.specs.ValueView.{attached}
+use Rattle.oer_model.specs.AsnType.{no_alternatives}
+use Rattle.oer_model.specs.AsnValue.{AsnValue}
+use Rattle.oer_values.specs.ShapeView.{additions_of, fields_of, root_of, type_of}
+use Rattle.oer_values.specs.ValueView.{attached}
 use Rattle.oer_json.specs.Answer.{◌>>=◌}
 use Rattle.oer_json.specs.Take.{take, take_additions, take_alternative, take_fields, take_items}
 use Rattle.oer_json.specs.declared.fault.JsonFault.{JsonFault}

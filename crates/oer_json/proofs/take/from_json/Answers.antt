@@ -1,9 +1,9 @@
 use Rattle.std.proofs.Common.{subst}
 use Rattle.serde_json.specs.View.{view}
 use Rattle.oer_types.specs.Schema.{the_type}
-use Rattle.oer_types.specs.ShapeView.{type_of}
-use Rattle.oer_types.specs.ValueView.{value_of}
-use Rattle.oer_types.specs.WellFormed.{IsWellFormed}
+use Rattle.oer_values.specs.ShapeView.{type_of}
+use Rattle.oer_values.specs.ValueView.{value_of}
+use Rattle.oer_model.specs.WellFormed.{IsWellFormed}
 use Rattle.oer_json.specs.Answer.{IsSameOrMemory}
 use Rattle.oer_json.specs.Take.{taken}
 use Rattle.oer_json.proofs.Promised.{again, fits, refused, takes}

@@ -1,6 +1,6 @@
 use Rattle.std.proofs.Common.{◌≡◌, ◌++◌, Ok, map}
 use Rattle.serde_json.specs.View.{members_view}
-use Rattle.oer_types.specs.ValueView.{unknown_of}
+use Rattle.oer_values.specs.ValueView.{unknown_of}
 use Rattle.oer_json.specs.Answer.{◌>>=◌}
 use Rattle.oer_json.specs.Take.{unknown_from}
 use Rattle.oer_json.proofs.unknown.unknown_from.Given as goal

@@ -1,5 +1,5 @@
 use Rattle.std.proofs.Common.{◌≡◌, map, drop}
-use Rattle.oer_types.specs.ShapeView.{named_number}
+use Rattle.oer_values.specs.ShapeView.{named_number}
 use Rattle.oer_literals.specs.Items.{name_of}
 use Rattle.oer_literals.proofs.item.name_of.Given as goal
 

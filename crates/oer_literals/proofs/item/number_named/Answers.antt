@@ -1,7 +1,7 @@
 use Rattle.std.proofs.Common.{◌≡◌, map, true, false, sym, ap, ◌∙◌, arith, add-one, string_bytes}
 use Rattle.std.proofs.lemmas.Int.{to_z-of_z}
 use Rattle.std.specs.Str.{bytes_eq}
-use Rattle.oer_types.specs.ShapeView.{named_number}
+use Rattle.oer_values.specs.ShapeView.{named_number}
 use Rattle.oer_literals.specs.Items.{number_named}
 use Rattle.oer_literals.proofs.Lists.{nothing_left, split_at}
 use Rattle.oer_literals.proofs.Names.{number_here, number_past}

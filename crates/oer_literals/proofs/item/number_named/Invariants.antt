@@ -1,5 +1,5 @@
 use Rattle.std.proofs.Common.{◌≡◌, map, drop}
-use Rattle.oer_types.specs.ShapeView.{named_number}
+use Rattle.oer_values.specs.ShapeView.{named_number}
 use Rattle.oer_literals.specs.Items.{number_named}
 use Rattle.oer_literals.proofs.item.number_named.Given as goal
 

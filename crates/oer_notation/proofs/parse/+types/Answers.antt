@@ -1,6 +1,6 @@
 use Rattle.std.proofs.Common.{◌≡◌, ◌+◌, ◌-◌, map, Ok, sym, ap, ap₂, ◌∙◌, arith}
 use Rattle.std.proofs.lemmas.Result.{err_from_is_err_and}
-use Rattle.oer_types.specs.ShapeView.{seen_alternative}
+use Rattle.oer_values.specs.ShapeView.{seen_alternative}
 use Rattle.oer_notation.specs.Reading.{components_more, alternatives_more, type_at, most, Choices, with_marker, with_choice_marker}
 use Rattle.oer_notation.specs.State.{state_of, bump}
 use Rattle.oer_notation.specs.Views.{known, components, choices}

@@ -1,5 +1,5 @@
 use Rattle.std.proofs.Common.{◌∙◌, refl, Some}
-use Rattle.oer_types.proofs.Shapes.{type_of-Choice}
+use Rattle.oer_values.proofs.Shapes.{type_of-Choice}
 use Rattle.oer_notation.proofs.parse.choice.Goals as goal
 
 pub returns-then-found : goal.returns-then-found

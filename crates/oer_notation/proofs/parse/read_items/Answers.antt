@@ -1,7 +1,7 @@
 use Rattle.std.proofs.Common.{◌≡◌, ◌+◌, ◌-◌, [], ◌∷◌, ◌++◌, map, Ok, sym, ap, ap₂, ◌∙◌, arith}
 use Rattle.std.proofs.lemmas.Result.{err_from_is_err_and}
 use Rattle.std.proofs.lemmas.List.{map_push}
-use Rattle.oer_types.specs.ShapeView.{named_number}
+use Rattle.oer_values.specs.ShapeView.{named_number}
 use Rattle.oer_notation.specs.Reading.{items_more, most}
 use Rattle.oer_notation.specs.State.{state_of, bump}
 use Rattle.oer_notation.specs.Views.{named}

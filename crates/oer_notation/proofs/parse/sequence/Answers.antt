@@ -1,5 +1,5 @@
 use Rattle.std.proofs.Common.{◌∙◌, refl, Some}
-use Rattle.oer_types.proofs.Shapes.{type_of-Sequence}
+use Rattle.oer_values.proofs.Shapes.{type_of-Sequence}
 use Rattle.oer_notation.proofs.parse.sequence.Goals as goal
 
 pub returns-then-body : goal.returns-then-body

@@ -1,5 +1,5 @@
 use Rattle.std.proofs.Common.{map, Ok, Err, sym, ap, ◌∙◌}
-use Rattle.oer_types.specs.ShapeView.{type_of}
+use Rattle.oer_values.specs.ShapeView.{type_of}
 use Rattle.oer_notation.specs.State.{state_of}
 use Rattle.oer_notation.specs.Views.{known}
 use Rattle.oer_notation.specs.declared.fault.TextFault.{TextFault}

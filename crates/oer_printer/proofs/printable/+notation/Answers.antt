@@ -1,9 +1,9 @@
 use Rattle.std.proofs.Common.{arith, ap, sym, ◌∙◌}
 use Rattle.std.proofs.lemmas.Grind.{common_steps}
-use Rattle.oer_types.specs.ShapeView.{later_of, root_of}
-use Rattle.oer_types.specs.AsnType.{no_alternatives}
+use Rattle.oer_values.specs.ShapeView.{later_of, root_of}
+use Rattle.oer_model.specs.AsnType.{no_alternatives}
 use Rattle.oer_printer.specs.Printing.{alternatives_have_notation}
-use Rattle.oer_types.proofs.Shapes.{type_of-Choice}
+use Rattle.oer_values.proofs.Shapes.{type_of-Choice}
 use Rattle.oer_printer.proofs.Printed.{notation_of_later, notation_of_root, choice_refused}
 use Rattle.oer_printer.proofs.printable.+notation.Goals as goal
 

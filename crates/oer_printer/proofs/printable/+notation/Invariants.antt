@@ -1,6 +1,6 @@
 use Rattle.std.proofs.Common.{◌≡◌, drop}
-use Rattle.oer_types.specs.AsnType.{no_alternatives}
-use Rattle.oer_types.specs.ShapeView.{additions_of, fields_of, root_of}
+use Rattle.oer_model.specs.AsnType.{no_alternatives}
+use Rattle.oer_values.specs.ShapeView.{additions_of, fields_of, root_of}
 use Rattle.oer_printer.specs.Printing.{additions_have_notation, alternatives_have_notation, have_notation}
 use Rattle.oer_printer.proofs.printable.+notation.Given as goal
 

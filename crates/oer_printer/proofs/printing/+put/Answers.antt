@@ -1,9 +1,9 @@
 use Rattle.std.proofs.Common.{◌≡◌, ◌==◌, ◌∷◌, ◌++◌, arith, codes, length, vec_len, sym, ap, ◌∙◌, add-one}
 use Rattle.oer_lexer.specs.Token.{word, sign}
 use Rattle.oer_lexer.specs.declared.token.Sign.TheVariants.{CloseBrace}
-use Rattle.oer_types.specs.AsnType.{no_alternatives}
-use Rattle.oer_types.specs.ShapeView.{additions_of, fields_of, later_of, root_of, seen_addition, seen_alternative, seen_field}
-use Rattle.oer_types.proofs.Shapes.{type_of-Ia5, type_of-Visible, type_of-Numeric, type_of-Printable, type_of-Utf8, type_of-Sequence, type_of-Choice}
+use Rattle.oer_model.specs.AsnType.{no_alternatives}
+use Rattle.oer_values.specs.ShapeView.{additions_of, fields_of, later_of, root_of, seen_addition, seen_alternative, seen_field}
+use Rattle.oer_values.proofs.Shapes.{type_of-Ia5, type_of-Visible, type_of-Numeric, type_of-Printable, type_of-Utf8, type_of-Sequence, type_of-Choice}
 use Rattle.oer_printer.specs.Printer.{alternative_part, field_part, joined_from, run, step, written}
 use Rattle.oer_printer.specs.Printing.{addition_parts, after_commas, field_parts, in_braces, joined, later_parts, marker, root_parts, type_tokens}
 use Rattle.oer_literals.proofs.Lists.{split_at}

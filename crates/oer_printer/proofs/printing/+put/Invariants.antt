@@ -1,6 +1,6 @@
 use Rattle.std.proofs.Common.{◌≡◌, drop}
-use Rattle.oer_types.specs.AsnType.{no_alternatives}
-use Rattle.oer_types.specs.ShapeView.{additions_of, fields_of, root_of}
+use Rattle.oer_model.specs.AsnType.{no_alternatives}
+use Rattle.oer_values.specs.ShapeView.{additions_of, fields_of, root_of}
 use Rattle.oer_printer.specs.Printer.{joined_from, run, written}
 use Rattle.oer_printer.specs.Printing.{addition_parts, after_commas, field_parts, joined, root_parts}
 use Rattle.oer_printer.proofs.printing.+put.Given as goal

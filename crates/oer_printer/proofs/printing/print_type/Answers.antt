@@ -1,6 +1,6 @@
 use Rattle.std.proofs.Common.{◌≡◌, [], true, sym, ap, ◌∙◌}
 use Rattle.oer_types.specs.Schema.{the_type}
-use Rattle.oer_types.specs.ShapeView.{type_of}
+use Rattle.oer_values.specs.ShapeView.{type_of}
 use Rattle.oer_printer.specs.Printer.{run, written}
 use Rattle.oer_printer.specs.Printing.{has_notation, type_tokens}
 use Rattle.oer_printer.specs.declared.printer.Edge.TheVariants.{Other}

@@ -1,7 +1,7 @@
 use Rattle.std.proofs.Common.{[], ◌∷◌, ◌++◌, codes, map, sym, ap, ◌∙◌, append-nil, refl}
 use Rattle.oer_lexer.specs.Token.{word, sign}
 use Rattle.oer_lexer.specs.declared.token.Sign.TheVariants.{CloseBrace}
-use Rattle.oer_types.specs.ShapeView.{named_number}
+use Rattle.oer_values.specs.ShapeView.{named_number}
 use Rattle.oer_printer.specs.Printer.{run, written}
 use Rattle.oer_printer.specs.Printing.{in_braces, item_tokens, joined, marker}
 use Rattle.oer_printer.proofs.Printed.{marked, no_items, puts_last, wrapped}

@@ -1,5 +1,5 @@
 use Rattle.std.proofs.Common.{◌≡◌, drop, map}
-use Rattle.oer_types.specs.ShapeView.{named_number}
+use Rattle.oer_values.specs.ShapeView.{named_number}
 use Rattle.oer_printer.specs.Printer.{joined_from, run, written}
 use Rattle.oer_printer.specs.Printing.{item_tokens, joined}
 use Rattle.oer_printer.proofs.printing.put_items.Given as goal

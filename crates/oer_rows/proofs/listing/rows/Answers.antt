@@ -1,8 +1,8 @@
 use Rattle.std.proofs.Common.{◌≡◌, rules, ap, subst}
-use Rattle.oer_types.specs.Constraints.{KeepsLimits}
-use Rattle.oer_types.specs.Fits.{DefaultsFit}
+use Rattle.oer_model.specs.Constraints.{KeepsLimits}
+use Rattle.oer_model.specs.Fits.{DefaultsFit}
 use Rattle.oer_types.specs.Schema.{the_type}
-use Rattle.oer_types.specs.ShapeView.{type_of}
+use Rattle.oer_values.specs.ShapeView.{type_of}
 use Rattle.oer_rows.specs.Listing.{rows_of}
 use Rattle.oer_rows.specs.Rows.{lines_of}
 use Rattle.oer_rows.proofs.ListingSteps.{listing_covers, listing_listed}

@@ -1,15 +1,16 @@
-use Rattle.std.proofs.Common.{◌∙◌, Global, Option, Vec, Some, Ok, Err, ◌-◌, ◌+◌, ◌++◌, ◌∷◌, [], List, true, false, arith, rules, refl, sym, ap, ap₂}
-use Rattle.oer_types.specs.AsnType.{no_alternatives}
-use Rattle.oer_types.specs.Parts.{to_addition, to_chosen, to_component, to_item}
-use Rattle.oer_types.specs.ShapeView.{additions_of, fields_of, later_of, root_of, type_of}
-use Rattle.oer_types.specs.declared.shape.Addition.{Addition}
-use Rattle.oer_types.specs.declared.shape.Shape.{Sequence}
+use Rattle.std.proofs.Common.{◌∙◌, Global, Option, Vec, Some, Ok, Err, ◌-◌, ◌+◌, ◌++◌, ◌∷◌, [], true, false, arith, rules, refl, sym, ap}
+use Rattle.oer_model.specs.AsnType.{no_alternatives}
+use Rattle.oer_model.specs.Parts.{to_addition, to_chosen, to_component, to_item}
+use Rattle.oer_values.specs.ShapeView.{additions_of, fields_of, later_of, root_of, type_of}
+use Rattle.oer_values.specs.declared.shape.Addition.{Addition}
+use Rattle.oer_values.specs.declared.shape.Shape.{Sequence}
 use Rattle.oer_checker.specs.BitView.{bits_in}
 use Rattle.oer_checker.specs.Places.{counted_as, place_of}
-use Rattle.oer_rows.specs.Rows.{Line, Walker, halted, lines_of, path_in, stuck, walk_alternative, walk_later, walk_open, walk_value}
+use Rattle.oer_rows.specs.Rows.{Walker, lines_of, path_in, stuck, walk_alternative, walk_later, walk_open, walk_value}
 use Rattle.oer_rows.specs.declared.row.Halt.TheVariants.{Refused}
+use Rattle.oer_values.proofs.Lookups.{first_falls}
 use Rattle.oer_checker.proofs.Exits.{at_stop}
-use Rattle.oer_rows.proofs.LineSteps.{additions_end, additions_next, additions_stop, at_inner, bits_stop, both_stop, both_then, by_walk, choice_later, choice_none, choice_root, extension_none, extension_stop, extension_then, fields_end, fields_next, fields_stop, if_not, if_so, inside_ends, inside_left, inside_stop, later_end, later_here, later_next, no_inner, root_end, root_here, root_next, root_stop, root_then, sticks, tag_stop, tag_then, taken_stop, taken_then, times_end, times_next, times_start, times_stop, type_arm}
+use Rattle.oer_rows.proofs.LineSteps.{additions_end, additions_next, additions_stop, at_inner, bits_stop, both_stop, both_then, by_walk, choice_later, choice_none, choice_root, extension_none, extension_stop, extension_then, fields_end, fields_next, fields_stop, if_not, if_so, inside_ends, inside_left, inside_stop, later_found, later_none, no_inner, root_found, root_none, root_stop, root_then, sticks, tag_stop, tag_then, taken_stop, taken_then, times_end, times_next, times_start, times_stop, type_arm}
 use Rattle.oer_checker.proofs.Sizes.{additions_fall, alternatives_fall, fields_fall, later_fall}
 use Rattle.oer_checker.proofs.ShapeCases.{is_leaf}
 use Rattle.oer_checker.proofs.TypeSteps.{as_choice, as_closed, as_extensible, as_open}
@@ -233,37 +234,36 @@ list_choice-list_later-requires t c =
 
 -- ---- alternatives
 
-pub list_alternative-returns-then-is_same_tag : goal.list_alternative-returns-then-is_same_tag
-list_alternative-returns-then-is_same_tag t c =
-    let at_it = root_here c.args.alternatives.now c.loop-alternative.alternative-index c.alternative-item.result c.args.spot.now.total (path_in c.args.spot.now) c.args.tag _ c.loop-alternative-test.true c.alternative-item.is (sym c.if-is_same_tag.true ∙ c.is_same_tag.ensures) c.loop-alternative.invariant.1 in
-    by_walk c.list_shape.result _ _ _ (ap₂ (λ (w : Walker) (ls : List Line). w ls (place_of c.args.cursor)) at_it c.loop-alternative.invariant.0) c.list_shape.ensures
+pub list_alternative-list_shape-requires : goal.list_alternative-list_shape-requires
+list_alternative-list_shape-requires t c =
+    let smaller = first_falls c.args.tag c.args.alternatives.now c.in-Some.alternative.now c.in-Some.ensures.is in
+    (omega (arith, smaller, c.decreases), tt)
 
-pub list_alternative-loop-alternative-preserved : goal.list_alternative-loop-alternative-preserved
-list_alternative-loop-alternative-preserved t c = (
-  c.loop-alternative.invariant.0,
-  root_next c.args.alternatives.now c.loop-alternative.alternative-index c.alternative-item.result c.args.spot.now.total (path_in c.args.spot.now) c.args.tag _ c.loop-alternative-test.true c.alternative-item.is (sym c.if-is_same_tag.false ∙ c.is_same_tag.ensures) c.loop-alternative.invariant.1,
-)
+pub list_alternative-returns-in-Some : goal.list_alternative-returns-in-Some
+list_alternative-returns-in-Some t c =
+    let at_it = root_found c.args.alternatives.now c.in-Some.alternative.now c.args.spot.now.total (path_in c.args.spot.now) c.args.tag c.in-Some.ensures.is in
+    by_walk c.list_shape.result _ _ _ (ap (λ (w : Walker). w (lines_of c.args.rows.now.items) (place_of c.args.cursor)) at_it) c.list_shape.ensures
 
-pub list_alternative-returns : goal.list_alternative-returns
-list_alternative-returns t c =
-    let stopped = root_end c.args.alternatives.now c.loop-alternative.alternative-index c.args.spot.now.total (path_in c.args.spot.now) c.args.tag _ (lines_of c.args.rows.now.items) (place_of c.args.cursor) c.loop-alternative-test.false c.loop-alternative.invariant.1 in
-    stopped ∙ ap (λ (ls : List Line). halted ls) (sym c.loop-alternative.invariant.0)
+pub list_alternative-returns-in-None : goal.list_alternative-returns-in-None
+list_alternative-returns-in-None t c =
+    let ls = lines_of c.args.rows.now.items in
+    let p = place_of c.args.cursor in
+    by_walk (Err Refused) ls _ _ (ap (λ (w : Walker). w ls p) (root_none c.args.alternatives.now c.args.spot.now.total (path_in c.args.spot.now) c.args.tag c.in-None.ensures.is)) (sticks ls p)
 
-pub list_later-returns-then-is_same_tag : goal.list_later-returns-then-is_same_tag
-list_later-returns-then-is_same_tag t c =
-    let at_it = later_here c.args.alternatives.now c.loop-alternative.alternative-index c.alternative-item.result c.args.spot.now.total (path_in c.args.spot.now) c.args.tag _ c.loop-alternative-test.true c.alternative-item.is (sym c.if-is_same_tag.true ∙ c.is_same_tag.ensures) c.loop-alternative.invariant.1 in
-    by_walk c.list_open.result _ _ _ (ap₂ (λ (w : Walker) (ls : List Line). w ls (place_of c.args.cursor)) at_it c.loop-alternative.invariant.0) c.list_open.ensures
+pub list_later-list_open-requires : goal.list_later-list_open-requires
+list_later-list_open-requires t c =
+    let smaller = first_falls c.args.tag c.args.alternatives.now c.in-Some.alternative.now c.in-Some.ensures.is in
+    (omega (arith, smaller, c.decreases), tt)
 
-pub list_later-loop-alternative-preserved : goal.list_later-loop-alternative-preserved
-list_later-loop-alternative-preserved t c = (
-  c.loop-alternative.invariant.0,
-  later_next c.args.alternatives.now c.loop-alternative.alternative-index c.alternative-item.result c.args.spot.now.total (path_in c.args.spot.now) c.args.tag _ c.loop-alternative-test.true c.alternative-item.is (sym c.if-is_same_tag.false ∙ c.is_same_tag.ensures) c.loop-alternative.invariant.1,
-)
+pub list_later-returns-in-Some : goal.list_later-returns-in-Some
+list_later-returns-in-Some t c =
+    let at_it = later_found c.args.alternatives.now c.in-Some.alternative.now c.args.spot.now.total (path_in c.args.spot.now) c.args.tag c.in-Some.ensures.is in
+    by_walk c.list_open.result _ _ _ (ap (λ (w : Walker). w (lines_of c.args.rows.now.items) (place_of c.args.cursor)) at_it) c.list_open.ensures
 
-pub list_later-returns : goal.list_later-returns
-list_later-returns t c =
-    let at_it = later_end c.args.alternatives.now c.loop-alternative.alternative-index c.args.spot.now.total (path_in c.args.spot.now) c.args.tag _ c.loop-alternative-test.false c.loop-alternative.invariant.1 in
-    by_walk c.list_unknown.result _ _ _ (ap₂ (λ (w : Walker) (ls : List Line). w ls (place_of c.args.cursor)) at_it c.loop-alternative.invariant.0) c.list_unknown.ensures
+pub list_later-returns-in-None : goal.list_later-returns-in-None
+list_later-returns-in-None t c =
+    let at_it = later_none c.args.alternatives.now c.args.spot.now.total (path_in c.args.spot.now) c.args.tag c.in-None.ensures.is in
+    by_walk c.list_unknown.result _ _ _ (ap (λ (w : Walker). w (lines_of c.args.rows.now.items) (place_of c.args.cursor)) at_it) c.list_unknown.ensures
 
 -- ---- by what the shape is
 

@@ -1,10 +1,9 @@
 use Rattle.std.proofs.Common.{◌≡◌, ◌-◌, ◌++◌, ◌∷◌, [], drop}
-use Rattle.oer_types.specs.AsnType.{no_alternatives}
-use Rattle.oer_types.specs.Parts.{to_item}
-use Rattle.oer_types.specs.ShapeView.{additions_of, fields_of, later_of, root_of, type_of}
+use Rattle.oer_model.specs.Parts.{to_item}
+use Rattle.oer_values.specs.ShapeView.{additions_of, fields_of, type_of}
 use Rattle.oer_checker.specs.BitView.{bits_in}
 use Rattle.oer_checker.specs.Places.{place_of}
-use Rattle.oer_rows.specs.Rows.{lines_of, path_in, walk_additions, walk_alternative, walk_fields, walk_later, walk_times, walk_value}
+use Rattle.oer_rows.specs.Rows.{lines_of, path_in, walk_additions, walk_fields, walk_times, walk_value}
 use Rattle.oer_rows.proofs.trace.+list.Given as goal
 
 abbrev pub invariant-list_additions-loop-addition : goal.invariant-list_additions-loop-addition
@@ -15,9 +14,3 @@ invariant-list_elements-loop-turn l = walk_times (λ i. walk_value (type_of l.it
 
 abbrev pub invariant-list_fields-loop-field : goal.invariant-list_fields-loop-field
 invariant-list_fields-loop-field l = (l.index ≡ l.field-index) × (walk_fields (fields_of (drop l.field-index l.fields)) l.spot.total (path_in l.spot) l.field-index (bits_in l.left) (lines_of l.rows.items) (place_of l.at) ≡ walk_fields (fields_of l.fields) l.spot.total (path_in l.spot) 0 (bits_in l.bits) (lines_of l.fn.rows.items) (place_of l.cursor))
-
-abbrev pub invariant-list_alternative-loop-alternative : goal.invariant-list_alternative-loop-alternative
-invariant-list_alternative-loop-alternative l = (lines_of l.rows.items ≡ lines_of l.fn.rows.items) × (walk_alternative (root_of (drop l.alternative-index l.alternatives) no_alternatives) l.spot.total (path_in l.spot) l.tag ≡ walk_alternative (root_of l.alternatives no_alternatives) l.spot.total (path_in l.spot) l.tag)
-
-abbrev pub invariant-list_later-loop-alternative : goal.invariant-list_later-loop-alternative
-invariant-list_later-loop-alternative l = (lines_of l.rows.items ≡ lines_of l.fn.rows.items) × (walk_later (later_of (drop l.alternative-index l.alternatives)) l.spot.total (path_in l.spot) l.tag ≡ walk_later (later_of l.alternatives) l.spot.total (path_in l.spot) l.tag)

@@ -1,6 +1,6 @@
 use Rattle.std.proofs.Common.{◌∙◌, Ok, Err, ap, sym}
-use Rattle.oer_types.specs.Checking.{check_value}
-use Rattle.oer_types.specs.ShapeView.{type_of}
+use Rattle.oer_model.specs.Checking.{check_value}
+use Rattle.oer_values.specs.ShapeView.{type_of}
 use Rattle.oer_checker.specs.Places.{place_of, same}
 use Rattle.oer_rows.specs.Rows.{Walker, lines_of, path_in, stay}
 use Rattle.oer_checker.proofs.Exits.{at_stop}

@@ -1,5 +1,5 @@
 use Rattle.std.proofs.Common.{◌∙◌, sym, arith, Ok, Err}
-use Rattle.oer_types.specs.Parts.{to_addition}
+use Rattle.oer_model.specs.Parts.{to_addition}
 use Rattle.oer_checker.specs.BitView.{bits_in}
 use Rattle.oer_rows.specs.Rows.{path_in, walk_unknown}
 use Rattle.oer_checker.proofs.BitLists.{bit_in}

@@ -1,8 +1,8 @@
 use Rattle.std.proofs.Common.{subst, string_bytes}
 use Rattle.std.proofs.lemmas.Result.{IfOk-weaker}
 use Rattle.oer_types.specs.Schema.{the_type}
-use Rattle.oer_types.specs.ShapeView.{type_of}
-use Rattle.oer_types.specs.WellFormed.{IsWellFormed}
+use Rattle.oer_values.specs.ShapeView.{type_of}
+use Rattle.oer_model.specs.WellFormed.{IsWellFormed}
 use Rattle.oer_text.proofs.printing.print_type.Goals as goal
 
 pub returns-clause-again : goal.returns-clause-again

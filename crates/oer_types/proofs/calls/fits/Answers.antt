@@ -1,7 +1,7 @@
 use Rattle.std.proofs.Common.{◌∙◌, sym}
 use Rattle.oer_types.specs.Schema.{the_type}
-use Rattle.oer_types.specs.ValueView.{value_of}
-use Rattle.oer_types.proofs.FitTests.{fit_decides}
+use Rattle.oer_values.specs.ValueView.{value_of}
+use Rattle.oer_model.proofs.fitting.FitTests.{fit_decides}
 use Rattle.oer_types.proofs.calls.fits.Goals as goal
 
 pub returns : goal.returns

@@ -1,9 +1,9 @@
 use Rattle.std.proofs.Common.{arith, rules}
 use Rattle.std.proofs.lemmas.Grind.{common_steps}
-use Rattle.oer_types.proofs.Shapes.{type_of-Choice, shapes}
-use Rattle.oer_types.proofs.Leaves.{some_node}
+use Rattle.oer_values.proofs.Shapes.{type_of-Choice, shapes}
+use Rattle.oer_model.proofs.fitting.Leaves.{some_node}
 use Rattle.oer_types.proofs.Alternatives.{choice_leaves, root_leaves, root_parts}
-use Rattle.oer_types.specs.declared.shape.Shape.{the_lemmas}
+use Rattle.oer_values.specs.declared.shape.Shape.{the_lemmas}
 use Rattle.oer_types.proofs.counting.+counting.Goals as goal
 
 pub parts_left-returns-in_default-alternatives_left : goal.parts_left-returns-in_default-alternatives_left

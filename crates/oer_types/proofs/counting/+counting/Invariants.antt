@@ -1,8 +1,8 @@
 use Rattle.std.proofs.Common.{◌≡◌, ◌+◌, drop}
-use Rattle.oer_types.specs.AsnType.{no_alternatives}
-use Rattle.oer_types.specs.Nodes.{additions_nodes, alternatives_nodes, fields_nodes}
-use Rattle.oer_types.specs.Widths.{AdditionsHaveWidths, AlternativesHaveWidths, FieldsHaveWidths}
-use Rattle.oer_types.specs.ShapeView.{additions_of, fields_of, root_of}
+use Rattle.oer_model.specs.AsnType.{no_alternatives}
+use Rattle.oer_model.specs.Nodes.{additions_nodes, alternatives_nodes, fields_nodes}
+use Rattle.oer_model.specs.Widths.{AdditionsHaveWidths, AlternativesHaveWidths, FieldsHaveWidths}
+use Rattle.oer_values.specs.ShapeView.{additions_of, fields_of, root_of}
 use Rattle.oer_types.proofs.counting.+counting.Given as goal
 
 -- what is left to count, and that all keeps its widths where what is left does

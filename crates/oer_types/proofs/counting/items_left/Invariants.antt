@@ -1,6 +1,6 @@
 use Rattle.std.proofs.Common.{◌≡◌, ◌+◌, drop, length, map}
-use Rattle.oer_types.specs.ShapeView.{named_number}
-use Rattle.oer_types.specs.Widths.{HaveItemWidths}
+use Rattle.oer_values.specs.ShapeView.{named_number}
+use Rattle.oer_model.specs.Widths.{HaveItemWidths}
 use Rattle.oer_types.proofs.counting.items_left.Given as goal
 
 -- what is left to count, and that all have their widths where what is left does

@@ -1,9 +1,9 @@
 use Rattle.std.proofs.Common.{arith, rules}
 use Rattle.std.proofs.lemmas.Grind.{common_steps}
-use Rattle.oer_types.proofs.Shapes.{type_of-Choice, shapes}
-use Rattle.oer_types.proofs.Leaves.{some_depth}
+use Rattle.oer_values.proofs.Shapes.{type_of-Choice, shapes}
+use Rattle.oer_model.proofs.fitting.Leaves.{some_depth}
 use Rattle.oer_types.proofs.Alternatives.{choice_depth, root_within}
-use Rattle.oer_types.specs.declared.shape.Shape.{the_lemmas}
+use Rattle.oer_values.specs.declared.shape.Shape.{the_lemmas}
 use Rattle.oer_types.proofs.depth.+depth.Goals as goal
 
 pub is_within_depth-returns-then-not-are_alternatives_within : goal.is_within_depth-returns-then-not-are_alternatives_within

@@ -1,7 +1,7 @@
 use Rattle.std.proofs.Common.{◌↔◌, ◌≤◌, drop}
-use Rattle.oer_types.specs.AsnType.{no_alternatives}
-use Rattle.oer_types.specs.WellFormed.{fields_depth, additions_depth, alternatives_depth}
-use Rattle.oer_types.specs.ShapeView.{fields_of, additions_of, root_of}
+use Rattle.oer_model.specs.AsnType.{no_alternatives}
+use Rattle.oer_model.specs.WellFormed.{fields_depth, additions_depth, alternatives_depth}
+use Rattle.oer_values.specs.ShapeView.{fields_of, additions_of, root_of}
 use Rattle.oer_types.proofs.depth.+depth.Given as goal
 
 abbrev pub invariant-are_fields_within-loop-field : goal.invariant-are_fields_within-loop-field

@@ -1,7 +1,7 @@
 use Rattle.std.proofs.Common.{◌≡◌, length}
-use Rattle.oer_types.specs.FaultTest.{names_repeat}
-use Rattle.oer_types.specs.ShapeView.{additions_of}
-use Rattle.oer_types.specs.WellFormed.{addition_names}
+use Rattle.oer_model.specs.FaultTest.{names_repeat}
+use Rattle.oer_values.specs.ShapeView.{additions_of}
+use Rattle.oer_model.specs.WellFormed.{addition_names}
 use Rattle.oer_types.proofs.name.addition_names_repeat.Given as goal
 
 abbrev pub invariant-loop-addition : goal.invariant-loop-addition

@@ -1,7 +1,7 @@
 use Rattle.std.proofs.Common.{◌≡◌, ◌++◌, length}
-use Rattle.oer_types.specs.FaultTest.{names_repeat}
-use Rattle.oer_types.specs.ShapeView.{fields_of, additions_of}
-use Rattle.oer_types.specs.WellFormed.{field_names, addition_names}
+use Rattle.oer_model.specs.FaultTest.{names_repeat}
+use Rattle.oer_values.specs.ShapeView.{fields_of, additions_of}
+use Rattle.oer_model.specs.WellFormed.{field_names, addition_names}
 use Rattle.oer_types.proofs.name.field_names_repeat.Given as goal
 
 abbrev pub invariant-loop-field : goal.invariant-loop-field

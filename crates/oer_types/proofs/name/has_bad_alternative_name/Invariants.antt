@@ -1,8 +1,8 @@
 use Rattle.std.proofs.Common.{◌≡◌, drop}
-use Rattle.oer_types.specs.FaultTest.{any_bad_name}
-use Rattle.oer_types.specs.ShapeView.{root_of}
-use Rattle.oer_types.specs.WellFormed.{alternative_names}
-use Rattle.oer_types.specs.AsnType.{no_alternatives}
+use Rattle.oer_model.specs.FaultTest.{any_bad_name}
+use Rattle.oer_values.specs.ShapeView.{root_of}
+use Rattle.oer_model.specs.WellFormed.{alternative_names}
+use Rattle.oer_model.specs.AsnType.{no_alternatives}
 use Rattle.oer_types.proofs.name.has_bad_alternative_name.Given as goal
 
 abbrev pub invariant-loop-alt : goal.invariant-loop-alt

@@ -1,7 +1,7 @@
 use Rattle.std.proofs.Common.{◌≡◌, drop}
-use Rattle.oer_types.specs.FaultTest.{any_bad_name}
-use Rattle.oer_types.specs.ShapeView.{fields_of}
-use Rattle.oer_types.specs.WellFormed.{field_names}
+use Rattle.oer_model.specs.FaultTest.{any_bad_name}
+use Rattle.oer_values.specs.ShapeView.{fields_of}
+use Rattle.oer_model.specs.WellFormed.{field_names}
 use Rattle.oer_types.proofs.name.has_bad_field_name.Given as goal
 
 abbrev pub invariant-loop-field : goal.invariant-loop-field

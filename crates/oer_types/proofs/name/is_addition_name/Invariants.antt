@@ -1,7 +1,7 @@
 use Rattle.std.proofs.Common.{◌≡◌, drop, string_bytes}
-use Rattle.oer_types.specs.FaultTest.{contains_name}
-use Rattle.oer_types.specs.ShapeView.{additions_of}
-use Rattle.oer_types.specs.WellFormed.{addition_names}
+use Rattle.oer_model.specs.FaultTest.{contains_name}
+use Rattle.oer_values.specs.ShapeView.{additions_of}
+use Rattle.oer_model.specs.WellFormed.{addition_names}
 use Rattle.oer_types.proofs.name.is_addition_name.Given as goal
 
 abbrev pub invariant-loop-addition : goal.invariant-loop-addition

@@ -1,5 +1,5 @@
 use Rattle.std.proofs.Common.{◌≡◌, drop, false}
-use Rattle.oer_types.specs.FaultTest.{rest_after}
+use Rattle.oer_model.specs.FaultTest.{rest_after}
 use Rattle.oer_types.proofs.name.is_name_rest.Given as goal
 
 abbrev pub invariant-loop-octet : goal.invariant-loop-octet

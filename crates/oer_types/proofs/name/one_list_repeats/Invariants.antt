@@ -1,8 +1,8 @@
 use Rattle.std.proofs.Common.{◌≡◌, length}
-use Rattle.oer_types.specs.FaultTest.{names_repeat}
-use Rattle.oer_types.specs.ShapeView.{root_of}
-use Rattle.oer_types.specs.WellFormed.{alternative_names}
-use Rattle.oer_types.specs.AsnType.{no_alternatives}
+use Rattle.oer_model.specs.FaultTest.{names_repeat}
+use Rattle.oer_values.specs.ShapeView.{root_of}
+use Rattle.oer_model.specs.WellFormed.{alternative_names}
+use Rattle.oer_model.specs.AsnType.{no_alternatives}
 use Rattle.oer_types.proofs.name.one_list_repeats.Given as goal
 
 abbrev pub invariant-loop-alt : goal.invariant-loop-alt

@@ -1,7 +1,7 @@
 use Rattle.std.proofs.Common.{sym, ◌∙◌, arith}
 use Rattle.std.proofs.lemmas.Grind.{common_steps}
-use Rattle.oer_types.specs.FaultTest.{has_fault_here}
-use Rattle.oer_types.proofs.Shapes.{type_of-Choice}
+use Rattle.oer_model.specs.FaultTest.{has_fault_here}
+use Rattle.oer_values.proofs.Shapes.{type_of-Choice}
 use Rattle.oer_types.proofs.Alternatives.{choice_faults, somewhere_in_root}
 use Rattle.oer_types.proofs.rule.+somewhere.Goals as goal
 

@@ -1,7 +1,7 @@
 use Rattle.std.proofs.Common.{◌≡◌, drop}
-use Rattle.oer_types.specs.AsnType.{no_alternatives}
-use Rattle.oer_types.specs.FaultTest.{has_fault_here, in_additions, in_alternatives, in_fields}
-use Rattle.oer_types.specs.ShapeView.{fields_of, additions_of, root_of}
+use Rattle.oer_model.specs.AsnType.{no_alternatives}
+use Rattle.oer_model.specs.FaultTest.{has_fault_here, in_additions, in_alternatives, in_fields}
+use Rattle.oer_values.specs.ShapeView.{fields_of, additions_of, root_of}
 use Rattle.oer_types.proofs.rule.+somewhere.Given as goal
 
 abbrev pub invariant-is_in_fields-loop-field : goal.invariant-is_in_fields-loop-field

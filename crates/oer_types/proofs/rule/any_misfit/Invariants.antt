@@ -1,6 +1,6 @@
 use Rattle.std.proofs.Common.{◌≡◌, drop}
-use Rattle.oer_types.specs.FaultTest.{any_misfit}
-use Rattle.oer_types.specs.ShapeView.{fields_of}
+use Rattle.oer_model.specs.FaultTest.{any_misfit}
+use Rattle.oer_values.specs.ShapeView.{fields_of}
 use Rattle.oer_types.proofs.rule.any_misfit.Given as goal
 
 abbrev pub invariant-loop-field : goal.invariant-loop-field

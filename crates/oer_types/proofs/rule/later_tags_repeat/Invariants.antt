@@ -1,6 +1,6 @@
 use Rattle.std.proofs.Common.{◌≡◌, length}
-use Rattle.oer_types.specs.FaultTest.{tags_repeat}
-use Rattle.oer_types.specs.ShapeView.{later_of}
+use Rattle.oer_model.specs.FaultTest.{tags_repeat}
+use Rattle.oer_values.specs.ShapeView.{later_of}
 use Rattle.oer_types.proofs.rule.later_tags_repeat.Given as goal
 
 abbrev pub invariant-loop-alt : goal.invariant-loop-alt

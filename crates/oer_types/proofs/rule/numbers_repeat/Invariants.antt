@@ -1,6 +1,6 @@
 use Rattle.std.proofs.Common.{◌≡◌, length, map}
-use Rattle.oer_types.specs.FaultTest.{numbers_repeat}
-use Rattle.oer_types.specs.ShapeView.{named_number}
+use Rattle.oer_model.specs.FaultTest.{numbers_repeat}
+use Rattle.oer_values.specs.ShapeView.{named_number}
 use Rattle.oer_types.proofs.rule.numbers_repeat.Given as goal
 
 abbrev pub invariant-loop-item : goal.invariant-loop-item

@@ -1,6 +1,6 @@
 use Rattle.std.proofs.Common.{◌≡◌, length}
-use Rattle.oer_types.specs.FaultTest.{tags_repeat}
-use Rattle.oer_types.specs.ShapeView.{root_of, later_of}
+use Rattle.oer_model.specs.FaultTest.{tags_repeat}
+use Rattle.oer_values.specs.ShapeView.{root_of, later_of}
 use Rattle.oer_types.proofs.rule.tags_repeat.Given as goal
 
 abbrev pub invariant-loop-alt : goal.invariant-loop-alt

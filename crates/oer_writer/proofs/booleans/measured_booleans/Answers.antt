@@ -1,5 +1,5 @@
 use Rattle.std.proofs.Common.{arith}
-use Rattle.oer_types.specs.AsnType.{boolean}
+use Rattle.oer_model.specs.AsnType.{boolean}
 use Rattle.oer_writer.proofs.Steps.{some_is, none_is, measured_none}
 use Rattle.oer_writer.proofs.Components.{values_len}
 use Rattle.oer_writer.proofs.booleans.measured_booleans.Goals as goal

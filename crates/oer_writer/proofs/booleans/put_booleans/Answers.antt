@@ -1,7 +1,7 @@
 use Rattle.std.proofs.Common.{◌+◌, drop}
-use Rattle.oer_types.specs.AsnType.{boolean}
-use Rattle.oer_types.specs.Canonical.{canonical_octets}
-use Rattle.oer_types.specs.ValueView.{value_of, values_of}
+use Rattle.oer_model.specs.AsnType.{boolean}
+use Rattle.oer_model.specs.Canonical.{canonical_octets}
+use Rattle.oer_values.specs.ValueView.{value_of, values_of}
 use Rattle.oer_writer.specs.Parts.{values_octets}
 use Rattle.oer_writer.proofs.Steps.{ahead_more, ahead_failed}
 use Rattle.oer_writer.proofs.Components.{values_step}

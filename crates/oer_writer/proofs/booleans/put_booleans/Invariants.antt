@@ -1,6 +1,6 @@
 use Rattle.std.proofs.Common.{drop}
-use Rattle.oer_types.specs.AsnType.{boolean}
-use Rattle.oer_types.specs.ValueView.{values_of}
+use Rattle.oer_model.specs.AsnType.{boolean}
+use Rattle.oer_values.specs.ValueView.{values_of}
 use Rattle.oer_writer.specs.Parts.{values_octets}
 use Rattle.oer_writer.specs.Wrote.{Ahead}
 use Rattle.oer_writer.proofs.booleans.put_booleans.Given as goal

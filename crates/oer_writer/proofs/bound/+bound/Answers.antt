@@ -1,7 +1,7 @@
 use Rattle.std.proofs.Common.{◌≡◌, Bool, Some, arith, rules, subst, ◌^◌, ◌<◌, ◌∙◌, IfSome, length, map, option_map, sym, ap}
-use Rattle.oer_types.specs.ValueView.{places_of, unknown_of, value_of}
-use Rattle.oer_types.specs.AsnValue.{bool, nothing}
-use Rattle.oer_types.specs.declared.value.Value as value
+use Rattle.oer_values.specs.ValueView.{places_of, unknown_of, value_of}
+use Rattle.oer_model.specs.AsnValue.{bool, nothing}
+use Rattle.oer_values.specs.declared.value.Value as value
 use Rattle.oer_writer.specs.Bounds.{Bounds}
 use Rattle.oer_writer.specs.Parts.{place_octets_of}
 use Rattle.oer_writer.proofs.Bounds.{bool_bound, chosen_bounds, list_bounds, most, null_most, places_end, places_more, places_start, seq_bounds}

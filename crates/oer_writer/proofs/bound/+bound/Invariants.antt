@@ -1,5 +1,5 @@
 use Rattle.std.proofs.Common.{drop}
-use Rattle.oer_types.specs.ValueView.{places_of, values_of}
+use Rattle.oer_values.specs.ValueView.{places_of, values_of}
 use Rattle.oer_writer.proofs.Bounds.{LeftPlaces, LeftValues}
 use Rattle.oer_writer.proofs.bound.+bound.Given as goal
 

@@ -1,4 +1,4 @@
-use Rattle.oer_types.specs.AsnValue.{int}
+use Rattle.oer_model.specs.AsnValue.{int}
 use Rattle.oer_writer.proofs.Bounds.{int_bound, most}
 use Rattle.oer_writer.proofs.bound.bound_integer.Goals as goal
 

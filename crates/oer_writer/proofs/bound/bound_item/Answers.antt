@@ -1,5 +1,5 @@
 use Rattle.oer_units.proofs.Lowest.{wide_bits}
-use Rattle.oer_types.specs.AsnValue.{enum}
+use Rattle.oer_model.specs.AsnValue.{enum}
 use Rattle.oer_writer.proofs.Bounds.{item_bound, most}
 use Rattle.oer_writer.proofs.bound.bound_item.Goals as goal
 

@@ -1,5 +1,5 @@
 use Rattle.std.proofs.Common.{rules, length, ◌^◌, ◌<◌}
-use Rattle.oer_types.specs.AsnValue.{octets, text}
+use Rattle.oer_model.specs.AsnValue.{octets, text}
 use Rattle.oer_writer.proofs.Bounds.{more_most, octets_bound, text_bound}
 use Rattle.oer_writer.proofs.bound.bound_string.Goals as goal
 

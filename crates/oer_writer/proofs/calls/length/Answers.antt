@@ -1,5 +1,5 @@
 use Rattle.oer_types.specs.Schema.{shape_of, the_type}
-use Rattle.oer_types.specs.ValueView.{value_of}
+use Rattle.oer_values.specs.ValueView.{value_of}
 use Rattle.oer_writer.proofs.WholeValues.{counts_at, limits_at, tells_length, tells_none}
 use Rattle.oer_writer.proofs.calls.length.Goals as goal
 

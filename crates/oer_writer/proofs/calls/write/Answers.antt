@@ -1,5 +1,5 @@
 use Rattle.oer_types.specs.Schema.{shape_of, the_type}
-use Rattle.oer_types.specs.ValueView.{value_of}
+use Rattle.oer_values.specs.ValueView.{value_of}
 use Rattle.oer_writer.proofs.WholeValues.{limits_at, tells_failure, tells_too_long, writes_all, writes_at, writes_canonical}
 use Rattle.oer_writer.proofs.calls.write.Goals as goal
 

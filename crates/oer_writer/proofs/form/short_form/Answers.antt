@@ -1,4 +1,4 @@
-use Rattle.oer_types.specs.FormView.{form_seen}
+use Rattle.oer_values.specs.FormView.{form_seen}
 use Rattle.oer_writer.proofs.Forms.{at_signed, at_unsigned}
 use Rattle.oer_writer.proofs.form.short_form.Goals as goal
 

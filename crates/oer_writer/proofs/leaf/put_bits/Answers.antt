@@ -1,10 +1,10 @@
 use Rattle.std.proofs.Common.{◌≡◌, ◌+◌, ◌∙◌, ◌++◌, ◌∷◌, [], length, refl, sym, ap, arith, rules, None, Option, List, Bool, ℕ}
 use Rattle.oer_units.specs.Least.{length_octets}
-use Rattle.oer_types.specs.Bits.{padded, spare_bits}
-use Rattle.oer_types.specs.Canonical.{bit_octets}
-use Rattle.oer_types.specs.Constraints.{fixed}
+use Rattle.oer_model.specs.Bits.{padded, spare_bits}
+use Rattle.oer_model.specs.Canonical.{bit_octets}
+use Rattle.oer_model.specs.Constraints.{fixed}
 use Rattle.oer_writer.proofs.Steps.{passed, wrote_then}
-use Rattle.oer_types.proofs.LeastBits.{length-padded}
+use Rattle.oer_model.proofs.bits.LeastBits.{length-padded}
 use Rattle.oer_writer.proofs.Numbers.{bitmap_is}
 use Rattle.oer_writer.proofs.leaf.put_bits.Goals as goal
 

@@ -1,13 +1,14 @@
 use Rattle.std.proofs.Common.{◌++◌, ◌∙◌, map, length, arith, rules, ap, sym, refl, Some, None, append-nil, length-append}
 use Rattle.oer_writer.proofs.Steps.{some_is, none_is, measured_last, measured_none, nowhere}
-use Rattle.oer_writer.proofs.Components.{addition_parts, at_sequence, at_extended, at_list, at_root, at_none, at_later, field_len, known_len, later_found, later_passed, length-two, root_found, root_passed, tag_first, values_len}
-use Rattle.oer_types.specs.declared.shape.Shape.{Sequence, Choice}
+use Rattle.oer_writer.proofs.Components.{addition_parts, at_sequence, at_extended, at_list, at_root, at_none, at_later, field_len, known_len, later_found, later_none, length-two, root_found, root_none, tag_first, values_len}
+use Rattle.oer_values.specs.declared.shape.Shape.{Sequence, Choice}
 use Rattle.oer_units.specs.Least.{counted, length_octets, tag_octets, unsigned_octets}
-use Rattle.oer_types.specs.AsnType.{no_alternatives}
-use Rattle.oer_types.specs.Bits.{padded}
-use Rattle.oer_types.specs.Canonical.{bitmap_octets, canonical_octets, extension_octets, unknown_marks, unknown_octets}
-use Rattle.oer_types.specs.ShapeView.{additions_of, fields_of, later_of, root_of, type_of}
-use Rattle.oer_types.specs.ValueView.{places_of, unknown_of, value_of, values_of}
+use Rattle.oer_model.specs.AsnType.{no_alternatives}
+use Rattle.oer_model.specs.Bits.{padded}
+use Rattle.oer_model.specs.Canonical.{bitmap_octets, canonical_octets, extension_octets, unknown_marks, unknown_octets}
+use Rattle.oer_values.specs.ShapeView.{additions_of, fields_of, later_of, root_of, type_of}
+use Rattle.oer_values.proofs.Lookups.{first_falls}
+use Rattle.oer_values.specs.ValueView.{places_of, unknown_of, value_of, values_of}
 use Rattle.oer_writer.specs.Parts.{addition_octets, chosen_octets, field_bits, field_octets, first_bits, known_bits, known_octets, root_octets, values_octets}
 use Rattle.oer_writer.proofs.Elements.{booleans_measured}
 use Rattle.oer_writer.proofs.measure.+measured.Goals as goal
@@ -218,30 +219,43 @@ measured_values-loop-value-preserved t c =
 
 -- alternatives
 
-pub measured_alternative-returns-then-is_same_tag : goal.measured_alternative-returns-then-is_same_tag
-measured_alternative-returns-then-is_same_tag t c =
-    let is = root_found c.args.alternatives.now c.loop-alternative.alternative-index c.alternative-item.result c.args.tag _ c.loop-alternative-test.true c.alternative-item.is (sym c.is_same_tag.ensures ∙ c.if-is_same_tag.true) in
-    measured_last c.measured.result _ _ _ _ (let len = ap length (sym c.loop-alternative.invariant ∙ is) in omega (arith, len)) c.measured.ensures
+pub measured_alternative-measured-requires : goal.measured_alternative-measured-requires
+measured_alternative-measured-requires t c =
+    let smaller = first_falls c.args.tag c.args.alternatives.now c.in-Some.alternative.now c.in-Some.ensures.is in
+    omega (arith, smaller, c.decreases)
 
-pub measured_alternative-loop-alternative-preserved :
-    goal.measured_alternative-loop-alternative-preserved
-measured_alternative-loop-alternative-preserved t c = sym (root_passed c.args.alternatives.now c.loop-alternative.alternative-index c.alternative-item.result c.args.tag _ c.loop-alternative-test.true c.alternative-item.is (sym c.is_same_tag.ensures ∙ c.if-is_same_tag.false)) ∙ c.loop-alternative.invariant
+pub measured_alternative-returns-in-Some : goal.measured_alternative-returns-in-Some
+measured_alternative-returns-in-Some t c =
+    let len = ap length (root_found c.args.alternatives.now c.in-Some.alternative.now c.args.tag (value_of c.args.value.now) c.in-Some.ensures.is) in
+    measured_last c.measured.result _ _ _ _ (omega (arith, len)) c.measured.ensures
 
-pub measured_later-returns-in_err-length : goal.measured_later-returns-in_err-length
-measured_later-returns-in_err-length t c =
-    let is = later_found c.args.alternatives.now c.loop-alternative.alternative-index c.alternative-item.result c.args.tag (value_of c.args.value.now) c.loop-alternative-test.true c.alternative-item.is (sym c.is_same_tag.ensures ∙ c.if-is_same_tag.true) in
-    let o = canonical_octets (type_of c.alternative-item.result.shape) (value_of c.args.value.now) in
-    let many = none_is c.measured.result 0 o c.in_err-length.was c.measured.ensures in
-    let len = ap length (sym c.loop-alternative.invariant ∙ is) in
+pub measured_alternative-returns-in-None : goal.measured_alternative-returns-in-None
+measured_alternative-returns-in-None t c =
+    let len = ap length (root_none c.args.alternatives.now c.args.tag (value_of c.args.value.now) c.in-None.ensures.is) in
+    omega (arith, len)
+
+pub measured_later-measured-requires : goal.measured_later-measured-requires
+measured_later-measured-requires t c =
+    let smaller = first_falls c.args.tag c.args.alternatives.now c.in-Some.alternative.now c.in-Some.ensures.is in
+    omega (arith, smaller, c.decreases)
+
+pub measured_later-returns-in_err-length-in-Some : goal.measured_later-returns-in_err-length-in-Some
+measured_later-returns-in_err-length-in-Some t c =
+    let is = later_found c.args.alternatives.now c.in-Some.alternative.now c.args.tag (value_of c.args.value.now) c.in-Some.ensures.is in
+    let o = canonical_octets (type_of c.in-Some.alternative.now.shape) (value_of c.args.value.now) in
+    let many = none_is c.measured.result 0 o c.in_err-length-in-Some.was c.measured.ensures in
+    let len = ap length is in
     measured_none c.from_residual.result _ _ _ c.from_residual.ensures many (omega (arith, len, length-append (length_octets (length o)) o))
 
-pub measured_later-returns-then-is_same_tag : goal.measured_later-returns-then-is_same_tag
-measured_later-returns-then-is_same_tag t c =
-    let is = later_found c.args.alternatives.now c.loop-alternative.alternative-index c.alternative-item.result c.args.tag (value_of c.args.value.now) c.loop-alternative-test.true c.alternative-item.is (sym c.is_same_tag.ensures ∙ c.if-is_same_tag.true) in
-    let o = canonical_octets (type_of c.alternative-item.result.shape) (value_of c.args.value.now) in
-    let n = some_is c.measured.result 0 _ o c.in_ok-length.was c.measured.ensures in
-    let len = ap length (sym c.loop-alternative.invariant ∙ is) in
+pub measured_later-returns-in_ok-length-in-Some : goal.measured_later-returns-in_ok-length-in-Some
+measured_later-returns-in_ok-length-in-Some t c =
+    let is = later_found c.args.alternatives.now c.in-Some.alternative.now c.args.tag (value_of c.args.value.now) c.in-Some.ensures.is in
+    let o = canonical_octets (type_of c.in-Some.alternative.now.shape) (value_of c.args.value.now) in
+    let n = some_is c.measured.result 0 _ o c.in_ok-length-in-Some.was c.measured.ensures in
+    let len = ap length is in
     measured_last c.open_len.result _ _ (counted o) _ (omega (arith, len)) (c.open_len.ensures o (omega (arith, n)))
 
-pub measured_later-loop-alternative-preserved : goal.measured_later-loop-alternative-preserved
-measured_later-loop-alternative-preserved t c = sym (later_passed c.args.alternatives.now c.loop-alternative.alternative-index c.alternative-item.result c.args.tag _ c.loop-alternative-test.true c.alternative-item.is (sym c.is_same_tag.ensures ∙ c.if-is_same_tag.false)) ∙ c.loop-alternative.invariant
+pub measured_later-returns-in-None : goal.measured_later-returns-in-None
+measured_later-returns-in-None t c =
+    let len = ap length (later_none c.args.alternatives.now c.args.tag (value_of c.args.value.now) c.in-None.ensures.is) in
+    omega (arith, len)

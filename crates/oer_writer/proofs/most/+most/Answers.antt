@@ -1,6 +1,6 @@
 use Rattle.std.proofs.Common.{Some, ap, map, subst, sym, ◌∙◌}
-use Rattle.oer_types.specs.ShapeView.{fields_of, named_number, type_of}
-use Rattle.oer_types.proofs.Shapes.{type_of-Enumerated, type_of-Integer}
+use Rattle.oer_values.specs.ShapeView.{fields_of, named_number, type_of}
+use Rattle.oer_values.proofs.Shapes.{type_of-Enumerated, type_of-Integer}
 use Rattle.oer_writer.specs.TypeBounds.{FieldsHaveMost, HasMost}
 use Rattle.oer_writer.proofs.TypeBounds.{int_most, item_most, most_end, most_more, most_start, root_most}
 use Rattle.oer_writer.proofs.most.+most.Goals as goal

@@ -1,5 +1,5 @@
 use Rattle.std.proofs.Common.{drop}
-use Rattle.oer_types.specs.ShapeView.{fields_of}
+use Rattle.oer_values.specs.ShapeView.{fields_of}
 use Rattle.oer_writer.proofs.TypeBounds.{LeftMost}
 use Rattle.oer_writer.proofs.most.+most.Given as goal
 

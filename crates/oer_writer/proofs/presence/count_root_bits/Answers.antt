@@ -1,6 +1,6 @@
 use Rattle.std.proofs.Common.{arith, rules, drop, option_map, ◌+◌}
-use Rattle.oer_types.specs.ShapeView.{fields_of, need_of, type_of}
-use Rattle.oer_types.specs.ValueView.{places_of, value_of}
+use Rattle.oer_values.specs.ShapeView.{fields_of, need_of, type_of}
+use Rattle.oer_values.specs.ValueView.{places_of, value_of}
 use Rattle.oer_writer.specs.Parts.{field_bits, kept_place, place_bit}
 use Rattle.oer_writer.proofs.Places.{field_bits_step}
 use Rattle.oer_writer.proofs.Numbers.{more_bits}

@@ -1,6 +1,6 @@
 use Rattle.std.proofs.Common.{◌≡◌, ◌+◌, ◌*◌, ◌≤◌, drop, length, map}
-use Rattle.oer_types.specs.Canonical.{unknown_marks}
-use Rattle.oer_types.specs.ValueView.{unknown_of}
+use Rattle.oer_model.specs.Canonical.{unknown_marks}
+use Rattle.oer_values.specs.ValueView.{unknown_of}
 use Rattle.oer_writer.proofs.presence.count_unknown_bits.Given as goal
 
 abbrev pub invariant-loop-one : goal.invariant-loop-one

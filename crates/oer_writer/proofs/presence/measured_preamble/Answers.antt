@@ -1,7 +1,7 @@
 use Rattle.std.proofs.Common.{arith, ◌++◌}
-use Rattle.oer_types.specs.Bits.{padded}
-use Rattle.oer_types.specs.ShapeView.{fields_of}
-use Rattle.oer_types.specs.ValueView.{places_of}
+use Rattle.oer_model.specs.Bits.{padded}
+use Rattle.oer_values.specs.ShapeView.{fields_of}
+use Rattle.oer_values.specs.ValueView.{places_of}
 use Rattle.oer_writer.specs.Parts.{field_bits, first_bits}
 use Rattle.oer_writer.proofs.Numbers.{bits_padded}
 use Rattle.oer_writer.proofs.presence.measured_preamble.Goals as goal

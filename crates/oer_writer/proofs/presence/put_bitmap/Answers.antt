@@ -1,9 +1,9 @@
 use Rattle.std.proofs.Common.{inr, arith, ◌+◌, ◌++◌, ◌∷◌, [], length, map}
 use Rattle.oer_units.specs.Least.{length_octets}
-use Rattle.oer_types.specs.Bits.{padded}
-use Rattle.oer_types.specs.Canonical.{unknown_marks}
-use Rattle.oer_types.specs.ShapeView.{additions_of}
-use Rattle.oer_types.specs.ValueView.{places_of, unknown_of}
+use Rattle.oer_model.specs.Bits.{padded}
+use Rattle.oer_model.specs.Canonical.{unknown_marks}
+use Rattle.oer_values.specs.ShapeView.{additions_of}
+use Rattle.oer_values.specs.ValueView.{places_of, unknown_of}
 use Rattle.oer_writer.specs.Parts.{known_bits}
 use Rattle.oer_writer.proofs.Numbers.{bitmap_counted, bitmap_long}
 use Rattle.oer_writer.proofs.Places.{bits_count}

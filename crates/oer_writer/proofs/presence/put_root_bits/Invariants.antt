@@ -1,6 +1,6 @@
 use Rattle.std.proofs.Common.{drop}
-use Rattle.oer_types.specs.ShapeView.{fields_of}
-use Rattle.oer_types.specs.ValueView.{places_of}
+use Rattle.oer_values.specs.ShapeView.{fields_of}
+use Rattle.oer_values.specs.ValueView.{places_of}
 use Rattle.oer_writer.specs.Parts.{field_bits}
 use Rattle.oer_writer.proofs.PackSteps.{Through}
 use Rattle.oer_writer.proofs.presence.put_root_bits.Given as goal

@@ -1,6 +1,6 @@
 use Rattle.std.proofs.Common.{drop, map}
-use Rattle.oer_types.specs.Canonical.{unknown_octets}
-use Rattle.oer_types.specs.ValueView.{unknown_of}
+use Rattle.oer_model.specs.Canonical.{unknown_octets}
+use Rattle.oer_values.specs.ValueView.{unknown_of}
 use Rattle.oer_writer.specs.Wrote.{Ahead}
 use Rattle.oer_writer.proofs.presence.put_unknown.Given as goal
 

@@ -1,15 +1,16 @@
-use Rattle.std.proofs.Common.{◌+◌, ◌++◌, ◌∙◌, [], map, length, rules, ap, sym, refl, drop, option_map, Some, None, append-nil, append_assoc}
+use Rattle.std.proofs.Common.{◌+◌, ◌++◌, ◌∙◌, [], map, length, arith, rules, ap, sym, refl, drop, option_map, Some, None, append-nil, append_assoc}
 use Rattle.oer_units.specs.Least.{counted, tag_octets, unsigned_octets}
-use Rattle.oer_types.specs.AsnType.{no_alternatives}
-use Rattle.oer_types.specs.Bits.{padded}
-use Rattle.oer_types.specs.Canonical.{bitmap_octets, canonical_octets, extension_octets, unknown_marks, unknown_octets}
-use Rattle.oer_types.specs.ShapeView.{additions_of, fields_of, later_of, need_of, root_of, type_of}
-use Rattle.oer_types.specs.ValueView.{places_of, unknown_of, value_of, values_of}
-use Rattle.oer_types.specs.declared.shape.Shape.{Sequence, Choice}
+use Rattle.oer_model.specs.AsnType.{no_alternatives}
+use Rattle.oer_model.specs.Bits.{padded}
+use Rattle.oer_model.specs.Canonical.{bitmap_octets, canonical_octets, extension_octets, unknown_marks, unknown_octets}
+use Rattle.oer_values.specs.ShapeView.{additions_of, fields_of, later_of, need_of, root_of, type_of}
+use Rattle.oer_values.specs.ValueView.{places_of, unknown_of, value_of, values_of}
+use Rattle.oer_values.specs.declared.shape.Shape.{Sequence, Choice}
+use Rattle.oer_values.proofs.Lookups.{first_falls}
 use Rattle.oer_writer.proofs.Sizes.{fields_fall, additions_fall, later_fall}
 use Rattle.oer_writer.specs.Parts.{addition_octets, chosen_octets, counted_place, field_bits, field_octets, first_bits, kept_place, known_bits, known_octets, place_octets_of, root_octets, values_octets}
-use Rattle.oer_writer.proofs.Steps.{ahead_more, ahead_failed, all_same, all_then, from_start, head_then, passed, passed_then, same_wrote, wrote_then}
-use Rattle.oer_writer.proofs.Components.{addition_parts, at_sequence, at_extended, at_list, at_root, at_none, at_later, field_step, known_step, later_found, later_passed, root_found, root_passed, tag_first, values_step}
+use Rattle.oer_writer.proofs.Steps.{ahead_more, ahead_failed, all_same, all_then, head_then, nothing_wrote, passed, passed_then, same_wrote, wrote_then}
+use Rattle.oer_writer.proofs.Components.{addition_parts, at_sequence, at_extended, at_list, at_root, at_none, at_later, field_step, known_step, later_found, later_none, root_found, root_none, tag_first, values_step}
 use Rattle.oer_writer.proofs.Elements.{booleans_wrote}
 use Rattle.oer_writer.proofs.put.+put.Goals as goal
 
@@ -182,38 +183,39 @@ put_values-loop-value-preserved g t c =
 
 -- alternatives
 
-pub put_alternative-returns-then-is_same_tag : goal.put_alternative-returns-then-is_same_tag
-put_alternative-returns-then-is_same_tag g t c =
-    let inv = c.loop-alternative.invariant in
-    let is = root_found c.args.alternatives.now c.loop-alternative.alternative-index c.alternative-item.result c.args.tag (value_of c.args.value.now) c.loop-alternative-test.true c.alternative-item.is (sym c.is_same_tag.ensures ∙ c.if-is_same_tag.true) in
-    from_start c.put.result _ _ _ _ _ _ _ _ inv.contents inv.failed (same_wrote c.put.result _ (canonical_octets (type_of c.alternative-item.result.shape) (value_of c.args.value.now)) _ _ _ _ _ (sym inv.octets ∙ is) c.put.ensures)
+pub put_alternative-put-requires : goal.put_alternative-put-requires
+put_alternative-put-requires g t c κs within =
+    let smaller = first_falls c.args.tag c.args.alternatives.now c.in-Some.alternative.now c.in-Some.ensures.is in
+    (omega (arith, smaller, c.decreases), within)
 
-pub put_alternative-loop-alternative-preserved : goal.put_alternative-loop-alternative-preserved
-put_alternative-loop-alternative-preserved g t c = record {
-  octets = sym (root_passed c.args.alternatives.now c.loop-alternative.alternative-index c.alternative-item.result c.args.tag (value_of c.args.value.now) c.loop-alternative-test.true c.alternative-item.is (sym c.is_same_tag.ensures ∙ c.if-is_same_tag.false)) ∙ c.loop-alternative.invariant.octets;
-  contents = c.loop-alternative.invariant.contents;
-  failed = c.loop-alternative.invariant.failed;
-}
+pub put_alternative-returns-in-Some : goal.put_alternative-returns-in-Some
+put_alternative-returns-in-Some g t c =
+    let is = root_found c.args.alternatives.now c.in-Some.alternative.now c.args.tag (value_of c.args.value.now) c.in-Some.ensures.is in
+    same_wrote c.put.result _ (canonical_octets (type_of c.in-Some.alternative.now.shape) (value_of c.args.value.now)) _ _ _ _ _ is c.put.ensures
 
-pub put_later-returns-in_err-done : goal.put_later-returns-in_err-done
-put_later-returns-in_err-done g t c =
-    let inv = c.loop-alternative.invariant in
-    let is = later_found c.args.alternatives.now c.loop-alternative.alternative-index c.alternative-item.result c.args.tag (value_of c.args.value.now) c.loop-alternative-test.true c.alternative-item.is (sym c.is_same_tag.ensures ∙ c.if-is_same_tag.true) in
-    from_start c.from_residual.result _ _ _ _ _ _ _ _ inv.contents inv.failed (passed c.from_residual.result _ c.args.done (counted (canonical_octets (type_of c.alternative-item.result.shape) (value_of c.args.value.now))) [] _ _ _ _ _ (sym inv.octets ∙ is ∙ sym (append-nil _)) c.from_residual.ensures.1 c.in_err-done.ensures)
+pub put_alternative-returns-in-None : goal.put_alternative-returns-in-None
+put_alternative-returns-in-None g t c =
+    nothing_wrote c.args.done _ _ _ (root_none c.args.alternatives.now c.args.tag (value_of c.args.value.now) c.in-None.ensures.is)
 
-pub put_later-returns-then-is_same_tag : goal.put_later-returns-then-is_same_tag
-put_later-returns-then-is_same_tag g t c =
-    let inv = c.loop-alternative.invariant in
-    let is = later_found c.args.alternatives.now c.loop-alternative.alternative-index c.alternative-item.result c.args.tag (value_of c.args.value.now) c.loop-alternative-test.true c.alternative-item.is (sym c.is_same_tag.ensures ∙ c.if-is_same_tag.true) in
-    let o = canonical_octets (type_of c.alternative-item.result.shape) (value_of c.args.value.now) in
-    from_start c.put.result _ _ _ _ _ _ _ _ inv.contents inv.failed (same_wrote c.put.result _ (counted o) _ _ _ _ _ (sym inv.octets ∙ is) (head_then c.put.result _ c.in_ok-done.done o _ _ _ _ _ _ c.in_ok-done.ensures c.put.ensures))
+pub put_later-put-requires : goal.put_later-put-requires
+put_later-put-requires g t c κs within =
+    let smaller = first_falls c.args.tag c.args.alternatives.now c.in-Some.alternative.now c.in-Some.ensures.is in
+    (omega (arith, smaller, c.decreases), within)
 
-pub put_later-loop-alternative-preserved : goal.put_later-loop-alternative-preserved
-put_later-loop-alternative-preserved g t c = record {
-  octets = sym (later_passed c.args.alternatives.now c.loop-alternative.alternative-index c.alternative-item.result c.args.tag (value_of c.args.value.now) c.loop-alternative-test.true c.alternative-item.is (sym c.is_same_tag.ensures ∙ c.if-is_same_tag.false)) ∙ c.loop-alternative.invariant.octets;
-  contents = c.loop-alternative.invariant.contents;
-  failed = c.loop-alternative.invariant.failed;
-}
+pub put_later-returns-in_err-done-in-Some : goal.put_later-returns-in_err-done-in-Some
+put_later-returns-in_err-done-in-Some g t c =
+    let is = later_found c.args.alternatives.now c.in-Some.alternative.now c.args.tag (value_of c.args.value.now) c.in-Some.ensures.is in
+    passed c.from_residual.result _ c.args.done (counted (canonical_octets (type_of c.in-Some.alternative.now.shape) (value_of c.args.value.now))) [] _ _ _ _ _ (is ∙ sym (append-nil _)) c.from_residual.ensures.1 c.in_err-done-in-Some.ensures
+
+pub put_later-returns-in_ok-done-in-Some : goal.put_later-returns-in_ok-done-in-Some
+put_later-returns-in_ok-done-in-Some g t c =
+    let is = later_found c.args.alternatives.now c.in-Some.alternative.now c.args.tag (value_of c.args.value.now) c.in-Some.ensures.is in
+    let o = canonical_octets (type_of c.in-Some.alternative.now.shape) (value_of c.args.value.now) in
+    same_wrote c.put.result _ (counted o) _ _ _ _ _ is (head_then c.put.result _ c.in_ok-done-in-Some.done o _ _ _ _ _ _ c.in_ok-done-in-Some.ensures c.put.ensures)
+
+pub put_later-returns-in-None : goal.put_later-returns-in-None
+put_later-returns-in-None g t c =
+    nothing_wrote c.args.done _ _ _ (later_none c.args.alternatives.now c.args.tag (value_of c.args.value.now) c.in-None.ensures.is)
 
 pub put_addition-returns-in_ok-done-in-Some : goal.put_addition-returns-in_ok-done-in-Some
 put_addition-returns-in_ok-done-in-Some g t c =

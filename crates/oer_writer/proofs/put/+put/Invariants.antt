@@ -1,8 +1,7 @@
-use Rattle.std.proofs.Common.{◌≡◌, drop}
-use Rattle.oer_types.specs.AsnType.{no_alternatives}
-use Rattle.oer_types.specs.ShapeView.{additions_of, fields_of, later_of, root_of, type_of}
-use Rattle.oer_types.specs.ValueView.{places_of, value_of, values_of}
-use Rattle.oer_writer.specs.Parts.{chosen_octets, field_octets, known_octets, values_octets}
+use Rattle.std.proofs.Common.{drop}
+use Rattle.oer_values.specs.ShapeView.{additions_of, fields_of, type_of}
+use Rattle.oer_values.specs.ValueView.{places_of, values_of}
+use Rattle.oer_writer.specs.Parts.{field_octets, known_octets, values_octets}
 use Rattle.oer_writer.specs.Wrote.{Ahead}
 use Rattle.oer_writer.proofs.put.+put.Given as goal
 
@@ -14,17 +13,3 @@ invariant-put_additions-loop-addition g l = Ahead l.fn.done (known_octets (addit
 
 abbrev pub invariant-put_values-loop-value : goal.invariant-put_values-loop-value
 invariant-put_values-loop-value g l = Ahead l.fn.done (values_octets (type_of l.item) (values_of l.values)) (g.W.Sink.contents l.fn.sink) (g.W.Sink.failed l.fn.sink) l.done (g.W.Sink.contents l.sink) (g.W.Sink.failed l.sink) (values_octets (type_of l.item) (values_of (drop l.value-index l.values)))
-
-abbrev pub invariant-put_alternative-loop-alternative : goal.invariant-put_alternative-loop-alternative
-invariant-put_alternative-loop-alternative g l = record {
-  octets : chosen_octets (root_of (drop l.alternative-index l.alternatives) no_alternatives) l.tag (value_of l.value) ≡ chosen_octets (root_of l.alternatives no_alternatives) l.tag (value_of l.value);
-  contents : g.W.Sink.contents l.sink ≡ g.W.Sink.contents l.fn.sink;
-  failed : g.W.Sink.failed l.sink ≡ g.W.Sink.failed l.fn.sink;
-}
-
-abbrev pub invariant-put_later-loop-alternative : goal.invariant-put_later-loop-alternative
-invariant-put_later-loop-alternative g l = record {
-  octets : chosen_octets (later_of (drop l.alternative-index l.alternatives)) l.tag (value_of l.value) ≡ chosen_octets (later_of l.alternatives) l.tag (value_of l.value);
-  contents : g.W.Sink.contents l.sink ≡ g.W.Sink.contents l.fn.sink;
-  failed : g.W.Sink.failed l.sink ≡ g.W.Sink.failed l.fn.sink;
-}

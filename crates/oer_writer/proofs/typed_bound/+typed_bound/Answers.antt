@@ -1,13 +1,12 @@
 use Rattle.std.proofs.Common.{◌≡◌, ◌∙◌, ◌||◌, ap, ap₂, false, map, option_map, sym, subst, drop, rules}
-use Rattle.oer_types.specs.AsnType.{sequence_of}
-use Rattle.oer_types.specs.AsnValue.{items, seq}
-use Rattle.oer_types.specs.ShapeView.{fields_of, sequence_with, type_of}
-use Rattle.oer_types.specs.ValueView.{places_of, unknown_of, value_of, values_of}
-use Rattle.oer_types.specs.Canonical.{any_present, any_unknown}
-use Rattle.oer_types.proofs.Values.{value_of-List, value_of-Seq}
-use Rattle.oer_types.proofs.Shapes.{type_of-Sequence, type_of-SequenceOf}
+use Rattle.oer_model.specs.AsnValue.{items, seq}
+use Rattle.oer_values.specs.ShapeView.{fields_of, type_of}
+use Rattle.oer_values.specs.ValueView.{places_of, unknown_of, value_of, values_of}
+use Rattle.oer_model.specs.Canonical.{any_present, any_unknown}
+use Rattle.oer_values.proofs.Values.{value_of-List, value_of-Seq}
+use Rattle.oer_values.proofs.Shapes.{type_of-Sequence, type_of-SequenceOf}
 use Rattle.oer_writer.specs.TypeBounds.{BoundsIn, BoundsListIn, BoundsPlaceIn, BoundsRootIn}
-use Rattle.oer_writer.proofs.TypeBounds.{any_given, fields_end, fields_more, fields_none, fields_start, root_bounds, sequence_bounds}
+use Rattle.oer_writer.proofs.TypeBounds.{fields_end, fields_more, fields_none, fields_start, root_bounds, sequence_bounds}
 use Rattle.oer_writer.proofs.typed_bound.+typed_bound.Goals as goal
 
 pub bound_root-returns : goal.bound_root-returns

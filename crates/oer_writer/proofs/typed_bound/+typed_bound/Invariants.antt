@@ -1,6 +1,6 @@
 use Rattle.std.proofs.Common.{drop}
-use Rattle.oer_types.specs.ShapeView.{fields_of}
-use Rattle.oer_types.specs.ValueView.{places_of}
+use Rattle.oer_values.specs.ShapeView.{fields_of}
+use Rattle.oer_values.specs.ValueView.{places_of}
 use Rattle.oer_writer.proofs.TypeBounds.{LeftFields}
 use Rattle.oer_writer.proofs.typed_bound.+typed_bound.Given as goal
 

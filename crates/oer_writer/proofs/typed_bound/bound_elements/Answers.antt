@@ -1,6 +1,6 @@
 use Rattle.std.proofs.Common.{subst}
-use Rattle.oer_types.specs.ShapeView.{type_of}
-use Rattle.oer_types.specs.ValueView.{values_of}
+use Rattle.oer_values.specs.ShapeView.{type_of}
+use Rattle.oer_values.specs.ValueView.{values_of}
 use Rattle.oer_writer.specs.TypeBounds.{HasMost}
 use Rattle.oer_writer.proofs.TypeBounds.{elements_given, elements_most}
 use Rattle.oer_writer.proofs.typed_bound.bound_elements.Goals as goal

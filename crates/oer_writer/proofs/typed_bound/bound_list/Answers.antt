@@ -1,5 +1,5 @@
 use Rattle.std.proofs.Common.{arith}
-use Rattle.oer_types.specs.ShapeView.{type_of}
+use Rattle.oer_values.specs.ShapeView.{type_of}
 use Rattle.oer_writer.proofs.TypeBounds.{list_in}
 use Rattle.oer_writer.proofs.typed_bound.bound_list.Goals as goal
 

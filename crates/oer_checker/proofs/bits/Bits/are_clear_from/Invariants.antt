@@ -1,5 +1,5 @@
 use Rattle.std.proofs.Common.{◌≡◌, drop}
-use Rattle.oer_types.specs.Bits.{all_false}
+use Rattle.oer_model.specs.Bits.{all_false}
 use Rattle.oer_checker.specs.BitView.{bits_in}
 use Rattle.oer_checker.proofs.bits.Bits.are_clear_from.Given as goal
 

@@ -1,5 +1,5 @@
 use Rattle.std.proofs.Common.{◌∙◌, sym}
-use Rattle.oer_types.specs.Bits.{bits_of}
+use Rattle.oer_model.specs.Bits.{bits_of}
 use Rattle.oer_checker.proofs.BitLists.{first_there}
 use Rattle.oer_checker.proofs.bits.Bits.first.Goals as goal
 

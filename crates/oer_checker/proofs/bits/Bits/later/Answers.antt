@@ -1,5 +1,5 @@
 use Rattle.std.proofs.Common.{take}
-use Rattle.oer_types.specs.Bits.{bits_of}
+use Rattle.oer_model.specs.Bits.{bits_of}
 use Rattle.oer_checker.proofs.BitLists.{drop_next}
 use Rattle.oer_checker.proofs.bits.Bits.later.Goals as goal
 

@@ -1,8 +1,8 @@
 use Rattle.std.proofs.Common.{◌∙◌, ◌^◌, ◌<◌, List, Option, Some, ℕ, arith, length, rules, subst, sym}
 use Rattle.oer_units.specs.Reader.{at}
-use Rattle.oer_types.specs.AsnType.{AsnType}
-use Rattle.oer_types.specs.Checking.{check_value}
-use Rattle.oer_types.specs.Parts.{Within}
+use Rattle.oer_model.specs.AsnType.{AsnType}
+use Rattle.oer_model.specs.Checking.{check_value}
+use Rattle.oer_model.specs.Parts.{Within}
 use Rattle.oer_checker.specs.Check.{most}
 use Rattle.oer_checker.specs.Encoding.{octets_in, type_of_encoding}
 use Rattle.oer_checker.specs.Handing.{Begins}

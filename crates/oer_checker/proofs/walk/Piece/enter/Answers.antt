@@ -1,6 +1,6 @@
 use Rattle.std.proofs.Common.{ap, subst, option_map}
-use Rattle.oer_types.specs.Parts.{knows, nothing_at}
-use Rattle.oer_types.specs.ShapeView.{type_of}
+use Rattle.oer_model.specs.Parts.{knows, nothing_at}
+use Rattle.oer_values.specs.ShapeView.{type_of}
 use Rattle.oer_checker.specs.Walk.{CanSplit, step_of, type_in}
 use Rattle.oer_checker.proofs.Leading.{found_splits, found_step, spelt_checked}
 use Rattle.oer_checker.proofs.Ranging.{step_stands}

@@ -1,6 +1,6 @@
 use Rattle.std.proofs.Common.{refl, sym}
-use Rattle.oer_types.specs.ShapeView.{type_of}
-use Rattle.oer_types.proofs.Faults.{first_is, well_formed}
+use Rattle.oer_values.specs.ShapeView.{type_of}
+use Rattle.oer_model.proofs.faults.Faults.{first_is, well_formed}
 use Rattle.oer_types.proofs.schema.Schema.new.Goals as goal
 
 pub invariant_of-result : goal.invariant_of-result

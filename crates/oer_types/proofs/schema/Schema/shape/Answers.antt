@@ -1,5 +1,5 @@
-use Rattle.oer_types.specs.ShapeView.{type_of}
-use Rattle.oer_types.proofs.Faults.{defaults_fit}
+use Rattle.oer_values.specs.ShapeView.{type_of}
+use Rattle.oer_model.proofs.faults.Faults.{defaults_fit}
 use Rattle.oer_types.proofs.schema.Schema.shape.Goals as goal
 
 pub returns-clause-defaults : goal.returns-clause-defaults

@@ -1,0 +1,11 @@
+pub mod fitting
+pub mod bits
+pub mod reading
+pub mod canonical
+pub mod filling
+pub mod checking
+pub mod relaying
+pub mod faults
+pub mod Examples
+pub mod paths
+pub mod Headlines

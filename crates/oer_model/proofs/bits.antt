@@ -1,0 +1,6 @@
+-- Lemmas on bits in octets.
+pub mod Packing
+pub mod LowBits
+pub mod Unique
+pub mod LeastBits
+pub mod UnknownBits

@@ -1,0 +1,3 @@
+-- Lemmas on the faults of a type.
+pub mod FaultTests
+pub mod Faults

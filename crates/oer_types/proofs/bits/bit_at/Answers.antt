@@ -1,7 +1,0 @@
-use Rattle.oer_types.specs.Bits.{bit}
-use Rattle.oer_types.proofs.Packing.{bit_from_index}
-use Rattle.oer_types.proofs.bits.bit_at.Goals as goal
-
-pub returns : goal.returns
-unfolding bit
-returns c = rw c.bit_of.ensures (bit_from_index c.args.octets.now c.args.index c.requires)

@@ -1,9 +1,0 @@
-use Rattle.oer_types.proofs.FillFits.{fill_fits}
-use Rattle.oer_types.proofs.FillTwice.{fill_twice}
-use Rattle.oer_types.proofs.laws.filling.Goals as goal
-
-pub returns-clause-fits : goal.returns-clause-fits
-returns-clause-fits c = fill_fits
-
-pub returns-clause-twice : goal.returns-clause-twice
-returns-clause-twice c = fill_twice

@@ -1,8 +1,0 @@
-use Rattle.oer_types.proofs.Finding.{finds_parts, misses_parts}
-use Rattle.oer_types.proofs.laws.finding_parts.Goals as goal
-
-pub returns-clause-finds : goal.returns-clause-finds
-returns-clause-finds c = finds_parts
-
-pub returns-clause-misses : goal.returns-clause-misses
-returns-clause-misses c = misses_parts

@@ -1,6 +1,0 @@
-use Rattle.std.proofs.Common.{◌≡◌, take, map}
-use Rattle.oer_types.specs.ValueView.{unknown_of}
-use Rattle.oer_types.proofs.value.copy_unknown.Given as goal
-
-abbrev pub invariant-loop-one : goal.invariant-loop-one
-invariant-loop-one l = map unknown_of l.copies.items ≡ map unknown_of (take l.one-index l.unknown)
