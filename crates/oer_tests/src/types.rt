@@ -337,7 +337,7 @@ fn are_named(shape: &Shape, number: u32, of_root: Option<&str>, later: Option<&s
 
 fn is_named(found: Option<&Alt>, name: Option<&str>) -> bool {
     match (found, name) {
-        (Some(alternative), Some(name)) => alternative.name == name,
+        (Some(alternative), Some(name)) => alternative.name.as_str() == name,
         (None, None) => true,
         _ => false,
     }
