@@ -4,8 +4,8 @@ use Rattle.std.proofs.lemmas.List.{length-drop, length-take-le}
 use Rattle.std.specs.declared.ops.Range.{Range}
 use Rattle.oer_model.specs.AsnType.{AsnType}
 use Rattle.oer_model.specs.Parts.{Step}
-use Rattle.oer_checker.specs.Path.{SpellsPath}
-use Rattle.oer_checker.specs.Ranges.{Lies, octets_in_range}
+use Rattle.oer_parts.specs.Path.{SpellsPath}
+use Rattle.oer_parts.specs.Ranges.{Lies, octets_in_range}
 use Rattle.oer_c.specs.Buffers.{only_written}
 use Rattle.oer_c.specs.Parts.{AreSteps, IsLocated, IsUncopied, somewhere}
 

@@ -5,8 +5,8 @@ use Rattle.oer_notation.specs.Grammar.{AreWellFormed, SpellsAll}
 use Rattle.oer_notation.specs.Parsing.{parse_all}
 use Rattle.oer_notation.specs.Reading.{Known}
 use Rattle.oer_notation.specs.Views.{knowns}
-use Rattle.oer_notation.specs.declared.fault.TextFault.{TextFault}
-use Rattle.oer_notation.specs.declared.fault.TextWhy.TheVariants.{Memory}
+use Rattle.oer_value_notation.specs.declared.fault.TextFault.{TextFault}
+use Rattle.oer_value_notation.specs.declared.fault.TextWhy.TheVariants.{Memory}
 use Rattle.oer_notation.specs.declared.types.Types.{Types}
 use Rattle.oer_c.specs.Reasons.{text_number}
 use Rattle.oer_c.specs.declared.definitions.Parsed.{Parsed}

@@ -6,11 +6,11 @@ use Rattle.oer_units.specs.declared.fault.ReadFault.{ReadFault}
 use Rattle.oer_model.specs.AsnType.{AsnType}
 use Rattle.oer_model.specs.Parts.{Step, StopsAt, Within}
 use Rattle.oer_checker.specs.Check.{Tells}
-use Rattle.oer_checker.specs.Handing.{Begins}
-use Rattle.oer_checker.specs.Path.{SpellsPath}
-use Rattle.oer_checker.specs.Ranges.{LeadsFrom}
-use Rattle.oer_checker.specs.Walk.{path_of}
-use Rattle.oer_checker.specs.declared.step.Step as rust_step
+use Rattle.oer_parts.specs.Handing.{Begins}
+use Rattle.oer_parts.specs.Path.{SpellsPath}
+use Rattle.oer_parts.specs.Ranges.{LeadsFrom}
+use Rattle.oer_parts.specs.Walk.{path_of}
+use Rattle.oer_parts.specs.declared.step.Step as rust_step
 use Rattle.oer_c.specs.Buffers.{IsPut, only_written, rejection}
 use Rattle.oer_c.specs.declared.buffer.Written.{Written}
 use Rattle.oer_c.specs.declared.part_at.Located.{Located}

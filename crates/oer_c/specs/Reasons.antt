@@ -2,8 +2,8 @@
 use Rattle.std.specs.Prelude.{ℕ}
 use Rattle.oer_model.specs.declared.fault.SchemaFault.{SchemaFault}
 use Rattle.oer_model.specs.declared.fault.SchemaFault.TheVariants.{TooDeep, TooManyParts, BoundOrder, SizeOrder, BadName, RepeatedName, NoItems, RepeatedNumber, RepeatedTag, DefaultMisfit, EmptyElement}
-use Rattle.oer_notation.specs.declared.fault.TextWhy.{TextWhy}
-use Rattle.oer_notation.specs.declared.fault.TextWhy.TheVariants as text
+use Rattle.oer_value_notation.specs.declared.fault.TextWhy.{TextWhy}
+use Rattle.oer_value_notation.specs.declared.fault.TextWhy.TheVariants as text
 use Rattle.oer_json.specs.declared.fault.JsonFault.{JsonFault}
 use Rattle.oer_json.specs.declared.fault.JsonFault.TheVariants as json
 

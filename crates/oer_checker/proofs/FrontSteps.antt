@@ -1,6 +1,5 @@
 -- From what the checker answers to what its caller learns.
-use Rattle.std.proofs.Common.{◌≡◌, ℕ, ◌-◌, ◌^◌, ◌<◌, ◌≤◌, Bool, List, [], ◌∷◌, ◌++◌, length, drop, Ok, Err, arith, refl, sym, ap, ap₂, ◌∙◌, subst, length-append, length-drop, take, Some}
-use Rattle.std.proofs.lemmas.List.{take_at}
+use Rattle.std.proofs.Common.{◌≡◌, ℕ, ◌-◌, ◌^◌, ◌<◌, ◌≤◌, Bool, List, [], ◌∷◌, ◌++◌, length, drop, Ok, Err, arith, refl, sym, ap, ap₂, ◌∙◌, subst, length-append, length-drop}
 use Rattle.oer_units.specs.declared.fault.Why.{Why}
 use Rattle.oer_units.specs.declared.fault.ReadFault.{ReadFault}
 use Rattle.oer_units.specs.Octets.{IsOctets}
@@ -10,7 +9,7 @@ use Rattle.oer_model.specs.AsnType.{AsnType}
 use Rattle.oer_model.specs.AsnValue.{AsnValue}
 use Rattle.oer_model.specs.Checking.{check_value}
 use Rattle.oer_model.specs.Constraints.{KeepsLimits}
-use Rattle.oer_model.specs.Encoding.{Encodes, IsSpelling}
+use Rattle.oer_model.specs.Encoding.{Encodes}
 use Rattle.oer_model.specs.Fits.{DefaultsFit}
 use Rattle.oer_model.specs.Laws as law
 use Rattle.oer_model.specs.Laws.{Judges, Means}
@@ -20,7 +19,6 @@ use Rattle.oer_model.proofs.checking.Judged.{check_tells}
 use Rattle.oer_model.proofs.reading.Main.{value_lawful}
 use Rattle.oer_model.proofs.reading.Theorems.{reads_each, reads_encodings}
 use Rattle.oer_checker.specs.Check.{Answers, Finds, IsFound, Tells, most}
-use Rattle.oer_checker.specs.Walk.{CanSplit}
 use Rattle.oer_checker.specs.declared.verdict.Verdict.{Verdict}
 
 abbrev no : Why → List ℕ → Outcome Bool
@@ -117,9 +115,3 @@ found_again T wf d input octs few verdict (e, within) =
     let q : Place = at (drop verdict.octets input) (most - verdict.octets) in
     let many : verdict.octets ≡ length input - length q.input = omega (arith, length-drop verdict.octets input, within) in
     (found_told T wf d input octs few verdict verdict.canonical q many refl (sym e), found_comes T wf d input octs few verdict verdict.canonical q many (sym e))
-
--- its steps find what is there
-pub front_splits : (T : AsnType) → KeepsLimits T → DefaultsFit T → (input : List ℕ) (verdict : Verdict) → Tells T input (Ok verdict) → CanSplit (Some T) (take verdict.octets input)
-front_splits T wf d input verdict (b, rest, split, size, (v, e), flags) =
-    let front : take verdict.octets input ≡ b = ap (λ (l : List ℕ). take verdict.octets l) split ∙ take_at b rest verdict.octets (sym size) in
-    ((wf, d), (v, subst (λ (s : List ℕ). IsSpelling T v s) (sym front) e.2))

@@ -29,9 +29,6 @@ additions_fall shape root more xs r s t e is small d = subst (λ (l : List Addit
 alternatives_under : (shape : Shape) (root : Vec Alt Global) (more : Option (Vec Alt Global)) → shape ≡ Choice root more → Under (most (λ x. alt.the_size x) root.items) (the_size shape)
 alternatives_under shape root more e = search (rules, the_lemmas, sizes, same_size the_size)
 
-pub alternatives_fall : (shape : Shape) (root : Vec Alt Global) (more : Option (Vec Alt Global)) (xs : List Alt) (r s t : ℕ) → shape ≡ Choice root more → xs ≡ root.items → r ≤ 3 → 4 * the_size shape + s ≡ t → 4 * most (λ x. alt.the_size x) xs + r < t
-alternatives_fall shape root more xs r s t e is small d = subst (λ (l : List Alt). 4 * most (λ x. alt.the_size x) l + r < t) (sym is) (four_times _ (the_size shape) r s t small (alternatives_under shape root more e) d)
-
 alternative_under : (xs : List Alt) (i : ℕ) (a : Alt) → i < length xs → a ≡ get_or xs i a → Under (the_size a.shape) (most (λ x. alt.the_size x) xs)
 alternative_under xs i a less is = search (rules, the_lemmas, sizes, deeper, same_size the_size)
 

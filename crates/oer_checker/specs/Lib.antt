@@ -5,10 +5,3 @@ pub mod BitView
 pub mod Check
 pub mod Numbers
 pub mod Facts
-pub mod Walk
-pub mod Handing
-pub mod Path
-pub mod Encoding
-pub mod AtMostOne
-pub mod Offsets
-pub mod Ranges

@@ -54,7 +54,7 @@ impl<'a> Bits<'a> {
     }
 
     /// The bits from this many on.
-    pub(crate) fn skip(self, count: u64) -> Bits<'a>
+    pub fn skip(self, count: u64) -> Bits<'a>
         ensures { bits_in result ≡ drop count (bits_in self.entry) }
     {
         Bits {
@@ -65,7 +65,7 @@ impl<'a> Bits<'a> {
     }
 
     /// So many of the bits, or all where there are fewer.
-    pub(crate) fn until(self, count: u64) -> Bits<'a>
+    pub fn until(self, count: u64) -> Bits<'a>
         requires { IsWhole self }
         ensures whole { IsWhole result }
         ensures bits { bits_in result ≡ take count (bits_in self.entry) }

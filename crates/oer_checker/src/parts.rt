@@ -44,7 +44,7 @@ pub(crate) fn is_default(field: &Field, octets: &[u8]) -> bool
 
 /// The additions that the type doesn't know, of which there are `known`: each as the octets of its
 /// open type (X.696, 30).
-pub(crate) fn check_unknown<'a>(bits: Bits<'a>, known: usize, at: &mut Cursor) -> Result<bool, Stop>
+pub fn check_unknown<'a>(bits: Bits<'a>, known: usize, at: &mut Cursor) -> Result<bool, Stop>
     requires { IsWhole bits }
     ensures { outcome same result at.new ≡ unknown_checked (drop known (bits_in bits.entry)) (place_of at.old) }
 {

@@ -27,7 +27,7 @@ use oer_units::{Tag, Why};
 /// The encoding of a value of the type, and whether it is canonical.
 #[cycle(check)]
 #[tactic(auto, using(crate::proofs::Shapes::shapes))]
-pub(crate) fn check_shape(shape: &Shape, at: &mut Cursor) -> Result<bool, Stop>
+pub fn check_shape(shape: &Shape, at: &mut Cursor) -> Result<bool, Stop>
     requires limits { KeepsLimits (type_of shape.now) }
     requires defaults { DefaultsFit (type_of shape.now) }
     ensures { outcome same result at.new ≡ check_value (type_of shape.now) (place_of at.old) }
@@ -112,7 +112,7 @@ fn check_choice(
 
 /// So many elements.
 #[cycle(check)]
-pub(crate) fn check_elements(item: &Shape, count: u64, at: &mut Cursor) -> Result<bool, Stop>
+pub fn check_elements(item: &Shape, count: u64, at: &mut Cursor) -> Result<bool, Stop>
     requires limits { KeepsLimits (type_of item.now) }
     requires defaults { DefaultsFit (type_of item.now) }
     ensures { outcome same result at.new ≡ check_times count (check_value (type_of item.now)) (place_of at.old) }
@@ -175,11 +175,7 @@ fn check_place(field: &Field, is_present: bool, at: &mut Cursor) -> Result<bool,
 /// The components of a root, by their presence bits.
 #[cycle(check)]
 #[inline(always)]
-pub(crate) fn check_fields<'a>(
-    fields: &[Field],
-    bits: Bits<'a>,
-    at: &mut Cursor,
-) -> Result<bool, Stop>
+pub fn check_fields<'a>(fields: &[Field], bits: Bits<'a>, at: &mut Cursor) -> Result<bool, Stop>
     requires limits { FieldsKeepLimits (fields_of fields.now) }
     requires defaults { FieldDefaultsFit (fields_of fields.now) }
     ensures { outcome same result at.new ≡ fields_checked (fields_of fields.now) (bits_in bits.entry) (place_of at.old) }
@@ -229,7 +225,7 @@ fn check_addition(addition: &Addition, is_present: bool, at: &mut Cursor) -> Res
 
 /// The additions that the type knows, by their presence bits.
 #[cycle(check)]
-pub(crate) fn check_additions<'a>(
+pub fn check_additions<'a>(
     additions: &[Addition],
     bits: Bits<'a>,
     at: &mut Cursor,

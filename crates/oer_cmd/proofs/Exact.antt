@@ -26,17 +26,17 @@ use Rattle.oer_model.specs.Reading.{read_value}
 use Rattle.oer_values.specs.ValueView.{value_of}
 use Rattle.oer_values.specs.declared.value.Value.{Value}
 use Rattle.oer_checker.specs.Check.{Answers, Tells, most}
-use Rattle.oer_checker.specs.Handing.{Agrees, AgreesWith, AnswersPart}
-use Rattle.oer_checker.specs.Walk.{path_of as steps_of}
-use Rattle.oer_checker.specs.declared.fault.PartFault.{PartFault}
-use Rattle.oer_checker.specs.declared.fault.PartFault.TheVariants.{Absent as NotThere, NoSuchStep as NoStep, Read as Unread}
-use Rattle.oer_checker.specs.declared.step.Step.{Step as Code}
+use Rattle.oer_parts.specs.Handing.{Agrees, AgreesWith, AnswersPart}
+use Rattle.oer_parts.specs.Walk.{path_of as steps_of}
+use Rattle.oer_parts.specs.declared.fault.PartFault.{PartFault}
+use Rattle.oer_parts.specs.declared.fault.PartFault.TheVariants.{Absent as NotThere, NoSuchStep as NoStep, Read as Unread}
+use Rattle.oer_parts.specs.declared.step.Step.{Step as Code}
 use Rattle.oer_checker.specs.declared.verdict.Verdict.{Verdict}
 use Rattle.oer_decoder.specs.Front.{IsTaken, ReadsAndCounts, first_of}
 use Rattle.oer_decoder.specs.Rewriting.{IsRewritten, ReadsAndWrites}
 use Rattle.oer_decoder.specs.declared.fault.RewriteFault.{RewriteFault}
 use Rattle.oer_decoder.specs.declared.fault.RewriteFault.TheVariants as rewrite
-use Rattle.oer_checker.specs.Path.{OnePath}
+use Rattle.oer_parts.specs.Path.{OnePath}
 use Rattle.oer_json.specs.Made.{made}
 use Rattle.oer_json.specs.Take.{taken}
 use Rattle.oer_json.specs.declared.fault.JsonFault.{JsonFault}

@@ -6,7 +6,7 @@ use Rattle.clap.specs.Words.{Text}
 use Rattle.hex.specs.Hex.{encode_lower}
 use Rattle.oer_model.specs.AsnType.{AsnType}
 use Rattle.oer_model.specs.Parts.{Step, Within}
-use Rattle.oer_checker.specs.Handing.{Begins}
+use Rattle.oer_parts.specs.Handing.{Begins}
 use Rattle.oer_options.specs.Words.{Asks, IsTask, Kind, asked, canon, check, given, kind, make, name_of, part, path_among, show, source_option, source_text, texts_in, texts_of}
 use Rattle.oer_options.specs.declared.options.Options.{Options}
 use Rattle.oer_options.specs.declared.options.Task.{Task}

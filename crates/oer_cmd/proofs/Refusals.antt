@@ -17,10 +17,10 @@ use Rattle.oer_writer.specs.declared.fault.WriteFault.TheVariants as write
 use Rattle.oer_model.specs.AsnType.{AsnType}
 use Rattle.oer_model.specs.AsnValue.{AsnValue}
 use Rattle.oer_model.specs.Parts.{Step}
-use Rattle.oer_checker.specs.Path.{OnePath}
+use Rattle.oer_parts.specs.Path.{OnePath}
 use Rattle.oer_json.specs.Denotes.{IsJsonOf}
-use Rattle.oer_checker.specs.Handing.{Follows}
-use Rattle.oer_checker.specs.declared.fault.PartFault.{PartFault}
+use Rattle.oer_parts.specs.Handing.{Follows}
+use Rattle.oer_parts.specs.declared.fault.PartFault.{PartFault}
 use Rattle.oer_decoder.specs.Front.{ReadsWhatComes}
 use Rattle.oer_decoder.specs.Rewriting.{RewritesWhatComes}
 use Rattle.oer_decoder.specs.declared.fault.RewriteFault.{RewriteFault}

@@ -21,7 +21,7 @@ use Rattle.oer_json.specs.Take.{taken}
 use Rattle.oer_json.specs.declared.fault.JsonFault.{JsonFault}
 use Rattle.oer_notation.specs.Parsing.{parse, parse_all}
 use Rattle.oer_notation.specs.Reading.{find}
-use Rattle.oer_notation.specs.declared.fault.TextFault.{TextFault}
+use Rattle.oer_value_notation.specs.declared.fault.TextFault.{TextFault}
 use Rattle.oer_options.specs.Words.{Texts, behind, texts_of}
 use Rattle.oer_options.specs.declared.options.Options.{Options}
 use Rattle.oer_options.specs.declared.options.Task.{Task}

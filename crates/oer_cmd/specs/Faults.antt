@@ -6,12 +6,12 @@ use Rattle.clap.specs.Words.{Text}
 use Rattle.oer_units.specs.Faults.{why_name}
 use Rattle.oer_units.specs.declared.fault.ReadFault.{ReadFault}
 use Rattle.oer_units.specs.declared.fault.Why.TheVariants as why
-use Rattle.oer_notation.specs.declared.fault.TextFault.{TextFault}
-use Rattle.oer_notation.specs.declared.fault.TextWhy.TheVariants as text
+use Rattle.oer_value_notation.specs.declared.fault.TextFault.{TextFault}
+use Rattle.oer_value_notation.specs.declared.fault.TextWhy.TheVariants as text
 use Rattle.oer_writer.specs.declared.fault.WriteFault.TheVariants as write
 use Rattle.oer_decoder.specs.declared.fault.RewriteFault.{RewriteFault}
 use Rattle.oer_decoder.specs.declared.fault.RewriteFault.TheVariants as rewrite
-use Rattle.oer_notation.specs.Faults.{text_why_name}
+use Rattle.oer_value_notation.specs.Faults.{text_why_name}
 use Rattle.oer_json.specs.Faults.{json_fault_name}
 use Rattle.oer_cmd.specs.declared.fault.Fault.{Fault}
 use Rattle.oer_cmd.specs.declared.fault.Fault.TheVariants.{Read, Follows, Longer, NoSuchStep, Absent, OneType, NoName, NoTypes, «Type», Unnamed, Hex, Path, NotJson, Json, Input, Output, Memory}

@@ -13,7 +13,7 @@ use Rattle.oer_model.specs.AsnValue.{AsnValue}
 use Rattle.oer_model.specs.Encoding.{Encodes}
 use Rattle.oer_model.specs.Parts.{Step, Within}
 use Rattle.oer_model.specs.Strict.{IsCanonical}
-use Rattle.oer_checker.specs.Path.{SpellsPath}
+use Rattle.oer_parts.specs.Path.{SpellsPath}
 use Rattle.oer_json.specs.Denotes.{IsJsonOf}
 use Rattle.oer_json.specs.Made.{made}
 use Rattle.oer_options.specs.Words.{Kind, NumberOf, Texts, asked, canon, check, given, given_number, kind, make, name_of, part, path_among, path_text, show, source_option, source_text, texts_in}

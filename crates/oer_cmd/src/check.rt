@@ -1,7 +1,7 @@
 //! Whether octets are canonical.
 ghost use Rattle.std.specs.Prelude.{◌≡◌, ◌≢◌, ◌↔◌, length, true, None, IfErr, IfOk, string_bytes};
 ghost use Rattle.oer_types.specs.Schema.{the_type};
-ghost use Rattle.oer_checker.specs.Encoding.{octets_in, type_of_encoding};
+ghost use Rattle.oer_parts.specs.Encoding.{octets_in, type_of_encoding};
 ghost use Rattle.oer_options.specs.Words.{behind};
 ghost use Rattle.oer_cmd.specs.Faults.{Refuses, status_of};
 ghost use Rattle.oer_cmd.specs.Answer.{check_answer, checked};

@@ -2,7 +2,7 @@
 ghost use Rattle.std.specs.Prelude.{◌≡◌, ◌≢◌, List, None, IfErr, IfOk, string_bytes};
 ghost use Rattle.oer_model.specs.Parts.{Step as PlainStep};
 ghost use Rattle.oer_types.specs.Schema.{the_type};
-ghost use Rattle.oer_checker.specs.Walk.{path_of as steps_of};
+ghost use Rattle.oer_parts.specs.Walk.{path_of as steps_of};
 ghost use Rattle.oer_options.specs.Words.{behind};
 ghost use Rattle.oer_cmd.specs.Answer.{IsPathOf, part_answer, part_octets};
 ghost use Rattle.oer_cmd.specs.Expected.{Expected, Meets};
@@ -12,7 +12,7 @@ ghost use Rattle.oer_cmd.specs.Run.{HasNoPart, IsEncoding, IsPart, IsPartLine, I
 use crate::check::judged;
 use crate::fault::Fault;
 use crate::octets::{all_octets, spelt};
-use oer_checker::laws::one_path;
+use oer_parts::laws::one_path;
 use oer_reader::{PartFault, PathFault, Step, read_path};
 use oer_types::Schema;
 use std::alloc::Global;

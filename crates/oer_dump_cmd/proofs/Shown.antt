@@ -7,7 +7,7 @@ use Rattle.clap.specs.Words.{Text}
 use Rattle.oer_model.specs.AsnType.{AsnType}
 use Rattle.oer_types.specs.Schema.{the_type}
 use Rattle.oer_types.specs.declared.schema.Schema.{Schema}
-use Rattle.oer_checker.specs.declared.encoding.Encoding.{Encoding}
+use Rattle.oer_parts.specs.declared.encoding.Encoding.{Encoding}
 use Rattle.oer_notation.specs.Parsing.{parse, parse_all}
 use Rattle.oer_notation.specs.Reading.{find}
 use Rattle.oer_notation.specs.Views.{knowns}

@@ -2,10 +2,10 @@
 use Rattle.std.proofs.Common.{◌≡◌, ℕ, List, [], ◌++◌, Option, Some, Ok, Err, subst, sym, append-nil}
 use Rattle.oer_model.specs.AsnType.{AsnType}
 use Rattle.oer_model.specs.Parts.{Step, Within}
-use Rattle.oer_checker.specs.Encoding.{octets_in, type_of_encoding}
-use Rattle.oer_checker.specs.Handing.{Follows, Hands}
-use Rattle.oer_checker.specs.declared.encoding.Encoding.{Encoding}
-use Rattle.oer_checker.specs.declared.fault.PartFault.{PartFault}
+use Rattle.oer_parts.specs.Encoding.{octets_in, type_of_encoding}
+use Rattle.oer_parts.specs.Handing.{Follows, Hands}
+use Rattle.oer_parts.specs.declared.encoding.Encoding.{Encoding}
+use Rattle.oer_parts.specs.declared.fault.PartFault.{PartFault}
 use Rattle.std.specs.Borrow.{Bor}
 use Rattle.oer_example.specs.Renewed.{IsEncoding, IsNoFront, IsPart}
 use Rattle.oer_example.proofs.Values.{front_is_whole}

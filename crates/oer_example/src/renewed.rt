@@ -2,8 +2,8 @@
 ghost use Rattle.std.specs.Prelude.{◌≡◌, ◌≢◌, ℕ, List, Ok, IfErr, IfOk, string_bytes};
 ghost use Rattle.hex.specs.Hex.{decode_of};
 ghost use Rattle.oer_types.specs.Schema.{the_type};
-ghost use Rattle.oer_checker.specs.Encoding.{octets_in, type_of_encoding};
-ghost use Rattle.oer_checker.specs.Walk.{path_of};
+ghost use Rattle.oer_parts.specs.Encoding.{octets_in, type_of_encoding};
+ghost use Rattle.oer_parts.specs.Walk.{path_of};
 ghost use Rattle.oer_example.specs.Renewed.{IsEncoding, IsNoFront, IsPart, IsRenewed, IsRenewedLine};
 
 use crate::fault::Fault;

@@ -4,8 +4,8 @@ use Rattle.std.proofs.lemmas.Bool.Decides.{nat_tests}
 use Rattle.oer_lexer.specs.Token.{Token, word, sign, Spot, tokens}
 use Rattle.oer_lexer.specs.declared.token.Sign.TheVariants.{CloseBrace, Comma}
 use Rattle.oer_notation.specs.Grammar.{IsId, an_id}
-use Rattle.oer_notation.specs.State.{State, ◌>>=◌, first, bump, part_at, id_at}
-use Rattle.oer_notation.specs.declared.fault.TextFault.{TextFault}
+use Rattle.oer_value_notation.specs.State.{State, ◌>>=◌, first, bump, part_at, id_at}
+use Rattle.oer_value_notation.specs.declared.fault.TextFault.{TextFault}
 
 -- The tokens come between s and t, and n parts are counted.
 pub record Comes (s t : State) (n : ℕ) (ts : List Token) : Type 0 where

@@ -14,9 +14,9 @@ use Rattle.oer_notation.specs.Grammar.{Spells, IsType}
 use Rattle.oer_model.specs.Limits.{max_depth, max_parts}
 use Rattle.oer_notation.specs.Parsing.{start, definition_at, end_by, end_of, parse}
 use Rattle.oer_notation.specs.Reading.{Known, with_parts}
-use Rattle.oer_notation.specs.State.{State, at_sign, ◌>>=◌}
-use Rattle.oer_notation.specs.declared.fault.TextFault.{TextFault}
-use Rattle.oer_notation.specs.declared.fault.TextWhy.TheVariants as why
+use Rattle.oer_value_notation.specs.State.{State, at_sign, ◌>>=◌}
+use Rattle.oer_value_notation.specs.declared.fault.TextFault.{TextFault}
+use Rattle.oer_value_notation.specs.declared.fault.TextWhy.TheVariants as why
 use Rattle.oer_notation.proofs.Comes.{Comes, bound}
 use Rattle.oer_notation.proofs.CompleteParts.{type_given}
 use Rattle.oer_notation.proofs.Definitions.{definition_ok}

@@ -10,9 +10,9 @@ use Rattle.oer_model.specs.WellFormed.{AnyOf}
 use Rattle.oer_notation.specs.Grammar.{SpellsAll, AreWellFormed, IsName, IsNew, AreDefinitions, one_definition, more_definitions}
 use Rattle.oer_notation.specs.Parsing.{start, definition_at, end_by, end_of, name_at, entry_at, is_last, entries_more, parse_all}
 use Rattle.oer_notation.specs.Reading.{Known, find}
-use Rattle.oer_notation.specs.State.{State, first, bump, is_sign, skip_sign}
-use Rattle.oer_notation.specs.declared.fault.TextFault.{TextFault}
-use Rattle.oer_notation.specs.declared.fault.TextWhy.TheVariants as why
+use Rattle.oer_value_notation.specs.State.{State, first, bump, is_sign, skip_sign}
+use Rattle.oer_value_notation.specs.declared.fault.TextFault.{TextFault}
+use Rattle.oer_value_notation.specs.declared.fault.TextWhy.TheVariants as why
 use Rattle.oer_notation.proofs.Comes.{Comes, front, split}
 use Rattle.oer_notation.proofs.Complete.{behind_type, definition_given, ended}
 use Rattle.oer_notation.proofs.CompleteValues.{not_word}

@@ -9,8 +9,8 @@ use Rattle.oer_units.specs.declared.tagging.Tag.{Tag}
 use Rattle.oer_model.specs.AsnType.{NamedNumber}
 use Rattle.oer_notation.specs.Grammar.{IsId, IsItemNumber, own_number, number_by_place, AreItems, no_items, item, items_marker, IsClass, universal, application, private, context, IsTag, own_tag, tag_by_place, MayBeOptional, plain_addition, optional_addition}
 use Rattle.oer_literals.specs.Numbers.{item_number_of, tag_number_of}
-use Rattle.oer_notation.specs.Numbers.{number_at}
-use Rattle.oer_notation.specs.State.{State, Read, first, bump, is_sign, at_sign, skip_sign, full}
+use Rattle.oer_value_notation.specs.Numbers.{number_at}
+use Rattle.oer_value_notation.specs.State.{State, Read, first, bump, is_sign, at_sign, skip_sign, full}
 use Rattle.oer_notation.specs.Reading.{past_marker, go_on, item_number_at, numbered_at, item_at, items_more, items_at, most, class_at, tag_at, tagged_at, past_optional}
 use Rattle.oer_notation.proofs.Comes.{Comes, done, front, sole, split, less, counted, part_given, id_given, Follows, Commas, follows, before, before_comes}
 use Rattle.oer_notation.proofs.CompleteNumbers.{Reads, item_number_reads, tag_number_reads, number_given}

@@ -10,8 +10,8 @@ use Rattle.oer_model.specs.declared.size.Size.{Size}
 use Rattle.oer_notation.specs.Grammar.{IsInteger, an_integer, IsNatural, a_natural, IsBound, no_bound, a_bound, AreBounds, no_bounds, one_number, range, IsSizeEnd, no_end, an_end, IsSize, one_size, sizes, IsBracketedSize, any_size, bracketed, IsListSize, in_brackets, bare}
 use Rattle.oer_literals.specs.Numbers.{integer_within, natural_below, integer_of, item_number_of, size_of, tag_number_of, arc_of}
 use Rattle.oer_literals.proofs.Numerals.{IsRange, range_128, range_64, numeral_true}
-use Rattle.oer_notation.specs.Numbers.{number_at, end_at, high_at, bounds_at, size_high_at, size_at, bracketed_size_at, list_size_at}
-use Rattle.oer_notation.specs.State.{State, first, bump, is_sign, at_sign, skip_sign, skip_word, number_text_at}
+use Rattle.oer_value_notation.specs.Numbers.{number_at, end_at, high_at, bounds_at, size_high_at, size_at, bracketed_size_at, list_size_at}
+use Rattle.oer_value_notation.specs.State.{State, first, bump, is_sign, at_sign, skip_sign, skip_word, number_text_at}
 use Rattle.oer_notation.proofs.Comes.{Comes, done, front, sole, split}
 
 integer_given : (width : Width) (low high : ℤ) → IsRange width low high → (w : List ℕ) (z : ℤ) → IsNumeral 10 (without_leading_sign w) → signed_digits_value 10 w ≡ z → FitsSigned width z → integer_within low high w ≡ Some z

@@ -14,13 +14,13 @@ use Rattle.oer_values.specs.ShapeView.{SeenField, SeenAddition, SeenAlternative,
 use Rattle.oer_model.specs.WellFormed.{depth, fields_depth, additions_depth, alternatives_depth, Somewhere, InFields, InAdditions, InAlternatives, HasMisfit, AnyMisfit}
 use Rattle.oer_model.specs.declared.size.Size.{Size}
 use Rattle.oer_notation.specs.Grammar.{IsId, IsName, IsListSize, in_brackets, bare, one_size, sizes, any_size, bracketed, own_tag, tag_by_place, IsNeed, needed, optional, with_default, MayBeOptional, plain_addition, optional_addition, IsLeaf, bounds_behind, items_behind, nothing_behind, size_behind, IsType, leaf_type, named_type, empty_sequence_type, sequence_type, extensible_sequence_type, sequence_of_type, choice_type, AreComponents, no_components as none_there, component, components_marker, AreAdditions, none_added, added as an_addition, AreAlternatives, none_left, an_alternative, alternatives_marker, AreLater, none_later, a_later}
-use Rattle.oer_notation.specs.Leaves.{LeafForm, bounded, leaf_form, listed, plain, sized}
-use Rattle.oer_notation.specs.Numbers.{list_size_at}
+use Rattle.oer_value_notation.specs.Leaves.{LeafForm, bounded, leaf_form, listed, plain, sized}
+use Rattle.oer_value_notation.specs.Numbers.{list_size_at}
 use Rattle.oer_notation.specs.Reading.{Known, find, most, past_marker, go_on, tagged_at, leaf_at, leaf_type_at, skip_second, Components, Choices, choice_of_choices, sequence_of_components, no_components, past_optional, field_at, addition_at, alternative_at, component_at, components_more, alternatives_more, body_at, structure_at, list_at, sequence_at, choice_at, word_type, with_parts, named_at, type_by, entered, type_at}
-use Rattle.oer_notation.specs.State.{State, Read, first, bump, is_sign, at_sign, skip_sign, skip_word, part_at, full}
-use Rattle.oer_notation.specs.Values.{need_at}
-use Rattle.oer_notation.specs.declared.word.TypeWord.{TypeWord}
-use Rattle.oer_notation.specs.declared.word.TypeWord.TheVariants as tw
+use Rattle.oer_value_notation.specs.State.{State, Read, first, bump, is_sign, at_sign, skip_sign, skip_word, part_at, full}
+use Rattle.oer_value_notation.specs.Values.{need_at}
+use Rattle.oer_value_notation.specs.declared.word.TypeWord.{TypeWord}
+use Rattle.oer_value_notation.specs.declared.word.TypeWord.TheVariants as tw
 use Rattle.oer_notation.proofs.Comes.{Comes, done, front, sole, split, recount, less, counted, part_given, bound, id_given, same_state, same_left, Follows, Commas, follows, before, before_comes}
 use Rattle.oer_notation.proofs.CompleteItems.{pass_end, pass_comma, pass_dots, go_end, go_more, items_at_given, tagged_given, optional_given}
 use Rattle.oer_notation.proofs.CompleteNumbers.{bounds_given, bracketed_given, list_size_given}

@@ -13,9 +13,9 @@ use Rattle.oer_literals.specs.Bits.{is_one}
 use Rattle.oer_literals.specs.Numbers.{integer_of, arc_of}
 use Rattle.oer_literals.specs.Items.{number_named}
 use Rattle.oer_notation.specs.Grammar.{IsId, an_id, IsItemNamed, this_item, later_item, between_quotes, text_of, AreArcs, no_arcs, an_arc, IsValue, true_value, false_value, null_value, number_value as a_number_value, item_value, octets_value, digit_bits_value, bits_value as a_bits_value, text_value, utf8_value, arcs_value, IsNeed, needed, optional, with_default}
-use Rattle.oer_notation.specs.State.{State, first, bump, is_sign, is_word, at_sign, at_word, same_sign, skip_sign}
-use Rattle.oer_notation.specs.Values.{arcs_more, arcs_at, truth_at, null_at, integer_at, oid_at, value_at, need_at}
-use Rattle.oer_notation.specs.Words.{is_id}
+use Rattle.oer_value_notation.specs.State.{State, first, bump, is_sign, is_word, at_sign, at_word, same_sign, skip_sign}
+use Rattle.oer_value_notation.specs.Values.{arcs_more, arcs_at, truth_at, null_at, integer_at, oid_at, value_at, need_at}
+use Rattle.oer_value_notation.specs.Words.{is_id}
 use Rattle.oer_notation.proofs.Comes.{Comes, done, front, sole, split, Follows}
 use Rattle.oer_notation.proofs.CompleteNumbers.{bound_reads, arc_reads, number_given}
 use Rattle.oer_notation.proofs.Digits.{text_in_is}

@@ -11,8 +11,8 @@ use Rattle.oer_model.specs.Limits.{max_depth, max_parts}
 use Rattle.oer_model.proofs.fitting.Leaves.{some_depth}
 use Rattle.oer_notation.specs.Parsing.{faultless, checked, definition_at}
 use Rattle.oer_notation.specs.Reading.{Known, named_at, with_parts, type_at}
-use Rattle.oer_notation.specs.State.{State, fault, bump, full}
-use Rattle.oer_notation.specs.declared.fault.TextWhy.TheVariants as why
+use Rattle.oer_value_notation.specs.State.{State, fault, bump, full}
+use Rattle.oer_value_notation.specs.declared.fault.TextWhy.TheVariants as why
 
 pub named_deep : (levels : ℕ) (T : AsnType) (s : State) → levels < depth T → named_at levels (Some T) s ≡ Err (fault (why.Schema TooDeep) s)
 unfolding named_at

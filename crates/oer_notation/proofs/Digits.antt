@@ -8,8 +8,8 @@ use Rattle.hex.specs.Hex.{hex_digit_value, digit_or_error, value_at, pair_value,
 use Rattle.hex.specs.declared.error.FromHexError.{FromHexError}
 use Rattle.oer_model.specs.Bits.{bit, bits_of, octets_for}
 use Rattle.oer_notation.specs.Grammar.{AreOctets, no_octets, an_octet, AreBits, no_bits, four_bits, unquoted, text_of}
-use Rattle.oer_notation.specs.Values.{ok_part, octets_in, bits_from, paired, digit_bits, text_step, text_after, text_in}
-use Rattle.oer_notation.specs.declared.value.Quoting.TheVariants as quoting
+use Rattle.oer_value_notation.specs.Values.{ok_part, octets_in, bits_from, paired, digit_bits, text_step, text_after, text_in}
+use Rattle.oer_value_notation.specs.declared.value.Quoting.TheVariants as quoting
 use Rattle.oer_notation.proofs.Took.{chosen}
 use Rattle.oer_notation.proofs.SoundNumbers.{some_if}
 

@@ -10,7 +10,7 @@ use Rattle.oer_model.specs.Fits.{Fits}
 use Rattle.oer_model.specs.WellFormed.{IsMisfit}
 use Rattle.oer_model.specs.declared.size.Size.{Size}
 use Rattle.oer_notation.specs.Grammar.{AreOctets, no_octets, an_octet, AreBits, no_bits, four_bits}
-use Rattle.oer_notation.specs.Values.{octets_in, bits_from, digit_bits}
+use Rattle.oer_value_notation.specs.Values.{octets_in, bits_from, digit_bits}
 use Rattle.oer_notation.proofs.Digits.{digit_below, pair_bits}
 
 same_number : (a b : ℕ) → a ≡ b → a == b ≡ true

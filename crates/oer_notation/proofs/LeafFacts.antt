@@ -6,7 +6,7 @@ use Rattle.oer_model.specs.LeafType.{NamedNumber}
 use Rattle.oer_model.specs.Nodes.{leaf_nodes}
 use Rattle.oer_model.specs.Widths.{HasBoundWidth, HaveItemWidths, HasSizeWidths, LeafHasWidths}
 use Rattle.oer_model.specs.declared.size.Size.{Size}
-use Rattle.oer_notation.specs.Leaves.{LeafForm, bounded, leaf_form, listed, plain, sized}
+use Rattle.oer_value_notation.specs.Leaves.{LeafForm, bounded, leaf_form, listed, plain, sized}
 
 -- each item is a part
 abbrev pub HasNodes : LeafForm → Type 0

@@ -1,21 +1,15 @@
--- The turns of the loops over items, components, alternatives and arcs.
-use Rattle.std.proofs.Common.{◌≡◌, ℕ, zero, suc, ◌+◌, ◌-◌, ◌≤◌, ◌<◌, List, [], ◌∷◌, ◌++◌, length, Bool, true, false, ◌==◌, Some, None, Ok, Err, refl, sym, ap, arith, sub-one}
-use Rattle.hex.specs.Hex.{decode_of}
-use Rattle.hex.specs.declared.error.FromHexError.{FromHexError}
+-- The turns of the loops over items, components, alternatives and definitions.
+use Rattle.std.proofs.Common.{◌≡◌, ℕ, zero, suc, ◌+◌, ◌-◌, ◌≤◌, ◌<◌, List, [], ◌∷◌, ◌++◌, length, Bool, true, false, ◌==◌, Ok, Err, refl, sym, arith, sub-one}
 use Rattle.oer_lexer.specs.Token.{spots_of}
 use Rattle.oer_lexer.specs.declared.token.Spot.{Spot as RawSpot}
 use Rattle.oer_model.specs.AsnType.{AsnType, NamedNumber}
 use Rattle.oer_values.specs.ShapeView.{SeenAlternative}
 use Rattle.oer_lexer.specs.declared.token.Sign.TheVariants.{Comma}
-use Rattle.oer_literals.specs.Numbers.{arc_of}
 use Rattle.oer_literals.proofs.Lists.{no_zero}
-use Rattle.oer_notation.specs.Numbers.{number_at}
 use Rattle.oer_notation.specs.Parsing.{entry_at, is_last, end_of, entries_more}
-use Rattle.oer_notation.specs.State.{State, Read, first, bump, at_sign}
-use Rattle.oer_notation.specs.Values.{ok_part, octets_in, is_number, arcs_more, text_step, text_after}
+use Rattle.oer_value_notation.specs.State.{State, Read, bump, at_sign}
 use Rattle.oer_notation.specs.Reading.{Known, NamedItems, Components, with_marker, Choices, with_alternative, with_choice_marker, past_marker, item_at, items_more, component_at, components_more, alternative_at, alternatives_more}
-use Rattle.oer_notation.specs.declared.fault.TextFault.{TextFault}
-use Rattle.oer_notation.specs.declared.value.Quoting.{Quoting}
+use Rattle.oer_value_notation.specs.declared.fault.TextFault.{TextFault}
 
 pub items_err : (numbered : Bool) (n place : ℕ) (found : NamedItems) (s : State) (e : TextFault) → 0 < n → item_at numbered place s ≡ Err e → items_more numbered n place found s ≡ Err e
 unfolding items_more
@@ -91,28 +85,6 @@ module _ (type : State → Read AsnType) where
 pub same_marker : (a : SeenAlternative) (c : Choices) → (with_alternative a c).extensible ≡ c.extensible
 same_marker a c = by_marker a c c.extensible refl
 
--- ---- arcs
-
-pub arcs_end : (n : ℕ) (found : List ℕ) (s : State) → 0 < n → is_number (first s) ≡ false → arcs_more n found s ≡ Ok (found, s)
-unfolding arcs_more
-arcs_end zero found s some h = absurd (omega arith)
-arcs_end (suc n) found s some h = rw h refl
-
-pub arcs_err : (n : ℕ) (found : List ℕ) (s : State) (e : TextFault) → 0 < n → is_number (first s) ≡ true → number_at arc_of s ≡ Err e → arcs_more n found s ≡ Err e
-unfolding arcs_more
-arcs_err zero found s e some h a = absurd (omega arith)
-arcs_err (suc n) found s e some h a = rw (h, a) refl
-
-pub arcs_step : (n : ℕ) (found : List ℕ) (s : State) (a : ℕ) (r : State) → 0 < n → is_number (first s) ≡ true → number_at arc_of s ≡ Ok (a, r) → arcs_more n found s ≡ arcs_more (n - 1) (found ++ a ∷ []) r
-unfolding arcs_more
-arcs_step zero found s a r some h e = absurd (omega arith)
-arcs_step (suc n) found s a r some h e = rw (h, e, sub-one) refl
-
-pub arcs_over : (n : ℕ) (found : List ℕ) (s : State) → n ≤ 0 → arcs_more n found s ≡ Err s.stop
-unfolding arcs_more
-arcs_over zero found s h = refl
-arcs_over (suc n) found s h = absurd (omega arith)
-
 -- ---- definitions
 
 pub entries_err : (n : ℕ) (known : List Known) (s : State) (e : TextFault) → 0 < n → entry_at known s ≡ Err e → entries_more n known s ≡ Err e
@@ -139,24 +111,6 @@ pub entries_over : (n : ℕ) (known : List Known) (s : State) → n ≤ 0 → en
 unfolding entries_more
 entries_over zero known s h = refl
 entries_over (suc n) known s h = absurd (omega arith)
-
--- ---- characters of a text
-
-pub text_push : (p : Quoting × List ℕ) (xs : List ℕ) (c : ℕ) → text_after p (xs ++ c ∷ []) ≡ text_step (text_after p xs) c
-text_push p [] c = refl
-text_push p (x ∷ xs) c = text_push (text_step p x) xs c
-
-pub octets_given : (w xs : List ℕ) → decode_of w ≡ Ok xs → octets_in w ≡ Some xs
-unfolding octets_in
-octets_given w xs h = ap (λ r. ok_part r) h
-
-pub octets_none : (w : List ℕ) (e : FromHexError) → decode_of w ≡ Err e → octets_in w ≡ None
-unfolding octets_in
-octets_none w e h = ap (λ r. ok_part r) h
-
-pub spots_count : (ss : List RawSpot) → length (spots_of ss) ≡ length ss
-spots_count [] = refl
-spots_count (s ∷ ss) = ap suc (spots_count ss)
 
 pub last_spots : (ss : List RawSpot) → is_last (spots_of ss) ≡ (length ss == 0)
 last_spots [] = refl

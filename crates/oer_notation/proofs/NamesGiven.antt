@@ -12,10 +12,10 @@ use Rattle.oer_model.specs.AsnType.{AsnType}
 use Rattle.oer_model.specs.WellFormed.{AnyOf}
 use Rattle.oer_notation.specs.Grammar.{IsName, a_name, IsDefined, this_definition, later_definition}
 use Rattle.oer_notation.specs.Reading.{Known, find, of_word, of_name, start_word, start_by, start_at}
-use Rattle.oer_notation.specs.State.{State, first}
-use Rattle.oer_notation.specs.Words.{is_reserved, is_name, other_words, reserved, type_word}
-use Rattle.oer_notation.specs.declared.word.TypeWord.{TypeWord}
-use Rattle.oer_notation.specs.declared.word.TypeWord.TheVariants as tw
+use Rattle.oer_value_notation.specs.State.{State, first}
+use Rattle.oer_value_notation.specs.Words.{is_reserved, is_name, other_words, reserved, type_word}
+use Rattle.oer_value_notation.specs.declared.word.TypeWord.{TypeWord}
+use Rattle.oer_value_notation.specs.declared.word.TypeWord.TheVariants as tw
 use Rattle.oer_notation.proofs.CompleteValues.{not_word}
 use Rattle.oer_notation.proofs.WordTable.{word_of, reserved_are}
 

@@ -14,11 +14,11 @@ use Rattle.oer_notation.specs.Grammar.{Spells, IsType, named_type}
 use Rattle.oer_model.specs.Limits.{max_depth, max_parts}
 use Rattle.oer_notation.specs.Parsing.{start, faultless, checked, definition_at, end_by, end_among, end_of, parse}
 use Rattle.oer_notation.specs.Reading.{Known, find, Start, nothing, of_word, of_name, start_at, word_type, with_parts, named_at, type_by, too_deep, entered, type_at}
-use Rattle.oer_notation.specs.State.{State, Read, first, bump, part_at, full}
-use Rattle.oer_notation.specs.declared.fault.TextFault.{TextFault}
-use Rattle.oer_notation.specs.declared.fault.TextWhy.{TextWhy}
-use Rattle.oer_notation.specs.declared.fault.TextWhy.TheVariants as why
-use Rattle.oer_notation.specs.declared.word.TypeWord.{TypeWord}
+use Rattle.oer_value_notation.specs.State.{State, Read, first, bump, part_at, full}
+use Rattle.oer_value_notation.specs.declared.fault.TextFault.{TextFault}
+use Rattle.oer_value_notation.specs.declared.fault.TextWhy.{TextWhy}
+use Rattle.oer_value_notation.specs.declared.fault.TextWhy.TheVariants as why
+use Rattle.oer_value_notation.specs.declared.word.TypeWord.{TypeWord}
 use Rattle.oer_notation.proofs.SoundParts.{word_type_took}
 use Rattle.oer_notation.proofs.SpeltWidths.{AllHaveWidths, type_widths, few_nodes}
 use Rattle.oer_notation.proofs.Took.{bind_ok, chosen, same_ok, Took, after, ends, answered, take_first, part_took, unmoved}

@@ -11,8 +11,8 @@ use Rattle.oer_model.specs.Widths.{HasWidths}
 use Rattle.oer_notation.specs.Grammar.{SpellsAll, AreWellFormed, IsType, IsName, IsNew, AreDefinitions, one_definition, more_definitions}
 use Rattle.oer_notation.specs.Parsing.{start, definition_at, end_of, is_known, name_by, name_at, entry_at, is_last, entries_more, parse_all}
 use Rattle.oer_notation.specs.Reading.{Known, find}
-use Rattle.oer_notation.specs.State.{State, first, bump, skip_sign}
-use Rattle.oer_notation.specs.Words.{is_name}
+use Rattle.oer_value_notation.specs.State.{State, first, bump, skip_sign}
+use Rattle.oer_value_notation.specs.Words.{is_name}
 use Rattle.oer_notation.proofs.Sound.{definition_took, definition_well, all_taken}
 use Rattle.oer_notation.proofs.SpeltWidths.{AllHaveWidths, one_more, type_widths, few_nodes}
 use Rattle.oer_notation.proofs.Took.{bind_ok, chosen, same_ok, Took, both, turned, after, answered, take_first, skip_sign_took}

@@ -10,8 +10,8 @@ use Rattle.oer_model.specs.declared.size.Size.{Size}
 use Rattle.oer_notation.specs.Grammar.{IsInteger, an_integer, IsNatural, a_natural, IsBound, no_bound, a_bound, AreBounds, no_bounds, one_number, range, IsSizeEnd, no_end, an_end, IsSize, one_size, sizes, IsBracketedSize, any_size, bracketed, IsListSize, in_brackets, bare}
 use Rattle.oer_literals.specs.Numbers.{is_numeral, integer_within, natural_below, integer_of, item_number_of, size_of, tag_number_of, arc_of}
 use Rattle.oer_literals.proofs.Numerals.{IsRange, range_128, range_64, true_numeral}
-use Rattle.oer_notation.specs.Numbers.{number_at, end_at, is_given, high_at, bounds_at, size_high_at, size_at, bracketed_size_at, list_size_at}
-use Rattle.oer_notation.specs.State.{State, bump, at_sign, at_word, skip_sign, skip_word}
+use Rattle.oer_value_notation.specs.Numbers.{number_at, end_at, is_given, high_at, bounds_at, size_high_at, size_at, bracketed_size_at, list_size_at}
+use Rattle.oer_value_notation.specs.State.{State, bump, at_sign, at_word, skip_sign, skip_word}
 use Rattle.oer_notation.proofs.Took.{bind_ok, chosen, Took, stay, both, turned, after, answered, One, one_is, sign_took, word_took, skip_sign_took, skip_word_took, number_took}
 
 pub some_if : {A : Type 0} (b : Bool) (x y : A) → cond b (Some x) None ≡ Some y → (b ≡ true) × (x ≡ y)

@@ -15,13 +15,13 @@ use Rattle.oer_model.specs.AsnType.{NamedNumber, AsnType, leaf, sequence_of, Add
 use Rattle.oer_values.specs.ShapeView.{SeenField, SeenAddition, SeenAlternative, fields_from, additions_from, later_from, root_from}
 use Rattle.oer_notation.specs.Grammar.{IsId, IsInteger, IsNatural, IsItemNumber, own_number, number_by_place, AreItems, no_items, item, items_marker, IsClass, universal, application, private, context, IsTag, own_tag, tag_by_place, MayBeOptional, plain_addition, optional_addition, IsNeed, IsLeaf, bounds_behind, items_behind, nothing_behind, size_behind, IsType, leaf_type, empty_sequence_type, sequence_type, extensible_sequence_type, sequence_of_type, choice_type, AreComponents, no_components as none_there, component, components_marker, AreAdditions, none_added, added as an_addition, AreAlternatives, none_left, an_alternative, alternatives_marker, AreLater, none_later, a_later}
 use Rattle.oer_literals.specs.Numbers.{item_number_of, tag_number_of}
-use Rattle.oer_notation.specs.Leaves.{LeafForm, bounded, leaf_form, listed, plain, sized}
-use Rattle.oer_notation.specs.Numbers.{number_at, bounds_at, bracketed_size_at, list_size_at}
-use Rattle.oer_notation.specs.State.{State, Read, ◌>>=◌, bump, at_sign, at_word, skip_sign, skip_word, id_at, part_at, full}
-use Rattle.oer_notation.specs.Values.{need_at}
+use Rattle.oer_value_notation.specs.Leaves.{LeafForm, bounded, leaf_form, listed, plain, sized}
+use Rattle.oer_value_notation.specs.Numbers.{number_at, bounds_at, bracketed_size_at, list_size_at}
+use Rattle.oer_value_notation.specs.State.{State, Read, ◌>>=◌, bump, at_sign, at_word, skip_sign, skip_word, id_at, part_at, full}
+use Rattle.oer_value_notation.specs.Values.{need_at}
 use Rattle.oer_notation.specs.Reading.{Known, most, past_marker, go_on, NamedItems, item_number_at, numbered_at, item_at, items_more, items_at, class_at, tag_at, tagged_at, leaf_at, leaf_type_at, skip_second, Components, with_marker, with_field, with_addition, Choices, sequence_of_components, choice_of_choices, no_components, no_choices, past_optional, field_at, addition_at, alternative_at, component_at, components_more, alternatives_more, body_at, structure_at, list_at, sequence_at, choice_at, word_type}
-use Rattle.oer_notation.specs.declared.word.TypeWord.{TypeWord}
-use Rattle.oer_notation.specs.declared.word.TypeWord.TheVariants as tw
+use Rattle.oer_value_notation.specs.declared.word.TypeWord.{TypeWord}
+use Rattle.oer_value_notation.specs.declared.word.TypeWord.TheVariants as tw
 use Rattle.oer_notation.proofs.SoundNumbers.{item_number_sound, tag_number_sound, bounds_took, bracketed_took, list_size_took}
 use Rattle.oer_notation.proofs.SoundValues.{need_took}
 use Rattle.oer_notation.proofs.Took.{bind_ok, chosen, same_ok, Took, stay, both, turned, after, ends, answered, one_is, sign_took, word_took, skip_sign_took, skip_word_took, number_took, id_took, id_is, part_took, unmoved}

@@ -16,10 +16,10 @@ use Rattle.oer_notation.specs.Grammar.{IsInteger, IsNatural, IsItemNamed, this_i
 use Rattle.oer_literals.specs.Bits.{is_one}
 use Rattle.oer_literals.specs.Items.{number_named}
 use Rattle.oer_literals.specs.Numbers.{arc_of, integer_of}
-use Rattle.oer_notation.specs.Numbers.{number_at}
-use Rattle.oer_notation.specs.State.{State, first, bump, at_sign, at_word, skip_sign}
-use Rattle.oer_notation.specs.Values.{inside, octets_in, digit_bits, text_in, is_number, arcs_more, arcs_at, some_value, truth_at, null_at, integer_at, item_by, bits_by, octets_by, text_by, oid_at, leaf_value_at, value_at, need_at}
-use Rattle.oer_notation.specs.Words.{is_id}
+use Rattle.oer_value_notation.specs.Numbers.{number_at}
+use Rattle.oer_value_notation.specs.State.{State, first, bump, at_sign, at_word, skip_sign}
+use Rattle.oer_value_notation.specs.Values.{inside, octets_in, digit_bits, text_in, is_number, arcs_more, arcs_at, some_value, truth_at, null_at, integer_at, item_by, bits_by, octets_by, text_by, oid_at, leaf_value_at, value_at, need_at}
+use Rattle.oer_value_notation.specs.Words.{is_id}
 use Rattle.oer_notation.proofs.Digits.{octets_in_sound, digit_bits_sound, text_in_is}
 use Rattle.oer_notation.proofs.SoundNumbers.{bound_sound, arc_sound}
 use Rattle.oer_notation.proofs.Took.{bind_ok, chosen, same_ok, same_bytes, small, Took, stay, both, after, ends, answered, one_is, take_first, sign_took, word_took, skip_sign_took, number_took}

@@ -6,8 +6,8 @@ use Rattle.oer_notation.specs.Laws.{ParseAllRefuses, ParseAllSound, ParseRefuses
 use Rattle.oer_notation.specs.Parsing.{parse, parse_all}
 use Rattle.oer_notation.specs.Reading.{Known, find}
 use Rattle.oer_notation.specs.Refusing.{AreNoTypes, IsNoType}
-use Rattle.oer_notation.specs.State.{IsReading}
-use Rattle.oer_notation.specs.declared.fault.TextFault.{TextFault}
+use Rattle.oer_value_notation.specs.State.{IsReading}
+use Rattle.oer_value_notation.specs.declared.fault.TextFault.{TextFault}
 use Rattle.oer_notation.proofs.WordTable.{find_none, find_sound}
 
 pub spells_one : {A : Type 0} → ParseSound → (view : A → AsnType) (bs : List ℕ) (result : Result A TextFault) → IsReading view result (parse bs) → IfOk result (λ x. Spells (view x) bs)

@@ -7,10 +7,10 @@ use Rattle.oer_lexer.specs.declared.token.Sign.{Sign}
 use Rattle.oer_lexer.specs.declared.token.Sign.TheVariants.{OpenBrace, CloseBrace, OpenParenthesis, CloseParenthesis, OpenBracket, CloseBracket, Comma, Range, Ellipsis, Assign}
 use Rattle.oer_lexer.specs.Token.{Token, word, number, bits, digits, text, sign, Spot, tokens}
 use Rattle.oer_notation.specs.Grammar.{IsId, an_id}
-use Rattle.oer_notation.specs.Numbers.{given, number_at}
-use Rattle.oer_notation.specs.State.{State, Read, ◌>>=◌, first, first_of, bump, sign_number, same_sign, is_sign, at_sign, is_word, at_word, skip_sign, skip_word, id_by, id_at, number_text_by, number_text_at, part_at}
-use Rattle.oer_notation.specs.Words.{is_id}
-use Rattle.oer_notation.specs.declared.fault.TextFault.{TextFault}
+use Rattle.oer_value_notation.specs.Numbers.{given, number_at}
+use Rattle.oer_value_notation.specs.State.{State, Read, ◌>>=◌, first, first_of, bump, sign_number, same_sign, is_sign, at_sign, is_word, at_word, skip_sign, skip_word, id_by, id_at, number_text_by, number_text_at, part_at}
+use Rattle.oer_value_notation.specs.Words.{is_id}
+use Rattle.oer_value_notation.specs.declared.fault.TextFault.{TextFault}
 
 pub bind_ok : {A B : Type 0} (r : Result A TextFault) (f : A → Result B TextFault) (y : B) → (r >>= f) ≡ Ok y → (x : A) × (r ≡ Ok x) × (f x ≡ Ok y)
 bind_ok (Ok x) f y h = (x, refl, h)

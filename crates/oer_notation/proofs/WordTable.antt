@@ -1,20 +1,20 @@
 -- The words with which types begin, and Names.
 use Rattle.std.proofs.Common.{◌≡◌, ℕ, List, [], ◌∷◌, Bool, true, false, not, cond, ◌||◌, inl, inr, Option, Some, None, refl, sym, ap, subst, ◌∙◌}
-use Rattle.std.specs.Prelude.{codes, option_map, ◌++◌}
+use Rattle.std.specs.Prelude.{codes, option_map}
 use Rattle.std.specs.List.{list_any}
 use Rattle.std.specs.Str.{bytes_eq}
 use Rattle.std.proofs.lemmas.Bool.{and_parts}
 use Rattle.std.proofs.lemmas.Slice.Eq.{bytes_eq-Decides}
-use Rattle.oer_lexer.specs.LeafWords.{is_leaf_word, is_second, is_word_of, leaf_among, leaf_word, leaves, second_words, words_among, words_of}
+use Rattle.oer_lexer.specs.LeafWords.{leaf_among, leaf_word, leaves, words_of}
 use Rattle.oer_lexer.specs.declared.leaf.LeafWord.{LeafWord}
 use Rattle.oer_lexer.specs.Token.{Token, word, number, bits, digits, text, sign}
 use Rattle.oer_model.specs.AsnType.{AsnType}
 use Rattle.oer_model.specs.WellFormed.{AnyOf}
 use Rattle.oer_notation.specs.Grammar.{IsName, a_name, IsDefined, this_definition, later_definition}
 use Rattle.oer_notation.specs.Reading.{Known, find, Start, nothing, of_word, of_name, start_word, start_by}
-use Rattle.oer_notation.specs.Words.{is_reserved, is_name, other_words, reserved, type_word}
-use Rattle.oer_notation.specs.declared.word.TypeWord.{TypeWord}
-use Rattle.oer_notation.specs.declared.word.TypeWord.TheVariants as tw
+use Rattle.oer_value_notation.specs.Words.{is_reserved, is_name, reserved, type_word}
+use Rattle.oer_value_notation.specs.declared.word.TypeWord.{TypeWord}
+use Rattle.oer_value_notation.specs.declared.word.TypeWord.TheVariants as tw
 use Rattle.oer_notation.proofs.Took.{chosen, same_bytes}
 
 abbrev pub word_of : TypeWord → List ℕ
@@ -48,31 +48,9 @@ type_word_is w k h = elim (chosen (bytes_eq w (codes "SEQUENCE")) _ _ _ h) [
 
 -- ---- the words that are no Names
 
-or_assoc : (a b c : Bool) → (a || b) || c ≡ a || (b || c)
-or_assoc true b c = refl
-or_assoc false b c = refl
-
-any_append : (p : List ℕ → Bool) (vs us : List (List ℕ)) → list_any p (vs ++ us) ≡ list_any p vs || list_any p us
-any_append p [] us = refl
-any_append p (v ∷ vs) us = ap (λ b. p v || b) (any_append p vs us) ∙ sym (or_assoc (p v) (list_any p vs) (list_any p us))
-
-any_second : (w : List ℕ) (o : Option (List ℕ)) (us : List (List ℕ)) → list_any (bytes_eq w) (second_words o ++ us) ≡ is_second w o || list_any (bytes_eq w) us
-any_second w None us = refl
-any_second w (Some v) us = refl
-
-any_words : (w : List ℕ) (ks : List LeafWord) → list_any (bytes_eq w) (words_among ks) ≡ list_any (is_word_of w) ks
-any_words w [] = refl
-any_words w (k ∷ ks) =
-    ap (λ b. bytes_eq w (words_of k).0 || b) (any_second w (words_of k).1 (words_among ks) ∙ ap (λ b. is_second w (words_of k).1 || b) (any_words w ks))
-    ∙ sym (or_assoc (bytes_eq w (words_of k).0) (is_second w (words_of k).1) (list_any (is_word_of w) ks))
-
 pub reserved_are : (w : List ℕ) → is_reserved w ≡ list_any (bytes_eq w) reserved
 unfolding is_reserved
 reserved_are w = refl
-
-pub reserved_test : (w : List ℕ) → is_reserved w ≡ is_leaf_word w || list_any (bytes_eq w) other_words
-unfolding is_reserved is_leaf_word
-reserved_test w = any_append (bytes_eq w) (words_among leaves) other_words ∙ ap (λ b. b || list_any (bytes_eq w) other_words) (any_words w leaves)
 
 not_this : (w v : List ℕ) → bytes_eq w v ≡ false → v ≡ w → ⊥
 not_this w v h e = let on = (bytes_eq-Decides w v).1 (sym e) in cc

@@ -20,9 +20,9 @@ use Rattle.oer_model.specs.declared.size.Size.{Size}
 use Rattle.oer_units.specs.declared.tagging.Class.{Class}
 use Rattle.oer_units.specs.declared.tagging.Class.TheVariants.{Universal, Application, Context, Private}
 use Rattle.oer_units.specs.declared.tagging.Tag.{Tag}
-use Rattle.oer_notation.specs.Leaves.{LeafForm, bounded, leaf_form, listed, plain, sized}
+use Rattle.oer_value_notation.specs.Leaves.{LeafForm, bounded, leaf_form, listed, plain, sized}
 use Rattle.oer_notation.specs.Reading.{Known}
-use Rattle.oer_notation.specs.Words.{reserved}
+use Rattle.oer_value_notation.specs.Words.{reserved}
 
 -- ---- words and numbers
 

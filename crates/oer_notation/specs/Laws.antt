@@ -5,7 +5,7 @@ use Rattle.oer_model.specs.WellFormed.{IsWellFormed}
 use Rattle.oer_notation.specs.Grammar.{Spells, SpellsAll, AreWellFormed}
 use Rattle.oer_notation.specs.Parsing.{parse, parse_all}
 use Rattle.oer_notation.specs.Reading.{Known}
-use Rattle.oer_notation.specs.declared.fault.TextFault.{TextFault}
+use Rattle.oer_value_notation.specs.declared.fault.TextFault.{TextFault}
 
 -- What is read of a text is a well-formed type that the text spells.
 abbrev pub ParseSound : Type 0

@@ -1,12 +1,6 @@
 pub mod Grammar
 pub mod Laws
-pub mod Leaves
-pub mod Numbers
 pub mod Parsing
 pub mod Reading
-pub mod State
-pub mod Values
 pub mod Views
-pub mod Words
 pub mod Refusing
-pub mod Faults

@@ -8,11 +8,11 @@ use Rattle.oer_model.specs.Limits.{max_depth, max_parts}
 use Rattle.oer_model.specs.FaultTest.{first_fault}
 use Rattle.oer_model.specs.declared.fault.SchemaFault.{SchemaFault}
 use Rattle.oer_notation.specs.Reading.{Known, find, with_parts, type_at}
-use Rattle.oer_notation.specs.State.{State, Read, ◌>>=◌, first, fault, bump, skip_sign}
-use Rattle.oer_notation.specs.Words.{is_name}
-use Rattle.oer_notation.specs.declared.fault.TextFault.{TextFault}
-use Rattle.oer_notation.specs.declared.fault.TextWhy.{TextWhy}
-use Rattle.oer_notation.specs.declared.fault.TextWhy.TheVariants as why
+use Rattle.oer_value_notation.specs.State.{State, Read, ◌>>=◌, first, fault, bump, skip_sign}
+use Rattle.oer_value_notation.specs.Words.{is_name}
+use Rattle.oer_value_notation.specs.declared.fault.TextFault.{TextFault}
+use Rattle.oer_value_notation.specs.declared.fault.TextWhy.{TextWhy}
+use Rattle.oer_value_notation.specs.declared.fault.TextWhy.TheVariants as why
 
 -- before the first token
 abbrev pub start : Lexed → State

@@ -14,15 +14,15 @@ use Rattle.oer_values.specs.ShapeView.{SeenField, SeenAddition, SeenAlternative,
 use Rattle.oer_model.specs.WellFormed.{depth}
 use Rattle.oer_model.specs.declared.fault.SchemaFault.TheVariants.{TooDeep}
 use Rattle.oer_literals.specs.Numbers.{item_number_of, tag_number_of}
-use Rattle.oer_notation.specs.Leaves.{LeafForm, bounded, leaf_form, listed, plain, sized}
-use Rattle.oer_notation.specs.Numbers.{number_at, bounds_at, bracketed_size_at, list_size_at}
-use Rattle.oer_notation.specs.State.{State, Read, ◌>>=◌, first, fault, bump, at_sign, at_word, skip_sign, skip_word, id_at, part_at, full}
-use Rattle.oer_notation.specs.Values.{need_at}
-use Rattle.oer_notation.specs.Words.{is_name, type_word}
-use Rattle.oer_notation.specs.declared.fault.TextFault.{TextFault}
-use Rattle.oer_notation.specs.declared.fault.TextWhy.TheVariants as why
-use Rattle.oer_notation.specs.declared.word.TypeWord.{TypeWord}
-use Rattle.oer_notation.specs.declared.word.TypeWord.TheVariants as tw
+use Rattle.oer_value_notation.specs.Leaves.{LeafForm, bounded, leaf_form, listed, plain, sized}
+use Rattle.oer_value_notation.specs.Numbers.{number_at, bounds_at, bracketed_size_at, list_size_at}
+use Rattle.oer_value_notation.specs.State.{State, Read, ◌>>=◌, first, fault, bump, at_sign, at_word, skip_sign, skip_word, id_at, part_at, full}
+use Rattle.oer_value_notation.specs.Values.{need_at}
+use Rattle.oer_value_notation.specs.Words.{is_name, type_word}
+use Rattle.oer_value_notation.specs.declared.fault.TextFault.{TextFault}
+use Rattle.oer_value_notation.specs.declared.fault.TextWhy.TheVariants as why
+use Rattle.oer_value_notation.specs.declared.word.TypeWord.{TypeWord}
+use Rattle.oer_value_notation.specs.declared.word.TypeWord.TheVariants as tw
 
 -- a Name and the type that a definition gave it
 pub record Known : Type 0 where

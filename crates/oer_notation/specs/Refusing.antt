@@ -4,8 +4,8 @@ use Rattle.oer_model.specs.AsnType.{AsnType}
 use Rattle.oer_model.specs.WellFormed.{IsWellFormed}
 use Rattle.oer_notation.specs.Grammar.{AreWellFormed, Spells, SpellsAll}
 use Rattle.oer_notation.specs.Reading.{Known}
-use Rattle.oer_notation.specs.declared.fault.TextFault.{TextFault}
-use Rattle.oer_notation.specs.declared.fault.TextWhy.TheVariants as why
+use Rattle.oer_value_notation.specs.declared.fault.TextFault.{TextFault}
+use Rattle.oer_value_notation.specs.declared.fault.TextWhy.TheVariants as why
 
 -- Unless memory ran out, the text spells no well-formed type.
 abbrev pub IsNoType : TextFault → List ℕ → Type 0

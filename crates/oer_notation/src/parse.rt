@@ -2,24 +2,21 @@
 ghost use Rattle.std.specs.Prelude.{◌≡◌, [], map, option_map, OnOk, Some, false};
 ghost use Rattle.oer_types.specs.Schema.{the_type};
 ghost use Rattle.oer_values.specs.ShapeView.{named_number, seen_addition, seen_alternative, seen_field, type_of};
-ghost use Rattle.oer_notation.specs.State.{IsReading, state_of};
+ghost use Rattle.oer_value_notation.specs.State.{IsReading, state_of};
 ghost use Rattle.oer_notation.specs.Reading.{addition_at, alternative_at, alternatives_more, body_at, choice_at, choice_of_choices, class_at, component_at, components_more, field_at, find, is_start, item_at, item_number_at, items_at, items_more, leaf_at, leaf_type_at, list_at, missing_number, missing_tag, most, named_at, no_choices, no_components, numbered_at, past_marker, sequence_at, sequence_of_components, skip_second, start_at, structure_at, tag_at, tagged_at, type_at, with_alternative, word_type};
 ghost use Rattle.oer_lexer.specs.LeafWords.{words_of};
-ghost use Rattle.oer_notation.specs.Leaves.{leaf_form};
+ghost use Rattle.oer_value_notation.specs.Leaves.{leaf_form};
 ghost use Rattle.oer_notation.specs.Views.{choices, components, known, named, start_of};
 
-use crate::cursor::Cursor;
-use crate::fault::{TextFault, TextWhy};
-use crate::number::{
-    read_bounds, read_bracketed_size, read_item_number, read_list_size, read_tag_number,
-};
-use crate::value::read_need;
-use crate::word::{TypeWord, is_name, type_word};
 use oer_lexer::{LeafWord, Sign, Token};
 use oer_types::{
     Addition, Alt, Field, Item, Schema, SchemaFault, Shape, is_within_depth, parts_left,
 };
 use oer_units::{Class, Tag};
+use oer_value_notation::{
+    Cursor, TextFault, TextWhy, TypeWord, is_name, read_bounds, read_bracketed_size,
+    read_item_number, read_list_size, read_need, read_tag_number, type_word,
+};
 use std::alloc::{AllocFailed, Global};
 
 /// A Name and its type.

@@ -5,19 +5,17 @@ ghost use Rattle.oer_lexer.specs.Token.{spots_of};
 ghost use Rattle.oer_types.specs.Schema.{the_type};
 ghost use Rattle.oer_notation.specs.Grammar.{IsDefined, IsNew, Spells, SpellsAll};
 ghost use Rattle.oer_notation.specs.Refusing.{AreNoTypes, IsNoType};
-ghost use Rattle.oer_notation.specs.State.{IsReading, state_of};
+ghost use Rattle.oer_value_notation.specs.State.{IsReading, state_of};
 ghost use Rattle.oer_notation.specs.Reading.{find};
 ghost use Rattle.oer_notation.specs.Parsing.{definition_at, end_of, entries_more, entry_at, name_at, parse, parse_all, start};
 ghost use Rattle.oer_notation.specs.Views.{known, knowns};
 
-use crate::cursor::Cursor;
-use crate::fault::{TextFault, TextWhy};
 use crate::laws::{what_is_parsed_is_spelled, what_is_spelled_is_parsed};
 use crate::parse::{Definition, find, read_type};
-use crate::word::is_name;
 use oer_lexer::{Sign, Token, Tokens, lex};
 use oer_types::laws::first_fault;
 use oer_types::{MAX_DEPTH, MAX_PARTS, Schema};
+use oer_value_notation::{Cursor, TextFault, TextWhy, is_name};
 use std::alloc::Global;
 
 /// Types by their Names.

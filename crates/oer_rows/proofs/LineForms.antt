@@ -25,7 +25,7 @@ use Rattle.oer_checker.specs.Steps.{addition_map, between, sized_length, sized_q
 use Rattle.oer_rows.specs.declared.row.Role.{Role}
 use Rattle.oer_rows.specs.declared.row.Role.TheVariants.{Bitmap, Contents, Length, Preamble, Quantity, Tag as TagRole, Unknown}
 use Rattle.oer_checker.proofs.LengthSteps.{sized_room}
-use Rattle.oer_checker.proofs.UnitFronts.{Sound, length_sound, map_sound, quantity_sound, value_sound}
+use Rattle.oer_parts.proofs.UnitFronts.{Sound, length_sound, map_sound, quantity_sound, value_sound}
 
 -- from p to q lines were added, and they are those by S of the octets between
 abbrev pub Gives : ℕ → (ℕ → List Line → List ℕ → Type 0) → List Line → Place → List Line → Place → Type 0

@@ -25,7 +25,7 @@ use Rattle.oer_rows.specs.declared.row.Role.{Role}
 use Rattle.oer_rows.specs.declared.row.Role.TheVariants.{Bitmap, Contents, Length, Preamble, Quantity, Tag as TagRole, Unknown}
 use Rattle.oer_checker.proofs.FieldSteps.{by_bit, extensible_stop, extensible_then, field_is, items_stop, items_then, map_stop, map_then, sequence_stop, sequence_then}
 use Rattle.oer_checker.proofs.Joins.{and_all, bind_got, bind_stop, give_got}
-use Rattle.oer_checker.proofs.UnitFronts.{Sound, length_sound, map_sound, quantity_sound, value_sound}
+use Rattle.oer_parts.proofs.UnitFronts.{Sound, length_sound, map_sound, quantity_sound, value_sound}
 use Rattle.oer_checker.proofs.LengthSteps.{length_then, octets_stop, open_stop, open_then}
 use Rattle.oer_checker.proofs.TagSteps.{choice_stop, choice_then}
 

@@ -223,11 +223,6 @@ later_value (a ∷ xs) after total path t e = later_step (same_tag a.tag t) (has
 abbrev after_tag : Bool → Alternatives → ℕ → List Step → Tag → Walker
 after_tag extensible more total path t = walk_chosen extensible more (walk_alternative more total path t) (walk_unknown total path) t
 
-pub choice_root : (extensible : Bool) (xs : List Alt) (after : Alternatives) (total : ℕ) (path : List Step) (t : Tag) → true ≡ has_tag t (root_of xs no_alternatives) → walk_alternative (root_of xs no_alternatives) total path t ≡ after_tag extensible (root_of xs after) total path t
-choice_root extensible xs after total path t has =
-    root_value xs after total path t has
-    ∙ ap (λ (b : Bool). walk_choose b (walk_alternative (root_of xs after) total path t) (walk_choose extensible (walk_unknown total path) stuck)) (sym (in_root xs after t has))
-
 pub choice_later : (xs more : List Alt) (total : ℕ) (path : List Step) (t : Tag) → false ≡ has_tag t (root_of xs no_alternatives) → walk_later (later_of more) total path t ≡ after_tag true (root_of xs (later_of more)) total path t
 choice_later xs more total path t none =
     ap₂ (λ (b : Bool) (c : Walker). walk_choose b c (walk_unknown total path)) (sym (not_in_root xs (later_of more) t none)) (later_value xs (later_of more) total path t none)
@@ -250,11 +245,23 @@ root_first : (xs : List Alt) (total : ℕ) (path : List Step) (t : Tag) → walk
 root_first [] total path t = refl
 root_first (a ∷ xs) total path t = root_step (same_tag a.tag t) a total path (walk_alternative (root_of xs no_alternatives) total path t) (first_with t xs) (root_first xs total path t)
 
-pub root_found : (xs : List Alt) (a : Alt) (total : ℕ) (path : List Step) (t : Tag) → Some a ≡ first_with t xs → walk_value (type_of a.shape) total path ≡ walk_alternative (root_of xs no_alternatives) total path t
+root_found : (xs : List Alt) (a : Alt) (total : ℕ) (path : List Step) (t : Tag) → Some a ≡ first_with t xs → walk_value (type_of a.shape) total path ≡ walk_alternative (root_of xs no_alternatives) total path t
 root_found xs a total path t is = ap (root_or total path) is ∙ sym (root_first xs total path t)
 
-pub root_none : (xs : List Alt) (total : ℕ) (path : List Step) (t : Tag) → None ≡ first_with t xs → stuck ≡ walk_alternative (root_of xs no_alternatives) total path t
-root_none xs total path t is = ap (root_or total path) is ∙ sym (root_first xs total path t)
+has_step : (b x : Bool) (y a : Alt) (p : Option Alt) → (Some a ≡ p → true ≡ x) → Some a ≡ (if b then Some y else p) → true ≡ (b || x)
+has_step true x y a p f e = refl
+has_step false x y a p f e = f e
+
+has_first : (xs : List Alt) (a : Alt) (t : Tag) → Some a ≡ first_with t xs → true ≡ has_tag t (root_of xs no_alternatives)
+has_first [] a t e = absurd (cc)
+has_first (x ∷ xs) a t e = has_step (same_tag x.tag t) (has_tag t (root_of xs no_alternatives)) x a (first_with t xs) (has_first xs a t) e
+
+pub choice_root : (extensible : Bool) (xs : List Alt) (after : Alternatives) (a : Alt) (total : ℕ) (path : List Step) (t : Tag) → Some a ≡ first_with t xs → walk_value (type_of a.shape) total path ≡ after_tag extensible (root_of xs after) total path t
+choice_root extensible xs after a total path t is =
+    let has = has_first xs a t is in
+    root_found xs a total path t is
+    ∙ root_value xs after total path t has
+    ∙ ap (λ (b : Bool). walk_choose b (walk_alternative (root_of xs after) total path t) (walk_choose extensible (walk_unknown total path) stuck)) (sym (in_root xs after t has))
 
 abbrev later_or : ℕ → List Step → Option Alt → Walker
 later_or total path None = walk_unknown total path

@@ -13,7 +13,7 @@ use Rattle.oer_model.specs.Reading.{preamble}
 use Rattle.oer_checker.specs.Places.{place_of}
 use Rattle.oer_model.specs.SharedSteps.{bits_left, is_there}
 use Rattle.oer_checker.specs.Steps.{addition_map, between, sized_length, sized_quantity}
-use Rattle.oer_checker.specs.Walk.{path_of}
+use Rattle.oer_parts.specs.Walk.{path_of}
 use Rattle.oer_checker.specs.declared.cursor.Cursor.{Cursor}
 use Rattle.oer_rows.specs.declared.row.Halt.{Halt}
 use Rattle.oer_rows.specs.declared.row.Halt.TheVariants.{Refused, Memory}
@@ -21,7 +21,7 @@ use Rattle.oer_rows.specs.declared.row.Role.{Role}
 use Rattle.oer_rows.specs.declared.row.Role.TheVariants.{Preamble, Bitmap, Quantity, Tag as TagRole, Length, Contents, Unknown}
 use Rattle.oer_rows.specs.declared.row.Row.{Row}
 use Rattle.oer_rows.specs.declared.spot.Spot.{Spot}
-use Rattle.oer_checker.specs.declared.step.Step as rust_step
+use Rattle.oer_parts.specs.declared.step.Step as rust_step
 use Rattle.oer_checker.specs.declared.stop.Stop.{Stop}
 
 -- octets: how many are before them, the path to the part of which they are a piece, what they are, and they themselves

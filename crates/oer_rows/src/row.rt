@@ -1,6 +1,7 @@
 //! Rows of an encoding: what its octets are.
 
-use oer_checker::{Step, Verdict};
+use oer_checker::Verdict;
+use oer_parts::Step;
 use oer_units::ReadFault;
 
 /// What the octets of a row are.

@@ -1,11 +1,11 @@
 //! Where a walk through octets is, and the rows that it adds.
 ghost use Rattle.std.specs.Prelude.{◌≡◌};
 ghost use Rattle.oer_rows.specs.Rows.{Adds, Copies, Reaches, ReadsRow, lines_of};
-ghost use Rattle.oer_checker.specs.Walk.{step_of};
+ghost use Rattle.oer_parts.specs.Walk.{step_of};
 
 use crate::row::{Halt, Role, Row};
-use oer_checker::Step;
 use oer_checker::readers::{Cursor, Stop, octets_between};
+use oer_parts::Step;
 use std::alloc::Global;
 
 /// The part that a walk is in, and how many octets the walk began with.

@@ -1,21 +1,21 @@
 //! How the rows of an encoding are made.
-ghost use Rattle.oer_model.specs.AsnType.{no_alternatives, sequence, sequence_of};
-ghost use Rattle.oer_values.specs.ShapeView.{additions_of, fields_of, later_of, root_of, type_of};
+ghost use Rattle.oer_model.specs.AsnType.{sequence, sequence_of};
+ghost use Rattle.oer_values.specs.ShapeView.{additions_of, fields_of, later_of, type_of};
 ghost use Rattle.oer_checker.specs.BitView.{IsWhole, bits_in};
 ghost use Rattle.oer_checker.specs.Facts.{IsChoice, IsExtensible, IsLeaf};
 ghost use Rattle.oer_checker.specs.Places.{place_of};
-ghost use Rattle.oer_rows.specs.Rows.{Walks, lines_of, path_in, walk_additions, walk_alternative, walk_extension, walk_fields, walk_if, walk_later, walk_open, walk_rest, walk_times, walk_unknown, walk_value};
+ghost use Rattle.oer_rows.specs.Rows.{Walks, lines_of, path_in, walk_additions, walk_extension, walk_fields, walk_if, walk_later, walk_open, walk_rest, walk_times, walk_unknown, walk_value};
 ghost use Rattle.oer_model.specs.Parts.{to_addition, to_component, to_item};
 ghost use Rattle.std.specs.Prelude.{◌++◌, ◌∷◌, [], drop};
 
 use crate::row::{Halt, Role, Row};
 use crate::spot::Spot;
-use oer_checker::Step;
 use oer_checker::readers::{
     Bits, Cursor, addition_map, check_leaf, group_at, preamble, presence, sized_length_at,
     sized_quantity_at, tag_at,
 };
-use oer_types::{Addition, Alt, Field, Shape, Size, contains_tag, optional, with_tag};
+use oer_parts::Step;
+use oer_types::{Addition, Alt, Field, Shape, Size, optional, with_tag};
 use oer_units::Tag;
 
 /// A value of a type without parts.
@@ -167,8 +167,8 @@ fn list_choice<'a>(
     let answer = tag_at(&mut next);
     let tag = spot.taken(Role::Tag, rows, cursor, next, answer)?;
     let inner = spot.inner(Step::Chosen)?;
-    if contains_tag(alternatives, tag) {
-        return list_alternative(&inner, alternatives, tag, next, rows);
+    if let Some(alternative) = with_tag(alternatives, tag) {
+        return list_shape(&inner, &alternative.shape, next, rows);
     }
     match additions {
         None => Err(Halt::Refused),
@@ -325,23 +325,6 @@ fn list_additions<'a>(
         index += 1;
     }
     Ok(at)
-}
-
-/// The value of the alternative of the root that has the tag.
-#[cycle(list)]
-fn list_alternative<'a>(
-    spot: &Spot,
-    alternatives: &[Alt],
-    tag: Tag,
-    cursor: Cursor<'a>,
-    rows: &mut Vec<Row<'a>>,
-) -> Result<Cursor<'a>, Halt>
-    ensures { Walks result (lines_of rows.new.items) (walk_alternative (root_of alternatives.now no_alternatives) spot.now.total (path_in spot.now) tag (lines_of rows.old.items) (place_of cursor.entry)) }
-{
-    match with_tag(alternatives, tag) {
-        Some(alternative) => list_shape(spot, &alternative.shape, cursor, rows),
-        None => Err(Halt::Refused),
-    }
 }
 
 /// What follows a tag that no alternative of the root has (X.696, 20).

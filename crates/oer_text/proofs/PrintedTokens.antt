@@ -20,7 +20,7 @@ use Rattle.oer_model.specs.declared.size.Size.{Size}
 use Rattle.oer_units.specs.Laws.{HasTagNumber}
 use Rattle.oer_units.specs.declared.tagging.Tag.{Tag}
 use Rattle.oer_notation.specs.Grammar.{Spells, IsNeed, needed, optional, with_default, plain_addition, in_brackets, IsLeaf, bounds_behind, items_behind, nothing_behind, size_behind, IsType, leaf_type, empty_sequence_type, sequence_type, extensible_sequence_type, sequence_of_type, choice_type, AreComponents, no_components, component, components_marker, AreAdditions, none_added, added, AreAlternatives, none_left, an_alternative, alternatives_marker, AreLater, none_later, a_later}
-use Rattle.oer_notation.specs.Leaves.{LeafForm, bounded, leaf_form, listed, plain as unconstrained, sized}
+use Rattle.oer_value_notation.specs.Leaves.{LeafForm, bounded, leaf_form, listed, plain as unconstrained, sized}
 use Rattle.oer_notation.specs.Laws.{ParseComplete}
 use Rattle.oer_notation.specs.Parsing.{parse}
 use Rattle.oer_literals.specs.Items.{items_of, leaf_items}

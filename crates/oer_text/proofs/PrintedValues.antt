@@ -28,7 +28,7 @@ use Rattle.oer_literals.specs.Items.{items_of, name_of, leaf_items}
 use Rattle.oer_literals.proofs.Numerals.{range_128}
 use Rattle.oer_notation.specs.Grammar.{IsId, IsItemNamed, this_item, later_item, between_quotes, AreOctets, no_octets, an_octet, unquoted, text_of, AreArcs, no_arcs, an_arc, IsValue, true_value, false_value, null_value, number_value, item_value, octets_value, bits_value, text_value, utf8_value, arcs_value}
 use Rattle.oer_printer.specs.Printing.{natural_token, inside_quotes, doubled, quoted_text, value_tokens, is_visible, value_has_notation}
-use Rattle.oer_notation.specs.Values.{ok_part, octets_in}
+use Rattle.oer_value_notation.specs.Values.{ok_part, octets_in}
 use Rattle.oer_notation.proofs.Digits.{octets_in_sound}
 use Rattle.oer_text.proofs.PrintedNumbers.{AllIds, id_given, integer_given, integer_spelt, natural_given, natural_spelt, short_128, worded}
 use Rattle.oer_text.proofs.PrintedText.{AreTokens, no_tokens, plain, single, both}

@@ -20,9 +20,9 @@ use Rattle.oer_values.specs.ValueView.{places_from, places_of, value_of, values_
 use Rattle.oer_values.specs.declared.value.Value.{Value}
 use Rattle.oer_model.proofs.bits.LeastBits.{length-padded}
 use Rattle.oer_writer.specs.Bounds.{Bounds, BoundsPlaces, BoundsValues}
-use Rattle.oer_writer.specs.Parts.{chosen_octets, field_bits, field_octets, first_bits, is_kept, kept_place, place_bit, place_octets_of, root_octets, values_octets}
-use Rattle.oer_writer.proofs.Components.{count_of, extended_is, field_first, values_len}
-use Rattle.oer_writer.proofs.Places.{field_bits_first}
+use Rattle.oer_leaves.specs.Parts.{chosen_octets, field_bits, field_octets, first_bits, is_kept, kept_place, place_bit, place_octets_of, root_octets, values_octets}
+use Rattle.oer_leaves.proofs.Components.{count_of, extended_is, field_first, values_len}
+use Rattle.oer_leaves.proofs.Places.{field_bits_first}
 
 pub nil : (n : ℕ) → 0 ≤ n
 nil n = omega arith

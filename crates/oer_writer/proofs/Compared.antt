@@ -11,9 +11,9 @@ use Rattle.oer_model.specs.Constraints.{KeepsLimits}
 use Rattle.oer_model.specs.Fits.{Fits}
 use Rattle.oer_model.specs.Laws.{CanonicalComputed, CanonicalGiven}
 use Rattle.oer_model.specs.Strict.{IsCanonical}
-use Rattle.oer_writer.specs.Comparing.{begins_with, beside, failures_at, held_at}
-use Rattle.oer_writer.specs.Wrote.{Stopped, Wrote}
-use Rattle.oer_writer.specs.declared.comparison.Differing.{Differing}
+use Rattle.oer_leaves.specs.Comparing.{begins_with, beside, failures_at, held_at}
+use Rattle.oer_leaves.specs.Wrote.{Stopped, Wrote}
+use Rattle.oer_leaves.specs.declared.comparison.Differing.{Differing}
 use Rattle.oer_units.specs.declared.fault.SinkFault.{SinkFault}
 
 -- it tells which octets they are, and what was written

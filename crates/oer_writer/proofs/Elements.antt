@@ -6,8 +6,8 @@ use Rattle.oer_values.specs.ValueView.{values_of}
 use Rattle.oer_values.specs.declared.shape.Shape.{Shape, Boolean, the_lemmas}
 use Rattle.oer_values.specs.declared.value.Value.{Value}
 use Rattle.oer_units.specs.declared.fault.SinkFault.{SinkFault}
-use Rattle.oer_writer.specs.Parts.{values_octets}
-use Rattle.oer_writer.specs.Wrote.{Measures, Wrote}
+use Rattle.oer_leaves.specs.Parts.{values_octets}
+use Rattle.oer_leaves.specs.Wrote.{Measures, Wrote}
 
 type_of-Boolean : type_of Boolean ≡ boolean
 type_of-Boolean = search (rules, the_lemmas)

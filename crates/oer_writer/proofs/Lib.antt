@@ -1,14 +1,6 @@
-pub mod Steps
-pub mod Numbers
-pub mod PackSteps
-pub mod Places
-pub mod Views
-pub mod Components
-pub mod Elements
+mod Elements
 pub mod Sizes
 pub mod WholeValues
-pub mod Compared
-pub mod Bounds
-pub mod ShortNumbers
-pub mod Forms
-pub mod TypeBounds
+mod Compared
+mod Bounds
+mod TypeBounds

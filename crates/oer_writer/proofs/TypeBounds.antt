@@ -23,10 +23,10 @@ use Rattle.oer_model.specs.declared.size.Size.{Size}
 use Rattle.oer_values.specs.declared.value.Value.{Value}
 use Rattle.oer_model.proofs.bits.LeastBits.{length-padded}
 use Rattle.oer_model.proofs.fitting.NumberSteps.{wide}
-use Rattle.oer_writer.specs.Parts.{field_bits, field_octets, root_octets, values_octets}
+use Rattle.oer_leaves.specs.Parts.{field_bits, field_octets, root_octets, values_octets}
 use Rattle.oer_writer.specs.TypeBounds.{BoundsFieldsIn, BoundsIn, BoundsListIn, BoundsPlaceIn, BoundsRootIn, BoundsValuesIn, FieldsHaveMost, HasMost, StringsHaveMost}
 use Rattle.oer_writer.proofs.Bounds.{bool_bound, int_bound, item_bound, kept_few, nil, null_bound, root_few, string_few}
-use Rattle.oer_writer.proofs.Components.{count_of, extended_is, field_end, field_len, field_none}
+use Rattle.oer_leaves.proofs.Components.{count_of, extended_is, field_end, field_len, field_none}
 
 -- ---- by the type alone: leaves
 

@@ -14,7 +14,7 @@ use Rattle.oer_units.specs.declared.fault.SinkFault.{SinkFault}
 use Rattle.oer_writer.specs.declared.fault.WriteFault.{WriteFault}
 use Rattle.oer_writer.specs.declared.fault.WriteFault.TheVariants.{Device, TooLong}
 use Rattle.oer_writer.specs.Write.{Counts, HasLength, IsTooLong, TellsFailure, TellsLength, Writes, WritesAll, WritesCanonical}
-use Rattle.oer_writer.specs.Wrote.{Wrote}
+use Rattle.oer_leaves.specs.Wrote.{Wrote}
 
 pub from_ok : (n : ℕ) (octets : List ℕ) (old new : Option (List ℕ)) (f f' : ℕ) → length octets < 2 ^ 64 → Wrote 0 octets old f (Ok n) new f' → Writes octets old f (Ok n) new f'
 from_ok n octets old new f f' few (is, app, same) = let e : n ≡ length octets = omega (arith, is) in (e, omega (arith, e, few), app, same)

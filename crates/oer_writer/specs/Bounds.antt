@@ -3,7 +3,7 @@ use Rattle.std.specs.Prelude.{ℕ, ◌+◌, ◌≤◌, length, Option, IfSome}
 use Rattle.oer_model.specs.AsnType.{AsnType, Fields}
 use Rattle.oer_model.specs.AsnValue.{AsnValue, Places, Values}
 use Rattle.oer_model.specs.Canonical.{canonical_octets}
-use Rattle.oer_writer.specs.Parts.{field_octets, values_octets}
+use Rattle.oer_leaves.specs.Parts.{field_octets, values_octets}
 
 -- Those done before come to the answer at most, with the octets of v by any type. Nothing is said where there is none.
 abbrev pub Bounds : ℕ → AsnValue → Option ℕ → Type 0

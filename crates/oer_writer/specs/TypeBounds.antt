@@ -6,7 +6,7 @@ use Rattle.oer_model.specs.Canonical.{canonical_octets, string_octets}
 use Rattle.oer_model.specs.Constraints.{fixed, size_fits}
 use Rattle.oer_model.specs.Fits.{AllFit, Fits, FitsFields, listed}
 use Rattle.oer_model.specs.declared.size.Size.{Size}
-use Rattle.oer_writer.specs.Parts.{field_octets, place_octets_of, root_octets, values_octets}
+use Rattle.oer_leaves.specs.Parts.{field_octets, place_octets_of, root_octets, values_octets}
 
 -- ---- by the type alone. Nothing is said where there is no answer, here and below.
 

@@ -6,9 +6,8 @@ ghost use Rattle.oer_model.specs.AsnValue.{chosen, enum, int, items, octets, seq
 ghost use Rattle.oer_values.specs.ValueView.{places_of, unknown_of, value_of, values_of};
 ghost use Rattle.oer_writer.specs.Bounds.{Bounds, BoundsPlaces, BoundsValues};
 
-use crate::leaf::quantity_len;
 use crate::most::plus;
-use crate::presence::is_extended;
+use oer_leaves::{is_extended, quantity_len};
 use oer_types::{Unknown, Value};
 use oer_units::{Tag, tag_len};
 
@@ -37,7 +36,7 @@ fn bound_string(value: &[u8], done: u64) -> Option<u64>
 // Of any value; what holds no other, without a call.
 #[cycle(bound)]
 #[inline(always)]
-#[tactic(auto, using(crate::proofs::Views::views))]
+#[tactic(auto, using(oer_leaves::proofs::Views::views))]
 pub(crate) fn bound(value: &Value, done: u64) -> Option<u64>
     ensures { Bounds done (value_of value.now) result }
 {

@@ -1,26 +1,25 @@
 //! How many canonical octets a value has.
 ghost use Rattle.std.specs.Prelude.{◌≡◌, ◌++◌, ℕ, List, length, map, option_map};
 ghost use Rattle.oer_units.specs.Least.{counted, tag_octets, unsigned_octets};
-ghost use Rattle.oer_model.specs.AsnType.{no_alternatives};
 ghost use Rattle.oer_model.specs.AsnValue.{chosen, items, seq};
 ghost use Rattle.oer_model.specs.Bits.{padded};
 ghost use Rattle.oer_model.specs.Canonical.{bitmap_octets, canonical_octets, unknown_marks, unknown_octets};
-ghost use Rattle.oer_values.specs.ShapeView.{additions_of, fields_of, later_of, need_of, root_of, type_of};
+ghost use Rattle.oer_values.specs.ShapeView.{additions_of, fields_of, later_of, need_of, type_of};
 ghost use Rattle.oer_values.specs.ValueView.{places_of, unknown_of, value_of, values_of};
-ghost use Rattle.oer_writer.specs.Parts.{addition_octets, chosen_octets, counted_place, field_bits, field_octets, first_bits, kept_place, known_bits, known_octets, leaf_octets, place_octets_of, root_octets, values_octets};
-ghost use Rattle.oer_writer.specs.Wrote.{Measures};
+ghost use Rattle.oer_leaves.specs.Parts.{addition_octets, chosen_octets, counted_place, field_bits, field_octets, first_bits, kept_place, known_bits, known_octets, leaf_octets, place_octets_of, root_octets, values_octets};
+ghost use Rattle.oer_leaves.specs.Wrote.{Measures};
 
-use crate::booleans::measured_booleans;
-use crate::leaf::{put_leaf, put_quantity, put_tag_octets};
-use crate::presence::{is_extended, kept, measured_preamble, put_bitmap, put_unknown};
-use crate::slice::Nowhere;
-use oer_types::{Addition, Alt, Field, Shape, Unknown, Value, contains_tag, with_tag};
+use oer_leaves::{
+    Nowhere, is_extended, kept, measured_booleans, measured_preamble, put_bitmap, put_leaf,
+    put_quantity, put_tag_octets, put_unknown,
+};
+use oer_types::{Addition, Alt, Field, Shape, Unknown, Value, with_tag};
 use oer_units::{Tag, length_len};
 
 // Each of these adds the octets to those done, and answers none where they come to 2^64.
 
 #[cycle(measured)]
-#[tactic(auto, using(crate::proofs::Views::views))]
+#[tactic(auto, using(oer_leaves::proofs::Views::views))]
 pub(crate) fn measured(shape: &Shape, value: &Value, done: u64) -> Option<u64>
     ensures { Measures done (canonical_octets (type_of shape.now) (value_of value.now)) result }
 {
@@ -37,7 +36,7 @@ pub(crate) fn measured(shape: &Shape, value: &Value, done: u64) -> Option<u64>
 }
 
 #[cycle(measured)]
-#[tactic(auto, using(crate::proofs::Views::views))]
+#[tactic(auto, using(oer_leaves::proofs::Views::views))]
 fn measured_sequence(
     shape: &Shape,
     places: &[Option<Value>],
@@ -91,7 +90,7 @@ fn measured_extension(
 }
 
 #[cycle(measured)]
-#[tactic(auto, using(crate::proofs::Views::views))]
+#[tactic(auto, using(oer_leaves::proofs::Views::views))]
 fn measured_list(shape: &Shape, values: &[Value], done: u64) -> Option<u64>
     ensures { Measures done (canonical_octets (type_of shape.now) (items (values_of values.now))) result }
 {
@@ -103,7 +102,7 @@ fn measured_list(shape: &Shape, values: &[Value], done: u64) -> Option<u64>
 }
 
 #[cycle(measured)]
-#[tactic(auto, using(crate::proofs::Views::views))]
+#[tactic(auto, using(oer_leaves::proofs::Views::views))]
 fn measured_chosen(shape: &Shape, tag: Tag, value: &Value, done: u64) -> Option<u64>
     ensures { Measures done (canonical_octets (type_of shape.now) (chosen tag (value_of value.now))) result }
 {
@@ -112,8 +111,8 @@ fn measured_chosen(shape: &Shape, tag: Tag, value: &Value, done: u64) -> Option<
     };
     let alternatives: &[Alt] = root;
     let done = put_tag_octets(tag, done, &mut Nowhere).ok()?;
-    if contains_tag(alternatives, tag) {
-        return measured_alternative(alternatives, tag, value, done);
+    if let Some(alternative) = with_tag(alternatives, tag) {
+        return measured(&alternative.shape, value, done);
     }
     let Some(additions) = additions else {
         return Some(done);
@@ -195,16 +194,6 @@ fn measured_values(item: &Shape, values: &[Value], done: u64) -> Option<u64>
         done = measured(item, value, done)?;
     }
     Some(done)
-}
-
-#[cycle(measured)]
-fn measured_alternative(alternatives: &[Alt], tag: Tag, value: &Value, done: u64) -> Option<u64>
-    ensures { Measures done (chosen_octets (root_of alternatives.now no_alternatives) tag (value_of value.now)) result }
-{
-    match with_tag(alternatives, tag) {
-        Some(alternative) => measured(&alternative.shape, value, done),
-        None => Some(done),
-    }
 }
 
 #[cycle(measured)]

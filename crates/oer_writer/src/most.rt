@@ -30,7 +30,7 @@ fn most_of_string(size: Size) -> Option<u64>
 
 // Of any type.
 #[cycle(most)]
-#[tactic(auto, using(crate::proofs::Views::views))]
+#[tactic(auto, using(oer_leaves::proofs::Views::views))]
 pub(crate) fn most(shape: &Shape) -> Option<u64>
     ensures { HasMost (type_of shape.now) result }
 {

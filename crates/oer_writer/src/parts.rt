@@ -6,8 +6,8 @@ ghost use Rattle.oer_values.specs.ShapeView.{type_of};
 ghost use Rattle.oer_model.specs.Strict.{IsCanonical};
 ghost use Rattle.oer_values.specs.ValueView.{value_of};
 
-use crate::comparison::Comparison;
 use crate::put::put;
+use oer_leaves::Comparison;
 use oer_types::{Shape, Value, laws};
 
 /// Whether the octets are the canonical octets (X.696, Canonical-OER) of a value that fits the

@@ -1,19 +1,18 @@
 //! The canonical octets of a value, to a sink.
 ghost use Rattle.std.specs.Prelude.{◌≡◌, List, map, option_map};
-ghost use Rattle.oer_model.specs.AsnType.{no_alternatives};
 ghost use Rattle.oer_model.specs.AsnValue.{chosen, items, seq};
 ghost use Rattle.oer_model.specs.Canonical.{canonical_octets};
-ghost use Rattle.oer_values.specs.ShapeView.{additions_of, fields_of, later_of, need_of, root_of, type_of};
+ghost use Rattle.oer_values.specs.ShapeView.{additions_of, fields_of, later_of, need_of, type_of};
 ghost use Rattle.oer_values.specs.ValueView.{places_of, unknown_of, value_of, values_of};
-ghost use Rattle.oer_writer.specs.Parts.{addition_octets, chosen_octets, counted_place, field_octets, kept_place, known_octets, place_octets_of, root_octets, values_octets};
-ghost use Rattle.oer_writer.specs.Wrote.{Wrote, WroteHead};
+ghost use Rattle.oer_leaves.specs.Parts.{addition_octets, chosen_octets, counted_place, field_octets, kept_place, known_octets, place_octets_of, root_octets, values_octets};
+ghost use Rattle.oer_leaves.specs.Wrote.{Wrote, WroteHead};
 
-use crate::booleans::put_booleans;
-use crate::leaf::{put_leaf, put_quantity, put_tag_octets};
 use crate::measure::measured;
-use crate::presence::{is_extended, kept, put_bitmap, put_preamble, put_unknown};
-use crate::slice::put_count;
-use oer_types::{Addition, Alt, Field, Shape, Unknown, Value, contains_tag, with_tag};
+use oer_leaves::{
+    is_extended, kept, put_bitmap, put_booleans, put_count, put_leaf, put_preamble, put_quantity,
+    put_tag_octets, put_unknown,
+};
+use oer_types::{Addition, Alt, Field, Shape, Unknown, Value, with_tag};
 use oer_units::{Sink, SinkFault, Tag};
 
 // Writes the length of a value in an open type.
@@ -33,7 +32,7 @@ fn put_open_head<W: Sink>(
 
 // Writes the canonical octets of a value.
 #[cycle(put)]
-#[tactic(auto, using(crate::proofs::Views::views))]
+#[tactic(auto, using(oer_leaves::proofs::Views::views))]
 pub(crate) fn put<W: Sink>(
     shape: &Shape,
     value: &Value,
@@ -56,7 +55,7 @@ pub(crate) fn put<W: Sink>(
 
 // Writes a SEQUENCE (X.696, 16).
 #[cycle(put)]
-#[tactic(auto, using(crate::proofs::Views::views))]
+#[tactic(auto, using(oer_leaves::proofs::Views::views))]
 fn put_sequence<W: Sink>(
     shape: &Shape,
     places: &[Option<Value>],
@@ -116,7 +115,7 @@ fn put_extension<W: Sink>(
 
 // Writes a SEQUENCE OF (X.696, 17).
 #[cycle(put)]
-#[tactic(auto, using(crate::proofs::Views::views))]
+#[tactic(auto, using(oer_leaves::proofs::Views::views))]
 fn put_list<W: Sink>(
     shape: &Shape,
     values: &[Value],
@@ -134,7 +133,7 @@ fn put_list<W: Sink>(
 
 // Writes an alternative of a CHOICE (X.696, 20).
 #[cycle(put)]
-#[tactic(auto, using(crate::proofs::Views::views))]
+#[tactic(auto, using(oer_leaves::proofs::Views::views))]
 fn put_chosen<W: Sink>(
     shape: &Shape,
     tag: Tag,
@@ -149,8 +148,8 @@ fn put_chosen<W: Sink>(
     };
     let alternatives: &[Alt] = root;
     let done = put_tag_octets(tag, done, sink)?;
-    if contains_tag(alternatives, tag) {
-        return put_alternative(alternatives, tag, value, done, sink);
+    if let Some(alternative) = with_tag(alternatives, tag) {
+        return put(&alternative.shape, value, done, sink);
     }
     let Some(additions) = additions else {
         return Ok(done);
@@ -254,24 +253,8 @@ fn put_values<W: Sink>(
     Ok(done)
 }
 
-// Writes the value by the first alternative with the tag.
-#[cycle(put)]
-fn put_alternative<W: Sink>(
-    alternatives: &[Alt],
-    tag: Tag,
-    value: &Value,
-    done: u64,
-    sink: &mut W,
-) -> Result<u64, SinkFault>
-    ensures { Wrote done (chosen_octets (root_of alternatives.now no_alternatives) tag (value_of value.now)) (W.contents sink.old) (W.failed sink.old) result (W.contents sink.new) (W.failed sink.new) }
-{
-    match with_tag(alternatives, tag) {
-        Some(alternative) => put(&alternative.shape, value, done, sink),
-        None => Ok(done),
-    }
-}
-
-// The same after the extension marker, as an open type (X.696, 20).
+// Writes the value by the first alternative after the extension marker with the tag, as an open type
+// (X.696, 20).
 #[cycle(put)]
 fn put_later<W: Sink>(
     alternatives: &[Alt],

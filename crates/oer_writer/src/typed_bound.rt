@@ -7,14 +7,13 @@ ghost use Rattle.oer_values.specs.ValueView.{places_of, value_of, values_of};
 ghost use Rattle.oer_writer.specs.TypeBounds.{BoundsFieldsIn, BoundsIn, BoundsListIn, BoundsPlaceIn, BoundsRootIn, BoundsValuesIn};
 
 use crate::bound::{bound, bound_values};
-use crate::leaf::quantity_len;
 use crate::most::{most, plus, times};
-use crate::presence::is_extended;
+use oer_leaves::{is_extended, quantity_len};
 use oer_types::{Field, Shape, Value};
 
 // Of any value.
 #[cycle(typed_bound)]
-#[tactic(auto, using(crate::proofs::Views::views))]
+#[tactic(auto, using(oer_leaves::proofs::Views::views))]
 pub(crate) fn typed_bound(shape: &Shape, value: &Value, done: u64) -> Option<u64>
     ensures { BoundsIn (type_of shape.now) done (value_of value.now) result }
 {

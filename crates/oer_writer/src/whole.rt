@@ -9,9 +9,9 @@ ghost use Rattle.oer_writer.specs.Write.{Counts, Writes};
 use crate::fault::WriteFault;
 use crate::measure::measured;
 use crate::put::put;
-use crate::slice::put_slice;
 use crate::small::Small;
 use crate::typed_bound::typed_bound;
+use oer_leaves::put_slice;
 use oer_types::{Shape, Value};
 use oer_units::Sink;
 

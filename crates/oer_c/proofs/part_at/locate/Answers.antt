@@ -1,8 +1,8 @@
 use Rattle.std.proofs.Common.{List, subst}
 use Rattle.oer_types.specs.Schema.{the_type}
-use Rattle.oer_checker.specs.Ranges.{Lies}
-use Rattle.oer_checker.specs.Walk.{path_of}
-use Rattle.oer_checker.specs.declared.step.Step.{Step}
+use Rattle.oer_parts.specs.Ranges.{Lies}
+use Rattle.oer_parts.specs.Walk.{path_of}
+use Rattle.oer_parts.specs.declared.step.Step.{Step}
 use Rattle.oer_c.proofs.Locating.{lies_there}
 use Rattle.oer_c.proofs.part_at.locate.Goals as goal
 

@@ -6,7 +6,7 @@ use Rattle.oer_cmd.proofs.Lines.{of_all}
 use Rattle.oer_cmd.specs.Run.{IsCheckLine}
 use Rattle.oer_cmd.proofs.Refusals.{no_check_line, not_memory, too_high, too_long, unspelt}
 use Rattle.oer_cmd.proofs.Exact.{check_all, check_longer, check_unjudged, check_unspelt, judged_line}
-use Rattle.oer_checker.specs.declared.encoding.Encoding.{Encoding}
+use Rattle.oer_parts.specs.declared.encoding.Encoding.{Encoding}
 use Rattle.oer_cmd.specs.Answer.{checked}
 use Rattle.oer_cmd.proofs.Meeting.{missed_in, seen_in}
 use Rattle.oer_cmd.proofs.check.check_line.Goals as goal

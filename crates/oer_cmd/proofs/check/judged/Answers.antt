@@ -1,6 +1,6 @@
 use Rattle.std.proofs.Common.{Bool, [], sym, append-nil, arith}
 use Rattle.oer_types.specs.Schema.{the_type}
-use Rattle.oer_checker.specs.declared.encoding.Encoding.{Encoding}
+use Rattle.oer_parts.specs.declared.encoding.Encoding.{Encoding}
 use Rattle.oer_cmd.specs.Answer.{checked}
 use Rattle.oer_cmd.proofs.Exact.{judged_more, judged_none, judged_whole}
 use Rattle.oer_cmd.proofs.Meeting.{missed_as, seen_as}

@@ -3,10 +3,10 @@ use Rattle.std.proofs.lemmas.Result.{err_from_is_err_and}
 use Rattle.oer_model.specs.AsnType.{AsnType}
 use Rattle.oer_model.specs.Parts.{Within}
 use Rattle.oer_types.specs.Schema.{the_type}
-use Rattle.oer_checker.specs.Encoding.{octets_in, type_of_encoding}
-use Rattle.oer_checker.specs.Handing.{AnswersPart, Follows, Hands}
-use Rattle.oer_checker.specs.Walk.{path_of as steps_of}
-use Rattle.oer_checker.specs.declared.encoding.Encoding.{Encoding}
+use Rattle.oer_parts.specs.Encoding.{octets_in, type_of_encoding}
+use Rattle.oer_parts.specs.Handing.{AnswersPart, Follows, Hands}
+use Rattle.oer_parts.specs.Walk.{path_of as steps_of}
+use Rattle.oer_parts.specs.declared.encoding.Encoding.{Encoding}
 use Rattle.oer_cmd.specs.Answer.{checked}
 use Rattle.oer_cmd.proofs.Refusals.{unhanded}
 use Rattle.oer_cmd.proofs.Exact.{part_made, part_unjudged}

@@ -1,7 +1,7 @@
 use Rattle.std.proofs.Common.{ap}
 use Rattle.std.proofs.lemmas.Result.{err_from_is_err_and}
 use Rattle.oer_types.specs.Schema.{the_type}
-use Rattle.oer_checker.specs.Walk.{path_of as steps_of}
+use Rattle.oer_parts.specs.Walk.{path_of as steps_of}
 use Rattle.std.proofs.Common.{Global, Vec, ℕ, string_bytes}
 use Rattle.oer_options.specs.Words.{behind}
 use Rattle.oer_cmd.specs.Answer.{part_octets}

@@ -1,7 +1,7 @@
 use Rattle.std.proofs.Common.{refl, subst, sym}
 use Rattle.oer_options.specs.Words.{behind}
 use Rattle.oer_cmd.specs.declared.fault.Fault.TheVariants.{Path}
-use Rattle.oer_checker.specs.Walk.{path_of as steps_of}
+use Rattle.oer_parts.specs.Walk.{path_of as steps_of}
 use Rattle.oer_cmd.specs.Run.{IsPath}
 use Rattle.oer_cmd.proofs.Exact.{no_path, path_read, path_refused}
 use Rattle.oer_cmd.proofs.part.path_of.Goals as goal

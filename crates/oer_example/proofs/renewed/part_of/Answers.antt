@@ -1,8 +1,8 @@
 use Rattle.std.proofs.Common.{Ok, Err}
 use Rattle.std.proofs.lemmas.Result.{err_from_is_err_and}
 use Rattle.oer_types.specs.Schema.{the_type}
-use Rattle.oer_checker.specs.Handing.{Follows, Hands}
-use Rattle.oer_checker.specs.Walk.{path_of}
+use Rattle.oer_parts.specs.Handing.{Follows, Hands}
+use Rattle.oer_parts.specs.Walk.{path_of}
 use Rattle.oer_example.proofs.Parts.{is_part, no_part, of_given, one_part}
 use Rattle.oer_example.proofs.renewed.part_of.Goals as goal
 

@@ -2,7 +2,7 @@ use Rattle.std.proofs.Common.{◌≡◌, ◌+◌, ◌-◌, map, Ok, sym, ap, ap�
 use Rattle.std.proofs.lemmas.Result.{err_from_is_err_and}
 use Rattle.oer_values.specs.ShapeView.{seen_alternative}
 use Rattle.oer_notation.specs.Reading.{components_more, alternatives_more, type_at, most, Choices, with_marker, with_choice_marker}
-use Rattle.oer_notation.specs.State.{state_of, bump}
+use Rattle.oer_value_notation.specs.State.{state_of, bump}
 use Rattle.oer_notation.specs.Views.{known, components, choices}
 use Rattle.oer_notation.proofs.Loops.{components_err, components_step, components_end, components_over, alternatives_err, alternatives_step, alternatives_end, alternatives_over, same_marker}
 use Rattle.oer_notation.proofs.parse.+types.Goals as goal

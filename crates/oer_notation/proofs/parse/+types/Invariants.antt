@@ -1,6 +1,6 @@
 use Rattle.std.proofs.Common.{◌≡◌, ◌+◌, ◌*◌, ◌-◌, map}
 use Rattle.oer_notation.specs.Reading.{components_more, alternatives_more, type_at, most, no_choices}
-use Rattle.oer_notation.specs.State.{state_of}
+use Rattle.oer_value_notation.specs.State.{state_of}
 use Rattle.oer_notation.specs.Views.{known, components, choices}
 use Rattle.oer_notation.proofs.parse.+types.Given as goal
 

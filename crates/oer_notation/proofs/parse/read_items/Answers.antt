@@ -3,7 +3,7 @@ use Rattle.std.proofs.lemmas.Result.{err_from_is_err_and}
 use Rattle.std.proofs.lemmas.List.{map_push}
 use Rattle.oer_values.specs.ShapeView.{named_number}
 use Rattle.oer_notation.specs.Reading.{items_more, most}
-use Rattle.oer_notation.specs.State.{state_of, bump}
+use Rattle.oer_value_notation.specs.State.{state_of, bump}
 use Rattle.oer_notation.specs.Views.{named}
 use Rattle.oer_notation.proofs.Loops.{items_err, items_step, items_end, items_over}
 use Rattle.oer_notation.proofs.parse.read_items.Goals as goal

@@ -1,6 +1,6 @@
 use Rattle.std.proofs.Common.{◌≡◌, ◌-◌, [], false}
 use Rattle.oer_notation.specs.Reading.{items_more, most}
-use Rattle.oer_notation.specs.State.{state_of}
+use Rattle.oer_value_notation.specs.State.{state_of}
 use Rattle.oer_notation.specs.Views.{named}
 use Rattle.oer_notation.proofs.parse.read_items.Given as goal
 

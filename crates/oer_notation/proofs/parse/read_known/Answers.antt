@@ -1,7 +1,7 @@
 use Rattle.std.proofs.Common.{◌≤◌, Ok, sym, ap₂, ◌∙◌}
 use Rattle.oer_values.specs.ShapeView.{type_of}
 use Rattle.oer_model.specs.WellFormed.{depth}
-use Rattle.oer_notation.specs.State.{state_of}
+use Rattle.oer_value_notation.specs.State.{state_of}
 use Rattle.oer_notation.proofs.Definitions.{named_taken}
 use Rattle.oer_notation.proofs.parse.read_known.Goals as goal
 

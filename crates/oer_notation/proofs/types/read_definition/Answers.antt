@@ -1,9 +1,9 @@
 use Rattle.std.proofs.Common.{map, Ok, Err, sym, ap, ◌∙◌}
 use Rattle.oer_values.specs.ShapeView.{type_of}
-use Rattle.oer_notation.specs.State.{state_of}
+use Rattle.oer_value_notation.specs.State.{state_of}
 use Rattle.oer_notation.specs.Views.{known}
-use Rattle.oer_notation.specs.declared.fault.TextFault.{TextFault}
-use Rattle.oer_notation.specs.declared.fault.TextWhy.TheVariants.{Schema}
+use Rattle.oer_value_notation.specs.declared.fault.TextFault.{TextFault}
+use Rattle.oer_value_notation.specs.declared.fault.TextWhy.TheVariants.{Schema}
 use Rattle.oer_notation.proofs.Definitions.{definition_ok, definition_fault}
 use Rattle.oer_notation.proofs.types.read_definition.Goals as goal
 

@@ -2,10 +2,11 @@ use Rattle.std.proofs.Common.{◌≡◌, ◌+◌, ◌-◌, suc, length, map, Ok,
 use Rattle.std.proofs.lemmas.Result.{err_from_is_err_and}
 use Rattle.std.proofs.lemmas.List.{map_push}
 use Rattle.oer_lexer.specs.Token.{spots_of}
-use Rattle.oer_notation.specs.State.{state_of}
+use Rattle.oer_value_notation.specs.State.{state_of}
 use Rattle.oer_notation.specs.Parsing.{entries_more}
 use Rattle.oer_notation.specs.Views.{known}
-use Rattle.oer_notation.proofs.Loops.{entries_err, entries_step, entries_end, entries_stop, entries_over, spots_count, last_spots}
+use Rattle.oer_notation.proofs.Loops.{entries_err, entries_step, entries_end, entries_stop, entries_over, last_spots}
+use Rattle.oer_value_notation.proofs.Turns.{spots_count}
 use Rattle.oer_notation.proofs.types.read_entries.Goals as goal
 
 pub returns-in_err-entry : goal.returns-in_err-entry

@@ -1,5 +1,5 @@
 use Rattle.std.proofs.Common.{◌≡◌, ◌-◌, [], length, suc, map}
-use Rattle.oer_notation.specs.State.{state_of}
+use Rattle.oer_value_notation.specs.State.{state_of}
 use Rattle.oer_notation.specs.Parsing.{entries_more}
 use Rattle.oer_notation.specs.Views.{known}
 use Rattle.oer_notation.proofs.types.read_entries.Given as goal

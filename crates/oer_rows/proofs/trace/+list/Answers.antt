@@ -6,12 +6,12 @@ use Rattle.oer_values.specs.declared.shape.Addition.{Addition}
 use Rattle.oer_values.specs.declared.shape.Shape.{Sequence}
 use Rattle.oer_checker.specs.BitView.{bits_in}
 use Rattle.oer_checker.specs.Places.{counted_as, place_of}
-use Rattle.oer_rows.specs.Rows.{Walker, lines_of, path_in, stuck, walk_alternative, walk_later, walk_open, walk_value}
+use Rattle.oer_rows.specs.Rows.{Walker, lines_of, path_in, stuck, walk_later, walk_open, walk_value}
 use Rattle.oer_rows.specs.declared.row.Halt.TheVariants.{Refused}
 use Rattle.oer_values.proofs.Lookups.{first_falls}
 use Rattle.oer_checker.proofs.Exits.{at_stop}
-use Rattle.oer_rows.proofs.LineSteps.{additions_end, additions_next, additions_stop, at_inner, bits_stop, both_stop, both_then, by_walk, choice_later, choice_none, choice_root, extension_none, extension_stop, extension_then, fields_end, fields_next, fields_stop, if_not, if_so, inside_ends, inside_left, inside_stop, later_found, later_none, no_inner, root_found, root_none, root_stop, root_then, sticks, tag_stop, tag_then, taken_stop, taken_then, times_end, times_next, times_start, times_stop, type_arm}
-use Rattle.oer_checker.proofs.Sizes.{additions_fall, alternatives_fall, fields_fall, later_fall}
+use Rattle.oer_rows.proofs.LineSteps.{additions_end, additions_next, additions_stop, at_inner, bits_stop, both_stop, both_then, by_walk, choice_later, choice_none, choice_root, extension_none, extension_stop, extension_then, fields_end, fields_next, fields_stop, if_not, if_so, inside_ends, inside_left, inside_stop, later_found, later_none, no_inner, root_stop, root_then, sticks, tag_stop, tag_then, taken_stop, taken_then, times_end, times_next, times_start, times_stop, type_arm}
+use Rattle.oer_checker.proofs.Sizes.{additions_fall, alternative_falls, fields_fall, later_fall}
 use Rattle.oer_checker.proofs.ShapeCases.{is_leaf}
 use Rattle.oer_checker.proofs.TypeSteps.{as_choice, as_closed, as_extensible, as_open}
 use Rattle.oer_rows.proofs.trace.+list.Goals as goal
@@ -195,14 +195,15 @@ list_choice-returns-in_err-tag t c =
 pub list_choice-returns-in_err-inner : goal.list_choice-returns-in_err-inner
 list_choice-returns-in_err-inner t c = rw (at_stop c.from_residual-in_err-inner.result c.in_err-inner.field-0.0 c.from_residual-in_err-inner.ensures.1) (no_inner c.args.spot.now to_chosen _ _ _ c.in_err-inner.ensures)
 
-pub list_choice-returns-then-contains_tag : goal.list_choice-returns-then-contains_tag
-list_choice-returns-then-contains_tag t c =
+pub list_choice-returns-in-Some : goal.list_choice-returns-in-Some
+list_choice-returns-in-Some t c =
     let h = c.requires.is in
     let xs = c.args.alternatives.now in
+    let a = c.in-Some.alternative.now in
     let o = as_choice c.args.shape.now h.0 c.args.additions.now xs h.1 h.2 in
-    type_arm _ _ c.args.spot.now c.list_alternative.result _ _ _ o.is
-    (tag_then o.extensible (root_of xs o.after) c.args.spot.now _ _ c.args.cursor _ _ c.tag_at-answer.ensures _ c.in_ok-inner.inner (λ total path. walk_alternative (root_of xs no_alternatives) total path c.in_ok-tag.tag) c.list_alternative.result _ c.in_ok-tag.ensures c.in_ok-inner.ensures
-    (choice_root o.extensible xs o.after c.args.spot.now.total _ c.in_ok-tag.tag (sym c.if-contains_tag.true ∙ c.contains_tag.ensures)) c.list_alternative.ensures)
+    type_arm _ _ c.args.spot.now c.list_shape.result _ _ _ o.is
+    (tag_then o.extensible (root_of xs o.after) c.args.spot.now _ _ c.args.cursor _ _ c.tag_at-answer.ensures _ c.in_ok-inner.inner (λ total path. walk_value (type_of a.shape) total path) c.list_shape.result _ c.in_ok-tag.ensures c.in_ok-inner.ensures
+    (choice_root o.extensible xs o.after a c.args.spot.now.total _ c.in_ok-tag.tag c.in-Some.ensures.is) c.list_shape.ensures)
 
 pub list_choice-returns-in-None : goal.list_choice-returns-in-None
 list_choice-returns-in-None t c =
@@ -210,45 +211,30 @@ list_choice-returns-in-None t c =
     let xs = c.args.alternatives.now in
     type_arm _ _ c.args.spot.now (Err Refused) _ _ _ (as_closed c.args.shape.now h.0 c.args.additions.now xs h.1 c.in-None.is h.2)
     (tag_then false (root_of xs no_alternatives) c.args.spot.now _ _ c.args.cursor _ _ c.tag_at-answer.ensures _ c.in_ok-inner.inner (λ total path. stuck) (Err Refused) _ c.in_ok-tag.ensures c.in_ok-inner.ensures
-    (choice_none xs c.args.spot.now.total _ c.in_ok-tag.tag (sym c.if-contains_tag.false ∙ c.contains_tag.ensures)) (sticks _ _))
+    (choice_none xs c.args.spot.now.total _ c.in_ok-tag.tag (sym c.in_default.ensures.first)) (sticks _ _))
 
 pub list_choice-returns : goal.list_choice-returns
 list_choice-returns t c =
     let h = c.requires.is in
     let xs = c.args.alternatives.now in
     let ys = c.deref.result.now in
-    let is = as_open c.args.shape.now h.0 c.args.additions.now c.in-Some.additions xs ys h.1 c.in-Some.is h.2 c.deref.ensures.value in
+    let is = as_open c.args.shape.now h.0 c.args.additions.now c.in-Some-additions.additions xs ys h.1 c.in-Some-additions.is h.2 c.deref.ensures.value in
     type_arm _ _ c.args.spot.now c.list_later.result _ _ _ is
     (tag_then true (root_of xs (later_of ys)) c.args.spot.now _ _ c.args.cursor _ _ c.tag_at-answer.ensures _ c.in_ok-inner.inner (λ total path. walk_later (later_of ys) total path c.in_ok-tag.tag) c.list_later.result _ c.in_ok-tag.ensures c.in_ok-inner.ensures
-    (choice_later xs ys c.args.spot.now.total _ c.in_ok-tag.tag (sym c.if-contains_tag.false ∙ c.contains_tag.ensures)) c.list_later.ensures)
+    (choice_later xs ys c.args.spot.now.total _ c.in_ok-tag.tag (sym c.in_default.ensures.first)) c.list_later.ensures)
 
-pub list_choice-list_alternative-requires : goal.list_choice-list_alternative-requires
-list_choice-list_alternative-requires t c =
+pub list_choice-list_shape-requires : goal.list_choice-list_shape-requires
+list_choice-list_shape-requires t c =
     let h = c.requires.is in
-    (alternatives_fall c.args.shape.now h.0 c.args.additions.now c.args.alternatives.now _ _ t h.1 h.2 (omega arith) c.decreases, tt)
+    let first = c.in-Some.ensures.first in
+    (alternative_falls c.args.shape.now h.0 c.args.additions.now c.args.alternatives.now first.0 c.in-Some.alternative.now _ _ t h.1 h.2 first.1 first.2 (omega arith) c.decreases, tt)
 
 pub list_choice-list_later-requires : goal.list_choice-list_later-requires
 list_choice-list_later-requires t c =
     let h = c.requires.is in
-    (later_fall c.args.shape.now h.0 c.args.additions.now c.in-Some.additions c.deref.result.now _ _ t h.1 c.in-Some.is c.deref.ensures.value (omega arith) c.decreases, tt)
+    (later_fall c.args.shape.now h.0 c.args.additions.now c.in-Some-additions.additions c.deref.result.now _ _ t h.1 c.in-Some-additions.is c.deref.ensures.value (omega arith) c.decreases, tt)
 
 -- ---- alternatives
-
-pub list_alternative-list_shape-requires : goal.list_alternative-list_shape-requires
-list_alternative-list_shape-requires t c =
-    let smaller = first_falls c.args.tag c.args.alternatives.now c.in-Some.alternative.now c.in-Some.ensures.is in
-    (omega (arith, smaller, c.decreases), tt)
-
-pub list_alternative-returns-in-Some : goal.list_alternative-returns-in-Some
-list_alternative-returns-in-Some t c =
-    let at_it = root_found c.args.alternatives.now c.in-Some.alternative.now c.args.spot.now.total (path_in c.args.spot.now) c.args.tag c.in-Some.ensures.is in
-    by_walk c.list_shape.result _ _ _ (ap (λ (w : Walker). w (lines_of c.args.rows.now.items) (place_of c.args.cursor)) at_it) c.list_shape.ensures
-
-pub list_alternative-returns-in-None : goal.list_alternative-returns-in-None
-list_alternative-returns-in-None t c =
-    let ls = lines_of c.args.rows.now.items in
-    let p = place_of c.args.cursor in
-    by_walk (Err Refused) ls _ _ (ap (λ (w : Walker). w ls p) (root_none c.args.alternatives.now c.args.spot.now.total (path_in c.args.spot.now) c.args.tag c.in-None.ensures.is)) (sticks ls p)
 
 pub list_later-list_open-requires : goal.list_later-list_open-requires
 list_later-list_open-requires t c =

@@ -3,7 +3,7 @@ use Rattle.oer_values.specs.ValueView.{places_of, unknown_of, value_of}
 use Rattle.oer_model.specs.AsnValue.{bool, nothing}
 use Rattle.oer_values.specs.declared.value.Value as value
 use Rattle.oer_writer.specs.Bounds.{Bounds}
-use Rattle.oer_writer.specs.Parts.{place_octets_of}
+use Rattle.oer_leaves.specs.Parts.{place_octets_of}
 use Rattle.oer_writer.proofs.Bounds.{bool_bound, chosen_bounds, list_bounds, most, null_most, places_end, places_more, places_start, seq_bounds}
 use Rattle.oer_writer.proofs.bound.+bound.Goals as goal
 

@@ -1,15 +1,15 @@
-use Rattle.std.proofs.Common.{◌++◌, ◌∙◌, map, length, arith, rules, ap, sym, refl, Some, None, append-nil, length-append}
-use Rattle.oer_writer.proofs.Steps.{some_is, none_is, measured_last, measured_none, nowhere}
-use Rattle.oer_writer.proofs.Components.{addition_parts, at_sequence, at_extended, at_list, at_root, at_none, at_later, field_len, known_len, later_found, later_none, length-two, root_found, root_none, tag_first, values_len}
+use Rattle.std.proofs.Common.{◌++◌, ◌∙◌, map, length, arith, rules, ap, refl, Some, None, append-nil, length-append}
+use Rattle.oer_leaves.proofs.Steps.{some_is, none_is, measured_last, measured_none, nowhere}
+use Rattle.oer_leaves.proofs.Components.{addition_parts, at_sequence, at_extended, at_list, at_root, at_none, at_later, field_len, known_len, later_found, later_none, length-two, tag_first, values_len}
 use Rattle.oer_values.specs.declared.shape.Shape.{Sequence, Choice}
 use Rattle.oer_units.specs.Least.{counted, length_octets, tag_octets, unsigned_octets}
-use Rattle.oer_model.specs.AsnType.{no_alternatives}
 use Rattle.oer_model.specs.Bits.{padded}
 use Rattle.oer_model.specs.Canonical.{bitmap_octets, canonical_octets, extension_octets, unknown_marks, unknown_octets}
-use Rattle.oer_values.specs.ShapeView.{additions_of, fields_of, later_of, root_of, type_of}
-use Rattle.oer_values.proofs.Lookups.{first_falls}
+use Rattle.oer_values.specs.ShapeView.{additions_of, fields_of, later_of, type_of}
+use Rattle.oer_values.specs.Lookup.{first_with}
+use Rattle.oer_values.proofs.Lookups.{first_falls, root_falls}
 use Rattle.oer_values.specs.ValueView.{places_of, unknown_of, value_of, values_of}
-use Rattle.oer_writer.specs.Parts.{addition_octets, chosen_octets, field_bits, field_octets, first_bits, known_bits, known_octets, root_octets, values_octets}
+use Rattle.oer_leaves.specs.Parts.{addition_octets, chosen_octets, field_bits, field_octets, first_bits, known_bits, known_octets, root_octets, values_octets}
 use Rattle.oer_writer.proofs.Elements.{booleans_measured}
 use Rattle.oer_writer.proofs.measure.+measured.Goals as goal
 
@@ -140,23 +140,29 @@ measured_chosen-returns-in_err-done t c =
     let len = length-two _ o first.0 first.1 in
     measured_none c.from_residual.result _ _ _ c.from_residual.ensures (none_is c.ok.result _ o c.in_err-done.was (nowhere c.put_tag_octets.result c.ok.result _ o None c.ok.ensures.value c.put_tag_octets.ensures)) (omega (arith, len))
 
-pub measured_chosen-returns-then-contains_tag : goal.measured_chosen-returns-then-contains_tag
-measured_chosen-returns-then-contains_tag t c =
+pub measured_chosen-measured-requires : goal.measured_chosen-measured-requires
+measured_chosen-measured-requires t c =
     let s = c.in-Choice in
-    let xs = c.deref-alternatives.result.now in
+    let falls = root_falls c.args.tag c.args.shape.now s.root s.additions c.in-Some.alternative.now s.is (c.in-Some.ensures.is ∙ ap (first_with c.args.tag) c.deref-alternatives.ensures.value) in
+    omega (arith, falls, c.decreases)
+
+pub measured_chosen-returns-in-Some : goal.measured_chosen-returns-in-Some
+measured_chosen-returns-in-Some t c =
+    let s = c.in-Choice in
+    let x = c.in-Some.alternative.now in
     let o = tag_octets c.args.tag in
-    let rest = chosen_octets (root_of xs no_alternatives) c.args.tag (value_of c.args.value.now) in
-    let is = at_root c.args.shape.now s.root s.additions c.args.tag xs (value_of c.args.value.now) s.is c.deref-alternatives.ensures.value (sym c.contains_tag.ensures ∙ c.if-contains_tag.true) in
+    let rest = canonical_octets (type_of x.shape) (value_of c.args.value.now) in
+    let is = at_root c.args.shape.now s.root s.additions c.args.tag c.deref-alternatives.result.now x (value_of c.args.value.now) s.is c.deref-alternatives.ensures.value c.in-Some.ensures.is in
     let len = length-two _ o rest is in
     let n = some_is c.ok.result _ _ o c.in_ok-done.was (nowhere c.put_tag_octets.result c.ok.result _ o None c.ok.ensures.value c.put_tag_octets.ensures) in
-    measured_last c.measured_alternative.result _ _ rest _ (omega (arith, len, n)) c.measured_alternative.ensures
+    measured_last c.measured.result _ _ rest _ (omega (arith, len, n)) c.measured.ensures
 
 pub measured_chosen-returns-in_default-additions :
     goal.measured_chosen-returns-in_default-additions
 measured_chosen-returns-in_default-additions t c =
     let s = c.in-Choice in
     let o = tag_octets c.args.tag in
-    let len = ap length (at_none c.args.shape.now s.root c.args.tag c.deref-alternatives.result.now (value_of c.args.value.now) (s.is ∙ ap (Choice s.root) c.in_default-additions.is) c.deref-alternatives.ensures.value (sym c.contains_tag.ensures ∙ c.if-contains_tag.false)) in
+    let len = ap length (at_none c.args.shape.now s.root c.args.tag c.deref-alternatives.result.now (value_of c.args.value.now) (s.is ∙ ap (Choice s.root) c.in_default-additions.is) c.deref-alternatives.ensures.value c.in_default-with_tag.ensures.is) in
     let n = some_is c.ok.result _ _ o c.in_ok-done.was (nowhere c.put_tag_octets.result c.ok.result _ o None c.ok.ensures.value c.put_tag_octets.ensures) in
     omega (arith, len, n)
 
@@ -164,9 +170,10 @@ pub measured_chosen-returns : goal.measured_chosen-returns
 measured_chosen-returns t c =
     let s = c.in-Choice in
     let ys = c.deref.result.now in
+    let more = c.in-Some-additions in
     let o = tag_octets c.args.tag in
     let rest = chosen_octets (later_of ys) c.args.tag (value_of c.args.value.now) in
-    let is = at_later c.args.shape.now s.root c.in-Some.additions c.args.tag c.deref-alternatives.result.now ys (value_of c.args.value.now) (s.is ∙ ap (Choice s.root) c.in-Some.is) c.deref-alternatives.ensures.value c.deref.ensures.value (sym c.contains_tag.ensures ∙ c.if-contains_tag.false) in
+    let is = at_later c.args.shape.now s.root more.additions c.args.tag c.deref-alternatives.result.now ys (value_of c.args.value.now) (s.is ∙ ap (Choice s.root) more.is) c.deref-alternatives.ensures.value c.deref.ensures.value c.in_default-with_tag.ensures.is in
     let len = length-two _ o rest is in
     let n = some_is c.ok.result _ _ o c.in_ok-done.was (nowhere c.put_tag_octets.result c.ok.result _ o None c.ok.ensures.value c.put_tag_octets.ensures) in
     measured_last c.measured_later.result _ _ rest _ (omega (arith, len, n)) c.measured_later.ensures
@@ -218,21 +225,6 @@ measured_values-loop-value-preserved t c =
     omega (arith, c.loop-value.invariant, len, part)
 
 -- alternatives
-
-pub measured_alternative-measured-requires : goal.measured_alternative-measured-requires
-measured_alternative-measured-requires t c =
-    let smaller = first_falls c.args.tag c.args.alternatives.now c.in-Some.alternative.now c.in-Some.ensures.is in
-    omega (arith, smaller, c.decreases)
-
-pub measured_alternative-returns-in-Some : goal.measured_alternative-returns-in-Some
-measured_alternative-returns-in-Some t c =
-    let len = ap length (root_found c.args.alternatives.now c.in-Some.alternative.now c.args.tag (value_of c.args.value.now) c.in-Some.ensures.is) in
-    measured_last c.measured.result _ _ _ _ (omega (arith, len)) c.measured.ensures
-
-pub measured_alternative-returns-in-None : goal.measured_alternative-returns-in-None
-measured_alternative-returns-in-None t c =
-    let len = ap length (root_none c.args.alternatives.now c.args.tag (value_of c.args.value.now) c.in-None.ensures.is) in
-    omega (arith, len)
 
 pub measured_later-measured-requires : goal.measured_later-measured-requires
 measured_later-measured-requires t c =

@@ -1,7 +1,7 @@
 use Rattle.std.proofs.Common.{◌≡◌, ◌+◌, length, drop}
 use Rattle.oer_values.specs.ShapeView.{additions_of, fields_of, type_of}
 use Rattle.oer_values.specs.ValueView.{places_of, values_of}
-use Rattle.oer_writer.specs.Parts.{field_octets, known_octets, values_octets}
+use Rattle.oer_leaves.specs.Parts.{field_octets, known_octets, values_octets}
 use Rattle.oer_writer.proofs.measure.+measured.Given as goal
 
 -- those done and those of the rest are all

@@ -2,7 +2,7 @@ use Rattle.std.proofs.Common.{sym, ◌∙◌}
 use Rattle.oer_values.specs.ShapeView.{type_of}
 use Rattle.oer_values.specs.ValueView.{value_of}
 use Rattle.oer_writer.proofs.Compared.{where_err, where_ok}
-use Rattle.oer_writer.proofs.Steps.{from_start}
+use Rattle.oer_leaves.proofs.Steps.{from_start}
 use Rattle.oer_writer.proofs.parts.equals.Goals as goal
 
 pub returns-then-is_ok : goal.returns-then-is_ok

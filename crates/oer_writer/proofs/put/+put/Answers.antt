@@ -1,16 +1,16 @@
 use Rattle.std.proofs.Common.{◌+◌, ◌++◌, ◌∙◌, [], map, length, arith, rules, ap, sym, refl, drop, option_map, Some, None, append-nil, append_assoc}
 use Rattle.oer_units.specs.Least.{counted, tag_octets, unsigned_octets}
-use Rattle.oer_model.specs.AsnType.{no_alternatives}
 use Rattle.oer_model.specs.Bits.{padded}
 use Rattle.oer_model.specs.Canonical.{bitmap_octets, canonical_octets, extension_octets, unknown_marks, unknown_octets}
-use Rattle.oer_values.specs.ShapeView.{additions_of, fields_of, later_of, need_of, root_of, type_of}
+use Rattle.oer_values.specs.ShapeView.{additions_of, fields_of, later_of, need_of, type_of}
 use Rattle.oer_values.specs.ValueView.{places_of, unknown_of, value_of, values_of}
 use Rattle.oer_values.specs.declared.shape.Shape.{Sequence, Choice}
-use Rattle.oer_values.proofs.Lookups.{first_falls}
+use Rattle.oer_values.specs.Lookup.{first_with}
+use Rattle.oer_values.proofs.Lookups.{first_falls, root_falls}
 use Rattle.oer_writer.proofs.Sizes.{fields_fall, additions_fall, later_fall}
-use Rattle.oer_writer.specs.Parts.{addition_octets, chosen_octets, counted_place, field_bits, field_octets, first_bits, kept_place, known_bits, known_octets, place_octets_of, root_octets, values_octets}
-use Rattle.oer_writer.proofs.Steps.{ahead_more, ahead_failed, all_same, all_then, head_then, nothing_wrote, passed, passed_then, same_wrote, wrote_then}
-use Rattle.oer_writer.proofs.Components.{addition_parts, at_sequence, at_extended, at_list, at_root, at_none, at_later, field_step, known_step, later_found, later_none, root_found, root_none, tag_first, values_step}
+use Rattle.oer_leaves.specs.Parts.{addition_octets, chosen_octets, counted_place, field_bits, field_octets, first_bits, kept_place, known_bits, known_octets, place_octets_of, root_octets, values_octets}
+use Rattle.oer_leaves.proofs.Steps.{ahead_more, ahead_failed, all_same, all_then, head_then, nothing_wrote, passed, passed_then, same_wrote, wrote_then}
+use Rattle.oer_leaves.proofs.Components.{addition_parts, at_sequence, at_extended, at_list, at_root, at_none, at_later, field_step, known_step, later_found, later_none, tag_first, values_step}
 use Rattle.oer_writer.proofs.Elements.{booleans_wrote}
 use Rattle.oer_writer.proofs.put.+put.Goals as goal
 
@@ -112,24 +112,31 @@ put_chosen-returns-in_err-done g t c =
     let first = tag_first c.args.shape.now s.root s.additions c.args.tag (value_of c.args.value.now) s.is in
     passed c.from_residual.result _ c.args.done (tag_octets c.args.tag) first.0 _ _ _ _ _ first.1 c.from_residual.ensures.1 c.in_err-done.ensures
 
-pub put_chosen-returns-then-contains_tag : goal.put_chosen-returns-then-contains_tag
-put_chosen-returns-then-contains_tag g t c =
+pub put_chosen-put-requires : goal.put_chosen-put-requires
+put_chosen-put-requires g t c κs within =
     let s = c.in-Choice in
-    let xs = c.deref-alternatives.result.now in
-    let is = at_root c.args.shape.now s.root s.additions c.args.tag xs (value_of c.args.value.now) s.is c.deref-alternatives.ensures.value (sym c.contains_tag.ensures ∙ c.if-contains_tag.true) in
-    wrote_then c.put_alternative.result _ c.in_ok-done.done (tag_octets c.args.tag) (chosen_octets (root_of xs no_alternatives) c.args.tag (value_of c.args.value.now)) _ _ _ _ _ _ _ is c.in_ok-done.ensures c.put_alternative.ensures
+    let falls = root_falls c.args.tag c.args.shape.now s.root s.additions c.in-Some.alternative.now s.is (c.in-Some.ensures.is ∙ ap (first_with c.args.tag) c.deref-alternatives.ensures.value) in
+    (omega (arith, falls, c.decreases), within)
+
+pub put_chosen-returns-in-Some : goal.put_chosen-returns-in-Some
+put_chosen-returns-in-Some g t c =
+    let s = c.in-Choice in
+    let x = c.in-Some.alternative.now in
+    let is = at_root c.args.shape.now s.root s.additions c.args.tag c.deref-alternatives.result.now x (value_of c.args.value.now) s.is c.deref-alternatives.ensures.value c.in-Some.ensures.is in
+    wrote_then c.put.result _ c.in_ok-done.done (tag_octets c.args.tag) (canonical_octets (type_of x.shape) (value_of c.args.value.now)) _ _ _ _ _ _ _ is c.in_ok-done.ensures c.put.ensures
 
 pub put_chosen-returns-in_default-additions : goal.put_chosen-returns-in_default-additions
 put_chosen-returns-in_default-additions g t c =
     let s = c.in-Choice in
-    let is = at_none c.args.shape.now s.root c.args.tag c.deref-alternatives.result.now (value_of c.args.value.now) (s.is ∙ ap (Choice s.root) c.in_default-additions.is) c.deref-alternatives.ensures.value (sym c.contains_tag.ensures ∙ c.if-contains_tag.false) in
+    let is = at_none c.args.shape.now s.root c.args.tag c.deref-alternatives.result.now (value_of c.args.value.now) (s.is ∙ ap (Choice s.root) c.in_default-additions.is) c.deref-alternatives.ensures.value c.in_default-with_tag.ensures.is in
     all_same c.args.done c.in_ok-done.done (tag_octets c.args.tag) _ _ _ _ _ is c.in_ok-done.ensures
 
 pub put_chosen-returns : goal.put_chosen-returns
 put_chosen-returns g t c =
     let s = c.in-Choice in
     let ys = c.deref.result.now in
-    let is = at_later c.args.shape.now s.root c.in-Some.additions c.args.tag c.deref-alternatives.result.now ys (value_of c.args.value.now) (s.is ∙ ap (Choice s.root) c.in-Some.is) c.deref-alternatives.ensures.value c.deref.ensures.value (sym c.contains_tag.ensures ∙ c.if-contains_tag.false) in
+    let more = c.in-Some-additions in
+    let is = at_later c.args.shape.now s.root more.additions c.args.tag c.deref-alternatives.result.now ys (value_of c.args.value.now) (s.is ∙ ap (Choice s.root) more.is) c.deref-alternatives.ensures.value c.deref.ensures.value c.in_default-with_tag.ensures.is in
     wrote_then c.put_later.result _ c.in_ok-done.done (tag_octets c.args.tag) (chosen_octets (later_of ys) c.args.tag (value_of c.args.value.now)) _ _ _ _ _ _ _ is c.in_ok-done.ensures c.put_later.ensures
 
 -- components and additions
@@ -183,20 +190,6 @@ put_values-loop-value-preserved g t c =
 
 -- alternatives
 
-pub put_alternative-put-requires : goal.put_alternative-put-requires
-put_alternative-put-requires g t c κs within =
-    let smaller = first_falls c.args.tag c.args.alternatives.now c.in-Some.alternative.now c.in-Some.ensures.is in
-    (omega (arith, smaller, c.decreases), within)
-
-pub put_alternative-returns-in-Some : goal.put_alternative-returns-in-Some
-put_alternative-returns-in-Some g t c =
-    let is = root_found c.args.alternatives.now c.in-Some.alternative.now c.args.tag (value_of c.args.value.now) c.in-Some.ensures.is in
-    same_wrote c.put.result _ (canonical_octets (type_of c.in-Some.alternative.now.shape) (value_of c.args.value.now)) _ _ _ _ _ is c.put.ensures
-
-pub put_alternative-returns-in-None : goal.put_alternative-returns-in-None
-put_alternative-returns-in-None g t c =
-    nothing_wrote c.args.done _ _ _ (root_none c.args.alternatives.now c.args.tag (value_of c.args.value.now) c.in-None.ensures.is)
-
 pub put_later-put-requires : goal.put_later-put-requires
 put_later-put-requires g t c κs within =
     let smaller = first_falls c.args.tag c.args.alternatives.now c.in-Some.alternative.now c.in-Some.ensures.is in
@@ -242,4 +235,4 @@ put_sequence-put_extension-requires g t c κs within =
 pub put_chosen-put_later-requires : goal.put_chosen-put_later-requires
 put_chosen-put_later-requires g t c κs within =
     let s = c.in-Choice in
-    (rw (c.deref.ensures.value) (later_fall c.args.shape.now s.root s.additions c.in-Some.additions t s.is c.in-Some.is c.decreases), within)
+    (rw (c.deref.ensures.value) (later_fall c.args.shape.now s.root s.additions c.in-Some-additions.additions t s.is c.in-Some-additions.is c.decreases), within)

@@ -1,8 +1,8 @@
 use Rattle.std.proofs.Common.{drop}
 use Rattle.oer_values.specs.ShapeView.{additions_of, fields_of, type_of}
 use Rattle.oer_values.specs.ValueView.{places_of, values_of}
-use Rattle.oer_writer.specs.Parts.{field_octets, known_octets, values_octets}
-use Rattle.oer_writer.specs.Wrote.{Ahead}
+use Rattle.oer_leaves.specs.Parts.{field_octets, known_octets, values_octets}
+use Rattle.oer_leaves.specs.Wrote.{Ahead}
 use Rattle.oer_writer.proofs.put.+put.Given as goal
 
 abbrev pub invariant-put_fields-loop-field : goal.invariant-put_fields-loop-field

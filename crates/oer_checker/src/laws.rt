@@ -1,7 +1,0 @@
-//! Laws over the definitions. Each function does nothing; its contract is the law.
-ghost use Rattle.oer_checker.specs.Path.{OnePath};
-
-/// A text spells one path at most.
-pub fn one_path()
-    ensures { OnePath }
-{}

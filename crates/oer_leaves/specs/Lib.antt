@@ -1,0 +1,4 @@
+pub mod Wrote
+pub mod Parts
+pub mod Packing
+pub mod Comparing

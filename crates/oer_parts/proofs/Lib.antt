@@ -1,0 +1,12 @@
+mod Entries
+mod Pairs
+mod Walks
+mod Finds
+mod Inside
+mod TagParts
+mod Leading
+mod Digits
+mod Paths
+pub mod UnitFronts
+mod Standing
+mod Ranging

@@ -1,0 +1,7 @@
+pub mod Walk
+pub mod Handing
+pub mod Path
+pub mod Encoding
+pub mod AtMostOne
+pub mod Offsets
+pub mod Ranges
