@@ -726,10 +726,15 @@ fn header_info() -> Shape {
     Shape::Sequence(root, Some(vec![may("inlineP2pcdRequest", list(octet_string(3))), may("requestedCertificate", certificate())]))
 }
 
-fn signed_data() -> Shape {
-    let tagged = |name: &str, tag| Alt { name: name.into(), tag, shape: any_octets() };
-    let content = Shape::Choice(vec![tagged("unsecuredData", 0), tagged("signedCertificateRequest", 3)], Some(vec![]));
-    let inner = sequence(vec![must("protocolVersion", int(3, 3)), must("content", content)]);
+/// A message that holds no signed one, without an extension marker.
+fn innermost() -> Shape {
+    let tagged = |name: &str, tag, shape| Alt { name: name.into(), tag, shape };
+    let root = vec![tagged("unsecuredData", 0, any_octets()), tagged("encryptedData", 2, encrypted_data()), tagged("signedCertificateRequest", 3, any_octets())];
+    sequence(vec![must("protocolVersion", int(3, 3)), must("content", Shape::Choice(root, None))])
+}
+
+fn signed_data(levels: u32) -> Shape {
+    let inner = if levels > 1 { message(levels - 1) } else { innermost() };
     let hashed = choice_more(vec![("sha256HashedData", octet_string(32))], vec![]);
     let payload = Shape::Sequence(vec![may("data", inner), may("extDataHash", hashed)], Some(vec![]));
     let signed = sequence(vec![must("payload", payload), must("headerInfo", header_info())]);
@@ -746,8 +751,9 @@ fn encrypted_data() -> Shape {
     sequence(vec![must("recipients", list(recipient)), must("ciphertext", cipher())])
 }
 
-fn message() -> Shape {
-    let content = choice_more(vec![("unsecuredData", any_octets()), ("signedData", signed_data()), ("encryptedData", encrypted_data()), ("signedCertificateRequest", any_octets())], vec![]);
+/// A message that may hold so many levels of signed ones.
+fn message(levels: u32) -> Shape {
+    let content = choice_more(vec![("unsecuredData", any_octets()), ("signedData", signed_data(levels)), ("encryptedData", encrypted_data()), ("signedCertificateRequest", any_octets())], vec![]);
     sequence(vec![must("protocolVersion", int(3, 3)), must("content", content)])
 }
 
@@ -757,7 +763,7 @@ fn shape_of(name: &str) -> Shape {
         "Octets" => any_octets(),
         "Booleans" => list(Shape::Boolean),
         "Certificate" => certificate(),
-        "Ieee1609Dot2Data" => message(),
+        "Ieee1609Dot2Data" => message(4),
         _ => nested(name.trim_start_matches("Nested").parse().expect("a type that is measured")),
     }
 }

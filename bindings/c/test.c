@@ -465,7 +465,10 @@ static void test_memory(const char *folder) {
         snprintf(text, sizeof text, "A ::= %s", vectors[i].type);
         failed += fail_text_in_turn(text);
     }
-    failed += fail_text_in_turn(contents(folder, "types.asn"));
+    /* the definitions up to those of certificates: each growth of the text is refused in turn */
+    char *text = contents(folder, "types.asn");
+    *strstr(text, "-- Secured data") = 0;
+    failed += fail_text_in_turn(text);
     EXPECT(failed > 100, "growths fail");
     EXPECT(blocks == 0, "all blocks are given back");
 }

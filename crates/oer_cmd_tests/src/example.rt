@@ -5,58 +5,91 @@ use crate::shared::expect;
 use std::alloc::Global;
 use std::test::Fail;
 
-const TYPES: &str = "-- IEEE 1609.2-2016 with amendments 1609.2a-2017 and 1609.2b-2019, in the
--- notation of `oer`: no module headers, every type before its use,
--- no parameterised types, no recursion, constraints of named types written out.
+const TYPES: &str =
+    "-- The types of IEEE 1609.2-2016 as amended by 1609.2a-2017 and 1609.2b-2019, modules IEEE1609dot2BaseTypes
+-- and IEEE1609dot2 {.. major-version-2(2)}, minor version 1, in the notation of `oer`: no module headers,
+-- each type before its use, constraints of named types written out. All Names of the two modules are here.
 --
--- Cuts against the published modules:
---   Ieee1609Dot2Data holds a SignedDataPayload that holds an Ieee1609Dot2Data.
---   Here the inner one is InnerData, whose signedData and encryptedData are
---   left out; its alternatives therefore carry their tags.
---   Named numbers (Latitude: unknown = 900000001; Longitude: unknown =
---   1800000001) and named bits (EndEntityType: app = bit 0, enrol = bit 1) are
---   numbers and bits.  WITH COMPONENTS and ALL EXCEPT are left out.
+-- What differs from the modules:
+--   Recursion is written out. A signed message holds a payload that is a message again. The levels are
+--   types of their own: Ieee1609Dot2Data, Ieee1609Dot2Data-2, -3, .., each with all root alternatives. The
+--   innermost, Ieee1609Dot2Data-5, has no signedData, and no `...` either: with it, signedData would be taken
+--   for an alternative that a newer edition added, and octets of one message for those of another.
+--   So a message that nests deeper is rejected (UnknownAlternative).
+--   Names of numbers (unknown = 900000001) and of bits (app = bit 0, enrol = bit 1) are numbers and bits.
+--   WITH COMPONENTS is left out. It narrows which values are allowed, and changes no encoding.
+--
+-- What later editions add comes after a `...` and is relayed as unknown: pduFunctionalType and
+-- contributedExtensions of HeaderInfo, sha384HashedData of HashedData.
 
-HashedId3 ::= OCTET STRING (SIZE(3))
+-- Numbers
+
+Uint3 ::= INTEGER (0..7)
+Uint8 ::= INTEGER (0..255)
+Uint16 ::= INTEGER (0..65535)
+Uint32 ::= INTEGER (0..4294967295)
+Uint64 ::= INTEGER (0..18446744073709551615)
+SequenceOfUint8 ::= SEQUENCE OF Uint8
+SequenceOfUint16 ::= SEQUENCE OF Uint16
+
+-- Octets
+
+Opaque ::= OCTET STRING
+HashedId10 ::= OCTET STRING (SIZE(10))
 HashedId8 ::= OCTET STRING (SIZE(8))
-Psid ::= INTEGER (0..MAX)
-Time32 ::= INTEGER (0..4294967295)             -- seconds since 2004-01-01 TAI
-Time64 ::= INTEGER (0..18446744073709551615)   -- microseconds since then
+HashedId3 ::= OCTET STRING (SIZE(3))
+SequenceOfHashedId3 ::= SEQUENCE OF HashedId3
 
+-- Times
+
+Time32 ::= Uint32                                  -- seconds since 2004-01-01 TAI
+Time64 ::= Uint64                                  -- microseconds since then
 Duration ::= CHOICE {
-  microseconds INTEGER (0..65535),
-  milliseconds INTEGER (0..65535),
-  seconds INTEGER (0..65535),
-  minutes INTEGER (0..65535),
-  hours INTEGER (0..65535),
-  sixtyHours INTEGER (0..65535),
-  years INTEGER (0..65535)
+  microseconds Uint16,
+  milliseconds Uint16,
+  seconds Uint16,
+  minutes Uint16,
+  hours Uint16,
+  sixtyHours Uint16,
+  years Uint16
 }
 ValidityPeriod ::= SEQUENCE { start Time32, duration Duration }
 
-Latitude ::= INTEGER (-900000000..900000001)       -- tenths of a microdegree
-Longitude ::= INTEGER (-1799999999..1800000001)
+-- Places
+
+NinetyDegreeInt ::= INTEGER (-900000000..900000001)
+KnownLatitude ::= INTEGER (-900000000..900000000)
+UnknownLatitude ::= INTEGER (900000001)
+OneEightyDegreeInt ::= INTEGER (-1799999999..1800000001)
+KnownLongitude ::= INTEGER (-1799999999..1800000000)
+UnknownLongitude ::= INTEGER (1800000001)
+ElevInt ::= Uint16
+Latitude ::= NinetyDegreeInt                       -- tenths of a microdegree
+Longitude ::= OneEightyDegreeInt
+Elevation ::= ElevInt                              -- decimetres above -4096 m
 TwoDLocation ::= SEQUENCE { latitude Latitude, longitude Longitude }
 ThreeDLocation ::= SEQUENCE {
   latitude Latitude,
   longitude Longitude,
-  elevation INTEGER (0..65535)                     -- decimetres above -4096 m
+  elevation Elevation
 }
-CircularRegion ::= SEQUENCE { center TwoDLocation, radius INTEGER (0..65535) }
+CircularRegion ::= SEQUENCE { center TwoDLocation, radius Uint16 }
 RectangularRegion ::= SEQUENCE { northWest TwoDLocation, southEast TwoDLocation }
+SequenceOfRectangularRegion ::= SEQUENCE OF RectangularRegion
 PolygonalRegion ::= SEQUENCE SIZE(3..MAX) OF TwoDLocation
-CountryOnly ::= INTEGER (0..65535)                 -- UN M.49, Germany is 276
+CountryOnly ::= Uint16                             -- UN M.49, Germany is 276
 CountryAndRegions ::= SEQUENCE {
   countryOnly CountryOnly,
-  regions SEQUENCE OF INTEGER (0..255)
+  regions SequenceOfUint8
 }
 RegionAndSubregions ::= SEQUENCE {
-  region INTEGER (0..255),
-  subregions SEQUENCE OF INTEGER (0..65535)
+  region Uint8,
+  subregions SequenceOfUint16
 }
+SequenceOfRegionAndSubregions ::= SEQUENCE OF RegionAndSubregions
 CountryAndSubregions ::= SEQUENCE {
   country CountryOnly,
-  regionAndSubregions SEQUENCE OF RegionAndSubregions
+  regionAndSubregions SequenceOfRegionAndSubregions
 }
 IdentifiedRegion ::= CHOICE {
   countryOnly CountryOnly,
@@ -64,11 +97,12 @@ IdentifiedRegion ::= CHOICE {
   countryAndSubregions CountryAndSubregions,
   ...
 }
+SequenceOfIdentifiedRegion ::= SEQUENCE OF IdentifiedRegion
 GeographicRegion ::= CHOICE {
   circularRegion CircularRegion,
-  rectangularRegion SEQUENCE OF RectangularRegion,
+  rectangularRegion SequenceOfRectangularRegion,
   polygonalRegion PolygonalRegion,
-  identifiedRegion SEQUENCE OF IdentifiedRegion,
+  identifiedRegion SequenceOfIdentifiedRegion,
   ...
 }
 
@@ -138,47 +172,64 @@ EciesP256EncryptedKey ::= SEQUENCE {
 
 -- Permissions
 
+Psid ::= INTEGER (0..MAX)
+SequenceOfPsid ::= SEQUENCE OF Psid
+BitmapSsp ::= OCTET STRING (SIZE(0..31))
 ServiceSpecificPermissions ::= CHOICE {
   opaque OCTET STRING (SIZE(0..MAX)),
   ...,
-  bitmapSsp OCTET STRING (SIZE(0..31))
+  bitmapSsp BitmapSsp
 }
 PsidSsp ::= SEQUENCE { psid Psid, ssp ServiceSpecificPermissions OPTIONAL }
+SequenceOfPsidSsp ::= SEQUENCE OF PsidSsp
+SequenceOfOctetString ::= SEQUENCE (SIZE(0..MAX)) OF OCTET STRING (SIZE(0..MAX))
+BitmapSspRange ::= SEQUENCE {
+  sspValue OCTET STRING (SIZE(1..32)),
+  sspBitmask OCTET STRING (SIZE(1..32))
+}
 SspRange ::= CHOICE {
-  opaque SEQUENCE (SIZE(0..MAX)) OF OCTET STRING (SIZE(0..MAX)),
+  opaque SequenceOfOctetString,
   all NULL,
   ...,
-  bitmapSspRange SEQUENCE {
-    sspValue OCTET STRING (SIZE(1..32)),
-    sspBitmask OCTET STRING (SIZE(1..32))
-  }
+  bitmapSspRange BitmapSspRange
 }
 PsidSspRange ::= SEQUENCE { psid Psid, sspRange SspRange OPTIONAL }
+SequenceOfPsidSspRange ::= SEQUENCE OF PsidSspRange
 SubjectPermissions ::= CHOICE {
-  explicit SEQUENCE OF PsidSspRange,
+  explicit SequenceOfPsidSspRange,
   all NULL,
   ...
 }
+EndEntityType ::= BIT STRING (SIZE(8))             -- bit 0 app, bit 1 enrol
 PsidGroupPermissions ::= SEQUENCE {
   subjectPermissions SubjectPermissions,
   minChainLength INTEGER DEFAULT 1,
   chainLengthRange INTEGER DEFAULT 0,
-  eeType BIT STRING (SIZE(8)) DEFAULT '10000000'B
+  eeType EndEntityType DEFAULT '10000000'B
 }
+SequenceOfPsidGroupPermissions ::= SEQUENCE OF PsidGroupPermissions
 
--- Certificate
+-- Certificates
 
+SubjectAssurance ::= OCTET STRING (SIZE(1))
+CrlSeries ::= Uint16
+IValue ::= Uint16
+Hostname ::= UTF8String (SIZE(0..255))
+LaId ::= OCTET STRING (SIZE(2))
+LinkageSeed ::= OCTET STRING (SIZE(16))
+LinkageValue ::= OCTET STRING (SIZE(9))
+GroupLinkageValue ::= SEQUENCE {
+  jValue OCTET STRING (SIZE(4)),
+  value OCTET STRING (SIZE(9))
+}
 LinkageData ::= SEQUENCE {
-  iCert INTEGER (0..65535),
-  linkage-value OCTET STRING (SIZE(9)),
-  group-linkage-value SEQUENCE {
-    jValue OCTET STRING (SIZE(4)),
-    value OCTET STRING (SIZE(9))
-  } OPTIONAL
+  iCert IValue,
+  linkage-value LinkageValue,
+  group-linkage-value GroupLinkageValue OPTIONAL
 }
 CertificateId ::= CHOICE {
   linkageData LinkageData,
-  name UTF8String (SIZE(0..255)),
+  name Hostname,
   binaryId OCTET STRING (SIZE(1..64)),
   none NULL,
   ...
@@ -191,13 +242,13 @@ VerificationKeyIndicator ::= CHOICE {
 ToBeSignedCertificate ::= SEQUENCE {
   id CertificateId,
   cracaId HashedId3,
-  crlSeries INTEGER (0..65535),
+  crlSeries CrlSeries,
   validityPeriod ValidityPeriod,
   region GeographicRegion OPTIONAL,
-  assuranceLevel OCTET STRING (SIZE(1)) OPTIONAL,
-  appPermissions SEQUENCE OF PsidSsp OPTIONAL,
-  certIssuePermissions SEQUENCE OF PsidGroupPermissions OPTIONAL,
-  certRequestPermissions SEQUENCE OF PsidGroupPermissions OPTIONAL,
+  assuranceLevel SubjectAssurance OPTIONAL,
+  appPermissions SequenceOfPsidSsp OPTIONAL,
+  certIssuePermissions SequenceOfPsidGroupPermissions OPTIONAL,
+  certRequestPermissions SequenceOfPsidGroupPermissions OPTIONAL,
   canRequestRollover NULL OPTIONAL,
   encryptionKey PublicEncryptionKey OPTIONAL,
   verifyKeyIndicator VerificationKeyIndicator,
@@ -209,33 +260,26 @@ IssuerIdentifier ::= CHOICE {
   ...,
   sha384AndDigest HashedId8
 }
-Certificate ::= SEQUENCE {
+CertificateType ::= ENUMERATED { explicit, implicit, ... }
+CertificateBase ::= SEQUENCE {
   version INTEGER (3),
-  type ENUMERATED { explicit, implicit, ... },
+  type CertificateType,
   issuer IssuerIdentifier,
   toBeSigned ToBeSignedCertificate,
   signature Signature OPTIONAL
 }
+ImplicitCertificate ::= CertificateBase
+ExplicitCertificate ::= CertificateBase
+Certificate ::= CertificateBase
+TestCertificate ::= Certificate
+SequenceOfCertificate ::= SEQUENCE OF Certificate
 
 -- Secured data
 
-InnerData ::= SEQUENCE {
-  protocolVersion INTEGER (3),
-  content CHOICE {
-    unsecuredData [0] OCTET STRING,
-    signedCertificateRequest [3] OCTET STRING,
-    ...
-  }
-}
 HashedData ::= CHOICE { sha256HashedData OCTET STRING (SIZE(32)), ... }
-SignedDataPayload ::= SEQUENCE {
-  data InnerData OPTIONAL,
-  extDataHash HashedData OPTIONAL,
-  ...
-}
 MissingCrlIdentifier ::= SEQUENCE {
   cracaId HashedId3,
-  crlSeries INTEGER (0..65535),
+  crlSeries CrlSeries,
   ...
 }
 HeaderInfo ::= SEQUENCE {
@@ -247,25 +291,18 @@ HeaderInfo ::= SEQUENCE {
   missingCrlIdentifier MissingCrlIdentifier OPTIONAL,
   encryptionKey EncryptionKey OPTIONAL,
   ...,
-  inlineP2pcdRequest SEQUENCE OF HashedId3 OPTIONAL,
+  inlineP2pcdRequest SequenceOfHashedId3 OPTIONAL,
   requestedCertificate Certificate OPTIONAL
 }
-ToBeSignedData ::= SEQUENCE { payload SignedDataPayload, headerInfo HeaderInfo }
 SignerIdentifier ::= CHOICE {
   digest HashedId8,
-  certificate SEQUENCE OF Certificate,
+  certificate SequenceOfCertificate,
   self NULL,
   ...
 }
-SignedData ::= SEQUENCE {
-  hashId HashAlgorithm,
-  tbsData ToBeSignedData,
-  signer SignerIdentifier,
-  signature Signature
-}
 AesCcmCiphertext ::= SEQUENCE {
   nonce OCTET STRING (SIZE(12)),
-  ccmCiphertext OCTET STRING
+  ccmCiphertext Opaque                             -- 16 octets longer than what it hides
 }
 SymmetricCiphertext ::= CHOICE { aes128ccm AesCcmCiphertext, ... }
 EncryptedDataEncryptionKey ::= CHOICE {
@@ -277,30 +314,117 @@ PKRecipientInfo ::= SEQUENCE {
   recipientId HashedId8,
   encKey EncryptedDataEncryptionKey
 }
+SymmRecipientInfo ::= SEQUENCE {
+  recipientId HashedId8,
+  encKey SymmetricCiphertext
+}
+PreSharedKeyRecipientInfo ::= HashedId8
 RecipientInfo ::= CHOICE {
-  pskRecipInfo HashedId8,
-  symmRecipInfo SEQUENCE {
-    recipientId HashedId8,
-    encKey SymmetricCiphertext
-  },
+  pskRecipInfo PreSharedKeyRecipientInfo,
+  symmRecipInfo SymmRecipientInfo,
   certRecipInfo PKRecipientInfo,
   signedDataRecipInfo PKRecipientInfo,
   rekRecipInfo PKRecipientInfo
 }
+SequenceOfRecipientInfo ::= SEQUENCE OF RecipientInfo
 EncryptedData ::= SEQUENCE {
-  recipients SEQUENCE OF RecipientInfo,
+  recipients SequenceOfRecipientInfo,
   ciphertext SymmetricCiphertext
 }
-Ieee1609Dot2Data ::= SEQUENCE {
-  protocolVersion INTEGER (3),
-  content CHOICE {
-    unsecuredData OCTET STRING,
-    signedData SignedData,
-    encryptedData EncryptedData,
-    signedCertificateRequest OCTET STRING,
-    ...
-  }
+
+-- Messages, from the innermost level outwards
+
+Ieee1609Dot2Content-5 ::= CHOICE {
+  unsecuredData [0] Opaque,
+  encryptedData [2] EncryptedData,
+  signedCertificateRequest [3] Opaque
 }
+Ieee1609Dot2Data-5 ::= SEQUENCE { protocolVersion INTEGER (3), content Ieee1609Dot2Content-5 }
+
+SignedDataPayload-4 ::= SEQUENCE {
+  data Ieee1609Dot2Data-5 OPTIONAL,
+  extDataHash HashedData OPTIONAL,
+  ...
+}
+ToBeSignedData-4 ::= SEQUENCE { payload SignedDataPayload-4, headerInfo HeaderInfo }
+SignedData-4 ::= SEQUENCE {
+  hashId HashAlgorithm,
+  tbsData ToBeSignedData-4,
+  signer SignerIdentifier,
+  signature Signature
+}
+Ieee1609Dot2Content-4 ::= CHOICE {
+  unsecuredData Opaque,
+  signedData SignedData-4,
+  encryptedData EncryptedData,
+  signedCertificateRequest Opaque,
+  ...
+}
+Ieee1609Dot2Data-4 ::= SEQUENCE { protocolVersion INTEGER (3), content Ieee1609Dot2Content-4 }
+
+SignedDataPayload-3 ::= SEQUENCE {
+  data Ieee1609Dot2Data-4 OPTIONAL,
+  extDataHash HashedData OPTIONAL,
+  ...
+}
+ToBeSignedData-3 ::= SEQUENCE { payload SignedDataPayload-3, headerInfo HeaderInfo }
+SignedData-3 ::= SEQUENCE {
+  hashId HashAlgorithm,
+  tbsData ToBeSignedData-3,
+  signer SignerIdentifier,
+  signature Signature
+}
+Ieee1609Dot2Content-3 ::= CHOICE {
+  unsecuredData Opaque,
+  signedData SignedData-3,
+  encryptedData EncryptedData,
+  signedCertificateRequest Opaque,
+  ...
+}
+Ieee1609Dot2Data-3 ::= SEQUENCE { protocolVersion INTEGER (3), content Ieee1609Dot2Content-3 }
+
+SignedDataPayload-2 ::= SEQUENCE {
+  data Ieee1609Dot2Data-3 OPTIONAL,
+  extDataHash HashedData OPTIONAL,
+  ...
+}
+ToBeSignedData-2 ::= SEQUENCE { payload SignedDataPayload-2, headerInfo HeaderInfo }
+SignedData-2 ::= SEQUENCE {
+  hashId HashAlgorithm,
+  tbsData ToBeSignedData-2,
+  signer SignerIdentifier,
+  signature Signature
+}
+Ieee1609Dot2Content-2 ::= CHOICE {
+  unsecuredData Opaque,
+  signedData SignedData-2,
+  encryptedData EncryptedData,
+  signedCertificateRequest Opaque,
+  ...
+}
+Ieee1609Dot2Data-2 ::= SEQUENCE { protocolVersion INTEGER (3), content Ieee1609Dot2Content-2 }
+
+SignedDataPayload ::= SEQUENCE {
+  data Ieee1609Dot2Data-2 OPTIONAL,
+  extDataHash HashedData OPTIONAL,
+  ...
+}
+ToBeSignedData ::= SEQUENCE { payload SignedDataPayload, headerInfo HeaderInfo }
+SignedData ::= SEQUENCE {
+  hashId HashAlgorithm,
+  tbsData ToBeSignedData,
+  signer SignerIdentifier,
+  signature Signature
+}
+Ieee1609Dot2Content ::= CHOICE {
+  unsecuredData Opaque,
+  signedData SignedData,
+  encryptedData EncryptedData,
+  signedCertificateRequest Opaque,
+  ...
+}
+Ieee1609Dot2Data ::= SEQUENCE { protocolVersion INTEGER (3), content Ieee1609Dot2Content }
+Countersignature ::= Ieee1609Dot2Data
 ";
 
 const NEWER: &str =
@@ -317,7 +441,7 @@ NewerHeaderInfo ::= SEQUENCE {
   missingCrlIdentifier MissingCrlIdentifier OPTIONAL,
   encryptionKey EncryptionKey OPTIONAL,
   ...,
-  inlineP2pcdRequest SEQUENCE OF HashedId3 OPTIONAL,
+  inlineP2pcdRequest SequenceOfHashedId3 OPTIONAL,
   requestedCertificate Certificate OPTIONAL,
   newerNumber INTEGER (0..255) OPTIONAL,
   newerList SEQUENCE (SIZE(1..MAX)) OF SEQUENCE {
@@ -339,7 +463,23 @@ const TO_BE_SIGNED: &str =
 const SIGNED: &str =
     "03810040038004deadbeef4001240002781a4e4f2d0080dc1a24ecaf8b0dca8180d4c836922ed864966e04aa2f38cc31223cd37e5dc5bf1b56da0781d96496dc4f44df50f6c6083396bea81d94feea7da5fb6a4132edcb9755fd3be2887eaba4bd";
 
+const NESTED: &str =
+    "0381004003810040038001aa00012480010203048348989980801111111111111111111111111111111111111111111111111111111111111111222222222222222222222222222222222222222222222222222222222222222200012482808033333333333333333333333333333333333333333333333333333333333333334444444444444444444444444444444444444444444444444444444444444444";
+
 const UNSECURED: &str = "03800548656c6c6f";
+
+/// The value of the nested message, with the fields that Wireshark shows.
+const NESTED_VALUE: &str =
+    "{\"content\":{\"signedData\":{\"hashId\":\"sha256\",\"signature\":{\"ecdsaNistP256Signature\":{\"rSig\":{\"x-only\":\"3333333333333333333333333333333333333333333333333333333333333333\"},\"sSig\":\"4444444444444444444444444444444444444444444444444444444444444444\"}},\"signer\":{\"self\":null},\"tbsData\":{\"headerInfo\":{\"psid\":36},\"payload\":{\"data\":{\"content\":{\"signedData\":{\"hashId\":\"sha256\",\"signature\":{\"ecdsaNistP256Signature\":{\"rSig\":{\"x-only\":\"1111111111111111111111111111111111111111111111111111111111111111\"},\"sSig\":\"2222222222222222222222222222222222222222222222222222222222222222\"}},\"signer\":{\"digest\":\"0102030483489899\"},\"tbsData\":{\"headerInfo\":{\"psid\":36},\"payload\":{\"data\":{\"content\":{\"unsecuredData\":\"aa\"},\"protocolVersion\":3}}}}},\"protocolVersion\":3}}}}},\"protocolVersion\":3}";
+
+/// Four signed messages within each other, as many as the types have. Each is signed by `self`, with psid 36
+/// and `fill` as the rSig of the signature.
+const FOUR_LEVELS: &str =
+    "03810040038100400381004003810040038001aa0001248280814444444444444444444444444444444444444444444444444444444444444444000124828081444444444444444444444444444444444444444444444444444444444444444400012482808144444444444444444444444444444444444444444444444444444444444444440001248280814444444444444444444444444444444444444444444444444444444444444444";
+
+/// The same with a fifth signed message, whose tag is the octet at 17.
+const FIVE_LEVELS: &str =
+    "0381004003810040038100400381004003810040038001aa00012482808144444444444444444444444444444444444444444444444444444444444444440001248280814444444444444444444444444444444444444444444444444444444444444444000124828081444444444444444444444444444444444444444444444444444444444444444400012482808144444444444444444444444444444444444444444444444444444444444444440001248280814444444444444444444444444444444444444444444444444444444444444444";
 
 /// The first hundred octets of the certificate.
 const CUT: &str =
@@ -352,6 +492,8 @@ const CANONICAL: &[(&str, &str, &str)] = &[
     ("ToBeSignedCertificate", TO_BE_SIGNED, TO_BE_SIGNED),
     ("Ieee1609Dot2Data", SIGNED, SIGNED),
     ("Ieee1609Dot2Data", UNSECURED, UNSECURED),
+    ("Ieee1609Dot2Data", NESTED, NESTED),
+    ("Ieee1609Dot2Data", FOUR_LEVELS, FOUR_LEVELS),
     ("PsidGroupPermissions", "e0810101010080", "0081"),
     ("PsidGroupPermissions", "e081010101ff80", "408101ff"),
     (
@@ -375,6 +517,12 @@ const REFUSED: &[(&str, &str, &str, &str)] = &[
     ),
     ("Certificate", "230", "8004", "IntegerRange at 2"),
     ("Certificate", "230", "81", "PreamblePadding at 1"),
+    (
+        "Ieee1609Dot2Data",
+        "1000",
+        FIVE_LEVELS,
+        "UnknownAlternative at 18",
+    ),
 ];
 
 // A run of `canon` on octets of the type that the Name has among the definitions.
@@ -426,4 +574,13 @@ fn cut_certificate(rt: HostRuntime) -> Result<(), Fail> {
         is_cut(alloc, "canon", options.as_str(), octets.as_slice(), count)?;
     }
     Ok(())
+}
+
+#[test]
+fn nested_message(rt: HostRuntime) -> Result<(), Fail> {
+    let alloc = rt.alloc();
+    let words = format!(in alloc;
+        "show | --name=Ieee1609Dot2Data | --types={TYPES} | --hex={NESTED}"
+    )?;
+    expect(alloc, words.as_str(), &[], (0, NESTED_VALUE))
 }
