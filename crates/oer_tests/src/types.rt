@@ -3,11 +3,11 @@ use crate::drawing::{drawn, drawn_value};
 use crate::shared::{NESTED, each, is_wanted, is_well, octets, schema_of, value_of};
 use crate::values::{Case, each_case};
 use oer_reader::read;
-use oer_text::parse_type;
+use oer_text::{parse_type, parse_types};
 use oer_types::{
-    Alphabet, Alt, Bits, Field, Item, Need, Schema, Shape, Size, Unknown, Value, are_characters,
-    contains_tag, filled, find_alternative, fits, is_same_tag, optional, same_filled,
-    same_filled_at, with_tag,
+    Addition, Alphabet, Alt, Bits, Field, Item, Need, Schema, Shape, Size, Unknown, Value,
+    are_characters, contains_tag, filled, find_alternative, fits, is_same_tag, optional,
+    same_filled, same_filled_at, with_tag,
 };
 use oer_units::{Class, Metered, Tag};
 use oer_values::{fill_in, known_additions, known_later};
@@ -93,13 +93,19 @@ fn no_items(rt: HostRuntime) -> Result<(), Fail> {
     has_fault(at, "CHOICE", choice, "NoItems")
 }
 
+// SEQUENCE OF the type.
+fn list_of(at: Global, item: Shape) -> Result<Shape, AllocError> {
+    Ok(Shape::SequenceOf {
+        size: Size::any(),
+        item: Box::new(at, item)?,
+    })
+}
+
 // SEQUENCE OF so many times before BOOLEAN.
 fn deep(at: Global, levels: u8) -> Result<Shape, AllocError> {
     let mut shape = Shape::Boolean;
     for _ in 0..levels {
-        let item = Box::new(at, shape)?;
-        let size = Size::any();
-        shape = Shape::SequenceOf { size, item };
+        shape = list_of(at, shape)?;
     }
     Ok(shape)
 }
@@ -167,6 +173,12 @@ fn named(at: Global, one: &str, other: &str) -> Result<Shape, AllocError> {
     Ok(sequence(Vec::from_array(at, [one, other])?))
 }
 
+// An INTEGER whose lower bound is above its upper one.
+fn crossed() -> Shape {
+    let (low, high) = (Some(5), Some(4));
+    Shape::Integer { low, high }
+}
+
 /// The faults. Of each there is a shape that has it and no other.
 const FAULTS: &str = "TooDeep
 TooManyParts
@@ -182,7 +194,6 @@ EmptyElement";
 
 // The shape that has the fault.
 fn faulty(at: Global, fault: &str) -> Result<Shape, AllocError> {
-    let (low, high) = (Some(5), Some(4));
     let short = Size {
         low: 2,
         high: Some(1),
@@ -190,7 +201,7 @@ fn faulty(at: Global, fault: &str) -> Result<Shape, AllocError> {
     match fault {
         "TooDeep" => deep(at, 32),
         "TooManyParts" => wide(at, 4096),
-        "BoundOrder" => Ok(Shape::Integer { low, high }),
+        "BoundOrder" => Ok(crossed()),
         "SizeOrder" => Ok(Shape::OctetString(short)),
         "BadName" => named(at, "a", "B"),
         "RepeatedName" => named(at, "a", "a"),
@@ -201,10 +212,7 @@ fn faulty(at: Global, fault: &str) -> Result<Shape, AllocError> {
         "RepeatedNumber" => twice_numbered(at, 1),
         "RepeatedTag" => twice_tagged(at, 1),
         "DefaultMisfit" => misfitting(at),
-        _ => Ok(Shape::SequenceOf {
-            size: Size::any(),
-            item: Box::new(at, Shape::Null)?,
-        }),
+        _ => list_of(at, Shape::Null),
     }
 }
 
@@ -215,6 +223,79 @@ fn is_faulty(at: Global, fault: &str) -> Result<(), Fail> {
 #[test]
 fn each_fault_of_a_shape(rt: HostRuntime) -> Result<(), Fail> {
     each(rt.alloc(), FAULTS, is_faulty)
+}
+
+// SEQUENCE {a NULL, ..., a NULL}.
+fn twice_named(at: Global) -> Result<Shape, AllocError> {
+    let addition = Addition {
+        name: String::from_str(at, "a")?,
+        shape: Shape::Null,
+    };
+    let component = field(String::from_str(at, "a")?, Shape::Null);
+    Ok(Shape::Sequence {
+        root: Vec::from_array(at, [component])?,
+        additions: Some(Vec::from_array(at, [addition])?),
+    })
+}
+
+// SEQUENCE OF SEQUENCE {a NULL, b OCTET STRING (SIZE(0))}.
+fn empty_elements(at: Global) -> Result<Shape, AllocError> {
+    let none = Size {
+        low: 0,
+        high: Some(0),
+    };
+    let a = field(String::from_str(at, "a")?, Shape::Null);
+    let b = field(String::from_str(at, "b")?, Shape::OctetString(none));
+    list_of(at, sequence(Vec::from_array(at, [a, b])?))
+}
+
+// A SEQUENCE of one component.
+fn around(at: Global, name: &str, shape: Shape) -> Result<Shape, AllocError> {
+    let component = field(String::from_str(at, name)?, shape);
+    Ok(sequence(Vec::from_array(at, [component])?))
+}
+
+// A SEQUENCE of two components with one name.
+fn both_named(at: Global, one: Shape, other: Shape) -> Result<Shape, AllocError> {
+    let one = field(String::from_str(at, "a")?, one);
+    let other = field(String::from_str(at, "a")?, other);
+    Ok(sequence(Vec::from_array(at, [one, other])?))
+}
+
+/// Shapes with a fault across their parts, deep inside, or beside others; how each is drawn, and the
+/// least fault.
+const BUILT: &str = "marker | Sequence {a Null, } ... {a Null, } | RepeatedName
+elements | SequenceOf 0 None of Sequence {a Null, b OctetString 0 Some(0), } | EmptyElement
+inside | Sequence {d Sequence {c SequenceOf 0 None of Sequence {a Null, b OctetString 0 Some(0), }, }, } | EmptyElement
+three | Sequence {a Integer Some(5) Some(4), a SequenceOf 0 None of Null, } | BoundOrder
+turned | Sequence {a SequenceOf 0 None of Null, a Integer Some(5) Some(4), } | BoundOrder
+below | Sequence {a SequenceOf 0 None of Null, a Sequence {c Integer Some(5) Some(4), }, } | BoundOrder";
+
+// The shape of the row with that name.
+fn built(at: Global, name: &str) -> Result<Shape, AllocError> {
+    match name {
+        "marker" => twice_named(at),
+        "elements" => empty_elements(at),
+        "inside" => around(at, "d", around(at, "c", empty_elements(at)?)?),
+        "three" => both_named(at, crossed(), list_of(at, Shape::Null)?),
+        "turned" => both_named(at, list_of(at, Shape::Null)?, crossed()),
+        _ => {
+            let inner = around(at, "c", crossed())?;
+            both_named(at, list_of(at, Shape::Null)?, inner)
+        }
+    }
+}
+
+fn has_least_fault(at: Global, row: &str) -> Result<(), Fail> {
+    let columns = row_of(row);
+    let shape = built(at, columns.first)?;
+    is_wanted(row, drawn(at, &shape)?.as_str(), columns.second)?;
+    has_fault(at, row, shape, columns.third)
+}
+
+#[test]
+fn least_faults_of_shapes(rt: HostRuntime) -> Result<(), Fail> {
+    each(rt.alloc(), BUILT, has_least_fault)
 }
 
 #[test]
@@ -267,6 +348,55 @@ fn stands_for(at: Global, row: &str) -> Result<(), Fail> {
 #[test]
 fn texts_stand_for_shapes(rt: HostRuntime) -> Result<(), Fail> {
     each(rt.alloc(), SHAPES, stands_for)
+}
+
+/// The words that are no Names.
+const RESERVED: &str = "BOOLEAN
+INTEGER
+ENUMERATED
+NULL
+OCTET
+BIT
+STRING
+OBJECT
+IDENTIFIER
+IA5String
+VisibleString
+NumericString
+PrintableString
+UTF8String
+SEQUENCE
+OF
+CHOICE
+OPTIONAL
+DEFAULT
+SIZE
+MIN
+MAX
+TRUE
+FALSE
+UNIVERSAL
+APPLICATION
+PRIVATE
+REAL
+SET";
+
+// That no definition has the word as its Name, and that one has the word with a letter more.
+fn is_reserved(at: Global, word: &str) -> Result<(), Fail> {
+    let definition = format!(in at; "{word} ::= NULL")?;
+    match parse_types(at, definition.as_str()) {
+        Ok(_) => is_wanted(word, "a Name", "Syntax at 0")?,
+        Err(fault) => is_wanted(word, format!(in at; "{fault}")?.as_str(), "Syntax at 0")?,
+    }
+    let longer = format!(in at; "{word}s")?;
+    let definition = format!(in at; "{longer} ::= NULL")?;
+    let types = parse_types(at, definition.as_str())?;
+    is_well(word, types.get(longer.as_str()).is_some())
+}
+
+#[test]
+fn words_that_are_no_names(rt: HostRuntime) -> Result<(), Fail> {
+    each(rt.alloc(), RESERVED, is_reserved)
 }
 
 // ---- bits
