@@ -1,5 +1,5 @@
 # make: proves and builds the programs, as bin/oer and bin/oer-dump
-# make quick: proves and tests all but the must-fail edits, over what earlier runs kept, for use before a commit
+# make quick: proves and tests all but the wrong bodies, over what earlier runs kept, for use before a commit
 # make test: the whole gate, then the commands that the documents show, what a release has, and memory refused in turn
 # make lib: proves and builds the library for C and C++, in lib/
 # make test_lib: tests it from C, C++, Rust and Python; OER_STRINGS=1000 tries so many random strings of octets, else a million in C and 100,000 in each other language
@@ -24,15 +24,7 @@ quick:
 	@tools/quick
 
 test:
-	@rm -rf out/side_by_side
-	RT_JOBS=$${RT_JOBS-$$(tools/jobs)} rt ci
-	@mkdir -p bin
-	@cp crates/oer/out/oer bin/oer
-	@cp crates/oer_dump/out/oer_dump bin/oer-dump
-	@tools/lib
-	@$(MAKE) --no-print-directory -j 2 -o bin/oer -o lib/liboer.a documents test_lib
-	@tools/test_release
-	@examples/refusals
+	@tools/costs tools/gate
 
 documents: bin/oer
 	@examples/check
