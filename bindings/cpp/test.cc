@@ -698,8 +698,5 @@ int main(int count, char **words) {
     test_certificate(words[1]);
     test_numbers(words[3]);
     test_random(std::atol(words[2]));
-    if (!differs)
-        std::printf("%d vectors, %ld encodings of %s strings, %ld of them canonical\n",
-                    static_cast<int>(sizeof vectors / sizeof *vectors), encodings, words[2], canonicals);
     return differs;
 }
