@@ -23,8 +23,8 @@
  *   is allowed.
  * - No pointer is NULL, that of oer_types_free neither. A pointer that comes with a length points to
  *   that many octets. Those that are read are initialized. Those of an output buffer needn't be: what is
- *   in them before the call changes nothing of what it writes and answers. With length 0 nothing is read
- *   or written there, and any pointer but NULL will do.
+ *   written follows from what is read, and the rest of the buffer stays as it is. With length 0 nothing is
+ *   read or written there, and any pointer but NULL will do.
  * - The output buffer and each oer_types overlap nothing else that is passed to the call. Inputs may
  *   overlap each other.
  * - Memory comes from malloc, realloc and free, which have to belong together. It may run out: then
