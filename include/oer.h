@@ -13,15 +13,18 @@
  * - An oer_types begins as OER_TYPES_NONE, or as zeros. Its fields belong to the library: a caller
  *   neither reads nor writes them. It may be moved to another place while no call uses it, and then
  *   the old place is not used again; two copies of one oer_types may not both be used.
- * - An oer_types is in one call at a time. The next call may come from another thread, where a lock, the
- *   start or join of a thread, or a sequentially consistent atomic comes between the two. For calls at
- *   the same time each thread has an oer_types of its own: oer_types_share gives it the types of another
- *   one, and they are in memory once.
+ * - An oer_types is in one call at a time. The next call may come from another thread, where the one
+ *   call happens before the other, as C has it: by a lock, the start or join of a thread, a queue, an
+ *   atomic that is stored with release and loaded with acquire. For calls at the same time each thread
+ *   has an oer_types of its own: oer_types_share gives it the types of another one, and they are in
+ *   memory once.
  * - oer_types_free gives the memory back, where no other oer_types has the types. After it the oer_types
  *   is as new: each call on it answers OER_NO_TYPES, and types may be read into it again. To free it twice
  *   is allowed.
- * - No pointer is NULL. A pointer that comes with a length points to that many octets, all of them
- *   initialized, those of an output buffer too. With length 0 nothing is read or written there.
+ * - No pointer is NULL, that of oer_types_free neither. A pointer that comes with a length points to
+ *   that many octets. Those that are read are initialized. Those of an output buffer needn't be: what is
+ *   written follows from what is read, and the rest of the buffer stays as it is. With length 0 nothing is
+ *   read or written there, and any pointer but NULL will do.
  * - The output buffer and each oer_types overlap nothing else that is passed to the call. Inputs may
  *   overlap each other.
  * - Memory comes from malloc, realloc and free, which have to belong together. It may run out: then
@@ -39,6 +42,13 @@
 
 #ifdef __cplusplus
 extern "C" {
+#endif
+
+/* Compilers that know this warn where a pointer is NULL. */
+#ifdef __GNUC__
+#define OER_NO_NULL __attribute__((nonnull))
+#else
+#define OER_NO_NULL
 #endif
 
 /* The version of this header: major, minor, patch. */
@@ -92,7 +102,7 @@ enum oer_reason {
 
 /* Why definitions are rejected: `why` of oer_parsed at OER_REJECTED (docs/NOTATION.md). */
 enum oer_text_reason {
-    OER_TEXT_NOT_UTF8 = 0,         /* the text is not UTF-8 */
+    OER_TEXT_NOT_UTF8 = 0,         /* the text is not UTF-8; `place` is 0, wherever it isn't */
     OER_TEXT_TOKEN = 2,            /* no token begins here, or it has no end */
     OER_TEXT_SYNTAX = 3,           /* a token that the grammar doesn't have here */
     OER_TEXT_NUMBER = 4,           /* a number out of range for its place */
@@ -129,14 +139,19 @@ typedef struct oer_types {
 } oer_types;
 
 /* An oer_types without types: oer_types types = OER_TYPES_NONE; */
+#ifdef __cplusplus
+#define OER_TYPES_NONE {}
+#else
 #define OER_TYPES_NONE { 0, 0 }
+#endif
 
 /* What reading definitions answers. */
 typedef struct oer_parsed {
     uint32_t status; /* OER_OK, OER_REJECTED or OER_MEMORY */
     uint32_t why;    /* at OER_REJECTED the reason, an enum oer_text_reason; else 0 */
     uint64_t place;  /* at OER_REJECTED the octet of the text at which the token or type begins that
-                        shows the fault; at OER_OK the length of the text; else 0 */
+                        shows the fault, and 0 at OER_TEXT_NOT_UTF8; at OER_OK the length of the text;
+                        else 0 */
 } oer_parsed;
 
 /* What a check answers. */
@@ -176,27 +191,34 @@ typedef struct oer_located {
     size_t length;   /* at OER_OK how many octets it has; else 0 */
 } oer_located;
 
-/* A limit that rejects nothing. */
+/* The greatest limit, 2^64 - 1: an encoding of more octets is rejected with OER_LIMIT. No octets in memory
+ * are as many, but a length that they begin with may say so: as an OCTET STRING, 88 ff ff ff ff ff ff ff ff
+ * would have 2^64 + 8 octets, and is rejected with OER_LIMIT after these 9, whatever follows them. The calls
+ * that are given no limit have this one. */
+#ifdef __cplusplus
+#define OER_NO_LIMIT static_cast<uint64_t>(-1)
+#else
 #define OER_NO_LIMIT ((uint64_t)-1)
+#endif
 
 /* Reads definitions `Name ::= type` (docs/NOTATION.md), in place of the types that were there. At
  * OER_REJECTED and OER_MEMORY the types are those from before. */
-oer_parsed oer_types_read(oer_types *types, const char *text, size_t text_length);
+oer_parsed oer_types_read(oer_types *types, const char *text, size_t text_length) OER_NO_NULL;
 
-/* Frees the types. */
-void oer_types_free(oer_types *types);
+/* Frees the types. It is not called with NULL, as free may be. */
+void oer_types_free(oer_types *types) OER_NO_NULL;
 
 /* Gives `other` the types of `types`, in place of those that were there. They are in memory once, and are
  * freed when no oer_types has them. Each of the two is used by itself: one thread may call with the one
  * while another thread calls with the other. Unless the status is OER_OK, `other` is as before.
  * OER_OK, OER_NO_TYPES, OER_MEMORY. */
-uint32_t oer_types_share(oer_types *types, oer_types *other);
+uint32_t oer_types_share(oer_types *types, oer_types *other) OER_NO_NULL;
 
 /* Whether the octets begin with an encoding of a value of the type with the name, in any spelling
  * that the rules allow (Basic-OER): how long it is, and whether it is the canonical one. What
  * follows it is not looked at: compare `octets` of the answer with octets_length. */
 oer_checked oer_check(oer_types *types, const char *name, size_t name_length,
-                      const uint8_t *octets, size_t octets_length);
+                      const uint8_t *octets, size_t octets_length) OER_NO_NULL;
 
 /* Checks each message as oer_check does. A message is a part of the octets; messages may overlap. Its
  * answer has its place among the answers. That has the status of oer_check, or OER_OUTSIDE where the
@@ -206,14 +228,14 @@ oer_checked oer_check(oer_types *types, const char *name, size_t name_length,
 uint32_t oer_check_many(oer_types *types, const char *name, size_t name_length,
                         const uint8_t *octets, size_t octets_length,
                         const oer_message *messages, size_t messages_length,
-                        oer_checked *answers, size_t answers_length);
+                        oer_checked *answers, size_t answers_length) OER_NO_NULL;
 
 /* Writes the canonical octets (Canonical-OER) of the value whose encoding, of at most `limit` octets,
  * is at the front of the octets. What follows it is not looked at.
  * OER_OK, OER_REJECTED, OER_NO_TYPES, OER_UNNAMED, OER_MEMORY, OER_ROOM. */
 oer_written oer_canon(oer_types *types, const char *name, size_t name_length,
                       const uint8_t *octets, size_t octets_length, uint64_t limit,
-                      uint8_t *out, size_t room);
+                      uint8_t *out, size_t room) OER_NO_NULL;
 
 /* Writes the part of the encoding at the front of the octets to which the path leads, as it stands in
  * them. A path is steps joined by dots (docs/COMMAND.md): c0 a component, a0 an addition, i0 an
@@ -223,27 +245,29 @@ oer_written oer_canon(oer_types *types, const char *name, size_t name_length,
 oer_written oer_part(oer_types *types, const char *name, size_t name_length,
                      const uint8_t *octets, size_t octets_length,
                      const char *path, size_t path_length,
-                     uint8_t *out, size_t room);
+                     uint8_t *out, size_t room) OER_NO_NULL;
 
 /* Says where that part lies: it is the `length` octets from octets + at on, and nothing is copied. Of a
  * part without octets `at` is its place, which may be octets_length.
  * OER_OK, OER_REJECTED, OER_NO_TYPES, OER_UNNAMED, OER_MEMORY, OER_NO_PATH, OER_NO_STEP, OER_ABSENT. */
 oer_located oer_part_at(oer_types *types, const char *name, size_t name_length,
                         const uint8_t *octets, size_t octets_length,
-                        const char *path, size_t path_length);
+                        const char *path, size_t path_length) OER_NO_NULL;
 
 /* Writes the JSON (docs/JSON.md) of the value whose encoding, of at most `limit` octets, is at the
  * front of the octets. What follows it is not looked at.
  * OER_OK, OER_REJECTED, OER_NO_TYPES, OER_UNNAMED, OER_MEMORY, OER_ROOM. */
 oer_written oer_to_json(oer_types *types, const char *name, size_t name_length,
                         const uint8_t *octets, size_t octets_length, uint64_t limit,
-                        char *out, size_t room);
+                        char *out, size_t room) OER_NO_NULL;
 
 /* Writes the canonical octets of the value that the JSON stands for.
  * OER_OK, OER_REJECTED, OER_NO_TYPES, OER_UNNAMED, OER_MEMORY, OER_ROOM, OER_NO_JSON. */
 oer_written oer_from_json(oer_types *types, const char *name, size_t name_length,
                           const char *text, size_t text_length,
-                          uint8_t *out, size_t room);
+                          uint8_t *out, size_t room) OER_NO_NULL;
+
+#undef OER_NO_NULL
 
 #ifdef __cplusplus
 }

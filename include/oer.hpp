@@ -12,9 +12,10 @@
  * Results
  *
  * A call returns an oer::result by value: the answer, or an oer::error with the status, the reason and
- * the place. `ok()` tells which. By default no call throws, and the header compiles without exceptions.
- * Where OER_EXCEPTIONS is defined before the header is included, `value()` of a result that has an
- * error throws an oer::failure; nothing else changes. Files with and without it may be linked together.
+ * the place. `ok()` tells which. No call throws. `value()`, `*` and `->` of a result give its answer;
+ * where it has an error they throw an oer::failure, or end the program by std::terminate in a file that
+ * is compiled without exceptions. The types are the same in both kinds of file, which may be linked
+ * together. From C++17 on the compiler warns where a result is not looked at.
  *
  * Octets and texts that a call makes are returned in an oer::octets or an oer::text, which own them.
  * The calls whose names end in _into write into a buffer of the caller's, and this header then
@@ -25,18 +26,24 @@
  * Octets are taken as an oer::octets_in: a pointer with a number, an array, or whatever has data() and
  * size(), as std::vector<std::uint8_t>, std::array, oer::octets and, from C++20 on, std::span. Texts
  * are taken as an oer::text_in: text that ends with a zero octet, a pointer with a number, std::string,
- * std::string_view, oer::text. They are UTF-8. A pointer may be null where the number is 0. An argument
- * is read during the call only, and nothing keeps a pointer to it.
+ * std::string_view, oer::text. They are UTF-8. An argument is read during the call only, and nothing
+ * keeps a pointer to it.
+ *
+ * A pointer may be null where the number is 0. With another number the call is rejected, as it is where
+ * the pointer to a text that ends with a zero octet is null: the status is OER_OUTSIDE of what would be
+ * read, and OER_ROOM of a buffer. The constants 0 and nullptr are not taken for pointers, so that {0, 5}
+ * doesn't compile.
  *
  * Lengths and places are numbers of octets.
  *
  * Threads
  *
  * An oer::types is in one call at a time. That holds for check() as well, which is not const for this
- * reason. The next call may come from another thread, where a lock, the start or join of a thread, or a
- * sequentially consistent atomic comes between the two. For calls at the same time each thread has an
- * oer::types of its own: share() makes one more of types that are in memory once. Results, errors, octets
- * and texts may be handed to other threads, and read by several at once.
+ * reason. The next call may come from another thread, where the one call happens before the other, as C++
+ * has it: by a lock, the start or join of a thread, a queue, an atomic that is stored with release and
+ * loaded with acquire. For calls at the same time each thread has an oer::types of its own: share() makes
+ * one more of types that are in memory once. Results, errors, octets and texts may be handed to other
+ * threads, and read by several at once.
  *
  * No call is made from a signal handler, or in the child of a fork of a process with threads. */
 #ifndef OER_HPP
@@ -47,8 +54,10 @@
 #include <cstddef>
 #include <cstdint>
 #include <cstring>
+#include <exception>
 #include <memory>
 #include <new>
+#include <stdexcept>
 #include <type_traits>
 #include <utility>
 
@@ -61,15 +70,16 @@
 #include <span>
 #endif
 
-#ifdef OER_EXCEPTIONS
-#include <stdexcept>
-#define OER_HPP_NAMESPACE throwing
+#if __cplusplus >= 201703L || (defined(_MSVC_LANG) && _MSVC_LANG >= 201703L)
+#define OER_HPP_NODISCARD [[nodiscard]]
 #else
-#define OER_HPP_NAMESPACE returning
+#define OER_HPP_NODISCARD
+#endif
+#if defined(__cpp_exceptions) || defined(__EXCEPTIONS) || defined(_CPPUNWIND)
+#define OER_HPP_THROWS
 #endif
 
 namespace oer {
-inline namespace OER_HPP_NAMESPACE {
 
 /* The version of the library that the program was linked with, as the number OER_VERSION_NUMBER is of
  * the header. */
@@ -82,9 +92,12 @@ enum class subject {
     json         /* JSON: an oer_json_reason */
 };
 
+/* The status of a result whose answer was moved out of it. No call answers it. */
+constexpr std::uint32_t moved_from = 0xffffffff;
+
 /* Why a call has no answer. */
 struct error {
-    /* An oer_status. OER_OK stands for no error. */
+    /* An oer_status, or moved_from. OER_OK stands for no error. */
     std::uint32_t status;
     /* At OER_REJECTED the reason, of the enumeration that `of` names. Else 0. */
     std::uint32_t why;
@@ -109,8 +122,14 @@ public:
     /* No elements. */
     slice() noexcept : at_(nullptr), size_(0) {}
 
-    /* `size` elements from `at` on, all of them initialized, those of an output buffer too. */
-    slice(T *at, std::size_t size) noexcept : at_(at), size_(size) {}
+    /* `size` elements from `at` on. Those that a call reads are initialized. The pointer may be null where
+     * the size is 0; with another size it is missing(). */
+    template <class P, class = typename std::enable_if<std::is_pointer<P>::value &&
+                                                       std::is_convertible<P, T *>::value>::type>
+    slice(P at, std::size_t size) noexcept : at_(at), size_(size) {}
+
+    /* A null constant is not taken for a pointer: {0, 5} would be one. */
+    slice(std::nullptr_t, std::size_t) = delete;
 
     /* All elements of an array. */
     template <std::size_t N>
@@ -128,8 +147,11 @@ public:
      * used, as oer.h wants it. */
     T *data() const noexcept { return at_ ? at_ : nothing(); }
 
-    /* How many elements there are. */
-    std::size_t size() const noexcept { return size_; }
+    /* How many elements there are. None are where the pointer is null. */
+    std::size_t size() const noexcept { return at_ ? size_ : 0; }
+
+    /* Whether there should be elements, and the pointer is null. */
+    bool missing() const noexcept { return !at_ && size_ != 0; }
 
 private:
     static T *nothing() noexcept {
@@ -150,10 +172,16 @@ typedef slice<char> text_out;
 class text_in : public slice<const char> {
 public:
     /* `size` octets from `at` on. */
-    text_in(const char *at, std::size_t size) noexcept : slice<const char>(at, size) {}
+    template <class P, class = typename std::enable_if<std::is_pointer<P>::value &&
+                                                       std::is_convertible<P, const char *>::value>::type>
+    text_in(P at, std::size_t size) noexcept : slice<const char>(at, size) {}
 
-    /* The octets up to the first zero octet. The pointer is not null. */
-    text_in(const char *text) noexcept : slice<const char>(text, std::strlen(text)) {}
+    /* The octets up to the first zero octet. Where the pointer is null they are missing(). */
+    text_in(const char *text) noexcept : slice<const char>(text, text ? std::strlen(text) : 1) {}
+
+    /* Null constants are not taken for pointers. */
+    text_in(std::nullptr_t, std::size_t) = delete;
+    text_in(std::nullptr_t) = delete;
 
     /* All octets of whatever has data() and size(), as a string. */
     template <class C, class = typename std::enable_if<
@@ -243,7 +271,6 @@ struct written {
     std::size_t size;
 };
 
-#ifdef OER_EXCEPTIONS
 /* What value() throws where there is an error. what() is the name() of the error. */
 class failure : public std::runtime_error {
 public:
@@ -255,17 +282,49 @@ public:
 private:
     oer::error why_;
 };
+
+/* What value() does where there is an error: it throws, or ends the program. Which of the two is part of
+ * the name of a function that is made of value(), and so files with and without exceptions each have their
+ * own. */
+struct throwing {
+    [[noreturn]] static void fail(const error &why);
+};
+struct ending {
+    [[noreturn]] static void fail(const error &) noexcept { std::terminate(); }
+};
+#ifdef OER_HPP_THROWS
+inline void throwing::fail(const error &why) { throw failure(why); }
+typedef throwing failing;
+#else
+typedef ending failing;
 #endif
 
-/* An answer, or the reason why there is none. It may be moved, and copied where the answer may. */
+/* An answer, or the reason why there is none. It may be moved, and copied where the answer may. After it
+ * was moved it is not ok(): its status is moved_from, unless it had an error, which stays. */
 template <class T>
-class result {
+class OER_HPP_NODISCARD result {
 public:
     /* A result that has an answer. */
     result(T &&answer) noexcept : error_(), answer_(std::move(answer)) {}
 
     /* A result that has an error, whose status is not OER_OK. */
     result(const oer::error &why) noexcept : error_(why), answer_() {}
+
+    result(const result &) = default;
+    result &operator=(const result &) = default;
+
+    result(result &&other) noexcept : error_(other.error_), answer_(std::move(other.answer_)) { other.forget(); }
+
+    result &operator=(result &&other) noexcept {
+        if (this != &other) {
+            error_ = other.error_;
+            answer_ = std::move(other.answer_);
+            other.forget();
+        }
+        return *this;
+    }
+
+    ~result() = default;
 
     /* Whether there is an answer. */
     bool ok() const noexcept { return error_.status == OER_OK; }
@@ -274,26 +333,63 @@ public:
     /* The error. Where there is an answer its status is OER_OK, and all its numbers are 0. */
     const oer::error &error() const noexcept { return error_; }
 
-    /* The answer. Where there is an error: with OER_EXCEPTIONS it throws a failure; without, it is an
-     * empty one (no octets, no text, no types, numbers 0), so ask ok() before. */
+    /* The answer. Where there is an error it throws a failure, or ends the program in a file that is
+     * compiled without exceptions. Of a result that is moved the answer is moved out. The argument of the
+     * template is left as it is. */
+    template <class How = failing>
     const T &value() const & {
-        demand();
+        demand<How>();
         return answer_;
     }
+    template <class How = failing>
     T &value() & {
-        demand();
+        demand<How>();
         return answer_;
     }
+    template <class How = failing>
     T value() && {
-        demand();
+        demand<How>();
+        forget();
         return std::move(answer_);
     }
 
+    /* The same. */
+    template <class How = failing>
+    const T &operator*() const & {
+        demand<How>();
+        return answer_;
+    }
+    template <class How = failing>
+    T &operator*() & {
+        demand<How>();
+        return answer_;
+    }
+    template <class How = failing>
+    T operator*() && {
+        demand<How>();
+        forget();
+        return std::move(answer_);
+    }
+    template <class How = failing>
+    const T *operator->() const {
+        demand<How>();
+        return &answer_;
+    }
+    template <class How = failing>
+    T *operator->() {
+        demand<How>();
+        return &answer_;
+    }
+
 private:
+    template <class How>
     void demand() const {
-#ifdef OER_EXCEPTIONS
-        if (!ok()) throw failure(error_);
-#endif
+        if (!ok()) How::fail(error_);
+    }
+
+    /* The answer has moved. */
+    void forget() noexcept {
+        if (ok()) error_.status = moved_from;
     }
 
     oer::error error_;
@@ -303,9 +399,10 @@ private:
 /* Definitions that were read, by their names; or none. It may be moved and not copied. It frees what it
  * holds. One call at a time.
  *
- * Every call on it except read() and free() may have these errors:
+ * Every call on it except free() may have these errors, read() the last one only:
  *   OER_NO_TYPES  it has no types: none were read, they were freed, or it was moved from
  *   OER_UNNAMED   no definition has the name
+ *   OER_OUTSIDE   what it would read is missing(): a null pointer with a number other than 0
  * The further ones stand with each call. After an error the types and the caller's buffers are as
  * before. */
 class types {
@@ -345,6 +442,7 @@ public:
      *   OER_MEMORY   an allocation failed
      * After an error the types are those from before. */
     result<std::uint64_t> read(text_in definitions) noexcept {
+        if (missing(definitions)) return nowhere(subject::definitions);
         oer_parsed parsed = oer_types_read(&held_, definitions.data(), definitions.size());
         if (parsed.status == OER_OK) return result<std::uint64_t>(std::move(parsed.place));
         return result<std::uint64_t>(fault(parsed.status, parsed.why, parsed.place, 0, subject::definitions));
@@ -368,6 +466,7 @@ public:
      * follows it is not looked at: compare `octets` of the answer with the size. It takes no memory.
      *   OER_REJECTED  they don't: `why` is an oer_reason, `place` how many had been looked at */
     result<checked> check(text_in name, octets_in given) noexcept {
+        if (missing(name, given)) return nowhere(subject::octets);
         return checked_of(oer_check(&held_, name.data(), name.size(), given.data(), given.size()));
     }
 
@@ -375,9 +474,11 @@ public:
      * answer is at its place among the answers: checked_of() of it is what check() returns, or the error
      * has OER_OUTSIDE where the message is not all in the octets. It takes no memory. The answer is how
      * many messages there are; answers past these stay as they are.
-     *   OER_ROOM     there are fewer answers than messages: `needed` says how many there have to be */
+     *   OER_ROOM     there are fewer answers than messages: `needed` says how many there have to be. Those
+     *                of a null pointer are none */
     result<std::size_t> check_many(text_in name, octets_in given, slice<const message> messages,
                                    slice<oer_checked> answers) noexcept {
+        if (missing(name, given, messages)) return nowhere(subject::octets);
         std::uint32_t status = oer_check_many(&held_, name.data(), name.size(), given.data(), given.size(),
                                               messages.data(), messages.size(), answers.data(), answers.size());
         std::size_t count = messages.size();
@@ -400,6 +501,7 @@ public:
      *                looked at
      *   OER_MEMORY   an allocation failed, here or in the library */
     result<octets> canon(text_in name, octets_in given, std::uint64_t limit = OER_NO_LIMIT) noexcept {
+        if (missing(name, given)) return nowhere(subject::octets);
         return gather<std::uint8_t>(given.size(), subject::octets, [&](std::uint8_t *out, std::size_t room) {
             return oer_canon(&held_, name.data(), name.size(), given.data(), given.size(), limit, out, room);
         });
@@ -409,6 +511,7 @@ public:
      *   OER_ROOM     the buffer is too small: `needed` of the error says how many octets it has to have */
     result<written> canon_into(text_in name, octets_in given, octets_out out,
                                std::uint64_t limit = OER_NO_LIMIT) noexcept {
+        if (missing(name, given)) return nowhere(subject::octets);
         return told(oer_canon(&held_, name.data(), name.size(), given.data(), given.size(), limit, out.data(),
                               out.size()),
                     subject::octets);
@@ -426,6 +529,7 @@ public:
      *   OER_ABSENT   the path leads to a component or a known addition that is absent
      *   OER_MEMORY   an allocation failed, here or in the library */
     result<octets> part(text_in name, octets_in given, text_in path) noexcept {
+        if (missing(name, given, path)) return nowhere(subject::octets);
         return gather<std::uint8_t>(given.size(), subject::octets, [&](std::uint8_t *out, std::size_t room) {
             return oer_part(&held_, name.data(), name.size(), given.data(), given.size(), path.data(), path.size(),
                             out, room);
@@ -435,6 +539,7 @@ public:
     /* The same, written into the buffer, which overlaps nothing else that is passed.
      *   OER_ROOM     the buffer is too small: `needed` of the error says how many octets it has to have */
     result<written> part_into(text_in name, octets_in given, text_in path, octets_out out) noexcept {
+        if (missing(name, given, path)) return nowhere(subject::octets);
         return told(oer_part(&held_, name.data(), name.size(), given.data(), given.size(), path.data(), path.size(),
                              out.data(), out.size()),
                     subject::octets);
@@ -443,6 +548,7 @@ public:
     /* Where that part lies in the octets: it is the `length` octets from the place `at` on, and nothing is
      * copied. Of a part without octets `at` is its place. The errors are those of part(). */
     result<message> part_at(text_in name, octets_in given, text_in path) noexcept {
+        if (missing(name, given, path)) return nowhere(subject::octets);
         oer_located found =
             oer_part_at(&held_, name.data(), name.size(), given.data(), given.size(), path.data(), path.size());
         message place = { found.at, found.length };
@@ -456,6 +562,7 @@ public:
      *                looked at
      *   OER_MEMORY   an allocation failed, here or in the library */
     result<text> to_json(text_in name, octets_in given, std::uint64_t limit = OER_NO_LIMIT) noexcept {
+        if (missing(name, given)) return nowhere(subject::octets);
         return gather<char>(room_of_json(given.size()), subject::octets, [&](char *out, std::size_t room) {
             return oer_to_json(&held_, name.data(), name.size(), given.data(), given.size(), limit, out, room);
         });
@@ -466,6 +573,7 @@ public:
      *   OER_ROOM     the buffer is too small: `needed` of the error says how many octets it has to have */
     result<written> to_json_into(text_in name, octets_in given, text_out out,
                                  std::uint64_t limit = OER_NO_LIMIT) noexcept {
+        if (missing(name, given)) return nowhere(subject::octets);
         return told(oer_to_json(&held_, name.data(), name.size(), given.data(), given.size(), limit, out.data(),
                                 out.size()),
                     subject::octets);
@@ -476,6 +584,7 @@ public:
      *   OER_REJECTED  the JSON is no value of the type: `why` is an oer_json_reason, `place` is 0
      *   OER_MEMORY   an allocation failed, here or in the library */
     result<octets> from_json(text_in name, text_in json) noexcept {
+        if (missing(name, json)) return nowhere(subject::json);
         return gather<std::uint8_t>(json.size(), subject::json, [&](std::uint8_t *out, std::size_t room) {
             return oer_from_json(&held_, name.data(), name.size(), json.data(), json.size(), out, room);
         });
@@ -484,6 +593,7 @@ public:
     /* The same, written into the buffer, which overlaps nothing else that is passed.
      *   OER_ROOM     the buffer is too small: `needed` of the error says how many octets it has to have */
     result<written> from_json_into(text_in name, text_in json, octets_out out) noexcept {
+        if (missing(name, json)) return nowhere(subject::json);
         return told(oer_from_json(&held_, name.data(), name.size(), json.data(), json.size(), out.data(), out.size()),
                     subject::json);
     }
@@ -491,6 +601,16 @@ public:
 private:
     /* Begins as a new one; what it held has moved. */
     void forget() noexcept { held_ = oer_types(); }
+
+    /* Whether something that a call would read is missing. */
+    static bool missing() noexcept { return false; }
+    template <class First, class... Rest>
+    static bool missing(const First &first, const Rest &...rest) noexcept {
+        return first.missing() || missing(rest...);
+    }
+
+    /* The error of a call that would read what is missing. */
+    static error nowhere(subject of) noexcept { return fault(OER_OUTSIDE, 0, 0, 0, of); }
 
     static error fault(std::uint32_t status, std::uint32_t why, std::uint64_t place, std::uint64_t needed,
                        subject of) noexcept {
@@ -575,13 +695,14 @@ inline const char *json_reason(std::uint32_t number) noexcept {
 } // namespace names
 
 inline const char *error::name() const noexcept {
+    if (status == moved_from) return "Moved";
     if (status != OER_REJECTED) return names::status(status);
     if (of == subject::octets) return names::reason(why);
     return of == subject::definitions ? names::text_reason(why) : names::json_reason(why);
 }
 
-} // namespace OER_HPP_NAMESPACE
 } // namespace oer
 
-#undef OER_HPP_NAMESPACE
+#undef OER_HPP_NODISCARD
+#undef OER_HPP_THROWS
 #endif

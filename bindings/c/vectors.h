@@ -31,6 +31,7 @@ struct vector {
 #define CHOSEN "CHOICE {a NULL, ..., b OCTET STRING}"
 #define LISTED "ENUMERATED {a(5), b(128), c(-1)}"
 #define HIGH_TAGS "CHOICE {a [62] NULL, b [63] NULL, c [200] NULL}"
+#define ENDLESS "88ffffffffffffffff010203" /* says that it has 2^64 - 1 octets, after 9 */
 #define ALL OER_NO_LIMIT
 
 /* The longest octets of the table, and room for more. */
@@ -52,6 +53,7 @@ static const struct vector vectors[] = {
     { CHECK, "OCTET STRING", "0361", 0, ALL, OER_REJECTED, OER_END, 2, 0, 0 },
     { CHECK, "NULL", "", 0, ALL, OER_OK, 0, 0, 1, 0 },
     { CHECK, "BOOLEAN", "", 0, ALL, OER_REJECTED, OER_END, 0, 0, 0 },
+    { CHECK, "OCTET STRING", ENDLESS, 0, ALL, OER_REJECTED, OER_LIMIT, 9, 0, 0 },
 
     { CANON, BOOLEANS, "0200020107", 0, ALL, OER_OK, 0, 5, 4, "0102ffff" },
     { CANON, "BOOLEAN", "01", 0, ALL, OER_OK, 0, 1, 1, "ff" },
@@ -63,6 +65,7 @@ static const struct vector vectors[] = {
 
     { CANON, "OCTET STRING", "0361", 0, 2, OER_REJECTED, OER_LIMIT, 1, 0, 0 },
     { CANON, "OCTET STRING", "0361", 0, 4, OER_REJECTED, OER_END, 2, 0, 0 },
+    { CANON, "OCTET STRING", ENDLESS, 0, ALL, OER_REJECTED, OER_LIMIT, 9, 0, 0 },
     { CANON, "INTEGER (0..65535)", "0001", 0, 1, OER_REJECTED, OER_LIMIT, 0, 0, 0 },
     { CANON, ADDITIONS, "80ff020680020900", 0, ALL, OER_REJECTED, OER_WINDOW, 7, 0, 0 },
     { CANON, "INTEGER (0..MAX)", "80", 0, ALL, OER_REJECTED, OER_LENGTH_FORM, 1, 0, 0 },
@@ -87,12 +90,14 @@ static const struct vector vectors[] = {
     { PART, "BOOLEAN", "ff", "", ALL, OER_NO_PATH, 0, 0, 0, 0 },
     { PART, "BOOLEAN", "ff", "\377", ALL, OER_NO_PATH, 0, 0, 0, 0 },
     { PART, "OCTET STRING", "0361", "c0", ALL, OER_REJECTED, OER_END, 2, 0, 0 },
+    { PART, "OCTET STRING", ENDLESS, "c0", ALL, OER_REJECTED, OER_LIMIT, 9, 0, 0 },
 
     { TO_JSON, BYTE, "60ff08", 0, ALL, OER_OK, 0, 3, 25, "{\"a\":true,\"b\":8,\"c\":null}" },
     { TO_JSON, ADDITIONS, "80ff0205200109", 0, ALL, OER_OK, 0, 7, 20, "{\"#2\":\"09\",\"a\":true}" },
     { TO_JSON, CHOSEN, "85020102", 0, ALL, OER_OK, 0, 4, 14, "{\"#c5\":\"0102\"}" },
     { TO_JSON, "OCTET STRING", "0361", 0, 2, OER_REJECTED, OER_LIMIT, 1, 0, 0 },
     { TO_JSON, "OCTET STRING", "0361", 0, 4, OER_REJECTED, OER_END, 2, 0, 0 },
+    { TO_JSON, "OCTET STRING", ENDLESS, 0, ALL, OER_REJECTED, OER_LIMIT, 9, 0, 0 },
 
     { FROM_JSON, BYTE, "{\"a\":true,\"b\":8,\"c\":null}", 0, ALL, OER_OK, 0, 0, 3, "60ff08" },
     { FROM_JSON, BOOLEANS, "[true, false]", 0, ALL, OER_OK, 0, 0, 4, "0102ff00" },
@@ -136,7 +141,8 @@ static const struct place places[] = {
     { "SEQUENCE OF SEQUENCE OF BOOLEAN", "01020101ff0102ffff", "i1.i0", OER_OK, 0, 0, 7, 1 },
     { "BOOLEAN", "ff", "c01", OER_NO_PATH, 0, 0, 0, 0 },
     { "BOOLEAN", "ff", "\377", OER_NO_PATH, 0, 0, 0, 0 },
-    { "OCTET STRING", "0361", "c0", OER_REJECTED, OER_END, 2, 0, 0 }
+    { "OCTET STRING", "0361", "c0", OER_REJECTED, OER_END, 2, 0, 0 },
+    { "OCTET STRING", ENDLESS, "c0", OER_REJECTED, OER_LIMIT, 9, 0, 0 }
 };
 
 /* Definitions that are rejected: the reason, and the place. */

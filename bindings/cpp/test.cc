@@ -46,6 +46,18 @@ static_assert(!std::is_copy_constructible<oer::octets>::value, "octets are not c
 static_assert(std::is_nothrow_move_constructible<oer::octets>::value, "octets are moved");
 static_assert(!std::is_convertible<std::string, oer::octets_in>::value, "a text is no octets");
 static_assert(!std::is_convertible<const bytes &, oer::octets_out>::value, "what is const is not written");
+static_assert(std::is_constructible<oer::octets_in, std::uint8_t *, std::size_t>::value, "a pointer");
+static_assert(!std::is_constructible<oer::octets_in, const char *, std::size_t>::value, "a text is no octets");
+static_assert(!std::is_constructible<oer::octets_in, int, std::size_t>::value, "a number is no pointer");
+static_assert(!std::is_constructible<oer::octets_in, std::nullptr_t, std::size_t>::value, "a null constant is no pointer");
+static_assert(!std::is_constructible<oer::octets_out, std::nullptr_t, std::size_t>::value, "a null constant is no pointer");
+static_assert(!std::is_constructible<oer::text_in, std::nullptr_t, std::size_t>::value, "a null constant is no pointer");
+static_assert(!std::is_convertible<std::nullptr_t, oer::text_in>::value, "a null constant is no text");
+static_assert(std::is_copy_constructible<oer::result<oer::checked>>::value, "numbers are copied");
+static_assert(!std::is_copy_constructible<oer::result<oer::types>>::value, "types are not copied");
+static_assert(!std::is_copy_assignable<oer::result<oer::octets>>::value, "octets are not copied");
+static_assert(std::is_nothrow_move_constructible<oer::result<oer::types>>::value, "results are moved");
+static_assert(std::is_nothrow_move_assignable<oer::result<oer::types>>::value, "results are moved");
 #ifdef __cpp_lib_span
 static_assert(std::is_convertible<std::span<const std::uint8_t>, oer::octets_in>::value, "a span");
 static_assert(std::is_convertible<std::span<std::uint8_t>, oer::octets_out>::value, "a span");
@@ -135,19 +147,33 @@ struct answer {
     std::uint64_t read, size;
 };
 
-// That value() of a result that has an error throws it, or is empty.
-template <class T>
-static void test_value(oer::result<T> &from) {
-    EXPECT(from.ok() == static_cast<bool>(from), "bool");
-#ifdef OER_EXCEPTIONS
+// That the call throws the error of the result, if it has one.
+template <class T, class Call>
+static void test_throws(const oer::result<T> &from, Call call) {
     try {
-        from.value();
-        EXPECT(from.ok(), "value() throws");
+        call();
+        EXPECT(from.ok(), "it throws");
     } catch (const oer::failure &thrown) {
         EXPECT(!from.ok() && thrown.error().status == from.error().status, thrown.what());
+        EXPECT(thrown.error().why == from.error().why && thrown.error().place == from.error().place, thrown.what());
         EXPECT(thrown.what() == std::string(from.error().name()), thrown.what());
     }
-#endif
+}
+
+// That the ways to the answer of a result throw the error that it has.
+template <class T>
+static void test_value(oer::result<T> &from) {
+    const oer::result<T> &same = from;
+    EXPECT(from.ok() == static_cast<bool>(from), "bool");
+    test_throws(from, [&] { EXPECT(&from.value() == &*from, "one answer"); });
+    test_throws(from, [&] { EXPECT(&same.value() == &*same, "one answer"); });
+    test_throws(from, [&] { *from; });
+    test_throws(from, [&] { *same; });
+    test_throws(from, [&] { EXPECT(from.operator->() == &*from, "one answer"); });
+    test_throws(from, [&] { EXPECT(same.operator->() == &*same, "one answer"); });
+    if (from.ok()) return;
+    test_throws(from, [&] { std::move(from).value(); });
+    test_throws(from, [&] { *std::move(from); });
 }
 
 template <class T>
@@ -402,14 +428,17 @@ static void test_arguments() {
     oer::types types = types_of("OCTET STRING");
     const std::uint8_t array[] = { 1, 5 };
     std::array<std::uint8_t, 2> other = { { 1, 5 } }, out = { { 0, 0 } };
+    const std::uint8_t *null = nullptr;
     const std::string name = "A";
     EXPECT(types.check("A", array).value().octets == 2, "an array");
     EXPECT(types.check(name, other).value().octets == 2, "std::array and std::string");
     EXPECT(types.check(oer::text_in("Ab", 1), oer::octets_in(array, 2)).value().octets == 2, "numbers");
     EXPECT(types.check("A", bytes()).error().why == OER_END, "no octets");
     EXPECT(types.check("A", oer::octets_in()).error().why == OER_END, "no octets");
-    EXPECT(types.check("A", oer::octets_in(nullptr, 0)).error().why == OER_END, "no octets");
-    EXPECT(oer::octets_in().data() && oer::text_in(nullptr, 0).data() && oer::text_out(nullptr, 0).data(), "null");
+    const char *text = nullptr;
+    char *letters = nullptr;
+    EXPECT(types.check("A", { null, 0 }).error().why == OER_END, "no octets");
+    EXPECT(oer::octets_in().data() && oer::text_in(text, 0).data() && oer::text_out(letters, 0).data(), "null");
     EXPECT(types.canon_into("A", array, out).value().size == 2 && out[1] == 5, "std::array");
     EXPECT(types.canon_into("A", array, oer::octets_out()).error().needed == 2, "no buffer");
     oer::octets made = types.canon("A", array).value(), moved = std::move(made);
@@ -427,6 +456,85 @@ static void test_arguments() {
 #ifdef __cpp_lib_string_view
     EXPECT(types.check(std::string_view("Ab").substr(0, 1), array).ok(), "std::string_view");
 #endif
+}
+
+// A null pointer has no elements. With a number other than 0 it is not read, and nothing is written to it.
+static void test_null_pointers() {
+    oer::types types = types_of("SEQUENCE OF BOOLEAN");
+    const std::uint8_t array[] = { 1, 1, 0xff }, *octets = nullptr;
+    const oer::message all = { 0, 3 }, *messages = nullptr;
+    std::uint8_t *out = nullptr;
+    char *characters = nullptr;
+    const char *text = nullptr;
+    oer_checked answer = {}, *answers = nullptr;
+    const oer::octets_in none(octets, 5);
+    const oer::text_in no_text(text, 5);
+    EXPECT(none.size() == 0 && none.missing() && none.data(), "null");
+    EXPECT(!oer::octets_in(octets, 0).missing() && !oer::octets_in(array).missing(), "octets");
+    EXPECT(oer::text_in(text).missing() && !oer::text_in("").missing(), "texts");
+
+    oer::error small = types.canon_into("A", array, { out, 64 }).error();
+    EXPECT(small.status == OER_ROOM && small.needed == 3, "no buffer");
+    small = types.part_into("A", array, "i0", { out, 64 }).error();
+    EXPECT(small.status == OER_ROOM && small.needed == 1, "no buffer");
+    small = types.to_json_into("A", array, { characters, 64 }).error();
+    EXPECT(small.status == OER_ROOM && small.needed == 6, "no buffer");
+    small = types.from_json_into("A", "[true]", { out, 64 }).error();
+    EXPECT(small.status == OER_ROOM && small.needed == 3, "no buffer");
+    small = types.check_many("A", array, { &all, 1 }, { answers, 1 }).error();
+    EXPECT(small.status == OER_ROOM && small.needed == 1, "no answers");
+
+    EXPECT(is_only(types.read(no_text).error(), OER_OUTSIDE), "no definitions");
+    EXPECT(is_only(types.read(text).error(), OER_OUTSIDE), "no definitions");
+    EXPECT(is_only(oer::types::of(no_text).error(), OER_OUTSIDE), "no definitions");
+    for (int turn = 0; turn < 2; turn++) {
+        oer::text_in name = turn ? oer::text_in("A") : no_text;
+        oer::octets_in given = turn ? none : oer::octets_in(array);
+        oer::text_in json = turn ? no_text : oer::text_in("[true]");
+        std::uint8_t room[8];
+        char letters[8];
+        EXPECT(is_only(types.check(name, given).error(), OER_OUTSIDE), "check");
+        EXPECT(is_only(types.check_many(name, given, { &all, 1 }, { &answer, 1 }).error(), OER_OUTSIDE), "check_many");
+        EXPECT(is_only(types.canon(name, given).error(), OER_OUTSIDE), "canon");
+        EXPECT(is_only(types.canon_into(name, given, room).error(), OER_OUTSIDE), "canon_into");
+        EXPECT(is_only(types.part(name, given, "i0").error(), OER_OUTSIDE), "part");
+        EXPECT(is_only(types.part_into(name, given, "i0", room).error(), OER_OUTSIDE), "part_into");
+        EXPECT(is_only(types.part_at(name, given, "i0").error(), OER_OUTSIDE), "part_at");
+        EXPECT(is_only(types.to_json(name, given).error(), OER_OUTSIDE), "to_json");
+        EXPECT(is_only(types.to_json_into(name, given, letters).error(), OER_OUTSIDE), "to_json_into");
+        EXPECT(is_only(types.from_json(name, json).error(), OER_OUTSIDE), "from_json");
+        EXPECT(is_only(types.from_json_into(name, json, room).error(), OER_OUTSIDE), "from_json_into");
+    }
+    EXPECT(is_only(types.check_many("A", array, { messages, 1 }, { &answer, 1 }).error(), OER_OUTSIDE), "no messages");
+    EXPECT(is_only(types.part("A", array, text).error(), OER_OUTSIDE), "no path");
+    EXPECT(is_only(types.part_into("A", array, text, { out, 0 }).error(), OER_OUTSIDE), "no path");
+    EXPECT(is_only(types.part_at("A", array, text).error(), OER_OUTSIDE), "no path");
+    EXPECT(types.check("A", array).ok(), "the types are as before");
+}
+
+// A result whose answer was moved out of it is not ok.
+static void test_moved_results() {
+    const std::uint8_t array[] = { 1, 1, 0xff };
+    oer::types types = types_of("SEQUENCE OF BOOLEAN");
+    oer::result<oer::octets> made = types.canon("A", array), other = std::move(made);
+    EXPECT(is_only(made.error(), oer::moved_from) && made.error().name() == std::string("Moved"), "moved");
+    EXPECT(other.ok() && other->size() == 3 && (*other)[1] == 1, "moved to");
+    test_value(made);
+    made = std::move(other);
+    EXPECT(is_only(other.error(), oer::moved_from) && made->size() == 3, "moved back");
+    oer::octets octets = std::move(made).value();
+    EXPECT(is_only(made.error(), oer::moved_from) && octets.size() == 3, "the answer is moved out");
+    made = types.canon("A", array);
+    EXPECT(made.ok() && (*std::move(made)).size() == 3, "the answer is moved out");
+    EXPECT(is_only(made.error(), oer::moved_from), "the answer is moved out");
+    oer::result<oer::octets> rejected = types.canon("A", oer::octets_in()), same = std::move(rejected);
+    EXPECT(rejected.error().why == OER_END && same.error().why == OER_END, "an error stays");
+    oer::result<oer::checked> checked = types.check("A", array), copied = checked;
+    EXPECT(checked.ok() && copied.ok() && copied->octets == 3 && copied->canonical, "numbers are copied");
+    oer::result<oer::types> shared = types.share();
+    EXPECT((*shared).check("A", array)->octets == 3 && shared->check("A", array).ok(), "types in a result");
+    oer::types held = std::move(shared).value();
+    EXPECT(held.check("A", array).ok() && !shared, "types in a result");
 }
 
 // A JSON that is longer than the first buffer is made with a second.
@@ -584,12 +692,11 @@ int main(int count, char **words) {
     test_kept_types();
     test_shared_types();
     test_arguments();
+    test_null_pointers();
+    test_moved_results();
     test_growth();
     test_certificate(words[1]);
     test_numbers(words[3]);
     test_random(std::atol(words[2]));
-    if (!differs)
-        std::printf("%d vectors, %ld encodings of %s strings, %ld of them canonical\n",
-                    static_cast<int>(sizeof vectors / sizeof *vectors), encodings, words[2], canonicals);
     return differs;
 }

@@ -15,6 +15,9 @@ The library is the file that the variable OER_LIB of the environment names, or l
 that OER_LIB_DIR names, or the one that the system finds. Where there is none, or one of another version,
 to import this module raises ImportError.
 
+Of a subclass of str, bytes or int what counts is its text, its octets or its number, and not what its own
+methods say.
+
 Threads: a Types takes calls from any thread. One waits for the other, as the library wants one call at a
 time. For calls at the same time each thread has a Types of its own, by share(). No call may be made in the
 child of a fork of a process with threads.
@@ -23,6 +26,7 @@ child of a fork of a process with threads.
 import ctypes
 import ctypes.util
 import enum
+import operator
 import os
 import threading
 from types import TracebackType
@@ -66,7 +70,7 @@ class Reason(enum.IntEnum):
 class TextReason(enum.IntEnum):
     """Why definitions are rejected (NOTATION.md)."""
 
-    NOT_UTF8 = 0  # the text is not UTF-8
+    NOT_UTF8 = 0  # the text is not UTF-8; the place is 0, wherever it isn't
     TOKEN = 2  # no token begins here, or it has no end
     SYNTAX = 3  # a token that the grammar doesn't have here
     NUMBER = 4  # a number out of range for its place
@@ -148,6 +152,14 @@ class NoTypes(Error):
 class Unnamed(Error):
     """No definition has the name."""
 
+    def __init__(self, name: str) -> None:
+        super().__init__(f"no definition has the name {_shown(name)}")
+        self.name = name
+        """The name. Octets of it that are not UTF-8 are escaped, here and in the classes below."""
+
+    def __reduce__(self) -> Tuple[Any, ...]:
+        return (type(self), (self.name,))
+
 
 class OutOfMemory(Error, MemoryError):
     """An allocation failed in the library. One in Python is a MemoryError."""
@@ -156,10 +168,28 @@ class OutOfMemory(Error, MemoryError):
 class NoPath(Error):
     """The text is not a path."""
 
+    def __init__(self, path: str) -> None:
+        super().__init__(f"{_shown(path)} is not a path")
+        self.path = path
+        """The text."""
+
+    def __reduce__(self) -> Tuple[Any, ...]:
+        return (type(self), (self.path,))
+
 
 class NoStep(Error):
     """The path has a step that the type doesn't have, one past the last element, or one to an addition that
     the type doesn't know and that isn't there; or it goes on from a part that the type doesn't know."""
+
+    def __init__(self, step: str, path: str) -> None:
+        super().__init__(f"there is no step {_shown(step)} (path {_shown(path)})")
+        self.step = step
+        """The first such step."""
+        self.path = path
+        """The path up to this step, with it."""
+
+    def __reduce__(self) -> Tuple[Any, ...]:
+        return (type(self), (self.step, self.path))
 
 
 class Absent(Error):
@@ -172,6 +202,11 @@ class NotJson(Error):
 
 class Outside(Error):
     """The message is not all in the octets."""
+
+
+def _shown(text: str) -> str:
+    """The text in quotes on one line, cut where it is long."""
+    return repr(text if len(text) <= 60 else text[:60] + "..")
 
 
 class Checked(NamedTuple):
@@ -214,6 +249,7 @@ class Place(NamedTuple):
 
 _OK, _REJECTED, _NO_TYPES, _UNNAMED, _MEMORY, _ROOM, _NO_PATH, _NO_STEP, _ABSENT, _NO_JSON, _OUTSIDE = range(11)
 _NO_LIMIT = 2**64 - 1
+_MOST = ctypes.c_size_t(-1).value  # the greatest place and length
 _KEPT = 65536  # a buffer of more octets is not kept for the next call
 
 
@@ -294,37 +330,64 @@ def version() -> int:
     return int(_library.oer_version())
 
 
-_ERRORS: Dict[int, Type[Error]] = {
-    _NO_TYPES: NoTypes, _UNNAMED: Unnamed, _MEMORY: OutOfMemory, _NO_PATH: NoPath, _NO_STEP: NoStep,
-    _ABSENT: Absent, _NO_JSON: NotJson, _OUTSIDE: Outside,
+_ERRORS: Dict[int, Tuple[Type[Error], str]] = {
+    _NO_TYPES: (NoTypes, "there are no types"),
+    _MEMORY: (OutOfMemory, "an allocation failed"),
+    _ABSENT: (Absent, "the part is absent"),
+    _NO_JSON: (NotJson, "the text is not JSON"),
+    _OUTSIDE: (Outside, "the message is not all in the octets"),
 }
 
 
-def _error(status: int) -> Error:
-    """The exception of a status other than OK and REJECTED."""
-    kind = _ERRORS.get(status)
-    if kind is None:
-        return Error(f"status {status}")
-    return kind((kind.__doc__ or "").partition(".")[0])
+def _error(status: int, name: bytes = b"", path: bytes = b"") -> Error:
+    """The exception of a status other than OK, REJECTED and NO_STEP."""
+    if status == _UNNAMED:
+        return Unnamed(_readable(name))
+    if status == _NO_PATH:
+        return NoPath(_readable(path))
+    kind, message = _ERRORS.get(status, (Error, f"status {status}"))
+    return kind(message)
+
+
+def _readable(text: bytes) -> str:
+    """A text that a call was given, as the caller may read it."""
+    return text.decode("utf-8", "backslashreplace")
 
 
 def _octets(octets: Octets) -> bytes:
-    """Octets that nothing else changes during the call."""
+    """Octets that nothing else changes during the call, as bytes and not as a subclass."""
     return octets if type(octets) is bytes else bytes(memoryview(octets))
 
 
 def _text(text: Text) -> bytes:
     """A text as octets. Half of a surrogate pair is kept, as octets that are not UTF-8."""
-    return text.encode("utf-8", "surrogatepass") if isinstance(text, str) else _octets(text)
+    return str.encode(text, "utf-8", "surrogatepass") if isinstance(text, str) else _octets(text)
+
+
+def _number(number: int) -> int:
+    """A number as an int, and not as a subclass."""
+    return int.__index__(operator.index(number))
 
 
 def _limited(limit: Optional[int]) -> int:
-    """A limit as the library takes it. None, and what it has no number for, rejects nothing."""
+    """A limit as the library takes it. None stands for the greatest, as a greater number does."""
     if limit is None:
         return _NO_LIMIT
-    if limit < 0:
+    number = _number(limit)
+    if number < 0:
         raise ValueError("a limit is not negative")
-    return min(limit, _NO_LIMIT)
+    return min(number, _NO_LIMIT)
+
+
+def _message(message: Tuple[int, int]) -> Tuple[int, int]:
+    """A message as the library takes it. One for whose numbers it has none is outside of all octets."""
+    try:
+        at, length = (_number(number) for number in message)
+    except ValueError:
+        raise TypeError("a message is a place and a length") from None
+    if 0 <= at <= _MOST and 0 <= length <= _MOST:
+        return at, length
+    return _MOST, _MOST
 
 
 class Types:
@@ -383,7 +446,7 @@ class Types:
         """
         named, given = _text(name), _octets(octets)
         answer = self._call(_library.oer_check, named, len(named), given, len(given))
-        found = self._checked(answer)
+        found = self._checked(answer, named)
         if isinstance(found, Error):
             raise found
         return found
@@ -392,16 +455,18 @@ class Types:
                    messages: Sequence[Tuple[int, int]]) -> List[Union[Checked, Error]]:
         """Checks each message as check() does, in one call. A message is the place of its first octet and
         its length; messages may overlap. Returns their answers in their order: what check() returns, or the
-        exception that it raises, or Outside where the message is not all in the octets.
+        exception that it raises, or Outside where the message is not all in the octets, as with a number
+        below 0.
         """
         named, given = _text(name), _octets(octets)
-        places = (_Message * len(messages))(*messages)
-        answers = (_Checked * len(messages))()
+        wanted = [_message(message) for message in messages]
+        places = (_Message * len(wanted))(*wanted)
+        answers = (_Checked * len(wanted))()
         status = self._call(
             _library.oer_check_many, named, len(named), given, len(given), places, len(places), answers, len(answers))
         if status != _OK:
-            raise _error(status)
-        return [self._checked(answer) for answer in answers]
+            raise _error(status, named)
+        return [self._checked(answer, named) for answer in answers]
 
     def canon(self, name: Text, octets: Octets, limit: Optional[int] = None) -> Canonical:
         """The canonical octets (Canonical-OER) of the value whose encoding, of at most `limit` octets, is at
@@ -410,9 +475,11 @@ class Types:
         Raises OctetsRejected if there is no such encoding.
         """
         named, given = _text(name), _octets(octets)
-        made, read = self._gather(
+        answer, made = self._gather(
             _library.oer_canon, (named, len(named), given, len(given), _limited(limit)), len(given))
-        return Canonical(made, read)
+        if answer.status != _OK:
+            raise self._rejection(answer, named)
+        return Canonical(made, answer.octets)
 
     def part(self, name: Text, octets: Octets, path: Text) -> bytes:
         """The part of the encoding at the front of the octets to which the path leads, as it stands in them.
@@ -422,8 +489,10 @@ class Types:
         Raises OctetsRejected if the octets don't begin with an encoding; NoPath, NoStep, Absent.
         """
         named, given, steps = _text(name), _octets(octets), _text(path)
-        made, _ = self._gather(
+        answer, made = self._gather(
             _library.oer_part, (named, len(named), given, len(given), steps, len(steps)), len(given))
+        if answer.status != _OK:
+            raise self._no_part(answer, named, given, steps)
         return made
 
     def part_at(self, name: Text, octets: Octets, path: Text) -> Place:
@@ -432,9 +501,9 @@ class Types:
         Raises what part() raises.
         """
         named, given, steps = _text(name), _octets(octets), _text(path)
-        answer = self._call(_library.oer_part_at, named, len(named), given, len(given), steps, len(steps))
+        answer = self._part_at(named, given, steps)
         if answer.status != _OK:
-            raise self._rejection(answer, answer.octets)
+            raise self._no_part(answer, named, given, steps)
         return Place(answer.at, answer.length)
 
     def to_json(self, name: Text, octets: Octets, limit: Optional[int] = None) -> Json:
@@ -444,9 +513,11 @@ class Types:
         Raises OctetsRejected if there is no such encoding.
         """
         named, given = _text(name), _octets(octets)
-        made, read = self._gather(
+        answer, made = self._gather(
             _library.oer_to_json, (named, len(named), given, len(given), _limited(limit)), 4 * len(given) + 64)
-        return Json(made.decode("utf-8"), read)
+        if answer.status != _OK:
+            raise self._rejection(answer, named)
+        return Json(made.decode("utf-8"), answer.octets)
 
     def from_json(self, name: Text, json: Text) -> bytes:
         """The canonical octets of the value that the JSON stands for.
@@ -454,8 +525,11 @@ class Types:
         Raises NotJson if the text is not JSON, and JsonRejected if the JSON is no value of the type.
         """
         named, given = _text(name), _text(json)
-        made, _ = self._gather(
-            _library.oer_from_json, (named, len(named), given, len(given)), len(given), json=True)
+        answer, made = self._gather(_library.oer_from_json, (named, len(named), given, len(given)), len(given))
+        if answer.status == _REJECTED:
+            raise JsonRejected(JsonReason(answer.why), None)
+        if answer.status != _OK:
+            raise _error(answer.status, named)
         return made
 
     def __enter__(self) -> "Types":
@@ -477,23 +551,45 @@ class Types:
         with self._one:
             return call(self._at, *given)
 
-    def _checked(self, answer: Any) -> Union[Checked, Error]:
+    def _part_at(self, named: bytes, given: bytes, steps: bytes) -> Any:
+        """What the library answers on where a part lies."""
+        return self._call(_library.oer_part_at, named, len(named), given, len(given), steps, len(steps))
+
+    def _checked(self, answer: Any, named: bytes) -> Union[Checked, Error]:
         """What a check returns, or the exception that it raises."""
         if answer.status == _OK:
             return Checked(answer.octets, bool(answer.canonical))
-        return self._rejection(answer, answer.octets)
+        return self._rejection(answer, named)
 
-    def _rejection(self, answer: Any, place: int) -> Error:
+    def _rejection(self, answer: Any, named: bytes) -> Error:
         """The exception of an answer about octets that is not OK."""
         if answer.status == _REJECTED:
-            return OctetsRejected(Reason(answer.why), place)
-        return _error(answer.status)
+            return OctetsRejected(Reason(answer.why), answer.octets)
+        return _error(answer.status, named)
 
-    def _gather(self, call: Callable[..., Any], given: Tuple[Any, ...], room: int,
-                json: bool = False) -> Tuple[bytes, int]:
+    def _no_part(self, answer: Any, named: bytes, given: bytes, steps: bytes) -> Error:
+        """The same, of an answer about a path."""
+        if answer.status == _NO_STEP:
+            return self._no_step(named, given, steps.split(b"."))
+        if answer.status == _NO_PATH:
+            return _error(answer.status, named, steps)
+        return self._rejection(answer, named)
+
+    def _no_step(self, named: bytes, given: bytes, steps: List[bytes]) -> NoStep:
+        """The exception of the first step that isn't there: the shorter paths tell which, by halves."""
+        there, lacking = 0, len(steps)
+        while lacking - there > 1:
+            middle = (there + lacking) // 2
+            if self._part_at(named, given, b".".join(steps[:middle])).status == _NO_STEP:
+                lacking = middle
+            else:
+                there = middle
+        return NoStep(_readable(steps[lacking - 1]), _readable(b".".join(steps[:lacking])))
+
+    def _gather(self, call: Callable[..., Any], given: Tuple[Any, ...], room: int) -> Tuple[Any, bytes]:
         """Calls with a buffer of at least `room` octets, and where that is too small once more with as many
-        as are needed. Returns what was written, and how many octets were read. A small buffer is kept for the
-        next call, but not during the call, so that one from within (by a finalizer) has its own."""
+        as are needed. Returns the answer, and what was written. A small buffer is kept for the next call, but
+        not during the call, so that one from within (by a finalizer) has its own."""
         with self._one:
             out, self._room = self._room, None
         if out is None or len(out) < room:
@@ -502,11 +598,7 @@ class Types:
         if answer.status == _ROOM:
             out = ctypes.create_string_buffer(answer.written)
             answer = self._call(call, *given, out, len(out))
-        made = ctypes.string_at(out, answer.written) if answer.status == _OK else b""
+        made = bytes(memoryview(out)[:answer.written]) if answer.status == _OK else b""
         if len(out) <= _KEPT:
             self._room = out
-        if answer.status == _OK:
-            return made, answer.octets
-        if json and answer.status == _REJECTED:
-            raise JsonRejected(JsonReason(answer.why), None)
-        raise self._rejection(answer, answer.octets)
+        return answer, made

@@ -196,6 +196,77 @@ class Calls(unittest.TestCase):
         self.assertEqual(self.raised(lambda: types.canon("A", b"\x01\x05", 1)), (oer.OctetsRejected, 4, 1))
         self.assertEqual(types.canon("A", b"\x01\x05", 2**70).read, 2)
         self.assertRaises(ValueError, types.to_json, "A", b"\x01\x05", -1)
+        for limit in ("2", 2.0, [2]):
+            self.assertRaises(TypeError, types.canon, "A", b"\x01\x05", limit)
+
+    def test_subclasses_that_lie(self) -> None:
+        class Long(bytes):
+            def __len__(self) -> int:
+                return 2**40
+
+            def __bytes__(self) -> bytes:
+                return self
+
+        class LongArray(bytearray):
+            def __len__(self) -> int:
+                return 2**40
+
+        class Text(str):
+            def encode(self, *how: Any) -> bytes:
+                return Long(b"B")
+
+            def __len__(self) -> int:
+                return 2**40
+
+        class Claims:
+            @property  # type: ignore[misc]
+            def __class__(self) -> type:
+                return str
+
+            def encode(self, *how: Any) -> bytes:
+                return Long(b"A")
+
+        class Number(int):
+            def __lt__(self, other: int) -> bool:
+                return True
+
+            def __gt__(self, other: int) -> bool:
+                return False
+
+            def __index__(self) -> int:
+                return 0
+
+            __int__ = __index__
+
+        types = oer.Types(Text("A ::= OCTET STRING"))
+        for octets in (Long(b"\x01\x05"), LongArray(b"\x01\x05")):
+            self.assertEqual(types.check(Text("A"), octets), (2, True))
+            self.assertEqual(types.canon(Long(b"A"), octets, Number(2)), (b"\x01\x05", 2))
+            self.assertEqual(types.check_many("A", octets, [(Number(1), Number(1))])[0].place, 1)  # type: ignore[union-attr]
+        self.assertEqual(types.canon("A", b"\x01\x05", Number(2**64)).read, 2)
+        self.assertEqual(types.from_json(Text("A"), Text('"05"')), b"\x01\x05")
+        self.assertEqual(self.raised(lambda: types.part("A", b"\x01\x05", Text("c0"))), (oer.NoStep, None, None))
+        self.assertRaises(TypeError, types.check, Claims(), b"\x01\x05")
+
+    def test_places_of_messages(self) -> None:
+        """Numbers that the library has none for are those of no octets, and no others."""
+        types = types_of(b"BOOLEAN")
+        outside = [(2**64, 1), (0, 2**64 + 1), (2**64 + 1, 2**64 + 1), (2**200, 1), (-1, 1), (0, -1), (1, -1), (-2**64, 1),
+                   (2**64 - 1, 2), (2**64 - 1, 1), (2**64 - 1, 2**64 - 1)]
+        answers = types.check_many("A", b"\xff\xff", [(0, 1)] + outside + [(1, 1)])
+        self.assertEqual((answers[0], answers[-1]), ((1, True), (1, True)))
+        self.assertEqual([type(answer) for answer in answers[1:-1]], [oer.Outside] * len(outside))
+        for message in ((), (0,), (0, 1, 2), ("0", 1), (0, "1"), (0.0, 1), (None, 1), 5, None, "", "01"):
+            self.assertRaises(TypeError, types.check_many, "A", b"\xff", [message])
+        for messages in (5, None, [(0, 1), 5]):
+            self.assertRaises(TypeError, types.check_many, "A", b"\xff", messages)
+
+        class Messages(List[Tuple[int, int]]):
+            def __len__(self) -> int:
+                return 1000
+
+        self.assertEqual(types.check_many("A", b"\xff", Messages([(0, 1)])), [(1, True)])
+        self.assertEqual(types.check_many("A", b"\xff", iter([oer.Place(0, 1)])), [(1, True)])  # type: ignore[arg-type]
 
     def test_types_are_freed(self) -> None:
         with mock.patch.object(oer, "_library", wraps=oer._library) as library:
@@ -234,6 +305,65 @@ class Calls(unittest.TestCase):
         self.assertEqual((type(again), again.reason, again.place), (oer.OctetsRejected, oer.Reason.END, 2))
         self.assertRaises(TypeError, copy.copy, types)
         self.assertTrue(issubclass(oer.OutOfMemory, MemoryError))
+
+    def problem(self, call: Callable[[], Any]) -> Any:
+        with self.assertRaises(oer.Error) as caught:
+            call()
+        return caught.exception
+
+    def test_steps(self) -> None:
+        types = types_of(b"SEQUENCE {a SEQUENCE OF SEQUENCE {b BOOLEAN}, ...}")
+        octets = bytes.fromhex("000102ff00")
+        self.assertEqual(types.part("A", octets, "c0.i1.c0"), b"\x00")
+        for path, count in (("c1", 1), ("v.c0.c0.c0.c0", 1), ("c0.c0.i0", 2), ("c0.i2.c0", 2), ("c0.i1.c1", 3), ("c0.i1.c0.v", 4),
+                            ("c0.i1.c0.v.v.v.v.v", 4), ("a0", 1), ("a0.c0", 1), ("c0.i0.i0.i0", 3)):
+            for call in (types.part, types.part_at):
+                problem = self.problem(lambda: call("A", octets, path))
+                to_it = path.split(".")[:count]
+                self.assertEqual((type(problem), problem.step, problem.path), (oer.NoStep, to_it[-1], ".".join(to_it)))
+        long_path = self.problem(lambda: types.part("A", octets, ".".join(["c0.i0.c0"] * 10000)))
+        self.assertEqual(str(long_path), "there is no step 'c0' (path 'c0.i0.c0.c0')")
+
+    def test_messages(self) -> None:
+        types = types_of(b"SEQUENCE {a BOOLEAN OPTIONAL}")
+        table = (
+            (lambda: oer.Types().check("A", b""), "there are no types"),
+            (lambda: oer.Types().share(), "there are no types"),
+            (lambda: types.check("B", b""), "no definition has the name 'B'"),
+            (lambda: types.canon("B", b""), "no definition has the name 'B'"),
+            (lambda: types.part("B", b"", "c0"), "no definition has the name 'B'"),
+            (lambda: types.part_at(b"B\xff", b"", "c0"), "no definition has the name 'B\\\\xff'"),
+            (lambda: types.to_json("B\n", b""), "no definition has the name 'B\\n'"),
+            (lambda: types.from_json("B" * 70, "{}"), f"no definition has the name '{'B' * 60}..'"),
+            (lambda: types.check_many("", b"", []), "no definition has the name ''"),
+            (lambda: types.part("A", b"\x00", "c01"), "'c01' is not a path"),
+            (lambda: types.part_at("A", b"\x00", ""), "'' is not a path"),
+            (lambda: types.part("A", b"\x00", "c1"), "there is no step 'c1' (path 'c1')"),
+            (lambda: types.part("A", b"\x00", "c0"), "the part is absent"),
+            (lambda: types.from_json("A", "{"), "the text is not JSON"),
+        )
+        for call, message in table:
+            problem = self.problem(call)
+            self.assertEqual(str(problem), message)
+            again = pickle.loads(pickle.dumps(problem))
+            self.assertEqual((type(again), str(again), vars(again)), (type(problem), message, vars(problem)))
+        self.assertEqual(str(types.check_many("A", b"", [(1, 1)])[0]), "the message is not all in the octets")
+        self.assertEqual(self.problem(lambda: types.check("B" * 70, b"")).name, "B" * 70)
+
+    def test_messages_without_documents(self) -> None:
+        """Python leaves out documents where it is called with -OO."""
+        program = """
+import oer
+types = oer.Types("A ::= OCTET STRING")
+for call in (lambda: types.check("B", b""), lambda: types.part("A", b"\\0", "c0"), lambda: oer.Types().check("A", b"")):
+    try:
+        call()
+    except oer.Error as problem:
+        print(problem)
+"""
+        wanted = "no definition has the name 'B'\nthere is no step 'c0' (path 'c0')\nthere are no types\n"
+        run = subprocess.run([sys.executable, "-OO", "-c", program], cwd=HERE, stdout=subprocess.PIPE, stderr=subprocess.STDOUT)
+        self.assertEqual(run.stdout.decode("utf-8"), wanted)
 
     def test_large_buffers(self) -> None:
         types = types_of(b"SEQUENCE OF SEQUENCE {a-long-name-of-a-component BOOLEAN}")

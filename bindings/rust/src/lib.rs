@@ -51,7 +51,8 @@ use std::fmt;
 use std::ops::Range;
 use std::os::raw::c_char;
 
-/// A limit that rejects nothing.
+/// The greatest limit. No octets are as many, but a length that they begin with may say so, and then they are
+/// rejected with [`Reason::Limit`], by the calls that take no limit too.
 pub const NO_LIMIT: u64 = u64::MAX;
 
 /// The version of the library: 10,000 times the major number, 100 times the minor number, and the patch.
@@ -245,7 +246,8 @@ impl Types {
     }
 
     /// Checks each message as [`Types::check`] does, in one call. A message is a range of the octets, and
-    /// ranges may overlap. Returns the answers in the order of the messages.
+    /// ranges may overlap. Returns the answers in the order of the messages. A range that ends before it
+    /// starts is not in the octets.
     ///
     /// # Errors
     ///
@@ -266,7 +268,7 @@ impl Types {
         messages: &[Range<usize>],
     ) -> Result<Vec<Result<Checked, Error>>, Error> {
         let name = name.as_ref();
-        let places = each(messages, |range| sys::OerMessage { at: range.start, length: range.len() })?;
+        let places = each(messages, place)?;
         let none = sys::OerChecked { status: 0, why: 0, octets: 0, canonical: 0 };
         let mut answers = each(messages, |_| none)?;
         // SAFETY: as in `check`; `answers` is borrowed mutably, so that it overlaps nothing.
@@ -558,6 +560,14 @@ const _: fn() = || {
     impl<T: ?Sized + Sync> Unless<u8> for T {}
     <Types as Unless<_>>::holds();
 };
+
+/// A message as the library takes it. A range that ends before it starts is outside of all octets.
+fn place(range: &Range<usize>) -> sys::OerMessage {
+    match range.end.checked_sub(range.start) {
+        Some(length) => sys::OerMessage { at: range.start, length },
+        None => sys::OerMessage { at: usize::MAX, length: usize::MAX },
+    }
+}
 
 /// What a check answers.
 fn checked(answer: &sys::OerChecked) -> Result<Checked, Error> {

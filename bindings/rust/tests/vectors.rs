@@ -6,6 +6,7 @@ mod table;
 use oer::{Checked, Error, JsonReason, Reason, TextReason, Types, Written, NO_LIMIT};
 use std::env;
 use std::fs;
+use std::ops::Range;
 use std::path::Path;
 
 /// A call and what it has to answer.
@@ -148,8 +149,9 @@ fn many_are_answered_as_one() {
         for (message, answer) in messages.iter().zip(&answers) {
             assert_eq!(*answer, types.check("A", &row.given[message.clone()]), "{message:?} of {:02x?}", row.given);
         }
-        let outside = [1..size + 1, size + 1..size + 1, usize::MAX..usize::MAX, 0..usize::MAX];
-        assert_eq!(types.check_many("A", &row.given, &outside), Ok(vec![Err(Error::Outside); 4]));
+        let mut outside = vec![1..size + 1, size + 1..size + 1, usize::MAX..usize::MAX, 0..usize::MAX];
+        outside.extend((0..size).map(|end| Range { start: size, end }));
+        assert_eq!(types.check_many("A", &row.given, &outside), Ok(vec![Err(Error::Outside); 4 + size]));
         assert_eq!(types.check_many("B", &row.given, &messages), Err(Error::Unnamed));
         assert_eq!(Types::new().check_many("A", &row.given, &messages), Err(Error::NoTypes));
     }

@@ -1,0 +1,299 @@
+/* How much stack the calls take: stack FOLDER MOST
+ *
+ * FOLDER is examples/ieee1609dot2. Each call runs in a thread whose stack was filled with one octet; how
+ * far it was overwritten is what the call took, less what a thread takes that makes none. It prints the
+ * calls that take more than MOST octets, each with its number, and then its status is 1. With MOST 0 it
+ * prints all of them. */
+#define _DEFAULT_SOURCE
+#include "oer.h"
+
+#include <pthread.h>
+#include <stdio.h>
+#include <stdlib.h>
+#include <string.h>
+#include <sys/mman.h>
+
+enum { STACK = 8 << 20, FILL = 0xa5, LARGE = 1 << 20 };
+
+/* ---- a call in a thread of its own */
+
+enum call { NONE, READ, SHARE, CHECK, CHECK_MANY, CANON, PART, PART_AT, TO_JSON, FROM_JSON, FREE };
+
+static const char *const names[] = { "none", "oer_types_read", "oer_types_share", "oer_check", "oer_check_many", "oer_canon",
+                                     "oer_part", "oer_part_at", "oer_to_json", "oer_from_json", "oer_types_free" };
+
+/* What the call is given; `status` is what it answers. */
+struct job {
+    enum call call;
+    const char *name;
+    oer_types types, other;
+    const char *text;
+    size_t text_length;
+    const uint8_t *octets;
+    size_t octets_length;
+    const char *path;
+    uint8_t *out;
+    size_t room;
+    uint64_t written;
+    uint32_t status;
+};
+
+static void *run(void *given) {
+    struct job *job = given;
+    size_t name = strlen(job->name);
+    oer_message message;
+    oer_checked answer;
+    oer_written written = { 0, 0, 0, 0 };
+    message.at = 0;
+    message.length = job->octets_length;
+    switch (job->call) {
+    case NONE:
+        break;
+    case READ:
+        job->status = oer_types_read(&job->types, job->text, job->text_length).status;
+        break;
+    case SHARE:
+        job->status = oer_types_share(&job->types, &job->other);
+        break;
+    case CHECK:
+        job->status = oer_check(&job->types, job->name, name, job->octets, job->octets_length).status;
+        break;
+    case CHECK_MANY:
+        job->status = oer_check_many(&job->types, job->name, name, job->octets, job->octets_length, &message, 1, &answer, 1);
+        break;
+    case CANON:
+        written = oer_canon(&job->types, job->name, name, job->octets, job->octets_length, OER_NO_LIMIT, job->out, job->room);
+        break;
+    case PART:
+        written = oer_part(&job->types, job->name, name, job->octets, job->octets_length, job->path, strlen(job->path), job->out, job->room);
+        break;
+    case PART_AT:
+        job->status = oer_part_at(&job->types, job->name, name, job->octets, job->octets_length, job->path, strlen(job->path)).status;
+        break;
+    case TO_JSON:
+        written = oer_to_json(&job->types, job->name, name, job->octets, job->octets_length, OER_NO_LIMIT, (char *)job->out, job->room);
+        break;
+    case FROM_JSON:
+        written = oer_from_json(&job->types, job->name, name, job->text, job->text_length, job->out, job->room);
+        break;
+    case FREE:
+        oer_types_free(&job->types);
+        break;
+    }
+    job->written = written.written;
+    if (job->call == CANON || job->call == PART || job->call == TO_JSON || job->call == FROM_JSON) job->status = written.status;
+    return NULL;
+}
+
+/* How many octets of its stack a thread overwrites that does the job. */
+static size_t stack_of(struct job *job) {
+    static uint8_t *stack;
+    pthread_attr_t how;
+    pthread_t thread;
+    size_t untouched;
+    if (!stack) {
+        stack = mmap(NULL, STACK, PROT_READ | PROT_WRITE, MAP_PRIVATE | MAP_ANONYMOUS, -1, 0);
+        if (stack == MAP_FAILED) exit(2);
+    }
+    memset(stack, FILL, STACK);
+    if (pthread_attr_init(&how) || pthread_attr_setstack(&how, stack, STACK) || pthread_create(&thread, &how, run, job)) exit(2);
+    pthread_join(thread, NULL);
+    pthread_attr_destroy(&how);
+    for (untouched = 0; untouched < STACK && stack[untouched] == FILL; untouched++) continue;
+    return STACK - untouched;
+}
+
+static size_t most, greatest;
+static int differs;
+
+/* Does the job by the call, prints what it takes, and says so where it has another status. */
+static void measure(struct job *job, enum call call, const char *what, uint32_t status) {
+    struct job none;
+    size_t taken;
+    memset(&none, 0, sizeof none);
+    none.name = "";
+    job->call = call;
+    taken = stack_of(job) - stack_of(&none);
+    if (taken > greatest) greatest = taken;
+    if (job->status != status) printf("bindings/c/stack.c: %s, %s: status %u\n", names[call], what, (unsigned)job->status);
+    if (taken > most) printf("%s, %s: %lu octets of stack\n", names[call], what, (unsigned long)taken);
+    if (job->status != status || (most && taken > most)) differs = 1;
+}
+
+/* ---- what is given */
+
+static uint8_t out[LARGE], json[LARGE];
+
+/* Reads the types, and makes each call with the octets and the path; the JSON is that of the octets. */
+static void measure_all(const char *what, const char *types, const char *name, const uint8_t *octets, size_t length,
+                        const char *path) {
+    struct job job;
+    memset(&job, 0, sizeof job);
+    job.name = name;
+    job.text = types;
+    job.text_length = strlen(types);
+    job.octets = octets;
+    job.octets_length = length;
+    job.path = path;
+    job.out = out;
+    job.room = sizeof out;
+    measure(&job, READ, what, OER_OK);
+    measure(&job, SHARE, what, OER_OK);
+    measure(&job, CHECK, what, OER_OK);
+    measure(&job, CHECK_MANY, what, OER_OK);
+    measure(&job, CANON, what, OER_OK);
+    measure(&job, PART, what, OER_OK);
+    measure(&job, PART_AT, what, OER_OK);
+    job.out = json;
+    measure(&job, TO_JSON, what, OER_OK);
+    job.out = out;
+    job.text = (const char *)json;
+    job.text_length = (size_t)job.written;
+    measure(&job, FROM_JSON, what, OER_OK);
+    job.status = OER_OK;
+    measure(&job, FREE, what, OER_OK);
+    job.types = job.other;
+    measure(&job, FREE, what, OER_OK);
+}
+
+/* A type in another one: what stands before and after it, the octets before the one of the inner type,
+ * whether these are counted, and the step to it. */
+struct level {
+    const char *before, *after;
+    uint8_t octets[4];
+    size_t length;
+    int counted;
+    const char *step;
+};
+
+static const struct level levels[] = {
+    { "SEQUENCE OF ", "", { 1, 1 }, 2, 0, "i0" },
+    { "SEQUENCE {a ", "}", { 0 }, 0, 0, "c0" },
+    { "SEQUENCE {a ", " OPTIONAL}", { 0x80 }, 1, 0, "c0" },
+    { "SEQUENCE {..., a ", "}", { 0x80, 2, 7, 0x80 }, 4, 1, "a0" },
+    { "CHOICE {a ", "}", { 0x80 }, 1, 0, "v" },
+    { "CHOICE {b NULL, ..., a ", "}", { 0x81 }, 1, 1, "v" }
+};
+
+/* The leaf in 31 levels of the kind, or where there is none in all kinds in turn. */
+static void measure_deep(const struct level *kind, const char *leaf, const uint8_t *contents, size_t length) {
+    enum { DEEP = 31, KINDS = sizeof levels / sizeof *levels };
+    static char type[4096], path[256], what[4200];
+    static uint8_t octets[1024];
+    uint8_t *front = octets + sizeof octets - length;
+    int i;
+    memcpy(front, contents, length);
+    strcpy(type, "A ::= ");
+    path[0] = 0;
+    for (i = 0; i < DEEP; i++) {
+        const struct level *level = kind ? kind : &levels[i % KINDS];
+        strcat(type, level->before);
+        strcat(strcat(path, i ? "." : ""), level->step);
+    }
+    strcat(type, leaf);
+    for (i = DEEP; i-- > 0;) {
+        const struct level *level = kind ? kind : &levels[i % KINDS];
+        size_t inner = (size_t)(octets + sizeof octets - front);
+        strcat(type, level->after);
+        if (level->counted) {
+            if (inner > 255) exit(2);
+            *--front = (uint8_t)inner;
+            if (inner > 127) *--front = 0x81;
+        }
+        front -= level->length;
+        memcpy(front, level->octets, level->length);
+    }
+    snprintf(what, sizeof what, "%s of 32 levels: %s", kind ? kind->before : "all kinds", leaf);
+    measure_all(what, type, "A", front, (size_t)(octets + sizeof octets - front), path);
+}
+
+static char *contents(const char *folder, const char *name) {
+    static char texts[2][65536];
+    static int next;
+    char path[1024], *text = texts[next++ % 2];
+    FILE *file;
+    snprintf(path, sizeof path, "%s/%s", folder, name);
+    file = fopen(path, "rb");
+    if (!file) exit(2);
+    text[fread(text, 1, sizeof texts[0] - 1, file)] = 0;
+    fclose(file);
+    return text;
+}
+
+static void measure_certificate(const char *folder) {
+    static uint8_t octets[1024];
+    const char *digits = contents(folder, "certificate-rsu-basic.hex");
+    size_t length = 0;
+    unsigned octet;
+    while (sscanf(digits + 2 * length, "%2x", &octet) == 1) octets[length++] = (uint8_t)octet;
+    measure_all("the certificate", contents(folder, "types.asn"), "Certificate", octets, length, "c3");
+}
+
+/* The word so many times, and then the end. */
+static const char *repeated(const char *start, const char *word, size_t times, const char *end) {
+    static char text[LARGE];
+    size_t length = strlen(start), word_length = strlen(word);
+    strcpy(text, start);
+    while (times-- > 0 && length + word_length + strlen(end) + 1 < sizeof text) {
+        memcpy(text + length, word, word_length);
+        length += word_length;
+    }
+    strcpy(text + length, end);
+    return text;
+}
+
+/* A text that is rejected, or that has many parts. */
+static void measure_text(const char *what, enum call call, const char *text, uint32_t status) {
+    struct job job;
+    memset(&job, 0, sizeof job);
+    job.name = "A";
+    if (call != READ && oer_types_read(&job.types, "A ::= SEQUENCE OF SEQUENCE OF OCTET STRING", 42).status != OER_OK) exit(2);
+    job.text = text;
+    job.text_length = strlen(text);
+    job.out = out;
+    job.room = sizeof out;
+    measure(&job, call, what, status);
+    oer_types_free(&job.types);
+}
+
+static void measure_texts(void) {
+    static char fields[LARGE];
+    size_t i, length = (size_t)sprintf(fields, "A ::= SEQUENCE {");
+    for (i = 0; i < 4095; i++) length += (size_t)sprintf(fields + length, "%sa%u BOOLEAN", i ? ", " : "", (unsigned)i);
+    strcpy(fields + length, "}");
+    measure_text("4,095 components", READ, fields, OER_OK);
+    measure_text("a type that is too deep", READ, repeated("A ::= ", "SEQUENCE OF ", 80000, "NULL"), OER_REJECTED);
+    measure_text("a type that is too deep", READ, repeated("A ::= ", "CHOICE {a ", 80000, "NULL"), OER_REJECTED);
+    measure_text("a long default", READ, repeated("A ::= SEQUENCE {a OCTET STRING DEFAULT '", "00", 400000, "'H}"), OER_OK);
+    measure_text("braces", READ, repeated("A ::= SEQUENCE {a SEQUENCE OF NULL DEFAULT ", "{", 400000, "}"), OER_REJECTED);
+    measure_text("brackets", FROM_JSON, repeated("", "[", 1000000, ""), OER_NO_JSON);
+    measure_text("100 brackets", FROM_JSON, repeated("", "[", 100, "]]]]]]]]]]]]]]]]]]]]]]]]]]]]]]]]]]]]]]]]]]]]]]]]]]]]]]]]]]]]]]]]]]]]]]]]]]]]]]]]]]]]]]]]]]]]]]]]]]]]"), OER_REJECTED);
+    measure_text("objects", FROM_JSON, repeated("", "{\"a\":", 200000, ""), OER_NO_JSON);
+    measure_text("a long string", FROM_JSON, repeated("[[\"", "00", 400000, "\"]]"), OER_OK);
+    measure_text("many strings", FROM_JSON, repeated("[[\"00\"", ",\"00\"", 100000, "]]"), OER_OK);
+}
+
+int main(int count, char **words) {
+    static const uint8_t one[] = { 1, 1 }, two[] = { 2, 1, 1 };
+    size_t i;
+    if (count != 3) {
+        puts("usage: stack FOLDER MOST");
+        return 2;
+    }
+    most = (size_t)atol(words[2]);
+    measure_certificate(words[1]);
+    for (i = 0; i <= sizeof levels / sizeof *levels; i++) {
+        const struct level *kind = i ? &levels[i - 1] : NULL;
+        measure_deep(kind, "BOOLEAN", one, 1);
+        measure_deep(kind, "INTEGER", one, 2);
+        measure_deep(kind, "OCTET STRING", one, 2);
+        measure_deep(kind, "BIT STRING", two, 3);
+        measure_deep(kind, "UTF8String", one, 2);
+        measure_deep(kind, "IA5String", one, 2);
+        measure_deep(kind, "OBJECT IDENTIFIER", one, 2);
+        measure_deep(kind, "ENUMERATED {a(1)}", one, 1);
+    }
+    measure_texts();
+    if (!most) printf("the most: %lu octets of stack\n", (unsigned long)greatest);
+    return differs;
+}
