@@ -25,6 +25,10 @@ pub record Side : Type 0 where
   pub octets : Known
   pub failed : ℕ
 
+-- a reader or a sink with these
+abbrev pub side_of : Known → ℕ → Side
+side_of octets failed = record { octets = octets; failed = failed }
+
 -- Its octets are known: xs.
 abbrev pub Tells : Side → List ℕ → Type 0
 Tells side xs = side.octets ≡ Some xs
