@@ -1,9 +1,7 @@
-//! Statuses, and what is said of arguments; output that fails.
-use crate::shared::{USUAL_WIDTH, expect, ran};
-use oer_dump_cmd::run;
-use std::io::{Error, ErrorKind, Write};
+//! Statuses, and what is said of arguments.
+use crate::shared::{expect, ran};
+use std::str;
 use std::test::Fail;
-use std::{io, str};
 
 /// Words after the program's name, split at ` | `; the status; the line on the errors. The input has
 /// seven octets `07`.
@@ -57,23 +55,6 @@ const REFUSED_WORDS: &[&str] = &[
     "--path=c0",
 ];
 
-/// Fails at each write.
-#[derive(Drop)]
-struct Full {
-    calls: usize,
-}
-
-impl Write for Full {
-    fn write(&mut self, _from: &[u8]) -> io::Result<usize> {
-        self.calls = self.calls.saturating_add(1);
-        Err(Error::from(ErrorKind::Other))
-    }
-
-    fn flush(&mut self) -> io::Result<()> {
-        Ok(())
-    }
-}
-
 #[test]
 fn faults(rt: HostRuntime) -> Result<(), Fail> {
     let alloc = rt.alloc();
@@ -124,29 +105,4 @@ fn help(rt: HostRuntime) -> Result<(), Fail> {
 #[test]
 fn version(rt: HostRuntime) -> Result<(), Fail> {
     expect(rt.alloc(), &["--version"], (0, "oer-dump 0.1.0\n", ""))
-}
-
-#[test]
-fn full_output(rt: HostRuntime) -> Result<(), Fail> {
-    let alloc = rt.alloc();
-    let mut words = Vec::new(alloc);
-    for word in ["oer-dump", "--type=BOOLEAN", "--hex=02ff"] {
-        words.push(String::from_str(alloc, word)?)?;
-    }
-    let mut output = Full { calls: 0 };
-    let mut errors = Vec::new(alloc);
-    let mut input: &[u8] = &[];
-    let status = run(
-        alloc,
-        words.as_slice(),
-        USUAL_WIDTH,
-        &mut input,
-        &mut output,
-        &mut errors,
-    );
-    let line = str::from_utf8(errors.as_slice())?;
-    if (status, line, output.calls) != (3, "oer: output failed\n", 1) {
-        return Err(Fail::new(line));
-    }
-    Ok(())
 }

@@ -63,3 +63,14 @@ fn nothing(rt: HostRuntime) -> Result<(), Fail> {
         (1, "[]\n", "oer: End at 0, in the whole\n"),
     )
 }
+
+#[test]
+fn follows(rt: HostRuntime) -> Result<(), Fail> {
+    let words = ["--type=BOOLEAN", "--json", "--hex=ff0203"];
+    let text =
+        r##"[{"count":1,"default":false,"kind":"BOOLEAN","names":"","octets":"ff","offset":0,"path":"","role":"value","value":true},
+{"count":2,"default":false,"kind":"-","names":"","octets":"0203","offset":1,"path":"","role":"follows","value":null}]
+"##;
+    let line = "oer: octets follow the value at 1\n";
+    expect(rt.alloc(), &words, (1, text, line))
+}

@@ -239,6 +239,26 @@ const BASIC: &[(&str, &str, &str)] = &[
 9  1  a8  #8  unknown   \"ee\"",
     ),
     (
+        "SEQUENCE {a BOOLEAN, ..., x INTEGER (0..255), y BOOLEAN}",
+        "80ff810206800109",
+        "
+0  1  -   -  SEQUENCE  preamble ...=1
+1  1  c0  a  BOOLEAN   true
+2  4  -   -  SEQUENCE  bitmap x=1 y=0 -- basic 81020680, canonical 020680
+6  1  a0  x  INTEGER   length 1
+7  1  a0  x  INTEGER   9",
+    ),
+    (
+        "SEQUENCE {a BOOLEAN, ..., x INTEGER (0..255), y BOOLEAN}",
+        "80ff820002064001ff",
+        "
+0  1  -   -  SEQUENCE  preamble ...=1
+1  1  c0  a  BOOLEAN   true
+2  5  -   -  SEQUENCE  bitmap x=0 y=1 -- basic 8200020640, canonical 020640
+7  1  a1  y  BOOLEAN   length 1
+8  1  a1  y  BOOLEAN   true",
+    ),
+    (
         "CHOICE {a NULL, ..., b OCTET STRING}",
         "8581020102",
         "

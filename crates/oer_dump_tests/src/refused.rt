@@ -6,6 +6,8 @@ const PLAIN: &str = "SEQUENCE {a BOOLEAN, b INTEGER (0..255) DEFAULT 7, c NULL O
 
 const EXTENSIBLE: &str = "SEQUENCE {a BOOLEAN, ..., x INTEGER (0..255), y BOOLEAN}";
 
+const OPTIONAL: &str = "SEQUENCE {a BOOLEAN, b INTEGER (0..255) OPTIONAL, c BOOLEAN, ...}";
+
 const TAGGED: &str = "CHOICE {a [62] NULL, b [63] NULL, c [200] NULL}";
 
 /// A type; octets; their lines; the line on the errors.
@@ -90,6 +92,31 @@ const REFUSED: &[(&str, &str, &str, &str)] = &[
 0  1  -   -  SEQUENCE  preamble b=1 c=0
 1  1  c0  a  BOOLEAN   true",
         "End at 2, in c1, b",
+    ),
+    (
+        OPTIONAL,
+        "40ff",
+        "
+0  1  -   -  SEQUENCE  preamble ...=0 b=1
+1  1  c0  a  BOOLEAN   true",
+        "End at 2, in c1, b",
+    ),
+    (
+        OPTIONAL,
+        "80ff",
+        "
+0  1  -   -  SEQUENCE  preamble ...=1 b=0
+1  1  c0  a  BOOLEAN   true",
+        "End at 2, in c2, c",
+    ),
+    (
+        EXTENSIBLE,
+        "80ff81020640",
+        "
+0  1  -   -  SEQUENCE  preamble ...=1
+1  1  c0  a  BOOLEAN   true
+2  4  -   -  SEQUENCE  bitmap x=0 y=1 -- basic 81020640, canonical 020640",
+        "End at 6, in a1, y",
     ),
     (
         EXTENSIBLE,

@@ -15,6 +15,16 @@ pub struct Written {
     pub errors: Vec<u8>,
 }
 
+/// The words after the program's name.
+pub fn with_name(alloc: Global, words: &[&str]) -> Result<Vec<String>, Fail> {
+    let mut all = Vec::new(alloc);
+    all.push(String::from_str(alloc, "oer-dump")?)?;
+    for word in words {
+        all.push(String::from_str(alloc, word)?)?;
+    }
+    Ok(all)
+}
+
 /// Runs the program with these words after its name, on an input that has these octets.
 pub fn ran(alloc: Global, words: &[&str], input: &[u8]) -> Result<Written, Fail> {
     ran_within(alloc, words, USUAL_WIDTH, input)
@@ -27,11 +37,7 @@ pub fn ran_within(
     width: u64,
     input: &[u8],
 ) -> Result<Written, Fail> {
-    let mut all = Vec::new(alloc);
-    all.push(String::from_str(alloc, "oer-dump")?)?;
-    for word in words {
-        all.push(String::from_str(alloc, word)?)?;
-    }
+    let all = with_name(alloc, words)?;
     let mut input = input;
     let mut output = Vec::new(alloc);
     let mut errors = Vec::new(alloc);
