@@ -10,6 +10,7 @@ mod octets;
 mod part;
 mod program;
 mod show;
+mod start;
 pub mod type_text;
 mod value;
 
@@ -18,3 +19,4 @@ pub use fault::Fault;
 pub use gathering::{GatherFault, gather};
 pub use octets::{all_octets, spelt};
 pub use program::{put_all, refused, report, run};
+pub use start::{NoStart, stop};
