@@ -30,6 +30,7 @@
  * - Memory comes from malloc, realloc and free, which have to belong together. It may run out: then
  *   the status is OER_MEMORY, and what the call was given is as before. oer_check and oer_check_many
  *   take none.
+ * - A call takes at most 96 KB of stack. This is measured (docs/LIBRARY.md), and not proved.
  * - No call is made from a signal handler, or in the child of a fork of a process with threads.
  *
  * Octets are uint8_t, texts are char. All lengths and places are numbers of octets; texts are UTF-8,

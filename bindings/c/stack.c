@@ -256,6 +256,8 @@ static void measure_text(const char *what, enum call call, const char *text, uin
     oer_types_free(&job.types);
 }
 
+#define BRACES "}}}}}}}}}}}}}}}}}}}}}}}}}}}}}}"
+
 static void measure_texts(void) {
     static char fields[LARGE];
     size_t i, length = (size_t)sprintf(fields, "A ::= SEQUENCE {");
@@ -264,6 +266,14 @@ static void measure_texts(void) {
     measure_text("4,095 components", READ, fields, OER_OK);
     measure_text("a type that is too deep", READ, repeated("A ::= ", "SEQUENCE OF ", 80000, "NULL"), OER_REJECTED);
     measure_text("a type that is too deep", READ, repeated("A ::= ", "CHOICE {a ", 80000, "NULL"), OER_REJECTED);
+    measure_text("a type that is too deep", READ, repeated("A ::= ", "SEQUENCE {a ", 80000, "NULL"), OER_REJECTED);
+    measure_text("a type that is too deep", READ, repeated("A ::= ", "SEQUENCE {..., a ", 60000, "NULL"), OER_REJECTED);
+    measure_text("a deep default", READ, repeated("A ::= ", "SEQUENCE {a ", 31, "INTEGER DEFAULT 1}" BRACES), OER_OK);
+    measure_text("a deep default", READ, repeated("A ::= ", "SEQUENCE {a ", 31, "ENUMERATED {a(1)} DEFAULT a}" BRACES), OER_OK);
+    measure_text("a deep default", READ, repeated("A ::= ", "SEQUENCE {a ", 31, "BIT STRING (SIZE(2)) DEFAULT '01'B}" BRACES), OER_OK);
+    measure_text("a deep default", READ, repeated("A ::= ", "SEQUENCE {a ", 31, "UTF8String DEFAULT \"a\"}" BRACES), OER_OK);
+    measure_text("a deep default", READ, repeated("A ::= ", "SEQUENCE {a ", 31, "OBJECT IDENTIFIER DEFAULT {1 2 3}}" BRACES), OER_OK);
+    measure_text("a deep default", READ, repeated("A ::= ", "SEQUENCE {a ", 31, "INTEGER DEFAULT true}" BRACES), OER_REJECTED);
     measure_text("a long default", READ, repeated("A ::= SEQUENCE {a OCTET STRING DEFAULT '", "00", 400000, "'H}"), OER_OK);
     measure_text("braces", READ, repeated("A ::= SEQUENCE {a SEQUENCE OF NULL DEFAULT ", "{", 400000, "}"), OER_REJECTED);
     measure_text("brackets", FROM_JSON, repeated("", "[", 1000000, ""), OER_NO_JSON);

@@ -23,19 +23,22 @@ static void expect(int holds, const char *what) {
 
 /* That the calls answer what they do alone. */
 static void call(oer_types *types) {
-    static const uint8_t octets[] = { 2, 0, 2, 1, 7 };
-    uint8_t out[8] = { 0 };
-    char json[16] = { 0 };
+    static const uint8_t octets[] = { 2, 0, 1, 7, 1 }, canonical[] = { 1, 1, 0xff, 1 };
+    static const char text[] = "[{\"a-long-name\":true,\"b\":\"an-item\"}]";
+    uint8_t out[sizeof canonical];
+    char json[sizeof text];
     oer_checked checked = oer_check(types, "A", 1, octets, sizeof octets);
     oer_written made = oer_canon(types, "A", 1, octets, sizeof octets, OER_NO_LIMIT, out, sizeof out);
     oer_written shown = oer_to_json(types, "A", 1, octets, sizeof octets, OER_NO_LIMIT, json, sizeof json);
-    expect(checked.status == OER_OK && checked.octets == 5 && checked.canonical == 0, "oer_check");
-    expect(made.status == OER_OK && made.written == 4 && !memcmp(out, "\1\2\377\377", 4), "oer_canon");
-    expect(shown.status == OER_OK && shown.written == 11 && !memcmp(json, "[true,true]", 11), "oer_to_json");
+    expect(checked.status == OER_OK && checked.octets == sizeof octets && checked.canonical == 0, "oer_check");
+    expect(made.status == OER_OK && made.written == sizeof out && !memcmp(out, canonical, sizeof out), "oer_canon");
+    expect(shown.status == OER_OK && shown.written == sizeof text - 1 && !memcmp(json, text, sizeof text - 1), "oer_to_json");
+    made = oer_from_json(types, "A", 1, text, sizeof text - 1, out, sizeof out);
+    expect(made.status == OER_OK && made.written == sizeof out && !memcmp(out, canonical, sizeof out), "oer_from_json");
 }
 
 static oer_types read_types(void) {
-    static const char text[] = "A ::= SEQUENCE OF BOOLEAN";
+    static const char text[] = "A ::= SEQUENCE OF SEQUENCE {a-long-name BOOLEAN, b ENUMERATED {an-item(1)}}";
     oer_types types = OER_TYPES_NONE;
     expect(oer_types_read(&types, text, sizeof text - 1).status == OER_OK, "oer_types_read");
     return types;
