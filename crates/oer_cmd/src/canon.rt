@@ -11,7 +11,7 @@ ghost use Rattle.oer_cmd.specs.Octets.{octets_of};
 ghost use Rattle.oer_cmd.specs.Run.{IsCanonLine, NoneFor};
 
 use crate::fault::Fault;
-use oer_reader::rewrite;
+use oer_decoder::rewrite;
 use oer_types::Schema;
 use oer_units::{Metered, ReadFault, Source, Why, Window, octet};
 use std::alloc::Global;

@@ -10,7 +10,7 @@ ghost use Rattle.oer_cmd.specs.Run.{AreCanonical, IsCheckLine, IsEncoding, IsNoF
 
 use crate::fault::Fault;
 use crate::octets::{all_octets, spelt};
-use oer_reader::Encoding;
+use oer_parts::Encoding;
 use oer_types::Schema;
 use std::alloc::Global;
 use std::io::Read;

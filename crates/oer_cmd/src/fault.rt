@@ -2,7 +2,7 @@
 ghost use Rattle.std.specs.Prelude.{◌≡◌, ◌≤◌, IfOk, Some, string_bytes};
 ghost use Rattle.oer_cmd.specs.Faults.{IsOfRead, IsOfRewrite, IsOfText, error_line, status_of, text_of};
 
-use oer_reader::RewriteFault;
+use oer_decoder::RewriteFault;
 use oer_text::{JsonFault, TextFault, TextWhy};
 use oer_units::{ReadFault, Why};
 use oer_writer::WriteFault;

@@ -13,7 +13,7 @@ use crate::check::judged;
 use crate::fault::Fault;
 use crate::octets::{all_octets, spelt};
 use oer_parts::laws::one_path;
-use oer_reader::{PartFault, PathFault, Step, read_path};
+use oer_parts::{PartFault, PathFault, Step, read_path};
 use oer_types::Schema;
 use std::alloc::Global;
 use std::io::Read;

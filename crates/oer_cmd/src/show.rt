@@ -10,7 +10,7 @@ ghost use Rattle.oer_cmd.specs.Run.{IsShowLine, IsShown, NoneFor};
 
 use crate::canon::check_end;
 use crate::fault::Fault;
-use oer_reader::read_with_length;
+use oer_decoder::read_with_length;
 use oer_text::to_json;
 use oer_types::Schema;
 use oer_units::Source;
