@@ -45,7 +45,7 @@ appended T v none d c n h empty same =
     subst (IsCanonical T v) (sym made) h.1
 
 -- one octet that is there is read
-one_read : (x : ℕ) (xs : List ℕ) → octet (at (x ∷ xs) 1) ≡ got x (at xs 0)
+pub one_read : (x : ℕ) (xs : List ℕ) → octet (at (x ∷ xs) 1) ≡ got x (at xs 0)
 unfolding octet bind group give
 one_read x xs =
     let some : leb 1 (length (x ∷ xs)) ≡ true = le-leb 1 (suc (length xs)) (omega arith) in

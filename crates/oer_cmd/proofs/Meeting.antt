@@ -54,10 +54,12 @@ less_none : (n : ℕ) → n - 0 ≡ n
 less_none n = omega arith
 
 -- what the plain reader makes of the octets, from what the code's reader answers
-exactly_got : {A : Type 0} (r : Reader A) (limit failed failed' : ℕ) (xs ys : List ℕ) (x : A) → (h : ReadsFront r limit (Some xs) failed (Ok x) (Some ys) failed') → r (at xs limit) ≡ got x (at ys (h.bound.end - h.bound.taken))
+pub exactly_got : {A : Type 0} (r : Reader A) (limit failed failed' : ℕ) (xs ys : List ℕ) (x : A)
+    → (h : ReadsFront r limit (Some xs) failed (Ok x) (Some ys) failed') → r (at xs limit) ≡ got x (at ys (h.bound.end - h.bound.taken))
 exactly_got r limit failed failed' xs ys x h = ap (λ (n : ℕ). r (at xs n)) (sym (less_none limit)) ∙ sym (plain (r (at xs (limit - 0)))) ∙ h.reads.exact
 
-exactly_refused : {A : Type 0} (r : Reader A) (limit failed failed' : ℕ) (xs ys : List ℕ) (e : ReadFault) → ReadsFront r limit (Some xs) failed (Err e) (Some ys) failed' → e.why ≢ why.Device → e.why ≢ why.Memory → r (at xs limit) ≡ refused e.why ys
+pub exactly_refused : {A : Type 0} (r : Reader A) (limit failed failed' : ℕ) (xs ys : List ℕ) (e : ReadFault)
+    → ReadsFront r limit (Some xs) failed (Err e) (Some ys) failed' → e.why ≢ why.Device → e.why ≢ why.Memory → r (at xs limit) ≡ refused e.why ys
 exactly_refused r limit failed failed' xs ys e h device memory = ap (λ (n : ℕ). r (at xs n)) (sym (less_none limit)) ∙ sym (plain (r (at xs (limit - 0)))) ∙ h.reads.exact device memory
 
 -- nothing follows

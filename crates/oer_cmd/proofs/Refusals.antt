@@ -48,7 +48,7 @@ not_memory fault small e = three fault Memory e refl small
 
 -- ---- what the reader left
 
-none_there : octet (at [] 1) ≡ refused why.End []
+pub none_there : octet (at [] 1) ≡ refused why.End []
 unfolding octet bind group give
 none_there = refl
 

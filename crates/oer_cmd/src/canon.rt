@@ -9,6 +9,7 @@ ghost use Rattle.oer_cmd.specs.Answer.{canonical_input, digits_input};
 ghost use Rattle.oer_cmd.specs.Expected.{Meets};
 ghost use Rattle.oer_cmd.specs.Octets.{octets_of};
 ghost use Rattle.oer_cmd.specs.Run.{IsCanonLine, NoneFor};
+ghost use Rattle.oer_cmd.specs.Taking.{Amounts, GivesFront, GivesValue, IsNext, status_after};
 
 use crate::fault::Fault;
 use oer_decoder::rewrite;
@@ -31,6 +32,7 @@ pub fn check_end<'a, R: Source>(reader: &mut R, taken: u64) -> Result<(), Fault<
     ensures empty { OnOk result (IsEmpty (R.remaining reader.old)) }
     ensures refused { IfErr result (λ fault. Refuses fault (HasMore (R.remaining reader.old))) }
     ensures follows { IfErr result (λ fault. status_of fault ≤ 2 → fault ≡ Fault.Follows taken) }
+    ensures takes { GivesFront (R.remaining reader.old) (R.remaining reader.new) (Amounts 1 (status_after result) IsNext) }
 {
     let fault = match octet_at_front(reader) {
         Ok(_) => return Err(Fault::Follows(taken)),
@@ -57,6 +59,7 @@ fn canonical<'a, R: Source>(
     ensures refused { IfErr result (λ fault. Refuses fault
         (IfSome (R.remaining reader.old) (IsNoEncoding (the_type schema.now) limit))) }
     ensures exact { Meets octets_of (canonical_input (the_type schema.now) limit (R.remaining reader.old)) result }
+    ensures takes { GivesValue (the_type schema.now) limit (status_after result) (R.remaining reader.old) (R.remaining reader.new) }
 {
     let mut sink = Metered::new(Vec::new(alloc));
     let taken = match rewrite(alloc, schema, reader, limit, &mut sink) {
@@ -80,6 +83,7 @@ pub fn canonical_digits<'a, R: Source>(
     ensures refused { IfErr result (λ fault. Refuses fault
         (IfSome (R.remaining reader.old) (NoneFor (IsCanonLine (the_type schema.now) limit)))) }
     ensures exact { Meets string_bytes (digits_input (the_type schema.now) limit (R.remaining reader.old)) result }
+    ensures takes { GivesValue (the_type schema.now) limit (status_after result) (R.remaining reader.old) (R.remaining reader.new) }
 {
     let octets = canonical(alloc, schema, reader, limit)?;
     match hex::encode(alloc, octets) {

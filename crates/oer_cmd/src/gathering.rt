@@ -1,6 +1,7 @@
 //! All the octets that a source has left.
-ghost use Rattle.std.specs.Prelude.{◌≡◌, ◌≤◌, ◌<◌, length, IfErr, IfOk, IfSome};
-ghost use Rattle.oer_cmd.specs.Gathering.{counted_by};
+ghost use Rattle.std.specs.Prelude.{◌≡◌, ◌≤◌, ◌<◌, ◌+◌, length, IfErr, IfOk, IfSome};
+ghost use Rattle.oer_cmd.specs.Gathering.{TellsAll, counted_by};
+ghost use Rattle.oer_cmd.specs.Taking.{GivesFront, IsGathered};
 
 use oer_units::Source;
 use std::alloc::Global;
@@ -28,6 +29,9 @@ pub fn gather<R: Source>(alloc: Global, reader: &mut R, limit: u64) -> Result<Ve
     ensures within { IfOk result (λ octets. length octets.items ≤ limit) }
     ensures longer { IfErr result (λ fault. fault ≡ GatherFault.Longer
         → IfSome (R.remaining reader.old) (λ xs. limit < length xs)) }
+    // How much of the source was taken, which is read in blocks of 4,096 octets.
+    ensures takes { GivesFront (R.remaining reader.old) (R.remaining reader.new)
+        (λ b n. (n ≤ limit + 4096) × (TellsAll result → IsGathered limit b n)) }
     // A call failed exactly where the answer is `Device`.
     ensures count { R.failed reader.new ≡ counted_by (R.failed reader.old) result }
 {

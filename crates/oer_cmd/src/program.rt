@@ -6,11 +6,12 @@ ghost use Rattle.clap.specs.declared.error.kind.ErrorKind.TheVariants.{DisplayHe
 ghost use Rattle.oer_model.specs.Parts.{Step};
 ghost use Rattle.oer_types.specs.Schema.{the_type};
 ghost use Rattle.oer_options.specs.Words.{oer, path_text, source_text, texts_of};
-ghost use Rattle.oer_cmd.specs.Answer.{IsPathOf, answer_of, expected_answer, task_answer};
+ghost use Rattle.oer_cmd.specs.Answer.{IsPathOf, answer_of, expected_answer, expected_type, task_answer};
 ghost use Rattle.oer_cmd.specs.Ending.{Ends};
-ghost use Rattle.oer_cmd.specs.Expected.{Expected, Meets};
+ghost use Rattle.oer_cmd.specs.Expected.{Expected, Meets, value};
 ghost use Rattle.oer_cmd.specs.Faults.{AppendsFront, Printed, Refuses, Reports, status_of};
 ghost use Rattle.oer_cmd.specs.Run.{IsLineFor, IsLineOf, NoLine, NoLineOf, NoLineAsked, Prints};
+ghost use Rattle.oer_cmd.specs.Taking.{KeepsInput, KeepsUnasked, UnlessAsked};
 ghost use Rattle.oer_cmd.specs.Types.{texts_at};
 ghost use Rattle.oer_cmd.specs.declared.type_text.TypeText.TheVariants.{Named, One};
 
@@ -41,6 +42,8 @@ fn line_of<'a, R: Read>(
     ensures exact { (path : Expected (List Step)) → IsPathOf (path_text options.entry.task) path
         → Meets string_bytes (task_answer options.entry.task (the_type schema.now) options.entry.limit path (R.remaining input.old)) result }
     ensures untouched { source_text options.entry.task ≢ None → input.new ≡ input.old }
+    ensures unasked { (path : Expected (List Step)) → IsPathOf (path_text options.entry.task) path
+        → UnlessAsked (value (the_type schema.now)) (source_text options.entry.task) path (input.new ≡ input.old) }
 {
     let limit = options.limit;
     match options.task {
@@ -66,6 +69,8 @@ fn line_of_one<'a, R: Read>(
     ensures exact { (path : Expected (List Step)) → IsPathOf (path_text options.entry.task) path
         → Meets string_bytes (answer_of (texts_at (One text.entry)) options.entry.task options.entry.limit path (R.remaining input.old)) result }
     ensures untouched { source_text options.entry.task ≢ None → input.new ≡ input.old }
+    ensures unasked { (path : Expected (List Step)) → IsPathOf (path_text options.entry.task) path
+        → UnlessAsked (expected_type (texts_at (One text.entry))) (source_text options.entry.task) path (input.new ≡ input.old) }
 {
     let schema = one_type(alloc, text)?;
     line_of(alloc, &schema, options, input)
@@ -86,6 +91,8 @@ fn line_of_named<'a, R: Read>(
     ensures exact { (path : Expected (List Step)) → IsPathOf (path_text options.entry.task) path
         → Meets string_bytes (answer_of (texts_at (Named types.entry name.entry)) options.entry.task options.entry.limit path (R.remaining input.old)) result }
     ensures untouched { source_text options.entry.task ≢ None → input.new ≡ input.old }
+    ensures unasked { (path : Expected (List Step)) → IsPathOf (path_text options.entry.task) path
+        → UnlessAsked (expected_type (texts_at (Named types.entry name.entry))) (source_text options.entry.task) path (input.new ≡ input.old) }
 {
     let types = definitions(alloc, types)?;
     let schema = named_type(&types, name)?;
@@ -105,6 +112,7 @@ fn answer<'a, R: Read>(
     ensures exact { (path : Expected (List Step)) → IsPathOf (path_text options.entry.task) path
         → Meets string_bytes (expected_answer options.entry path (R.remaining input.old)) result }
     ensures untouched { source_text options.entry.task ≢ None → input.new ≡ input.old }
+    ensures unasked { KeepsUnasked options.entry (input.new ≡ input.old) }
 {
     match type_text(options)? {
         TypeText::One(text) => line_of_one(alloc, text, options, input),
@@ -223,6 +231,8 @@ pub fn run<R: Read, W: Write, E: Write>(
     // the octets say, unless memory ran out or a device failed. Input that isn't needed is untouched.
     ensures exact { Ends (map string_bytes words.now) (R.remaining input.old) (input.new ≡ input.old) result
         (W.contents output.old) (W.contents output.new) (E.contents errors.old) (E.contents errors.new) }
+    // Where an error comes before the octets, or these are given, the input is untouched.
+    ensures unasked { KeepsInput (map string_bytes words.now) (input.new ≡ input.old) result }
 {
     let options = match parsed(alloc, words) {
         Ok(options) => options,

@@ -7,6 +7,7 @@ ghost use Rattle.oer_cmd.specs.Faults.{Refuses};
 ghost use Rattle.oer_cmd.specs.Answer.{json_input, text_input};
 ghost use Rattle.oer_cmd.specs.Expected.{Meets};
 ghost use Rattle.oer_cmd.specs.Run.{IsShowLine, IsShown, NoneFor};
+ghost use Rattle.oer_cmd.specs.Taking.{GivesValue, status_after};
 
 use crate::canon::check_end;
 use crate::fault::Fault;
@@ -31,6 +32,7 @@ fn shown<'a, R: Source>(
     ensures refused { IfErr result (λ fault. Refuses fault
         (IfSome (R.remaining reader.old) (IsNoEncoding (the_type schema.now) limit))) }
     ensures exact { Meets view (json_input (the_type schema.now) limit (R.remaining reader.old)) result }
+    ensures takes { GivesValue (the_type schema.now) limit (status_after result) (R.remaining reader.old) (R.remaining reader.new) }
 {
     let (value, taken) = match read_with_length(alloc, schema, reader, limit) {
         Ok(read) => read,
@@ -55,6 +57,7 @@ pub fn json_text<'a, R: Source>(
     ensures refused { IfErr result (λ fault. Refuses fault
         (IfSome (R.remaining reader.old) (NoneFor (IsShowLine (the_type schema.now) limit)))) }
     ensures exact { Meets string_bytes (text_input (the_type schema.now) limit (R.remaining reader.old)) result }
+    ensures takes { GivesValue (the_type schema.now) limit (status_after result) (R.remaining reader.old) (R.remaining reader.new) }
 {
     let json = shown(alloc, schema, reader, limit)?;
     match json.to_string(alloc) {

@@ -7,6 +7,7 @@ ghost use Rattle.oer_cmd.specs.Answer.{value_answer};
 ghost use Rattle.oer_cmd.specs.Expected.{Meets};
 ghost use Rattle.oer_cmd.specs.Faults.{Refuses};
 ghost use Rattle.oer_cmd.specs.Run.{IsValueLine, NoLine, NoneFor, OfOctets};
+ghost use Rattle.oer_cmd.specs.Taking.{GivesValue, status_after};
 
 use crate::canon::canonical_digits;
 use crate::fault::Fault;
@@ -39,6 +40,7 @@ fn read_line<'a, R: Source>(
     ensures refused { IfErr result (λ fault. Refuses fault
         (IfSome (R.remaining reader.old) (NoneFor (IsValueLine form (the_type schema.now) limit)))) }
     ensures exact { Meets string_bytes (value_answer form (the_type schema.now) limit None (R.remaining reader.old)) result }
+    ensures takes { GivesValue (the_type schema.now) limit (status_after result) (R.remaining reader.old) (R.remaining reader.new) }
 {
     match form {
         Form::Octets => canonical_digits(alloc, schema, reader, limit),

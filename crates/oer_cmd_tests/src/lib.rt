@@ -18,4 +18,6 @@ mod lines;
 #[cfg(test)]
 mod shared;
 #[cfg(test)]
+mod taken;
+#[cfg(test)]
 mod vectors;

@@ -5,6 +5,7 @@ use Rattle.oer_units.specs.Stream.{inner_of}
 use Rattle.oer_cmd.proofs.Front.{rewritten}
 use Rattle.oer_cmd.proofs.Refusals.{rewritten_more, unrewritten}
 use Rattle.oer_cmd.proofs.Exact.{canonical_made, canonical_more, canonical_none}
+use Rattle.oer_cmd.proofs.Taking.{rewritten_refused, rewritten_taken}
 use Rattle.oer_cmd.proofs.canon.canonical.Goals as goal
 
 pub returns-clause-made : goal.returns-clause-made
@@ -42,3 +43,22 @@ returns-in_err-check_end-clause-exact g c =
     let p = err_from_is_err_and c.from_residual.result c.from_residual.ensures.1 in
     rw (p.1, p.2) (canonical_more (the_type c.args.schema.now) c.args.limit _ _ c.in-Ok.taken c.in-Ok.field-0-1 _ _ _ _ (Some (octets (inner_of c.new-sink.result))) (Some (octets (inner_of c.rewrite.new.sink))) _
     c.in-Ok.ensures.exact c.in-Ok.ensures.rewritten c.in_err-check_end.ensures.refused c.in_err-check_end.ensures.follows)
+
+pub returns-clause-takes : goal.returns-clause-takes
+returns-clause-takes g c =
+    let octets = λ (v : Vec ℕ Global). v.items in
+    rewritten_taken (the_type c.args.schema.now) c.args.limit _ _ c.in-Ok.taken c.in-Ok.field-0-1 _ _ 0 _ _ _
+    (Some (octets (inner_of c.new-sink.result))) (Some (octets (inner_of c.rewrite.new.sink))) c.in-Ok.ensures.exact c.in_ok-check_end.ensures.takes
+
+pub returns-in-Err-clause-takes : goal.returns-in-Err-clause-takes
+returns-in-Err-clause-takes g c =
+    let octets = λ (v : Vec ℕ Global). v.items in
+    rewritten_refused (the_type c.args.schema.now) c.args.limit _ _ _ _ _ _
+    (Some (octets (inner_of c.new-sink.result))) (Some (octets (inner_of c.rewrite.new.sink))) c.in-Err.fault c.of_rewrite.result c.of_rewrite.ensures c.in-Err.ensures.exact
+
+pub returns-in_err-check_end-clause-takes : goal.returns-in_err-check_end-clause-takes
+returns-in_err-check_end-clause-takes g c =
+    let octets = λ (v : Vec ℕ Global). v.items in
+    let p = err_from_is_err_and c.from_residual.result c.from_residual.ensures.1 in
+    rw (p.1, p.2) (rewritten_taken (the_type c.args.schema.now) c.args.limit _ _ c.in-Ok.taken c.in-Ok.field-0-1 _ _ _ _ _ _
+    (Some (octets (inner_of c.new-sink.result))) (Some (octets (inner_of c.rewrite.new.sink))) c.in-Ok.ensures.exact c.in_err-check_end.ensures.takes)

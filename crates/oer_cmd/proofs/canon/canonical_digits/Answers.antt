@@ -7,6 +7,9 @@ use Rattle.oer_cmd.specs.Expected.{◌>>=◌}
 use Rattle.oer_cmd.specs.Octets.{octets_of}
 use Rattle.oer_cmd.specs.declared.fault.Fault.TheVariants.{Memory}
 use Rattle.oer_cmd.proofs.Meeting.{fails, goes, stops}
+use Rattle.std.proofs.Common.{◌+◌}
+use Rattle.oer_cmd.specs.Taking.{IsValue}
+use Rattle.oer_cmd.proofs.Taking.{later}
 use Rattle.oer_cmd.proofs.canon.canonical_digits.Goals as goal
 
 pub returns-in_err-octets-clause-refused : goal.returns-in_err-octets-clause-refused
@@ -24,3 +27,11 @@ pub returns-in_err-octets-clause-exact : goal.returns-in_err-octets-clause-exact
 returns-in_err-octets-clause-exact g c =
     let p = err_from_is_err_and c.from_residual.result c.from_residual.ensures.1 in
     rw (p.1, p.2) (stops octets_of string_bytes (canonical_input (the_type c.args.schema.now) c.args.limit _) in_digits _ c.in_err-octets.ensures.exact)
+
+pub returns-in-Err-clause-takes : goal.returns-in-Err-clause-takes
+returns-in-Err-clause-takes g c = later (c.args.limit + 1) 0 3 (IsValue (the_type c.args.schema.now) c.args.limit) _ _ (λ small. omega arith) c.in_ok-octets.ensures.takes
+
+pub returns-in_err-octets-clause-takes : goal.returns-in_err-octets-clause-takes
+returns-in_err-octets-clause-takes g c =
+    let p = err_from_is_err_and c.from_residual.result c.from_residual.ensures.1 in
+    rw (p.1, p.2) c.in_err-octets.ensures.takes

@@ -10,6 +10,9 @@ use Rattle.oer_cmd.specs.Run.{IsPartLine}
 use Rattle.oer_cmd.proofs.Refusals.{by_part, no_path_line, none_at_all, not_memory, too_long, unspelt}
 use Rattle.oer_cmd.proofs.Exact.{part_all, part_pathless, part_slices, part_unspelt}
 use Rattle.oer_cmd.proofs.Meeting.{goes, stops}
+use Rattle.std.proofs.Common.{refl}
+use Rattle.oer_cmd.specs.Expected.{value}
+use Rattle.oer_cmd.proofs.Asking.{kept, path_asked, some_spelt}
 use Rattle.oer_cmd.proofs.part.part_line.Goals as goal
 
 pub returns-clause-refused : goal.returns-clause-refused
@@ -51,3 +54,19 @@ pub returns-in_err-octets-clause-exact : goal.returns-in_err-octets-clause-exact
 returns-in_err-octets-clause-exact g c =
     let p = err_from_is_err_and c.from_residual-in_err-octets.result c.from_residual-in_err-octets.ensures.1 in
     rw (p.1, p.2) (λ steps of. part_all (the_type c.args.schema.now) c.args.limit (behind c.args.hex) steps _ c.in_ok-spelt.spelt c.in_ok-path.path _ c.in_ok-spelt.ensures.exact (c.in_ok-path.ensures.exact steps of) (stops {X = Vec ℕ Global} octets_of string_bytes _ (part_octets (the_type c.args.schema.now) (steps_of c.in_ok-path.path.items)) _ c.in_err-octets.ensures.exact))
+
+pub returns-clause-unasked : goal.returns-clause-unasked
+returns-clause-unasked g c =
+    λ steps of. path_asked (the_type c.args.schema.now) (behind c.args.hex) (behind c.args.path) steps c.in_ok-path.path _ of (c.in_ok-path.ensures.exact steps of)
+    (λ some. c.in_ok-octets.ensures.untouched (some_spelt (behind c.args.hex) _ c.in_ok-spelt.ensures.octets some))
+
+pub returns-in_err-octets-clause-unasked : goal.returns-in_err-octets-clause-unasked
+returns-in_err-octets-clause-unasked g c =
+    λ steps of. path_asked (the_type c.args.schema.now) (behind c.args.hex) (behind c.args.path) steps c.in_ok-path.path _ of (c.in_ok-path.ensures.exact steps of)
+    (λ some. c.in_err-octets.ensures.untouched (some_spelt (behind c.args.hex) _ c.in_ok-spelt.ensures.octets some))
+
+pub returns-in_err-spelt-clause-unasked : goal.returns-in_err-spelt-clause-unasked
+returns-in_err-spelt-clause-unasked g c = λ steps of. kept (value (the_type c.args.schema.now)) (behind c.args.hex) steps _ refl
+
+pub returns-in_err-path-clause-unasked : goal.returns-in_err-path-clause-unasked
+returns-in_err-path-clause-unasked g c = λ steps of. kept (value (the_type c.args.schema.now)) (behind c.args.hex) steps _ refl

@@ -4,6 +4,10 @@ use Rattle.oer_options.specs.Words.{texts_of}
 use Rattle.oer_cmd.specs.Types.{texts_at}
 use Rattle.oer_cmd.proofs.Naming.{of_texts, unnamed}
 use Rattle.oer_cmd.proofs.Endings.{for_texts, lacking}
+use Rattle.std.proofs.Common.{refl}
+use Rattle.oer_options.specs.Words.{source_text}
+use Rattle.oer_cmd.specs.Answer.{expected_type}
+use Rattle.oer_cmd.proofs.Asking.{for_same, kept}
 use Rattle.oer_cmd.proofs.program.answer.Goals as goal
 
 pub returns-in_err-text-clause-refused : goal.returns-in_err-text-clause-refused
@@ -27,3 +31,14 @@ returns-in-One-clause-exact g c = for_texts (texts_of c.args.options) _ c.args.o
 
 pub returns-in-Named-clause-exact : goal.returns-in-Named-clause-exact
 returns-in-Named-clause-exact g c = for_texts (texts_of c.args.options) _ c.args.options.task c.args.options.limit _ c.line_of_named.result (ap texts_at (sym c.in-Named.is) ∙ c.in_ok-text.ensures.named) c.line_of_named.ensures.exact
+
+pub returns-in_err-text-clause-unasked : goal.returns-in_err-text-clause-unasked
+returns-in_err-text-clause-unasked g c = λ path of. kept (expected_type (texts_of c.args.options)) (source_text c.args.options.task) path _ refl
+
+pub returns-in-One-clause-unasked : goal.returns-in-One-clause-unasked
+returns-in-One-clause-unasked g c = λ path of. for_same _ _ (source_text c.args.options.task) path _
+    (ap expected_type (ap texts_at (sym c.in-One.is) ∙ c.in_ok-text.ensures.named)) (c.line_of_one.ensures.unasked path of)
+
+pub returns-in-Named-clause-unasked : goal.returns-in-Named-clause-unasked
+returns-in-Named-clause-unasked g c = λ path of. for_same _ _ (source_text c.args.options.task) path _
+    (ap expected_type (ap texts_at (sym c.in-Named.is) ∙ c.in_ok-text.ensures.named)) (c.line_of_named.ensures.unasked path of)

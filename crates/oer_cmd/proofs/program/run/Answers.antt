@@ -29,3 +29,15 @@ returns-in-Err-print_line-clause-exact g c = inr (inl (does (map string_bytes c.
     (λ path of. broken_end (expected_answer c.in-Ok.options path (g.R.Read.remaining c.args.input.now)) c.in-Ok-answer.line c.in-Err-print_line.fault c.report-in-Err-print_line.result _
     (c.in-Ok-answer.ensures.exact path of) c.in-Err-print_line.ensures.printed c.report-in-Err-print_line.ensures.line)
     c.in-Ok-answer.ensures.untouched))
+
+pub returns-in-Err-clause-unasked : goal.returns-in-Err-clause-unasked
+returns-in-Err-clause-unasked g c = inl (refl, λ small taken. (let three = c.refused.ensures.memory (c.in-Err.ensures.err taken) in omega (arith, small, three)))
+
+pub returns-in-Err-answer-clause-unasked : goal.returns-in-Err-answer-clause-unasked
+returns-in-Err-answer-clause-unasked g c = inr (c.in-Ok.options, c.in-Ok.ensures.ok, c.in-Err-answer.ensures.unasked)
+
+pub returns-in-Ok-print_line-clause-unasked : goal.returns-in-Ok-print_line-clause-unasked
+returns-in-Ok-print_line-clause-unasked g c = inr (c.in-Ok.options, c.in-Ok.ensures.ok, c.in-Ok-answer.ensures.unasked)
+
+pub returns-in-Err-print_line-clause-unasked : goal.returns-in-Err-print_line-clause-unasked
+returns-in-Err-print_line-clause-unasked g c = inr (c.in-Ok.options, c.in-Ok.ensures.ok, c.in-Ok-answer.ensures.unasked)

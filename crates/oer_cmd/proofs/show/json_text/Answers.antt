@@ -7,6 +7,9 @@ use Rattle.oer_types.specs.Schema.{the_type}
 use Rattle.oer_cmd.specs.Answer.{in_text, json_input}
 use Rattle.oer_cmd.proofs.Exact.{json_text}
 use Rattle.oer_cmd.proofs.Meeting.{stops}
+use Rattle.std.proofs.Common.{◌+◌, arith}
+use Rattle.oer_cmd.specs.Taking.{IsValue}
+use Rattle.oer_cmd.proofs.Taking.{later}
 use Rattle.oer_cmd.proofs.show.json_text.Goals as goal
 
 pub returns-in-Ok-clause-line : goal.returns-in-Ok-clause-line
@@ -24,3 +27,11 @@ pub returns-in_err-json-clause-exact : goal.returns-in_err-json-clause-exact
 returns-in_err-json-clause-exact g c =
     let p = err_from_is_err_and c.from_residual.result c.from_residual.ensures.1 in
     rw (p.1, p.2) (stops view string_bytes (json_input (the_type c.args.schema.now) c.args.limit _) in_text _ c.in_err-json.ensures.exact)
+
+pub returns-clause-takes : goal.returns-clause-takes
+returns-clause-takes g c = later (c.args.limit + 1) 0 3 (IsValue (the_type c.args.schema.now) c.args.limit) _ _ (λ small. omega arith) c.in_ok-json.ensures.takes
+
+pub returns-in_err-json-clause-takes : goal.returns-in_err-json-clause-takes
+returns-in_err-json-clause-takes g c =
+    let p = err_from_is_err_and c.from_residual.result c.from_residual.ensures.1 in
+    rw (p.1, p.2) c.in_err-json.ensures.takes

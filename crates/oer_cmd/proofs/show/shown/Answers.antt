@@ -4,6 +4,9 @@ use Rattle.oer_values.specs.ValueView.{value_of}
 use Rattle.oer_cmd.proofs.Front.{shown_all}
 use Rattle.oer_cmd.proofs.Refusals.{read_more, unread}
 use Rattle.oer_cmd.proofs.Exact.{json_made, json_more, json_none}
+use Rattle.std.proofs.Common.{◌+◌, arith}
+use Rattle.oer_cmd.specs.Taking.{IsValue}
+use Rattle.oer_cmd.proofs.Taking.{counted_refused, counted_taken, later}
 use Rattle.oer_cmd.proofs.show.shown.Goals as goal
 
 pub returns-in-Ok-to_json-clause-shown : goal.returns-in-Ok-to_json-clause-shown
@@ -27,3 +30,19 @@ pub returns-in_err-check_end-clause-exact : goal.returns-in_err-check_end-clause
 returns-in_err-check_end-clause-exact g c =
     let p = err_from_is_err_and c.from_residual.result c.from_residual.ensures.1 in
     rw (p.1, p.2) (json_more (the_type c.args.schema.now) c.args.limit _ _ c.in-Ok.read.1 _ _ (value_of c.in-Ok.read.0) _ c.in-Ok.ensures.exact c.in-Ok.ensures.taken c.in_err-check_end.ensures.refused c.in_err-check_end.ensures.follows)
+
+pub returns-in-Ok-to_json-clause-takes : goal.returns-in-Ok-to_json-clause-takes
+returns-in-Ok-to_json-clause-takes g c =
+    counted_taken (the_type c.args.schema.now) c.args.limit _ _ c.in-Ok.read.1 0 _ _ _ (value_of c.in-Ok.read.0) c.in-Ok.ensures.exact c.in_ok-check_end.ensures.takes
+
+pub returns-clause-takes : goal.returns-clause-takes
+returns-clause-takes g c = later (c.args.limit + 1) 0 3 (IsValue (the_type c.args.schema.now) c.args.limit) _ _ (λ small. omega arith)
+    (counted_taken (the_type c.args.schema.now) c.args.limit _ _ c.in-Ok.read.1 0 _ _ _ (value_of c.in-Ok.read.0) c.in-Ok.ensures.exact c.in_ok-check_end.ensures.takes)
+
+pub returns-in-Err-clause-takes : goal.returns-in-Err-clause-takes
+returns-in-Err-clause-takes g c = counted_refused (the_type c.args.schema.now) c.args.limit _ _ _ _ c.in-Err.fault c.of_read.result c.of_read.ensures c.in-Err.ensures.exact
+
+pub returns-in_err-check_end-clause-takes : goal.returns-in_err-check_end-clause-takes
+returns-in_err-check_end-clause-takes g c =
+    let p = err_from_is_err_and c.from_residual.result c.from_residual.ensures.1 in
+    rw (p.1, p.2) (counted_taken (the_type c.args.schema.now) c.args.limit _ _ c.in-Ok.read.1 _ _ _ _ (value_of c.in-Ok.read.0) c.in-Ok.ensures.exact c.in_err-check_end.ensures.takes)
