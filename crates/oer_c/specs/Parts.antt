@@ -5,7 +5,7 @@ use Rattle.std.specs.Str.{IsUtf8}
 use Rattle.oer_units.specs.declared.fault.ReadFault.{ReadFault}
 use Rattle.oer_model.specs.AsnType.{AsnType}
 use Rattle.oer_model.specs.Parts.{Step, StopsAt, Within}
-use Rattle.oer_checker.specs.Check.{Tells}
+use Rattle.oer_checker.specs.Check.{Answers, Tells}
 use Rattle.oer_parts.specs.Handing.{Begins}
 use Rattle.oer_parts.specs.Path.{SpellsPath}
 use Rattle.oer_parts.specs.Ranges.{LeadsFrom}
@@ -21,11 +21,12 @@ abbrev pub IsMissed : AsnType → List ℕ → List Step → Written → Type 0
 IsMissed T octets steps a = ((a ≡ only_written 7) × Begins T octets (λ b. StopsAt (Some T) b steps false))
     ⊎ ((a ≡ only_written 8) × Begins T octets (λ b. StopsAt (Some T) b steps true))
 
--- Why no part is put: an allocation failed; the text is no path; `check` rejects the octets; or the path leads nowhere.
+-- Why no part is put: an allocation failed; the text is no path; `check` rejects the octets, for this reason and there; or the path leads
+-- nowhere.
 abbrev pub IsUncopied : AsnType → List ℕ → List ℕ → Written → Type 0
 IsUncopied T octets path a = (a ≡ only_written 4)
     ⊎ (((a ≡ only_written 6) × (IsUtf8 path → (steps : List Step) → SpellsPath path steps → ⊥))
-    ⊎ (((e : ReadFault) × (a ≡ rejection e) × Tells T octets (Err e))
+    ⊎ (((e : ReadFault) × (a ≡ rejection e) × Tells T octets (Err e) × Answers T octets (Err e))
     ⊎ ((steps : List Step) × SpellsPath path steps × IsMissed T octets steps a)))
 
 -- The part to which the path leads in the encoding at the front is put into the buffer; or the buffer is as before.
