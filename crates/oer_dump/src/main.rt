@@ -5,7 +5,7 @@ ghost use Rattle.std.specs.Prelude.{◌≡◌};
 ghost use Rattle.oer_cmd.specs.Faults.{AppendsFront};
 
 use oer_cmd::put_all;
-use oer_dump_cmd::run;
+use oer_dump_cmd::{run, usual_width};
 use std::env::{self, Env};
 use std::io::{BufReader, ErrorKind, IsTerminal, Write};
 use std::process::ExitCode;
@@ -13,8 +13,6 @@ use std::process::ExitCode;
 const NO_TEXT: &str = "oer: arguments that are no text\n";
 
 const NO_MEMORY: &str = "oer: out of memory\n";
-
-const USUAL_WIDTH: u64 = 100;
 
 // Writes why the program doesn't begin, in one call, and answers the status. A failure to write it is
 // ignored.
@@ -26,15 +24,11 @@ fn stop<E: Write>(line: &str, errors: &mut E) -> u8
     3
 }
 
-// How many characters a line has if the arguments don't say: as many as that of the terminal, if standard
-// output is one and the variable COLUMNS says how many these are.
-fn usual_width<R: Env + Alloc>(rt: &R, is_terminal: bool) -> u64 {
-    if !is_terminal {
-        return USUAL_WIDTH;
-    }
+// How many characters a line may have if the arguments don't say.
+fn width_of<R: Env + Alloc>(rt: &R, is_terminal: bool) -> u64 {
     match env::var(rt, "COLUMNS") {
-        Ok(text) => text.parse().unwrap_or(USUAL_WIDTH),
-        Err(_) => USUAL_WIDTH,
+        Ok(text) => usual_width(is_terminal, Some(text.as_str())),
+        Err(_) => usual_width(is_terminal, None),
     }
 }
 
@@ -58,7 +52,7 @@ fn main(rt: HostRuntime) -> ExitCode {
     let status = run(
         alloc,
         words.as_slice(),
-        usual_width(&rt, is_terminal),
+        width_of(&rt, is_terminal),
         &mut input,
         &mut rt.stdout(),
         &mut errors,

@@ -12,9 +12,11 @@ use Rattle.oer_cmd.specs.Faults.{Reports, error_line, status_of, text_of}
 use Rattle.oer_cmd.specs.declared.fault.Fault.{Fault}
 use Rattle.oer_cmd.specs.declared.fault.Fault.TheVariants.{Memory, Output}
 use Rattle.oer_cmd.proofs.Endings.{by_status, moved}
-use Rattle.oer_dump_cmd.specs.Ending.{Accepts, Answers, Breaks, Ends, IsNotTaken, Prints, Tells}
-use Rattle.oer_dump_cmd.specs.Showing.{AreOneFor, IsReasonLine, Shows, judged_as}
+use Rattle.oer_dump_cmd.specs.Ending.{Accepts, Answers, Breaks, Ends, IsNotTaken, Outputs, Prints, Tells, streams}
+use Rattle.oer_dump_cmd.specs.Showing.{AreOneFor, Displays, IsReasonLine, Shows, judged_as, octets_as}
 use Rattle.oer_dump_cmd.specs.Words.{Asks, given, oer_dump, texts_asked, texts_given}
+use Rattle.oer_model.specs.AsnType.{AsnType}
+use Rattle.oer_dump_cmd.specs.declared.options.Form.{Form}
 use Rattle.oer_dump_cmd.specs.declared.options.Options.{Options}
 use Rattle.oer_dump_cmd.specs.declared.program.Page.{Page}
 
@@ -92,6 +94,24 @@ not_taken words untouched e status s kind passes memory shows alone two quiet fa
   by three (inl h) = (three, (breaks Memory 3 s refl (inr (inr refl)) h).1)
   by three (inr h) = (three, (breaks Output 3 s refl (inr (inl refl)) h).1)
 
+kept : (held : Option (List ℕ)) → Keeps held held
+kept None = tt
+kept (Some xs) = refl
+
+-- The page is on the output.
+pub displayed : (f : Form) (m : Expected (AsnType × List ℕ)) (page : Page) (status : ℕ) (s : Streams) → Displays f m (Ok page) → Prints page status s → status ≤ 2 → Outputs f m s
+displayed f unknown page status s shown prints small = tt
+displayed f (value p) page status s shown (inl (appends, tells)) small = (string_bytes page.text, shown, appends)
+displayed f (value p) page status s shown (inr broken) small = absurd (omega (arith, small, broken.0))
+displayed f (refusal r) page status s shown prints small = absurd shown
+
+-- There is no page.
+pub undisplayed : (f : Form) (m : Expected (AsnType × List ℕ)) (fault : Fault) (status : ℕ) (held errors errors' : Option (List ℕ)) → Displays f m (Err fault) → (status ≤ 2 → status ≡ status_of fault)
+    → status ≤ 2 → Outputs f m (streams held held errors errors')
+undisplayed f unknown fault status held errors errors' shown same small = tt
+undisplayed f (value p) fault status held errors errors' shown same small = absurd (shown (omega (arith, small, same small)))
+undisplayed f (refusal r) fault status held errors errors' shown same small = kept held
+
 pub does : (words : List Text) (told : Option (List ℕ)) (untouched : Type 0) (status : ℕ) (s : Streams) (o : Options) → Asks words o
-    → Answers (judged_as o told) status s ⊎ Breaks status s → (behind o.hex ≢ None → untouched) → Ends words told untouched status s
-does words told untouched status s o asks answers keeps = inl (record { options = o; asks = asks; answers = answers; keeps = keeps })
+    → Answers (judged_as o told) status s ⊎ Breaks status s → (status ≤ 2 → Outputs o.form (octets_as o told) s) → (behind o.hex ≢ None → untouched) → Ends words told untouched status s
+does words told untouched status s o asks answers outputs keeps = inl (record { options = o; asks = asks; answers = answers; outputs = outputs; keeps = keeps })

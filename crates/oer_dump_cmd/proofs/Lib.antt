@@ -1,3 +1,6 @@
 pub mod Asked
+pub mod Objects
+pub mod Laid
+pub mod Terminal
 pub mod Shown
 pub mod Ends

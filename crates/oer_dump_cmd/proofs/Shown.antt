@@ -1,10 +1,12 @@
 -- What is shown, from what the steps answer.
-use Rattle.std.proofs.Common.{Result, ◌≡◌, ◌∙◌, ℕ, ◌≤◌, List, length, Bool, Option, Some, None, Ok, Err, Vec, String, Global, refl, sym, ap, subst, arith, string_bytes}
+use Rattle.std.proofs.Common.{Result, ◌≡◌, ◌∙◌, ℕ, ◌-◌, ◌^◌, ◌≤◌, List, [], ◌∷◌, length, Bool, Option, Some, None, Ok, Err, Vec, String, Global, refl, sym, ap, subst, arith, string_bytes}
 use Rattle.std.specs.Prelude.{IfOk, option_map}
 use Rattle.std.specs.Borrow.{Bor}
 use Rattle.std.proofs.lemmas.Result.{IfOk-weaker}
 use Rattle.clap.specs.Words.{Text}
+use Rattle.oer_units.specs.Reader.{Outcome, at, got, refused}
 use Rattle.oer_model.specs.AsnType.{AsnType}
+use Rattle.oer_model.specs.Checking.{check_value}
 use Rattle.oer_types.specs.Schema.{the_type}
 use Rattle.oer_types.specs.declared.schema.Schema.{Schema}
 use Rattle.oer_parts.specs.declared.encoding.Encoding.{Encoding}
@@ -13,7 +15,7 @@ use Rattle.oer_notation.specs.Reading.{find}
 use Rattle.oer_notation.specs.Views.{knowns}
 use Rattle.oer_notation.specs.declared.types.Types.{Types}
 use Rattle.oer_options.specs.Words.{Texts}
-use Rattle.oer_cmd.specs.Answer.{checked, expected_type, hex_octets, limited_octets, named_as, parsed}
+use Rattle.oer_cmd.specs.Answer.{checked, ended, expected_type, hex_octets, limited_octets, named_as, parsed, whole as judged_whole}
 use Rattle.oer_cmd.specs.Expected.{Expected, Meets, Refusal, refusal, refusal_of, stop, unknown, value, ◌>>=◌}
 use Rattle.oer_cmd.specs.Faults.{status_of, text_of}
 use Rattle.oer_cmd.specs.Octets.{AreAll, AreSpelt, octets_of}
@@ -23,29 +25,53 @@ use Rattle.oer_cmd.specs.declared.fault.Fault.{Fault}
 use Rattle.oer_cmd.specs.declared.fault.Fault.TheVariants.{Memory}
 use Rattle.oer_cmd.proofs.Lines.{of_all}
 use Rattle.oer_cmd.proofs.Meeting as meeting
-use Rattle.oer_dump_cmd.specs.Showing.{AreOne, AreOneFor, IsReasonLine, Shows, judged_for, judged_octets}
+use Rattle.oer_dump_cmd.specs.Showing.{AreOne, AreOneFor, Displays, IsReasonLine, Shows}
+use Rattle.oer_dump_cmd.specs.declared.options.Form.{Form}
 use Rattle.oer_dump_cmd.specs.declared.program.Page.{Page}
 
--- A failure of the machine is always allowed.
-pub fails : (m : Expected Bool) (fault : Fault) → (status_of fault ≤ 2 → ⊥) → Shows m (Err fault)
+-- What is said of a result where a value or a refusal is expected: nothing where that is unknown, and a failure of the machine is always allowed.
+pub record Tolerates {Z : Type 0} (R : Expected Z → Result Page Fault → Type 0) : Type 0 where
+  pub any : (result : Result Page Fault) → R unknown result
+  pub machine : (m : Expected Z) (fault : Fault) → (status_of fault ≤ 2 → ⊥) → R m (Err fault)
+  pub same : (r : Refusal) (fault : Fault) → (status_of fault ≤ 2 → refusal_of fault ≡ r) → R (refusal r) (Err fault)
+
+fails : (m : Expected Bool) (fault : Fault) → (status_of fault ≤ 2 → ⊥) → Shows m (Err fault)
 fails unknown fault high = tt
 fails (value c) fault high = high
 fails (refusal r) fault high = λ small. absurd (high small)
 
-pub no_memory : (m : Expected Bool) → Shows m (Err Memory)
-no_memory m = fails m Memory (λ small. absurd (omega (arith, small)))
+pub shows : Tolerates Shows
+shows = record { any = λ result. tt; machine = fails; same = λ r fault h. h }
+
+displays_none : (f : Form) (m : Expected (AsnType × List ℕ)) (fault : Fault) → (status_of fault ≤ 2 → ⊥) → Displays f m (Err fault)
+displays_none f unknown fault high = tt
+displays_none f (value p) fault high = high
+displays_none f (refusal r) fault high = tt
+
+pub displays : (f : Form) → Tolerates (Displays f)
+displays f = record { any = λ result. tt; machine = displays_none f; same = λ r fault h. tt }
+
+-- the type with the octets
+abbrev pub both : AsnType → List ℕ → Expected (AsnType × List ℕ)
+both T b = value (T, b)
+
+-- what is made of the octets of `--hex`, else those of the input
+abbrev pub of_octets : {Z : Type 0} → (AsnType → List ℕ → Expected Z) → Option Text → ℕ → Option (List ℕ) → AsnType → Expected Z
+of_octets next hex limit told T = hex_octets hex >>= λ spelt. limited_octets limit spelt told >>= next T
 
 -- Where a step is refused, nothing is shown.
-pub stops : {X Y : Type 0} (view : X → Y) (m : Expected Y) (next : Y → Expected Bool) (fault : Fault) → Meets {X = X} view m (Err fault) → Shows (m >>= next) (Err fault)
-stops view unknown next fault h = tt
-stops view (value y) next fault h = fails (next y) fault h
-stops view (refusal r) next fault h = h
+pub stops : {X Y Z : Type 0} (R : Expected Z → Result Page Fault → Type 0) → Tolerates R → (view : X → Y) (m : Expected Y) (next : Y → Expected Z) (fault : Fault)
+    → Meets {X = X} view m (Err fault) → R (m >>= next) (Err fault)
+stops R w view unknown next fault h = w.any (Err fault)
+stops R w view (value y) next fault h = w.machine (next y) fault h
+stops R w view (refusal r) next fault h = w.same r fault h
 
 -- Where it is made, what is shown is next.
-pub goes : {X Y : Type 0} (view : X → Y) (m : Expected Y) (next : Y → Expected Bool) (x : X) (result : Result Page Fault) → Meets view m (Ok x) → Shows (next (view x)) result → Shows (m >>= next) result
-goes view unknown next x result h k = tt
-goes view (value y) next x result h k = subst (λ z. Shows (next z) result) h k
-goes view (refusal r) next x result h k = absurd h
+pub goes : {X Y Z : Type 0} (R : Expected Z → Result Page Fault → Type 0) → Tolerates R → (view : X → Y) (m : Expected Y) (next : Y → Expected Z) (x : X) (result : Result Page Fault)
+    → Meets view m (Ok x) → R (next (view x)) result → R (m >>= next) result
+goes R w view unknown next x result h k = w.any result
+goes R w view (value y) next x result h k = subst (λ z. R (next z) result) h k
+goes R w view (refusal r) next x result h k = absurd h
 
 -- ---- the octets
 
@@ -70,19 +96,39 @@ rejected (refusal r) fault text line h one is =
     let e : refusal_of fault ≡ r = h (omega (arith, one)) in
     (ap (λ (x : Refusal). x.status) (sym e) ∙ one, subst (λ (x : Refusal). IsReasonLine x.text (string_bytes line)) e is)
 
-pub unspelt : (T : AsnType) (limit : ℕ) (hex : Option Text) (told : Option (List ℕ)) (fault : Fault) → Meets {X = Option (Vec ℕ Global)} (option_map octets_of) (hex_octets hex) (Err fault) → Shows (judged_octets hex limit told T) (Err fault)
-unspelt T limit hex told fault h = stops {X = Option (Vec ℕ Global)} (option_map octets_of) (hex_octets hex) (λ o. limited_octets limit o told >>= checked T) fault h
+unended : (n : ℕ) (x : Bool) (rest : List ℕ) (fault : Fault) → Meets {X = Encoding} seen (ended n x rest) (Err fault) → status_of fault ≤ 2 → status_of fault ≡ 1
+unended n x [] fault h small = absurd (h small)
+unended n x (y ∷ rest) fault h small = ap (λ (r : Refusal). r.status) (h small)
 
-pub longer : (T : AsnType) (limit : ℕ) (hex : Option Text) (told : Option (List ℕ)) (spelt : Option (Vec ℕ Global)) (fault : Fault) → Meets (option_map octets_of) (hex_octets hex) (Ok spelt)
-    → Meets {X = Vec ℕ Global} octets_of (limited_octets limit (option_map octets_of spelt) told) (Err fault) → Shows (judged_octets hex limit told T) (Err fault)
-longer T limit hex told spelt fault h all =
-    goes (option_map octets_of) (hex_octets hex) (λ o. limited_octets limit o told >>= checked T) spelt (Err fault) h (stops {X = Vec ℕ Global} octets_of (limited_octets limit (option_map octets_of spelt) told) (checked T) fault all)
+unread_outcome : (b : List ℕ) (o : Outcome Bool) (fault : Fault) → Meets {X = Encoding} seen (judged_whole b o) (Err fault) → status_of fault ≤ 2 → status_of fault ≡ 1
+unread_outcome b (got x q) fault h small = unended (length b - length q.input) x q.input fault h small
+unread_outcome b (refused why rest) fault h small = ap (λ (r : Refusal). r.status) (h small)
 
-pub looked_at : (T : AsnType) (limit : ℕ) (hex : Option Text) (told : Option (List ℕ)) (spelt : Option (Vec ℕ Global)) (octets : Vec ℕ Global) (b : List ℕ) (result : Result Page Fault) → Meets (option_map octets_of) (hex_octets hex) (Ok spelt)
-    → Meets octets_of (limited_octets limit (option_map octets_of spelt) told) (Ok octets) → b ≡ octets.items → Shows (checked T b) result → Shows (judged_octets hex limit told T) result
-looked_at T limit hex told spelt octets b result h all same shown =
-    goes (option_map octets_of) (hex_octets hex) (λ o. limited_octets limit o told >>= checked T) spelt result h
-    (goes octets_of (limited_octets limit (option_map octets_of spelt) told) (checked T) octets result all (subst (λ l. Shows (checked T l) result) same shown))
+-- Octets are rejected with status 1.
+pub unjudged : (T : AsnType) (b : List ℕ) (fault : Fault) → Meets {X = Encoding} seen (checked T b) (Err fault) → status_of fault ≤ 2 → status_of fault ≡ 1
+unjudged T b fault h small = unread_outcome b (check_value T (at b (2 ^ 64 - 1))) fault h small
+
+pub unspelt : {Z : Type 0} (R : Expected Z → Result Page Fault → Type 0) → Tolerates R
+    → (next : AsnType → List ℕ → Expected Z) (T : AsnType) (limit : ℕ) (hex : Option Text) (told : Option (List ℕ)) (fault : Fault)
+    → Meets {X = Option (Vec ℕ Global)} (option_map octets_of) (hex_octets hex) (Err fault) → R (of_octets next hex limit told T) (Err fault)
+unspelt R w next T limit hex told fault h = stops {X = Option (Vec ℕ Global)} R w (option_map octets_of) (hex_octets hex) (λ o. limited_octets limit o told >>= next T) fault h
+
+pub longer : {Z : Type 0} (R : Expected Z → Result Page Fault → Type 0) → Tolerates R
+    → (next : AsnType → List ℕ → Expected Z) (T : AsnType) (limit : ℕ) (hex : Option Text) (told : Option (List ℕ)) (spelt : Option (Vec ℕ Global)) (fault : Fault)
+    → Meets (option_map octets_of) (hex_octets hex) (Ok spelt) → Meets {X = Vec ℕ Global} octets_of (limited_octets limit (option_map octets_of spelt) told) (Err fault)
+    → R (of_octets next hex limit told T) (Err fault)
+longer R w next T limit hex told spelt fault h all =
+    goes R w (option_map octets_of) (hex_octets hex) (λ o. limited_octets limit o told >>= next T) spelt (Err fault) h
+    (stops {X = Vec ℕ Global} R w octets_of (limited_octets limit (option_map octets_of spelt) told) (next T) fault all)
+
+pub looked_at : {Z : Type 0} (R : Expected Z → Result Page Fault → Type 0) → Tolerates R
+    → (next : AsnType → List ℕ → Expected Z) (T : AsnType) (limit : ℕ) (hex : Option Text) (told : Option (List ℕ)) (spelt : Option (Vec ℕ Global)) (octets : Vec ℕ Global) (b : List ℕ)
+    (result : Result Page Fault)
+    → Meets (option_map octets_of) (hex_octets hex) (Ok spelt) → Meets octets_of (limited_octets limit (option_map octets_of spelt) told) (Ok octets) → b ≡ octets.items
+    → R (next T b) result → R (of_octets next hex limit told T) result
+looked_at R w next T limit hex told spelt octets b result h all same shown =
+    goes R w (option_map octets_of) (hex_octets hex) (λ o. limited_octets limit o told >>= next T) spelt result h
+    (goes R w octets_of (limited_octets limit (option_map octets_of spelt) told) (next T) octets result all (subst (λ l. R (next T l) result) same shown))
 
 pub are_one : (T : AsnType) (limit : ℕ) (hex : Option Text) (told spelt : Option (List ℕ)) (octets b : List ℕ) (result : Result Page Fault) → AreSpelt hex spelt → AreAll spelt told octets → length octets ≤ limit → b ≡ octets
     → IfOk result (λ page. page.rejection ≡ None → IsEncoding T b) → IfOk result (λ page. page.rejection ≡ None → AreOne T hex limit told)
@@ -91,32 +137,37 @@ are_one T limit hex told spelt octets b result spells all within same h =
 
 -- ---- the type
 
-pub one_unread : (text : Bor Text) (hex : Option Text) (limit : ℕ) (told : Option (List ℕ)) (fault : Fault) → Meets {X = Schema} the_type (parsed (parse text.now)) (Err fault)
-    → Shows (parsed (parse text.now) >>= judged_octets hex limit told) (Err fault)
-one_unread text hex limit told fault h = stops {X = Schema} the_type (parsed (parse text.now)) (judged_octets hex limit told) fault h
+pub one_unread : {Z : Type 0} (R : Expected Z → Result Page Fault → Type 0) → Tolerates R → (last : AsnType → Expected Z) (text : Bor Text) (fault : Fault)
+    → Meets {X = Schema} the_type (parsed (parse text.now)) (Err fault)
+    → R (parsed (parse text.now) >>= last) (Err fault)
+one_unread R w last text fault h = stops {X = Schema} R w the_type (parsed (parse text.now)) last fault h
 
-pub one_read : (text : Bor Text) (hex : Option Text) (limit : ℕ) (told : Option (List ℕ)) (schema : Schema) (result : Result Page Fault) → Meets the_type (parsed (parse text.now)) (Ok schema)
-    → Shows (judged_octets hex limit told (the_type schema)) result → Shows (parsed (parse text.now) >>= judged_octets hex limit told) result
-one_read text hex limit told schema result h shown = goes the_type (parsed (parse text.now)) (judged_octets hex limit told) schema result h shown
+pub one_read : {Z : Type 0} (R : Expected Z → Result Page Fault → Type 0) → Tolerates R → (last : AsnType → Expected Z) (text : Bor Text) (schema : Schema) (result : Result Page Fault)
+    → Meets the_type (parsed (parse text.now)) (Ok schema)
+    → R (last (the_type schema)) result → R (parsed (parse text.now) >>= last) result
+one_read R w last text schema result h shown = goes R w the_type (parsed (parse text.now)) last schema result h shown
 
-pub named_unread : (types name : Bor Text) (hex : Option Text) (limit : ℕ) (told : Option (List ℕ)) (fault : Fault) → Meets {X = Types} knowns (parsed (parse_all types.now)) (Err fault)
-    → Shows (parsed (parse_all types.now) >>= (λ ks. named_as name.now (find ks name.now)) >>= judged_octets hex limit told) (Err fault)
-named_unread types name hex limit told fault h =
-    stops {X = Schema} the_type (parsed (parse_all types.now) >>= λ ks. named_as name.now (find ks name.now)) (judged_octets hex limit told) fault
+pub named_unread : {Z : Type 0} (R : Expected Z → Result Page Fault → Type 0) → Tolerates R → (last : AsnType → Expected Z) (types name : Bor Text) (fault : Fault)
+    → Meets {X = Types} knowns (parsed (parse_all types.now)) (Err fault)
+    → R (parsed (parse_all types.now) >>= (λ ks. named_as name.now (find ks name.now)) >>= last) (Err fault)
+named_unread R w last types name fault h =
+    stops {X = Schema} R w the_type (parsed (parse_all types.now) >>= λ ks. named_as name.now (find ks name.now)) last fault
     (meeting.stops {X = Types} knowns the_type (parsed (parse_all types.now)) (λ ks. named_as name.now (find ks name.now)) fault h)
 
-pub named_unknown : (types name : Bor Text) (hex : Option Text) (limit : ℕ) (told : Option (List ℕ)) (ts : Types) (fault : Fault) → Meets knowns (parsed (parse_all types.now)) (Ok ts)
+pub named_unknown : {Z : Type 0} (R : Expected Z → Result Page Fault → Type 0) → Tolerates R → (last : AsnType → Expected Z) (types name : Bor Text) (ts : Types) (fault : Fault)
+    → Meets knowns (parsed (parse_all types.now)) (Ok ts)
     → Meets {X = Bor Schema} (λ s. the_type s.now) (named_as name.now (find (knowns ts) name.now)) (Err fault)
-    → Shows (parsed (parse_all types.now) >>= (λ ks. named_as name.now (find ks name.now)) >>= judged_octets hex limit told) (Err fault)
-named_unknown types name hex limit told ts fault h of =
-    stops {X = Bor Schema} (λ s. the_type s.now) (parsed (parse_all types.now) >>= λ ks. named_as name.now (find ks name.now)) (judged_octets hex limit told) fault
+    → R (parsed (parse_all types.now) >>= (λ ks. named_as name.now (find ks name.now)) >>= last) (Err fault)
+named_unknown R w last types name ts fault h of =
+    stops {X = Bor Schema} R w (λ s. the_type s.now) (parsed (parse_all types.now) >>= λ ks. named_as name.now (find ks name.now)) last fault
     (meeting.goes {Z = Bor Schema} knowns (λ s. the_type s.now) (parsed (parse_all types.now)) (λ ks. named_as name.now (find ks name.now)) ts (Err fault) h of)
 
-pub named_read : (types name : Bor Text) (hex : Option Text) (limit : ℕ) (told : Option (List ℕ)) (ts : Types) (schema : Bor Schema) (result : Result Page Fault) → Meets knowns (parsed (parse_all types.now)) (Ok ts)
-    → Meets (λ s. the_type s.now) (named_as name.now (find (knowns ts) name.now)) (Ok schema) → Shows (judged_octets hex limit told (the_type schema.now)) result
-    → Shows (parsed (parse_all types.now) >>= (λ ks. named_as name.now (find ks name.now)) >>= judged_octets hex limit told) result
-named_read types name hex limit told ts schema result h of shown =
-    goes (λ s. the_type s.now) (parsed (parse_all types.now) >>= λ ks. named_as name.now (find ks name.now)) (judged_octets hex limit told) schema result
+pub named_read : {Z : Type 0} (R : Expected Z → Result Page Fault → Type 0) → Tolerates R
+    → (last : AsnType → Expected Z) (types name : Bor Text) (ts : Types) (schema : Bor Schema) (result : Result Page Fault) → Meets knowns (parsed (parse_all types.now)) (Ok ts)
+    → Meets (λ s. the_type s.now) (named_as name.now (find (knowns ts) name.now)) (Ok schema) → R (last (the_type schema.now)) result
+    → R (parsed (parse_all types.now) >>= (λ ks. named_as name.now (find ks name.now)) >>= last) result
+named_read R w last types name ts schema result h of shown =
+    goes R w (λ s. the_type s.now) (parsed (parse_all types.now) >>= λ ks. named_as name.now (find ks name.now)) last schema result
     (meeting.goes knowns (λ s. the_type s.now) (parsed (parse_all types.now)) (λ ks. named_as name.now (find ks name.now)) ts (Ok schema) h of) shown
 
 pub are_one_for : (texts : Texts) (T : AsnType) (hex : Option Text) (limit : ℕ) (told : Option (List ℕ)) (result : Result Page Fault) → SpelledBy texts T
@@ -124,13 +175,15 @@ pub are_one_for : (texts : Texts) (T : AsnType) (hex : Option Text) (limit : ℕ
 are_one_for texts T hex limit told result spelled h = IfOk-weaker result _ _ (λ page k none. (T, spelled, k none)) h
 
 -- the same texts
-pub shown_for : (texts same : Texts) (hex : Option Text) (limit : ℕ) (told : Option (List ℕ)) (result : Result Page Fault) → same ≡ texts → Shows (judged_for same hex limit told) result → Shows (judged_for texts hex limit told) result
-shown_for texts same hex limit told result is h = subst (λ t. Shows (judged_for t hex limit told) result) is h
+pub shown_for : {Z : Type 0} (R : Expected Z → Result Page Fault → Type 0) → (last : AsnType → Expected Z) (texts same : Texts) (result : Result Page Fault) → same ≡ texts
+    → R (expected_type same >>= last) result → R (expected_type texts >>= last) result
+shown_for R last texts same result is h = subst (λ t. R (expected_type t >>= last) result) is h
 
 pub one_for : (texts same : Texts) (hex : Option Text) (limit : ℕ) (told : Option (List ℕ)) (result : Result Page Fault) → same ≡ texts
     → IfOk result (λ page. page.rejection ≡ None → AreOneFor same hex limit told) → IfOk result (λ page. page.rejection ≡ None → AreOneFor texts hex limit told)
 one_for texts same hex limit told result is h = subst (λ t. IfOk result (λ page. page.rejection ≡ None → AreOneFor t hex limit told)) is h
 
-pub lacking : (texts same : Texts) (hex : Option Text) (limit : ℕ) (told : Option (List ℕ)) (fault : Fault) → same ≡ texts → expected_type same ≡ stop fault → Shows (judged_for texts hex limit told) (Err fault)
-lacking texts same hex limit told fault is e =
-    subst (λ (t : Expected AsnType). Shows (t >>= judged_octets hex limit told) (Err fault)) (sym e ∙ ap expected_type is) (λ small. refl)
+pub lacking : {Z : Type 0} (R : Expected Z → Result Page Fault → Type 0) → Tolerates R → (last : AsnType → Expected Z) (texts same : Texts) (fault : Fault) → same ≡ texts
+    → expected_type same ≡ stop fault → R (expected_type texts >>= last) (Err fault)
+lacking R w last texts same fault is e =
+    subst (λ (t : Expected AsnType). R (t >>= last) (Err fault)) (sym e ∙ ap expected_type is) (w.same (refusal_of fault) fault (λ small. refl))

@@ -8,8 +8,10 @@ use Rattle.oer_options.specs.Words.{NumberOf, behind}
 use Rattle.oer_cmd.specs.Ending.{IsMachineLine, Streams}
 use Rattle.oer_cmd.specs.Expected.{Expected, refusal, unknown, value}
 use Rattle.oer_cmd.specs.Faults.{AppendsFront}
-use Rattle.oer_dump_cmd.specs.Showing.{AreOneFor, IsReasonLine, judged_as}
+use Rattle.oer_dump_cmd.specs.Showing.{AreOneFor, IsPage, IsReasonLine, judged_as, octets_as}
 use Rattle.oer_dump_cmd.specs.Words.{Asks, given, given_number, oer_dump, texts_given}
+use Rattle.oer_model.specs.AsnType.{AsnType}
+use Rattle.oer_dump_cmd.specs.declared.options.Form.{Form}
 use Rattle.oer_dump_cmd.specs.declared.options.Options.{Options}
 use Rattle.oer_dump_cmd.specs.declared.program.Page.{Page}
 
@@ -34,11 +36,18 @@ abbrev pub Prints : Page → ℕ → Streams → Type 0
 Prints page status s =
     (Appends s.output s.output' (string_bytes page.text) × Tells page.rejection status s.errors s.errors') ⊎ Breaks status s
 
+-- The output has the page of the octets by the type; and nothing, where there are no such octets or no type.
+abbrev pub Outputs : Form → Expected (AsnType × List ℕ) → Streams → Type 0
+Outputs f unknown s = ⊤
+Outputs f (value p) s = (text : Text) × IsPage f p.0 p.1 text × Appends s.output s.output' text
+Outputs f (refusal r) s = Keeps s.output s.output'
+
 -- The words ask for these options, and their answer is given, or the machine failed. Where they have the octets, the input is untouched.
 pub record Does (words : List Text) (told : Option (List ℕ)) (untouched : Type 0) (status : ℕ) (s : Streams) : Type 0 where
   pub options : Options
   pub asks : Asks words options
   pub answers : Answers (judged_as options told) status s ⊎ Breaks status s
+  pub outputs : status ≤ 2 → Outputs options.form (octets_as options told) s
   pub keeps : behind options.hex ≢ None → untouched
 
 -- The words ask for help, or for the version.

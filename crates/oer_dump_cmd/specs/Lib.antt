@@ -1,3 +1,5 @@
 pub mod Words
+pub mod Array
+pub mod Layout
 pub mod Showing
 pub mod Ending

@@ -1,5 +1,5 @@
 -- What is shown of octets.
-use Rattle.std.specs.Prelude.{◌≡◌, ◌≤◌, ℕ, List, [], ◌∷◌, ◌++◌, length, Bool, Option, Some, None, Result, Ok, Err, String, codes, string_bytes, ⊤}
+use Rattle.std.specs.Prelude.{◌≡◌, ◌≤◌, ℕ, List, [], ◌∷◌, ◌++◌, length, map, Bool, Option, Some, None, Result, Ok, Err, String, codes, string_bytes, ⊤}
 use Rattle.std.specs.Global.{Global}
 use Rattle.clap.specs.Words.{Text}
 use Rattle.oer_model.specs.AsnType.{AsnType}
@@ -10,7 +10,14 @@ use Rattle.oer_cmd.specs.Faults.{status_of}
 use Rattle.oer_cmd.specs.Run.{IsEncoding, OfOctets}
 use Rattle.oer_cmd.specs.Types.{SpelledBy}
 use Rattle.oer_cmd.specs.declared.fault.Fault.{Fault}
+use Rattle.oer_rows.specs.Listing.{rows_of}
+use Rattle.oer_entries.specs.Entries.{AreOfRows}
+use Rattle.oer_entries.specs.declared.entry.Entry.{Entry}
+use Rattle.oer_dump_cmd.specs.Array.{array_text}
+use Rattle.oer_dump_cmd.specs.Layout.{HasLines, cells_of}
 use Rattle.oer_dump_cmd.specs.Words.{texts_asked}
+use Rattle.oer_dump_cmd.specs.declared.options.Form.{Form}
+use Rattle.oer_dump_cmd.specs.declared.options.Form.TheVariants as form
 use Rattle.oer_dump_cmd.specs.declared.options.Options.{Options}
 use Rattle.oer_dump_cmd.specs.declared.program.Page.{Page}
 
@@ -51,3 +58,32 @@ AreOne T hex limit told = OfOctets hex told (λ b. IsEncoding T b × (length b �
 -- the same for the type that the texts name
 abbrev pub AreOneFor : Texts → Option Text → ℕ → Option (List ℕ) → Type 0
 AreOneFor texts hex limit told = (T : AsnType) × SpelledBy texts T × AreOne T hex limit told
+
+-- the text of entries in this form
+abbrev pub IsTextOf : Form → List Entry → Text → Type 0
+IsTextOf form.Json es text = text ≡ array_text es
+IsTextOf (form.Text width) es text = HasLines (map cells_of es) text
+
+-- The text is that of entries of the octets b: one for each row that they have by the type T, and behind these at most one more.
+abbrev pub IsPage : Form → AsnType → List ℕ → Text → Type 0
+IsPage f T b text = (es : List Entry) × AreOfRows (rows_of T b) es × IsTextOf f es text
+
+-- the type, and the octets of `--hex`, else those of the input: no more than the limit
+abbrev pub octets_at : Option Text → ℕ → Option (List ℕ) → AsnType → Expected (AsnType × List ℕ)
+octets_at hex limit told T = hex_octets hex >>= λ spelt. limited_octets limit spelt told >>= λ b. value (T, b)
+
+-- the same for the type that the texts name
+abbrev pub octets_for : Texts → Option Text → ℕ → Option (List ℕ) → Expected (AsnType × List ℕ)
+octets_for texts hex limit told = expected_type texts >>= octets_at hex limit told
+
+-- the same for what the options ask for
+abbrev pub octets_as : Options → Option (List ℕ) → Expected (AsnType × List ℕ)
+octets_as o told = octets_for (texts_asked o) (behind o.hex) o.limit told
+
+-- Where there are a type and octets, there is their page; else there is none, or memory ran out or a device failed.
+abbrev pub Displays : Form → Expected (AsnType × List ℕ) → Result Page Fault → Type 0
+Displays f unknown result = ⊤
+Displays f (value p) (Ok page) = IsPage f p.0 p.1 (string_bytes page.text)
+Displays f (value p) (Err fault) = status_of fault ≤ 2 → ⊥
+Displays f (refusal r) (Ok page) = ⊥
+Displays f (refusal r) (Err fault) = ⊤

@@ -1,5 +1,5 @@
 -- What the words of the command line ask for.
-use Rattle.std.specs.Prelude.{◌≡◌, ◌≢◌, List, Option, None, Some, true, codes}
+use Rattle.std.specs.Prelude.{◌≡◌, ◌≢◌, ◌<◌, ◌≤◌, ◌^◌, ◌⊎◌, ℕ, List, Bool, Option, None, Some, false, true, codes}
 use Rattle.clap.specs.Words.{App, Rule, Text, first_of, matches_of, new_app, new_rule, one_of, with_rule}
 use Rattle.clap.specs.Simple.{on_top}
 use Rattle.clap.specs.declared.builder.action.ArgAction.TheVariants.{SetTrue}
@@ -55,3 +55,10 @@ texts_asked o = record { one = behind o.type_text; types = behind o.types; name 
 -- those that the words give
 abbrev pub texts_given : List Text → Texts
 texts_given words = record { one = given words (codes "type"); types = given words (codes "types"); name = given words (codes "name") }
+
+-- How many characters a line may have if the words don't say, where the variable COLUMNS has this text: the number that it writes, if
+-- standard output is a terminal and the number is below 2^64; else 100.
+abbrev pub IsUsualWidth : Bool → Option Text → ℕ → Type 0
+IsUsualWidth false columns width = width ≡ 100
+IsUsualWidth true None width = width ≡ 100
+IsUsualWidth true (Some text) width = (NumberOf text width × (width < 2 ^ 64)) ⊎ ((width ≡ 100) × ((n : ℕ) → NumberOf text n → 2 ^ 64 ≤ n))

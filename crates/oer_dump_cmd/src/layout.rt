@@ -1,4 +1,7 @@
 //! Entries as text: a line for each, in columns.
+ghost use Rattle.std.specs.Prelude.{◌≡◌, ◌≤◌, ◌++◌, ℕ, IfOk, OnOk, map, string_bytes};
+ghost use Rattle.clap.specs.Words.{Text};
+ghost use Rattle.oer_dump_cmd.specs.Layout.{HasLines, IsLine, cells_in, cells_of, spaces};
 
 use crate::line::{Line, line_of};
 use oer_entries::Entry;
@@ -78,7 +81,9 @@ impl Widths {
 }
 
 // Appends so many spaces.
-fn push_spaces(text: &mut String, count: usize) -> Result<(), AllocError> {
+fn push_spaces(text: &mut String, count: usize) -> Result<(), AllocError>
+    ensures { OnOk result (string_bytes text.new ≡ string_bytes text.old ++ spaces count) }
+{
     for _ in 0..count {
         text.push(' ')?;
     }
@@ -86,14 +91,18 @@ fn push_spaces(text: &mut String, count: usize) -> Result<(), AllocError> {
 }
 
 // Appends a cell at the right of its column, and a gap.
-fn push_right(text: &mut String, cell: &str, width: usize) -> Result<(), AllocError> {
+fn push_right(text: &mut String, cell: &str, width: usize) -> Result<(), AllocError>
+    ensures { OnOk result ((n : ℕ) × (string_bytes text.new ≡ string_bytes text.old ++ (spaces n ++ (cell.now ++ spaces 2)))) }
+{
     push_spaces(text, width.saturating_sub(cell.len()))?;
     text.push_str(cell)?;
     push_spaces(text, 2)
 }
 
 // Appends a cell at the left of its column, and a gap.
-fn push_left(text: &mut String, cell: &str, width: usize) -> Result<(), AllocError> {
+fn push_left(text: &mut String, cell: &str, width: usize) -> Result<(), AllocError>
+    ensures { OnOk result ((n : ℕ) × (2 ≤ n) × (string_bytes text.new ≡ string_bytes text.old ++ (cell.now ++ spaces n))) }
+{
     text.push_str(cell)?;
     push_spaces(text, width.saturating_sub(cell.len()).saturating_add(2))
 }
@@ -131,17 +140,11 @@ fn left_out(line: &Line, shown: usize) -> usize {
     if line.is_digits { left / 2 } else { left }
 }
 
-// Appends the value, of which a longer one than so many characters is cut, and says how many octets
-// are left out.
-fn push_value(
-    alloc: Global,
-    text: &mut String,
-    line: &Line,
-    room: usize,
-) -> Result<(), AllocError> {
+// The value, of which a longer one than so many characters is cut, and says how many octets are left out.
+fn value_within(alloc: Global, line: &Line, room: usize) -> Result<String, AllocError> {
     let value = line.value.as_str();
     if value.len() <= room || count_of(value) <= room {
-        return text.push_str(value);
+        return String::from_str(alloc, value);
     }
     let mut keep = beside_mark(alloc, room, value.len())?;
     if line.is_digits && keep % 2 == 0 {
@@ -152,8 +155,7 @@ fn push_value(
         shown.push(character)?;
     }
     let left = left_out(line, shown.len());
-    text.push_str(shown.as_str())?;
-    text.push_str(format!(in alloc; "..+{left}")?.as_str())
+    format!(in alloc; "{shown}..+{left}")
 }
 
 // Appends the line.
@@ -162,7 +164,9 @@ fn push_line(
     text: &mut String,
     line: &Line,
     widths: Widths,
-) -> Result<(), AllocError> {
+) -> Result<(), AllocError>
+    ensures { OnOk result ((cells : Text) × IsLine (cells_in line.now) cells × (string_bytes text.new ≡ string_bytes text.old ++ cells)) }
+{
     push_right(text, line.offset.as_str(), widths.offset)?;
     push_right(text, line.count.as_str(), widths.count)?;
     push_left(text, line.path.as_str(), widths.path)?;
@@ -170,9 +174,41 @@ fn push_line(
     push_left(text, names.as_str(), widths.names)?;
     push_left(text, line.kind, widths.kind)?;
     let room = widths.value.saturating_sub(line.note.len()).max(LEAST);
-    push_value(alloc, text, line, room)?;
+    let value = value_within(alloc, line, room)?;
+    text.push_str(value.as_str())?;
     text.push_str(line.note.as_str())?;
     text.push('\n')
+}
+
+// The cells of each line.
+fn lines_of(alloc: Global, entries: &[Entry<'_>]) -> Result<Vec<Line>, AllocError>
+    ensures { IfOk result (λ lines. map cells_in lines.items ≡ map cells_of entries.now) }
+{
+    let mut lines = Vec::with_capacity(alloc, entries.len())?;
+    for entry in entries {
+        lines.push(line_of(alloc, entry)?)?;
+    }
+    Ok(lines)
+}
+
+// How wide the columns are, where a line has so many characters at most; 0 is no bound.
+fn widths_of(lines: &[Line], width: u64) -> Widths {
+    let widths = Widths::of(lines);
+    if width == 0 {
+        return widths;
+    }
+    widths.within(width as usize)
+}
+
+// The text of the lines.
+fn laid_out(alloc: Global, lines: &[Line], widths: Widths) -> Result<String, AllocError>
+    ensures { IfOk result (λ text. HasLines (map cells_in lines.now) (string_bytes text)) }
+{
+    let mut text = String::new(alloc);
+    for line in lines {
+        push_line(alloc, &mut text, line, widths)?;
+    }
+    Ok(text)
 }
 
 /// The lines of the entries. A line has so many characters at most, if that leaves room for its names
@@ -181,18 +217,10 @@ pub(crate) fn text_of(
     alloc: Global,
     entries: &[Entry<'_>],
     width: u64,
-) -> Result<String, AllocError> {
-    let mut lines = Vec::with_capacity(alloc, entries.len())?;
-    for entry in entries {
-        lines.push(line_of(alloc, entry)?)?;
-    }
-    let mut widths = Widths::of(lines.as_slice());
-    if width > 0 {
-        widths = widths.within(width as usize);
-    }
-    let mut text = String::new(alloc);
-    for line in &lines {
-        push_line(alloc, &mut text, line, widths)?;
-    }
-    Ok(text)
+) -> Result<String, AllocError>
+    ensures { IfOk result (λ text. HasLines (map cells_of entries.now) (string_bytes text)) }
+{
+    let lines = lines_of(alloc, entries)?;
+    let widths = widths_of(lines.as_slice(), width);
+    laid_out(alloc, lines.as_slice(), widths)
 }

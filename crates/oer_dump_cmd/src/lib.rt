@@ -9,5 +9,7 @@ mod line;
 mod options;
 mod program;
 mod tag;
+mod width;
 
 pub use program::run;
+pub use width::usual_width;

@@ -1,4 +1,6 @@
 //! The cells of an entry's line.
+ghost use Rattle.std.specs.Prelude.{◌≡◌, IfOk, string_bytes};
+ghost use Rattle.oer_dump_cmd.specs.Layout.{cells_in, cells_of, or_dash};
 
 use crate::tag::tag_text;
 use oer_entries::{Entry, NamedBit, What, name_text};
@@ -23,8 +25,13 @@ pub(crate) struct Line {
 }
 
 // A text; `-` stands for the empty one.
-fn or_dash(alloc: Global, text: &str) -> Result<String, AllocError> {
-    String::from_str(alloc, if text.is_empty() { "-" } else { text })
+fn or_dash(alloc: Global, text: &str) -> Result<String, AllocError>
+    ensures { IfOk result (λ cell. string_bytes cell ≡ or_dash text.now) }
+{
+    if text.is_empty() {
+        return String::from_str(alloc, "-");
+    }
+    String::from_str(alloc, text)
 }
 
 // A word, and bits by their names.
@@ -66,7 +73,7 @@ fn value_text(alloc: Global, entry: &Entry<'_>) -> Result<String, AllocError> {
             format!(in alloc; "tag {tag} {name}")
         }
         What::Length(count) => format!(in alloc; "length {count}"),
-        What::Value(json) => json.to_string(alloc),
+        What::Value(value) => value.json.to_string(alloc),
         What::Unknown | What::Follows | What::Rejected => quoted_digits(alloc, entry.octets),
     }
 }
@@ -110,13 +117,18 @@ fn note(alloc: Global, entry: &Entry<'_>) -> Result<String, AllocError> {
 }
 
 /// The cells of the line of an entry.
-pub(crate) fn line_of(alloc: Global, entry: &Entry<'_>) -> Result<Line, AllocError> {
+pub(crate) fn line_of(alloc: Global, entry: &Entry<'_>) -> Result<Line, AllocError>
+    ensures { IfOk result (λ line. cells_in line ≡ cells_of entry.now) }
+{
     let offset = entry.offset;
     let count = entry.octets.len();
+    let offset = format!(in alloc; "{offset}")?;
+    let count = format!(in alloc; "{count}")?;
+    let path = or_dash(alloc, entry.path.as_str())?;
     Ok(Line {
-        offset: format!(in alloc; "{offset}")?,
-        count: format!(in alloc; "{count}")?,
-        path: or_dash(alloc, entry.path.as_str())?,
+        offset,
+        count,
+        path,
         names: or_dash(alloc, entry.names.as_str())?,
         kind: entry.kind,
         value: value_text(alloc, entry)?,

@@ -5,12 +5,13 @@ ghost use Rattle.clap.specs.Words.{takes};
 ghost use Rattle.oer_types.specs.Schema.{the_type};
 ghost use Rattle.oer_options.specs.Words.{behind};
 ghost use Rattle.oer_cmd.specs.Answer.{checked};
+ghost use Rattle.oer_cmd.specs.Expected.{value};
 ghost use Rattle.oer_cmd.specs.Faults.{text_of};
 ghost use Rattle.oer_cmd.specs.Run.{IsEncoding};
 ghost use Rattle.oer_cmd.specs.Types.{texts_at};
 ghost use Rattle.oer_cmd.specs.declared.type_text.TypeText.TheVariants.{Named, One};
 ghost use Rattle.oer_dump_cmd.specs.Ending.{Accepts, Ends, Prints, streams};
-ghost use Rattle.oer_dump_cmd.specs.Showing.{AreOne, AreOneFor, IsReasonLine, Shows, judged_as, judged_for, judged_octets};
+ghost use Rattle.oer_dump_cmd.specs.Showing.{AreOne, AreOneFor, Displays, IsReasonLine, IsTextOf, Shows, judged_as, judged_for, judged_octets, octets_as, octets_at, octets_for};
 ghost use Rattle.oer_dump_cmd.specs.Words.{oer_dump, texts_asked};
 
 use crate::json::json_of;
@@ -18,7 +19,7 @@ use crate::layout::text_of;
 use crate::options::{Form, Options, parsed};
 use oer_cmd::type_text::{TypeText, definitions, named_type, one_type, type_text};
 use oer_cmd::{Fault, all_octets, judged, put_all, refused, report, spelt};
-use oer_entries::{Entries, Entry, Place, entries_of};
+use oer_entries::{Entry, Place, entries_of};
 use oer_types::Schema;
 use std::alloc::{AllocError, Global};
 use std::io::{Read, Write};
@@ -63,7 +64,9 @@ fn reason_line(alloc: Global, fault: Fault<'_>, place: Option<Place>) -> Result<
 }
 
 // The entries as lines, or as an array.
-fn entries_text(alloc: Global, entries: Vec<Entry<'_>>, form: Form) -> Result<String, AllocError> {
+fn entries_text(alloc: Global, entries: Vec<Entry<'_>>, form: Form) -> Result<String, AllocError>
+    ensures { IfOk result (λ text. IsTextOf form entries.entry.items (string_bytes text)) }
+{
     match form {
         Form::Text { width } => text_of(alloc, entries.as_slice(), width),
         Form::Json => json_of(alloc, entries),
@@ -79,11 +82,12 @@ fn octets_page<'a>(
 ) -> Result<Page, Fault<'a>>
     ensures shown { Shows (checked (the_type schema.now) octets.now) result }
     ensures accepted { IfOk result (λ page. page.rejection ≡ None → IsEncoding (the_type schema.now) octets.now) }
+    ensures displayed { Displays form (value (the_type schema.now, octets.now)) result }
 {
-    let Ok(Entries { entries, place }) = entries_of(alloc, schema, octets) else {
+    let Ok(found) = entries_of(alloc, schema, octets) else {
         return Err(Fault::Memory);
     };
-    let Ok(text) = entries_text(alloc, entries, form) else {
+    let Ok(text) = entries_text(alloc, found.entries, form) else {
         return Err(Fault::Memory);
     };
     let fault = match judged(schema, octets) {
@@ -96,7 +100,7 @@ fn octets_page<'a>(
     if fault.status() != 1 {
         return Err(fault);
     }
-    let Ok(line) = reason_line(alloc, fault, place) else {
+    let Ok(line) = reason_line(alloc, fault, found.place) else {
         return Err(Fault::Memory);
     };
     Ok(Page {
@@ -115,6 +119,8 @@ fn page_of<'a, R: Read>(
     ensures shown { Shows (judged_octets (behind options.entry.hex) options.entry.limit (R.remaining input.old) (the_type schema.now)) result }
     ensures accepted { IfOk result (λ page. page.rejection ≡ None
         → AreOne (the_type schema.now) (behind options.entry.hex) options.entry.limit (R.remaining input.old)) }
+    ensures displayed { Displays options.entry.form
+        (octets_at (behind options.entry.hex) options.entry.limit (R.remaining input.old) (the_type schema.now)) result }
     ensures untouched { behind options.entry.hex ≢ None → input.new ≡ input.old }
 {
     let spelt = spelt(alloc, options.hex)?;
@@ -132,6 +138,8 @@ fn page_of_one<'a, R: Read>(
     ensures shown { Shows (judged_for (texts_at (One text.entry)) (behind options.entry.hex) options.entry.limit (R.remaining input.old)) result }
     ensures accepted { IfOk result (λ page. page.rejection ≡ None
         → AreOneFor (texts_at (One text.entry)) (behind options.entry.hex) options.entry.limit (R.remaining input.old)) }
+    ensures displayed { Displays options.entry.form
+        (octets_for (texts_at (One text.entry)) (behind options.entry.hex) options.entry.limit (R.remaining input.old)) result }
     ensures untouched { behind options.entry.hex ≢ None → input.new ≡ input.old }
 {
     let schema = one_type(alloc, text)?;
@@ -149,6 +157,8 @@ fn page_of_named<'a, R: Read>(
     ensures shown { Shows (judged_for (texts_at (Named types.entry name.entry)) (behind options.entry.hex) options.entry.limit (R.remaining input.old)) result }
     ensures accepted { IfOk result (λ page. page.rejection ≡ None
         → AreOneFor (texts_at (Named types.entry name.entry)) (behind options.entry.hex) options.entry.limit (R.remaining input.old)) }
+    ensures displayed { Displays options.entry.form
+        (octets_for (texts_at (Named types.entry name.entry)) (behind options.entry.hex) options.entry.limit (R.remaining input.old)) result }
     ensures untouched { behind options.entry.hex ≢ None → input.new ≡ input.old }
 {
     let types = definitions(alloc, types)?;
@@ -165,6 +175,7 @@ fn page_for<'a, R: Read>(
     ensures shown { Shows (judged_as options.entry (R.remaining input.old)) result }
     ensures accepted { IfOk result (λ page. page.rejection ≡ None
         → AreOneFor (texts_asked options.entry) (behind options.entry.hex) options.entry.limit (R.remaining input.old)) }
+    ensures displayed { Displays options.entry.form (octets_as options.entry (R.remaining input.old)) result }
     ensures untouched { behind options.entry.hex ≢ None → input.new ≡ input.old }
 {
     match type_text(options.of_check())? {
@@ -208,8 +219,9 @@ pub fn run<R: Read, W: Write, E: Write>(
     ensures accepts { takes oer_dump (map string_bytes words.now) ≡ true → result ≡ 0
         → Accepts (map string_bytes words.now) (R.remaining input.old) }
     // The status, and the reason on the errors, are those that plain functions of the words and the octets
-    // say, the same as of `oer check`, unless memory ran out or a device failed. Input that isn't needed is
-    // untouched.
+    // say, the same as of `oer check`, unless memory ran out or a device failed. The output has the text of
+    // the entries of the octets, and nothing where there are no octets or no type. Input that isn't needed
+    // is untouched.
     ensures exact { Ends (map string_bytes words.now) (R.remaining input.old) (input.new ≡ input.old) result
         (streams (W.contents output.old) (W.contents output.new) (E.contents errors.old) (E.contents errors.new)) }
 {

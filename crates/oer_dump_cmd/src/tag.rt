@@ -1,10 +1,14 @@
 //! Tags in the notation.
+ghost use Rattle.std.specs.Prelude.{◌≡◌, IfOk, string_bytes};
+ghost use Rattle.oer_dump_cmd.specs.Array.{tag_text};
 
 use oer_units::{Class, Tag};
 use std::alloc::{AllocError, Global};
 
 /// A tag in the notation.
-pub(crate) fn tag_text(alloc: Global, tag: Tag) -> Result<String, AllocError> {
+pub(crate) fn tag_text(alloc: Global, tag: Tag) -> Result<String, AllocError>
+    ensures { IfOk result (λ text. string_bytes text ≡ tag_text tag) }
+{
     let number = tag.number;
     match tag.class {
         Class::Universal => format!(in alloc; "[UNIVERSAL {number}]"),

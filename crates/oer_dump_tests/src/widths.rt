@@ -1,5 +1,6 @@
 //! Lines that are cut.
 use crate::shared::{expect, ran_within};
+use oer_dump_cmd::usual_width;
 use std::alloc::Global;
 use std::str;
 use std::test::Fail;
@@ -35,6 +36,32 @@ const CUT: &[(&str, &str)] = &[
     ),
 ];
 
+/// Whether standard output is a terminal; the variable COLUMNS; how many characters a line may have.
+const USUAL: &[(bool, Option<&str>, u64)] = &[
+    (true, Some("40"), 40),
+    (true, Some("+40"), 40),
+    (true, Some("0"), 0),
+    (true, Some("18446744073709551615"), u64::MAX),
+    (true, Some("18446744073709551616"), 100),
+    (true, Some("wide"), 100),
+    (true, Some(""), 100),
+    (true, Some("-1"), 100),
+    (true, None, 100),
+    (false, Some("40"), 100),
+    (false, None, 100),
+];
+
+#[test]
+fn terminal_widths() -> Result<(), Fail> {
+    for (is_terminal, columns, width) in USUAL {
+        let came = usual_width(*is_terminal, *columns);
+        if came != *width {
+            return Err(Fail::new(format_args!("{columns:?}: {came}")));
+        }
+    }
+    Ok(())
+}
+
 // That lines are cut at this width.
 fn is_cut(alloc: Global, width: &str, lines: &str) -> Result<(), Fail> {
     expect(alloc, &[width, NAMED, NAMED_DIGITS], (0, lines, ""))
@@ -49,7 +76,7 @@ fn widths(rt: HostRuntime) -> Result<(), Fail> {
 }
 
 #[test]
-fn usual_width(rt: HostRuntime) -> Result<(), Fail> {
+fn without_width(rt: HostRuntime) -> Result<(), Fail> {
     let (_, lines) = CUT.get(1).ok_or("a width")?;
     expect(rt.alloc(), &[NAMED, NAMED_DIGITS], (0, lines, ""))
 }

@@ -9,13 +9,13 @@ use crate::bits::{Bitmap, preamble_bits};
 use crate::entry::{Entry, What};
 use crate::frame::Frame;
 use crate::leaf::{is_default, leaf_of};
+use crate::plain::PlainJson;
 use crate::text::{kind_of, names_text, path_text};
 use crate::trail::{go_on, go_to, last_of};
 use crate::units::{length_in, other_length, other_quantity, quantity_in, tag_in};
 use oer_reader::{Role, Row, Step, rows};
 use oer_types::{Schema, Shape};
 use oer_units::ReadFault;
-use serde_json::Value as Json;
 use std::alloc::{AllocError, Global};
 
 /// What a row says, beside where it stands.
@@ -116,7 +116,7 @@ fn contents<'a>(
     octets: &'a [u8],
 ) -> Result<Meaning<'a>, AllocError> {
     let Some(shape) = frame.shape else {
-        return Ok(Meaning::plain(What::Value(Json::Null)));
+        return Ok(Meaning::plain(What::Value(PlainJson::null())));
     };
     let leaf = leaf_of(alloc, shape, octets)?;
     Ok(Meaning {

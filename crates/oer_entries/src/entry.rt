@@ -2,8 +2,8 @@
 
 use crate::bits::NamedBit;
 use crate::frame::Name;
+use crate::plain::PlainJson;
 use oer_units::Tag;
-use serde_json::Value as Json;
 
 /// What the octets of an entry are.
 #[derive(Drop)]
@@ -19,7 +19,7 @@ pub enum What<'a> {
     /// The length of an open type.
     Length(u64),
     /// A value without parts, as its JSON. Where it is octets, each has two digits there.
-    Value(Json),
+    Value(PlainJson),
     /// What the type doesn't know.
     Unknown,
     /// Octets after the value.

@@ -4,22 +4,31 @@ ghost use Rattle.oer_model.specs.Fits.{Fits};
 ghost use Rattle.oer_types.specs.Schema.{the_type};
 ghost use Rattle.oer_values.specs.ValueView.{value_of};
 
-use oer_json::to_json;
+use crate::plain::PlainJson;
 use oer_literals::name_of;
 use oer_reader::{RewriteFault, check, read, rewrite};
 use oer_types::{Item, Schema, Shape, Value, same_filled_at};
 use oer_units::{Metered, ReadFault, Why, Window, enumerated, enumerated_len, put_enumerated};
 use oer_writer::WriteFault;
-use serde_json::Value as Json;
 use std::alloc::{AllocError, Global};
 
 /// A value without parts.
 #[derive(Drop)]
 pub(crate) struct Leaf {
     /// Its JSON.
-    pub json: Json,
+    pub json: PlainJson,
     /// Its canonical octets, if it was spelt by other ones.
     pub canonical: Option<Vec<u8>>,
+}
+
+impl Leaf {
+    // Null, for octets that are no value.
+    fn nothing() -> Leaf {
+        Leaf {
+            json: PlainJson::null(),
+            canonical: None,
+        }
+    }
 }
 
 // Whether the error is that an allocation failed.
@@ -99,14 +108,11 @@ fn other_number(alloc: Global, number: i64, octets: &[u8]) -> Result<Option<Vec<
 // An ENUMERATED. Its type isn't copied, since it may have many items.
 fn item_leaf(alloc: Global, items: &[Item], octets: &[u8]) -> Result<Leaf, AllocError> {
     let Some(number) = number_in(octets) else {
-        return Ok(Leaf {
-            json: Json::Null,
-            canonical: None,
-        });
+        return Ok(Leaf::nothing());
     };
     let json = match name_of(items, number) {
-        Some(name) => Json::try_from_str(alloc, name)?,
-        None => Json::from(number),
+        Some(name) => PlainJson::text(alloc, name)?,
+        None => PlainJson::number(number),
     };
     let canonical = other_number(alloc, number, octets)?;
     Ok(Leaf { json, canonical })
@@ -114,19 +120,15 @@ fn item_leaf(alloc: Global, items: &[Item], octets: &[u8]) -> Result<Leaf, Alloc
 
 // A value of another type without parts.
 fn plain_leaf(alloc: Global, shape: &Shape, octets: &[u8]) -> Result<Leaf, AllocError> {
-    let mut leaf = Leaf {
-        json: Json::Null,
-        canonical: None,
-    };
     let Some(schema) = schema_of(alloc, shape)? else {
-        return Ok(leaf);
+        return Ok(Leaf::nothing());
     };
     let Some(value) = value_in(alloc, &schema, octets)? else {
-        return Ok(leaf);
+        return Ok(Leaf::nothing());
     };
-    leaf.json = to_json(alloc, &schema, &value)?;
-    leaf.canonical = other_octets(alloc, &schema, octets)?;
-    Ok(leaf)
+    let json = PlainJson::of(alloc, &schema, &value)?;
+    let canonical = other_octets(alloc, &schema, octets)?;
+    Ok(Leaf { json, canonical })
 }
 
 /// The value without parts that the octets are.

@@ -1,0 +1,58 @@
+-- Lines, as they are laid out.
+use Rattle.std.proofs.Common.{◌≡◌, ◌∙◌, ℕ, ◌+◌, ◌<◌, ◌≤◌, List, [], ◌∷◌, ◌++◌, length, get_or, map, take, refl, sym, ap, append-nil, append_assoc}
+use Rattle.std.specs.Prelude.{Result, Ok, Err, OnOk, if◌then◌else◌}
+use Rattle.std.specs.Result.{is_ok}
+use Rattle.std.proofs.lemmas.List.{map-append, map_more}
+use Rattle.clap.specs.Words.{Text}
+use Rattle.oer_entries.specs.declared.entry.Entry.{Entry}
+use Rattle.oer_dump_cmd.specs.Layout.{HasLines, Cells, IsLine, cells_in, cells_of, spaces}
+use Rattle.oer_dump_cmd.specs.declared.line.Line.{Line}
+
+-- the cells so far, with those of one more
+pub cells_more : (es : List Entry) (i : ℕ) (e : Entry) (old new : List Line) (l : Line) → i < length es → e ≡ get_or es i e → map cells_in old ≡ map cells_of (take i es)
+    → new ≡ old ++ l ∷ [] → cells_in l ≡ cells_of e → map cells_in new ≡ map cells_of (take (i + 1) es)
+cells_more es i e old new l lt is so one own =
+    ap (map cells_in) one ∙ map-append cells_in old (l ∷ []) ∙ ap (λ (x : List Cells). x ++ cells_in l ∷ []) so ∙ ap (λ x. map cells_of (take i es) ++ x ∷ []) (own ∙ ap cells_of is)
+    ∙ sym (map_more cells_of es i e lt)
+
+flat_cell : (t a c s : Text) → ((t ++ a) ++ c) ++ s ≡ t ++ (a ++ (c ++ s))
+flat_cell t a c s = simp append_assoc
+
+flat_line : (t0 a o s b n p c m d k f v w e : Text)
+    → (((((((t0 ++ (a ++ (o ++ s))) ++ (b ++ (n ++ s))) ++ (p ++ c)) ++ (m ++ d)) ++ (k ++ f)) ++ v) ++ w) ++ e
+    ≡ t0 ++ (a ++ (o ++ (s ++ (b ++ (n ++ (s ++ (p ++ (c ++ (m ++ (d ++ (k ++ (f ++ ((v ++ w) ++ e)))))))))))))
+flat_line t0 a o s b n p c m d k f v w e = simp append_assoc
+
+pub line_made : (cs : Cells) (t0 t1 t2 t3 t4 t5 t6 t7 t8 names value note : Text)
+    → (n : ℕ) × (t1 ≡ t0 ++ (spaces n ++ (cs.offset ++ spaces 2))) → (n : ℕ) × (t2 ≡ t1 ++ (spaces n ++ (cs.count ++ spaces 2)))
+    → (n : ℕ) × (2 ≤ n) × (t3 ≡ t2 ++ (cs.path ++ spaces n)) → (n : ℕ) × (2 ≤ n) × (t4 ≡ t3 ++ (names ++ spaces n)) → (n : ℕ) × (2 ≤ n) × (t5 ≡ t4 ++ (cs.kind ++ spaces n))
+    → t6 ≡ t5 ++ value → t7 ≡ t6 ++ note → t8 ≡ t7 ++ 10 ∷ [] → (line : Text) × IsLine cs line × (t8 ≡ t0 ++ line)
+line_made cs t0 t1 t2 t3 t4 t5 t6 t7 t8 names value note (a, e1) (b, e2) (c, l3, e3) (d, l4, e4) (f, l5, e5) e6 e7 e8 = (
+  spaces a ++ (cs.offset ++ (spaces 2 ++ (spaces b ++ (cs.count ++ (spaces 2 ++ (cs.path ++ (spaces c ++ (names ++ (spaces d ++ (cs.kind ++ (spaces f ++ ((value ++ note) ++ 10 ∷ [])))))))))))),
+  record { names = names; value = value ++ note; before_offset = a; before_count = b; after_path = c; after_names = d; after_kind = f; is = refl; apart = (l3, l4, l5) },
+  rw (e8, e7, e6, e5, e4, e3, e2, e1) (flat_line t0 (spaces a) cs.offset (spaces 2) (spaces b) cs.count cs.path (spaces c) names (spaces d) cs.kind (spaces f) value note (10 ∷ [])),
+)
+
+pub line_more : (cs : List Cells) (text line new : Text) (c : Cells) → HasLines cs text → IsLine c line → new ≡ text ++ line → HasLines (cs ++ c ∷ []) new
+line_more [] text line new c none is e = (line, [], e ∙ ap (λ x. x ++ line) none ∙ sym (append-nil line), is, refl)
+line_more (d ∷ cs) text line new c (first, rest, e0, own, more) is e =
+    (first, rest ++ line, e ∙ ap (λ x. x ++ line) e0 ∙ append_assoc first rest line, own, line_more cs rest line (rest ++ line) c more is refl)
+
+-- a cell at the right of its column
+pub at_right : (t0 t1 t2 t3 cell : Text) (n : ℕ) → t1 ≡ t0 ++ spaces n → t2 ≡ t1 ++ cell → t3 ≡ t2 ++ spaces 2 → (m : ℕ) × (t3 ≡ t0 ++ (spaces m ++ (cell ++ spaces 2)))
+at_right t0 t1 t2 t3 cell n one two three = (n, three ∙ ap (λ x. x ++ spaces 2) (two ∙ ap (λ x. x ++ cell) one) ∙ flat_cell t0 (spaces n) cell (spaces 2))
+
+-- and at the left
+pub at_left : (t0 t1 t2 cell : Text) (n : ℕ) → 2 ≤ n → t1 ≡ t0 ++ cell → t2 ≡ t1 ++ spaces n → (m : ℕ) × (2 ≤ m) × (t2 ≡ t0 ++ (cell ++ spaces m))
+at_left t0 t1 t2 cell n most one two = (n, most, two ∙ ap (λ x. x ++ spaces n) one ∙ append_assoc t0 cell (spaces n))
+
+-- the same text in a cell
+pub same_right : (t t0 a b : Text) → a ≡ b → (n : ℕ) × (t ≡ t0 ++ (spaces n ++ (a ++ spaces 2))) → (n : ℕ) × (t ≡ t0 ++ (spaces n ++ (b ++ spaces 2)))
+same_right t t0 a b e (n, is) = (n, is ∙ ap (λ x. t0 ++ (spaces n ++ (x ++ spaces 2))) e)
+
+pub same_left : (t t0 a b : Text) → a ≡ b → (n : ℕ) × (2 ≤ n) × (t ≡ t0 ++ (a ++ spaces n)) → (n : ℕ) × (2 ≤ n) × (t ≡ t0 ++ (b ++ spaces n))
+same_left t t0 a b e (n, most, is) = (n, most, is ∙ ap (λ x. t0 ++ (x ++ spaces n)) e)
+
+pub pushed : {T E : Type 0} (r : Result T E) (new x old : Text) (P : Type 0) → new ≡ (if is_ok r then x else old) → (new ≡ x → P) → OnOk r P
+pushed (Ok y) new x old P is so = so is
+pushed (Err e) new x old P is so = tt
