@@ -7,11 +7,14 @@ use std::env::{self, Env};
 use std::io::{BufReader, ErrorKind, IsTerminal};
 use std::process::ExitCode;
 
-// How many characters a line may have if the arguments don't say.
+// How many characters a line may have if the arguments don't say. COLUMNS is asked for a terminal alone.
 fn width_of<R: Env + Alloc>(rt: &R, is_terminal: bool) -> u64 {
+    if !is_terminal {
+        return usual_width(false, None);
+    }
     match env::var(rt, "COLUMNS") {
-        Ok(text) => usual_width(is_terminal, Some(text.as_str())),
-        Err(_) => usual_width(is_terminal, None),
+        Ok(text) => usual_width(true, Some(text.as_str())),
+        Err(_) => usual_width(true, None),
     }
 }
 
