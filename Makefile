@@ -36,7 +36,7 @@ test_lib: lib/liboer.a
 	@tools/test_bindings lib
 
 bench:
-	@bench/run
+	@bench/report
 
 install: bin/oer lib/liboer.a
 	@rm -rf out/layout
