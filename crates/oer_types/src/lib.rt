@@ -9,6 +9,7 @@ mod depth;
 mod name;
 mod rule;
 mod schema;
+mod seen;
 
 pub use calls::{filled, fits, same_filled};
 pub use counting::parts_left;

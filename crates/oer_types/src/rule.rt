@@ -1,10 +1,12 @@
 //! Faults that a type has of itself or in a type in it.
-ghost use Rattle.std.specs.Prelude.{◌≡◌, ◌==◌, ◌||◌, map};
+ghost use Rattle.std.specs.Prelude.{◌≡◌, ◌==◌, ◌||◌, false, map, true};
 ghost use Rattle.oer_model.specs.AsnType.{no_alternatives};
 ghost use Rattle.oer_model.specs.Constraints.{fixed, is_zero as spec_is_zero, may_all_be_empty as spec_may_all_be_empty, may_be_empty as spec_may_be_empty, optional};
 ghost use Rattle.oer_model.specs.FaultTest.{any_bad_name, any_misfit as spec_any_misfit, has_crossed_bounds as spec_has_crossed_bounds, has_crossed_size as spec_has_crossed_size, has_empty_element as spec_has_empty_element, has_fault_here as spec_has_fault_here, has_misfit as spec_has_misfit, has_no_items as spec_has_no_items, has_repeated_number as spec_has_repeated_number, has_repeated_tag as spec_has_repeated_tag, in_additions, in_alternatives, in_fields, is_crossed as spec_is_crossed, names_repeat, numbers_repeat as spec_numbers_repeat, somewhere, tags_repeat as spec_tags_repeat};
 ghost use Rattle.oer_values.specs.ShapeView.{additions_of, choice_with, fields_of, later_of, named_number, root_of, sequence_with, type_of};
 ghost use Rattle.oer_model.specs.WellFormed.{names};
+ghost use Rattle.oer_types.specs.Ascending.{ascend, next_tag as spec_next_tag};
+ghost use Rattle.oer_types.specs.AnyFault.{any_fault_here, sought};
 
 use crate::name;
 use oer_model::{SchemaFault, Size};
@@ -111,7 +113,35 @@ fn has_no_items(shape: &Shape) -> bool
     }
 }
 
+/// Whether each number is greater than the one before.
+fn numbers_ascend(items: &[Item]) -> bool
+    ensures { result ≡ ascend (map named_number items.now) }
+{
+    let Some((first, more)) = items.split_first() else {
+        return true;
+    };
+    let mut last = first.number;
+    for item in more {
+        if item.number <= last {
+            return false;
+        }
+        last = item.number;
+    }
+    true
+}
+
+/// Whether a number stands twice, which it doesn't where the numbers ascend.
+#[tactic(auto, using(crate::proofs::Ascending::apart))]
 fn numbers_repeat(items: &[Item]) -> bool
+    ensures { result ≡ spec_numbers_repeat (map named_number items.now) }
+{
+    if numbers_ascend(items) {
+        return false;
+    }
+    any_number_repeats(items)
+}
+
+fn any_number_repeats(items: &[Item]) -> bool
     ensures { result ≡ spec_numbers_repeat (map named_number items.now) }
 {
     let mut rest = items;
@@ -134,9 +164,47 @@ fn has_repeated_number(shape: &Shape) -> bool
     }
 }
 
-/// Whether one tag stands twice among the alternatives, or in both lists.
-#[tactic(auto, using(oer_values::proofs::FitSteps::tag_in_root))]
+/// Where the numbers of the tags ascend from this one on, the number after the last of them.
+fn next_tag(alts: &[Alt], first: u64) -> Option<u64>
+    ensures { result ≡ spec_next_tag first alts.now }
+{
+    let mut next = first;
+    for alt in alts {
+        let number = u64::from(alt.tag.number);
+        if number < next {
+            return None;
+        }
+        next = number + 1;
+    }
+    Some(next)
+}
+
+/// Whether the numbers of all tags ascend.
+#[tactic(auto, using(crate::proofs::Ascending::tags_apart))]
+fn tags_ascend(alts: &[Alt], later: &[Alt]) -> bool
+    ensures { result ≡ true → spec_tags_repeat (root_of alts.now (later_of later.now)) ≡ false }
+{
+    match next_tag(alts, 0) {
+        Some(next) => match next_tag(later, next) {
+            Some(_) => true,
+            None => false,
+        },
+        None => false,
+    }
+}
+
+/// Whether one tag stands twice among the alternatives, or in both lists; it doesn't where the numbers ascend.
 fn tags_repeat(alts: &[Alt], later: &[Alt]) -> bool
+    ensures { result ≡ spec_tags_repeat (root_of alts.now (later_of later.now)) }
+{
+    if tags_ascend(alts, later) {
+        return false;
+    }
+    any_tag_repeats(alts, later)
+}
+
+#[tactic(auto, using(oer_values::proofs::FitSteps::tag_in_root))]
+fn any_tag_repeats(alts: &[Alt], later: &[Alt]) -> bool
     ensures { result ≡ spec_tags_repeat (root_of alts.now (later_of later.now)) }
 {
     let mut rest = alts;
@@ -259,8 +327,39 @@ fn has_empty_element(shape: &Shape) -> bool
     }
 }
 
+/// Whether the type itself has any of the faults after the first two, whatever the types in it have. A type of
+/// one kind can't have the faults of another.
+#[tactic(auto, using(crate::proofs::AnyFault::here))]
+fn has_any_fault_here(shape: &Shape) -> bool
+    ensures { result ≡ any_fault_here (type_of shape.now) }
+{
+    match shape {
+        Shape::Boolean => false,
+        Shape::Null => false,
+        Shape::ObjectId => false,
+        Shape::Integer { .. } => has_crossed_bounds(shape),
+        Shape::Enumerated { .. } => {
+            has_bad_name(shape)
+                || has_repeated_name(shape)
+                || has_no_items(shape)
+                || has_repeated_number(shape)
+        }
+        Shape::Sequence { .. } => {
+            has_bad_name(shape) || has_repeated_name(shape) || has_misfit(shape)
+        }
+        Shape::SequenceOf { .. } => has_crossed_size(shape) || has_empty_element(shape),
+        Shape::Choice { .. } => {
+            has_bad_name(shape)
+                || has_repeated_name(shape)
+                || has_no_items(shape)
+                || has_repeated_tag(shape)
+        }
+        _ => has_crossed_size(shape),
+    }
+}
+
 /// Whether the type itself has the fault, whatever the types in it have.
-fn has_fault_here(fault: SchemaFault, shape: &Shape) -> bool
+fn has_one_fault_here(fault: SchemaFault, shape: &Shape) -> bool
     ensures { result ≡ spec_has_fault_here fault (type_of shape.now) }
 {
     match fault {
@@ -278,11 +377,21 @@ fn has_fault_here(fault: SchemaFault, shape: &Shape) -> bool
     }
 }
 
-/// Whether the type or a type in it has the fault.
+/// Whether the type itself has the fault, or any after the first two where none is given.
+fn has_fault_here(fault: Option<SchemaFault>, shape: &Shape) -> bool
+    ensures { result ≡ sought fault (type_of shape.now) }
+{
+    match fault {
+        Some(fault) => has_one_fault_here(fault, shape),
+        None => has_any_fault_here(shape),
+    }
+}
+
+/// Whether the type or a type in it has the fault, or any after the first two where none is given.
 #[cycle(somewhere)]
 #[tactic(auto, using(oer_values::proofs::Shapes::shapes))]
-pub(crate) fn is_somewhere(fault: SchemaFault, shape: &Shape) -> bool
-    ensures { result ≡ somewhere (spec_has_fault_here fault) (type_of shape.now) }
+pub(crate) fn is_somewhere(fault: Option<SchemaFault>, shape: &Shape) -> bool
+    ensures { result ≡ somewhere (sought fault) (type_of shape.now) }
 {
     if has_fault_here(fault, shape) {
         return true;
@@ -312,8 +421,8 @@ pub(crate) fn is_somewhere(fault: SchemaFault, shape: &Shape) -> bool
 }
 
 #[cycle(somewhere)]
-fn is_in_fields(fault: SchemaFault, fields: &[Field]) -> bool
-    ensures { result ≡ in_fields (spec_has_fault_here fault) (fields_of fields.now) }
+fn is_in_fields(fault: Option<SchemaFault>, fields: &[Field]) -> bool
+    ensures { result ≡ in_fields (sought fault) (fields_of fields.now) }
 {
     for field in fields {
         if is_somewhere(fault, &field.shape) {
@@ -324,8 +433,8 @@ fn is_in_fields(fault: SchemaFault, fields: &[Field]) -> bool
 }
 
 #[cycle(somewhere)]
-fn is_in_additions(fault: SchemaFault, additions: &[Addition]) -> bool
-    ensures { result ≡ in_additions (spec_has_fault_here fault) (additions_of additions.now) }
+fn is_in_additions(fault: Option<SchemaFault>, additions: &[Addition]) -> bool
+    ensures { result ≡ in_additions (sought fault) (additions_of additions.now) }
 {
     for addition in additions {
         if is_somewhere(fault, &addition.shape) {
@@ -336,8 +445,8 @@ fn is_in_additions(fault: SchemaFault, additions: &[Addition]) -> bool
 }
 
 #[cycle(somewhere)]
-fn is_in_alternatives(fault: SchemaFault, alts: &[Alt]) -> bool
-    ensures { result ≡ in_alternatives (spec_has_fault_here fault) (root_of alts.now no_alternatives) }
+fn is_in_alternatives(fault: Option<SchemaFault>, alts: &[Alt]) -> bool
+    ensures { result ≡ in_alternatives (sought fault) (root_of alts.now no_alternatives) }
 {
     for alt in alts {
         if is_somewhere(fault, &alt.shape) {

@@ -94,35 +94,45 @@ fn first_fault(shape: &Shape) -> Option<SchemaFault>
     later_fault(shape)
 }
 
-/// The fault of least number after the first two.
+/// The fault of least number after the first two. Most types have none, which one walk finds.
+#[tactic(auto, using(crate::proofs::AnyFault::none_later))]
 fn later_fault(shape: &Shape) -> Option<SchemaFault>
     ensures { result ≡ first_in (type_of shape.now) later_faults }
 {
-    if is_somewhere(SchemaFault::BoundOrder, shape) {
+    if !is_somewhere(None, shape) {
+        return None;
+    }
+    first_later_fault(shape)
+}
+
+fn first_later_fault(shape: &Shape) -> Option<SchemaFault>
+    ensures { result ≡ first_in (type_of shape.now) later_faults }
+{
+    if is_somewhere(Some(SchemaFault::BoundOrder), shape) {
         return Some(SchemaFault::BoundOrder);
     }
-    if is_somewhere(SchemaFault::SizeOrder, shape) {
+    if is_somewhere(Some(SchemaFault::SizeOrder), shape) {
         return Some(SchemaFault::SizeOrder);
     }
-    if is_somewhere(SchemaFault::BadName, shape) {
+    if is_somewhere(Some(SchemaFault::BadName), shape) {
         return Some(SchemaFault::BadName);
     }
-    if is_somewhere(SchemaFault::RepeatedName, shape) {
+    if is_somewhere(Some(SchemaFault::RepeatedName), shape) {
         return Some(SchemaFault::RepeatedName);
     }
-    if is_somewhere(SchemaFault::NoItems, shape) {
+    if is_somewhere(Some(SchemaFault::NoItems), shape) {
         return Some(SchemaFault::NoItems);
     }
-    if is_somewhere(SchemaFault::RepeatedNumber, shape) {
+    if is_somewhere(Some(SchemaFault::RepeatedNumber), shape) {
         return Some(SchemaFault::RepeatedNumber);
     }
-    if is_somewhere(SchemaFault::RepeatedTag, shape) {
+    if is_somewhere(Some(SchemaFault::RepeatedTag), shape) {
         return Some(SchemaFault::RepeatedTag);
     }
-    if is_somewhere(SchemaFault::DefaultMisfit, shape) {
+    if is_somewhere(Some(SchemaFault::DefaultMisfit), shape) {
         return Some(SchemaFault::DefaultMisfit);
     }
-    if is_somewhere(SchemaFault::EmptyElement, shape) {
+    if is_somewhere(Some(SchemaFault::EmptyElement), shape) {
         return Some(SchemaFault::EmptyElement);
     }
     None
