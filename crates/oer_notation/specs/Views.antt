@@ -1,8 +1,10 @@
 -- What the types of the code stand for.
-use Rattle.std.specs.Prelude.{List, map, string_bytes}
+use Rattle.std.specs.Prelude.{List, String, map, string_bytes}
+use Rattle.indexmap.specs.IndexMap.{IndexMap}
 use Rattle.oer_values.specs.ShapeView.{named_number, seen_addition, seen_alternative, seen_field}
 use Rattle.oer_notation.specs.Reading.{Known, Start, nothing, of_word, of_name, NamedItems, Components, Choices}
 use Rattle.oer_types.specs.Schema.{the_type}
+use Rattle.oer_types.specs.declared.schema.Schema.{Schema}
 use Rattle.oer_notation.specs.declared.parse.Definition.{Definition}
 use Rattle.oer_notation.specs.declared.types.Types.{Types}
 use Rattle.oer_notation.specs.declared.parse.Body as raw_body
@@ -11,11 +13,18 @@ use Rattle.oer_notation.specs.declared.parse.Items as raw_items
 use Rattle.oer_notation.specs.declared.parse.Start as raw
 use Rattle.oer_notation.specs.declared.parse.Start.TheVariants.{Nothing, Word, Name}
 
-abbrev pub known : Definition → Known
-known d = record { name = string_bytes d.name; type = the_type d.schema }
+-- an entry of a map, which is a definition
+abbrev pub known : {Y : Type 0} → String Y × Schema → Known
+known e = record { name = string_bytes e.0; type = the_type e.1 }
+
+abbrev pub known_by : {Y S : Type 0} → IndexMap (String Y) Schema S → List Known
+known_by m = map known m.entries
+
+abbrev pub definition_of : Definition → Known
+definition_of d = known (d.name, d.schema)
 
 abbrev pub knowns : Types → List Known
-knowns t = map known t.definitions.items
+knowns t = known_by t.definitions
 
 abbrev pub start_of : raw.Start → Start
 start_of Nothing = nothing

@@ -1,13 +1,14 @@
 //! From tokens to a type.
-ghost use Rattle.std.specs.Prelude.{◌≡◌, [], map, option_map, OnOk, Some, false};
+ghost use Rattle.std.specs.Prelude.{◌≡◌, [], option_map, OnOk, Some, false};
 ghost use Rattle.oer_types.specs.Schema.{the_type};
 ghost use Rattle.oer_values.specs.ShapeView.{named_number, seen_addition, seen_alternative, seen_field, type_of};
 ghost use Rattle.oer_value_notation.specs.State.{IsReading, state_of};
 ghost use Rattle.oer_notation.specs.Reading.{addition_at, alternative_at, alternatives_more, body_at, choice_at, choice_of_choices, class_at, component_at, components_more, field_at, find, is_start, item_at, item_number_at, items_at, items_more, leaf_at, leaf_type_at, list_at, missing_number, missing_tag, most, named_at, no_choices, no_components, numbered_at, past_marker, sequence_at, sequence_of_components, skip_second, start_at, structure_at, tag_at, tagged_at, type_at, with_alternative, word_type};
 ghost use Rattle.oer_lexer.specs.LeafWords.{words_of};
 ghost use Rattle.oer_value_notation.specs.Leaves.{leaf_form};
-ghost use Rattle.oer_notation.specs.Views.{choices, components, known, named, start_of};
+ghost use Rattle.oer_notation.specs.Views.{choices, components, known_by, named, start_of};
 
+use indexmap::IndexMap;
 use oer_lexer::{LeafWord, Sign, Token};
 use oer_types::{
     Addition, Alt, Field, Item, Schema, SchemaFault, Shape, is_within_depth, parts_left,
@@ -25,6 +26,9 @@ pub struct Definition {
     pub name: String,
     pub schema: Schema,
 }
+
+/// Types by their Names, in the order of their definitions.
+pub type Definitions = IndexMap<String, Schema>;
 
 /// With what a type begins.
 #[derive(Clone, Copy)]
@@ -237,27 +241,22 @@ fn read_tagged(cursor: &mut Cursor<'_, '_>, tagged: bool, place: u16) -> Result<
 }
 
 /// The type that a definition gave the Name.
-pub fn find<'d>(types: &'d [Definition], name: &str) -> Option<&'d Schema>
-    ensures { option_map (λ s. the_type s.now) result ≡ find (map known types.now) name.now }
+pub fn find<'d>(types: &'d Definitions, name: &str) -> Option<&'d Schema>
+    ensures { option_map (λ s. the_type s.now) result ≡ find (known_by types.now) name.now }
 {
-    for definition in types {
-        if definition.name.as_str() == name {
-            return Some(&definition.schema);
-        }
-    }
-    None
+    types.get(name)
 }
 
 /// The type that a definition gave a Name, as if it were written out.
 #[tactic(auto, unfolding(crate::specs::Reading::named_at))]
 fn read_named(
     alloc: Global,
-    types: &[Definition],
+    types: &Definitions,
     cursor: &mut Cursor<'_, '_>,
     levels: u8,
     name: &str,
 ) -> Result<Shape, TextFault>
-    ensures { IsReading (λ s. (type_of s, state_of cursor.new)) result (named_at levels (find (map known types.now) name.now) (state_of cursor.old)) }
+    ensures { IsReading (λ s. (type_of s, state_of cursor.new)) result (named_at levels (find (known_by types.now) name.now) (state_of cursor.old)) }
 {
     let Some(schema) = find(types, name) else {
         return Err(cursor.fault(TextWhy::Name));
@@ -295,11 +294,11 @@ fn read_known(
 #[tactic(auto, unfolding(crate::specs::Reading::type_at))]
 pub fn read_type(
     alloc: Global,
-    types: &[Definition],
+    types: &Definitions,
     cursor: &mut Cursor<'_, '_>,
     levels: u8,
 ) -> Result<Shape, TextFault>
-    ensures { IsReading (λ s. (type_of s, state_of cursor.new)) result (type_at (map known types.now) levels (state_of cursor.old)) }
+    ensures { IsReading (λ s. (type_of s, state_of cursor.new)) result (type_at (known_by types.now) levels (state_of cursor.old)) }
 {
     match begin(cursor) {
         Start::Nothing => Err(cursor.fault(TextWhy::Syntax)),
@@ -321,12 +320,12 @@ pub fn read_type(
 #[tactic(auto, unfolding(crate::specs::Reading::word_type))]
 fn read_word_type(
     alloc: Global,
-    types: &[Definition],
+    types: &Definitions,
     cursor: &mut Cursor<'_, '_>,
     levels: u8,
     word: TypeWord,
 ) -> Result<Shape, TextFault>
-    ensures { IsReading (λ s. (type_of s, state_of cursor.new)) result (word_type (type_at (map known types.now) levels) word (state_of cursor.old)) }
+    ensures { IsReading (λ s. (type_of s, state_of cursor.new)) result (word_type (type_at (known_by types.now) levels) word (state_of cursor.old)) }
 {
     match word {
         TypeWord::Sequence => read_sequence(alloc, types, cursor, levels),
@@ -395,11 +394,11 @@ fn read_constraint(
 #[tactic(auto, unfolding(crate::specs::Reading::sequence_at))]
 fn read_sequence(
     alloc: Global,
-    types: &[Definition],
+    types: &Definitions,
     cursor: &mut Cursor<'_, '_>,
     levels: u8,
 ) -> Result<Shape, TextFault>
-    ensures { IsReading (λ s. (type_of s, state_of cursor.new)) result (sequence_at (type_at (map known types.now) levels) (state_of cursor.old)) }
+    ensures { IsReading (λ s. (type_of s, state_of cursor.new)) result (sequence_at (type_at (known_by types.now) levels) (state_of cursor.old)) }
 {
     if cursor.take(Sign::OpenBrace) {
         return read_structure(alloc, types, cursor, levels);
@@ -411,11 +410,11 @@ fn read_sequence(
 #[tactic(auto, unfolding(crate::specs::Reading::list_at))]
 fn read_list(
     alloc: Global,
-    types: &[Definition],
+    types: &Definitions,
     cursor: &mut Cursor<'_, '_>,
     levels: u8,
 ) -> Result<Shape, TextFault>
-    ensures { IsReading (λ s. (type_of s, state_of cursor.new)) result (list_at (type_at (map known types.now) levels) (state_of cursor.old)) }
+    ensures { IsReading (λ s. (type_of s, state_of cursor.new)) result (list_at (type_at (known_by types.now) levels) (state_of cursor.old)) }
 {
     let size = read_list_size(cursor)?;
     cursor.expect_word("OF")?;
@@ -430,11 +429,11 @@ fn read_list(
 #[tactic(auto, unfolding(crate::specs::Reading::structure_at))]
 fn read_structure(
     alloc: Global,
-    types: &[Definition],
+    types: &Definitions,
     cursor: &mut Cursor<'_, '_>,
     levels: u8,
 ) -> Result<Shape, TextFault>
-    ensures { IsReading (λ s. (type_of s, state_of cursor.new)) result (structure_at (type_at (map known types.now) levels) (state_of cursor.old)) }
+    ensures { IsReading (λ s. (type_of s, state_of cursor.new)) result (structure_at (type_at (known_by types.now) levels) (state_of cursor.old)) }
 {
     let mut body = Body {
         root: Vec::new(alloc),
@@ -465,13 +464,13 @@ fn sequence(body: Body) -> Shape
 #[tactic(auto, unfolding(crate::specs::Reading::body_at))]
 fn read_body(
     alloc: Global,
-    types: &[Definition],
+    types: &Definitions,
     cursor: &mut Cursor<'_, '_>,
     levels: u8,
     body: &mut Body,
 ) -> Result<(), TextFault>
     requires { components body.old ≡ no_components false }
-    ensures { IsReading (λ x. (components body.new, state_of cursor.new)) result (body_at (type_at (map known types.now) levels) (state_of cursor.old)) }
+    ensures { IsReading (λ x. (components body.new, state_of cursor.new)) result (body_at (type_at (known_by types.now) levels) (state_of cursor.old)) }
 {
     if cursor.is_at(Sign::CloseBrace) {
         return Ok(());
@@ -489,12 +488,12 @@ fn read_body(
 #[cycle(types)]
 fn read_components(
     alloc: Global,
-    types: &[Definition],
+    types: &Definitions,
     cursor: &mut Cursor<'_, '_>,
     levels: u8,
     body: &mut Body,
 ) -> Result<(), TextFault>
-    ensures { IsReading (λ x. (components body.new, state_of cursor.new)) result (components_more (type_at (map known types.now) levels) most (components body.old) (state_of cursor.old)) }
+    ensures { IsReading (λ x. (components body.new, state_of cursor.new)) result (components_more (type_at (known_by types.now) levels) most (components body.old) (state_of cursor.old)) }
 {
     'components: for turn in 0..u16::MAX {
         read_component(alloc, types, cursor, levels, body)?;
@@ -511,12 +510,12 @@ fn read_components(
 #[tactic(auto, unfolding(crate::specs::Reading::component_at))]
 fn read_component(
     alloc: Global,
-    types: &[Definition],
+    types: &Definitions,
     cursor: &mut Cursor<'_, '_>,
     levels: u8,
     body: &mut Body,
 ) -> Result<(), TextFault>
-    ensures { IsReading (λ x. (components body.new, state_of cursor.new)) result (component_at (type_at (map known types.now) levels) (components body.old) (state_of cursor.old)) }
+    ensures { IsReading (λ x. (components body.new, state_of cursor.new)) result (component_at (type_at (known_by types.now) levels) (components body.old) (state_of cursor.old)) }
 {
     if body.extensible {
         let addition = read_addition(alloc, types, cursor, levels)?;
@@ -532,11 +531,11 @@ fn read_component(
 #[tactic(auto, unfolding(crate::specs::Reading::field_at))]
 fn read_field(
     alloc: Global,
-    types: &[Definition],
+    types: &Definitions,
     cursor: &mut Cursor<'_, '_>,
     levels: u8,
 ) -> Result<Field, TextFault>
-    ensures { IsReading (λ f. (seen_field f, state_of cursor.new)) result (field_at (type_at (map known types.now) levels) (state_of cursor.old)) }
+    ensures { IsReading (λ f. (seen_field f, state_of cursor.new)) result (field_at (type_at (known_by types.now) levels) (state_of cursor.old)) }
 {
     let name = cursor.id()?;
     let name = String::from_str(alloc, name)?;
@@ -549,11 +548,11 @@ fn read_field(
 #[tactic(auto, unfolding(crate::specs::Reading::addition_at))]
 fn read_addition(
     alloc: Global,
-    types: &[Definition],
+    types: &Definitions,
     cursor: &mut Cursor<'_, '_>,
     levels: u8,
 ) -> Result<Addition, TextFault>
-    ensures { IsReading (λ a. (seen_addition a, state_of cursor.new)) result (addition_at (type_at (map known types.now) levels) (state_of cursor.old)) }
+    ensures { IsReading (λ a. (seen_addition a, state_of cursor.new)) result (addition_at (type_at (known_by types.now) levels) (state_of cursor.old)) }
 {
     let name = cursor.id()?;
     let name = String::from_str(alloc, name)?;
@@ -566,11 +565,11 @@ fn read_addition(
 #[tactic(auto, unfolding(crate::specs::Reading::choice_at))]
 fn read_choice(
     alloc: Global,
-    types: &[Definition],
+    types: &Definitions,
     cursor: &mut Cursor<'_, '_>,
     levels: u8,
 ) -> Result<Shape, TextFault>
-    ensures { IsReading (λ s. (type_of s, state_of cursor.new)) result (choice_at (type_at (map known types.now) levels) (state_of cursor.old)) }
+    ensures { IsReading (λ s. (type_of s, state_of cursor.new)) result (choice_at (type_at (known_by types.now) levels) (state_of cursor.old)) }
 {
     cursor.expect(Sign::OpenBrace)?;
     let tagged = cursor.is_before(Sign::OpenBracket);
@@ -597,12 +596,12 @@ fn choice(found: Alternatives) -> Shape
 #[cycle(types)]
 fn read_alternatives(
     alloc: Global,
-    types: &[Definition],
+    types: &Definitions,
     cursor: &mut Cursor<'_, '_>,
     levels: u8,
     tagged: bool,
 ) -> Result<Alternatives, TextFault>
-    ensures { IsReading (λ a. (choices a, state_of cursor.new)) result (alternatives_more (type_at (map known types.now) levels) tagged most 0 no_choices (state_of cursor.old)) }
+    ensures { IsReading (λ a. (choices a, state_of cursor.new)) result (alternatives_more (type_at (known_by types.now) levels) tagged most 0 no_choices (state_of cursor.old)) }
 {
     let mut found = Alternatives {
         root: Vec::new(alloc),
@@ -633,13 +632,13 @@ fn add_alternative(found: &mut Alternatives, alternative: Alt) -> Result<(), All
 #[tactic(auto, unfolding(crate::specs::Reading::alternative_at))]
 fn read_alternative(
     alloc: Global,
-    types: &[Definition],
+    types: &Definitions,
     cursor: &mut Cursor<'_, '_>,
     levels: u8,
     tagged: bool,
     place: u16,
 ) -> Result<Alt, TextFault>
-    ensures { IsReading (λ a. (seen_alternative a, state_of cursor.new)) result (alternative_at (type_at (map known types.now) levels) tagged place (state_of cursor.old)) }
+    ensures { IsReading (λ a. (seen_alternative a, state_of cursor.new)) result (alternative_at (type_at (known_by types.now) levels) tagged place (state_of cursor.old)) }
 {
     let name = cursor.id()?;
     let tag = read_tagged(cursor, tagged, place)?;

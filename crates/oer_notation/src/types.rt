@@ -1,5 +1,5 @@
 //! From a text to its type, or to its definitions.
-ghost use Rattle.std.specs.Prelude.{◌≡◌, [], IfErr, IfOk, MatchOption, length, map, option_map, suc};
+ghost use Rattle.std.specs.Prelude.{◌≡◌, ◌++◌, ◌∷◌, [], IfErr, IfOk, MatchOption, None, OnOk, length, option_map, string_bytes, suc};
 ghost use Rattle.oer_lexer.specs.Lexing.{lex};
 ghost use Rattle.oer_lexer.specs.Token.{spots_of};
 ghost use Rattle.oer_types.specs.Schema.{the_type};
@@ -8,20 +8,21 @@ ghost use Rattle.oer_notation.specs.Refusing.{AreNoTypes, IsNoType};
 ghost use Rattle.oer_value_notation.specs.State.{IsReading, state_of};
 ghost use Rattle.oer_notation.specs.Reading.{find};
 ghost use Rattle.oer_notation.specs.Parsing.{definition_at, end_of, entries_more, entry_at, name_at, parse, parse_all, start};
-ghost use Rattle.oer_notation.specs.Views.{known, knowns};
+ghost use Rattle.oer_notation.specs.Views.{definition_of, known_by, knowns};
 
 use crate::laws::{what_is_parsed_is_spelled, what_is_spelled_is_parsed};
-use crate::parse::{Definition, find, read_type};
+use crate::parse::{Definition, Definitions, find, read_type};
+use indexmap::IndexMap;
 use oer_lexer::{Sign, Token, Tokens, lex};
 use oer_types::laws::first_fault;
 use oer_types::{MAX_DEPTH, MAX_PARTS, Schema};
 use oer_value_notation::{Cursor, TextFault, TextWhy, is_name};
-use std::alloc::Global;
+use std::alloc::{AllocFailed, Global};
 
 /// Types by their Names.
 #[derive(Drop)]
 pub struct Types {
-    definitions: Vec<Definition>,
+    definitions: Definitions,
 }
 
 impl Types {
@@ -65,7 +66,8 @@ fn read_text(alloc: Global, text: &str) -> Result<Schema, TextFault>
 {
     let tokens = lex(alloc, text)?;
     let mut cursor = first(&tokens);
-    let schema = read_definition(alloc, &[], &mut cursor)?;
+    let none = IndexMap::new(alloc);
+    let schema = read_definition(alloc, &none, &mut cursor)?;
     expect_end(&cursor)?;
     Ok(schema)
 }
@@ -116,10 +118,10 @@ fn expect_end(cursor: &Cursor<'_, '_>) -> Result<(), TextFault>
 #[tactic(auto, unfolding(crate::specs::Parsing::definition_at))]
 fn read_definition(
     alloc: Global,
-    types: &[Definition],
+    types: &Definitions,
     cursor: &mut Cursor<'_, '_>,
 ) -> Result<Schema, TextFault>
-    ensures { IsReading (λ s. (the_type s, state_of cursor.new)) result (definition_at (map known types.now) (state_of cursor.old)) }
+    ensures { IsReading (λ s. (the_type s, state_of cursor.new)) result (definition_at (known_by types.now) (state_of cursor.old)) }
 {
     let at = cursor.fault(TextWhy::Syntax).at;
     cursor.parts = MAX_PARTS;
@@ -137,11 +139,9 @@ fn read_definition(
 
 /// A Name that isn't defined yet.
 #[tactic(auto, unfolding(crate::specs::Parsing::name_at))]
-fn read_new_name<'t>(
-    types: &[Definition],
-    cursor: &mut Cursor<'_, 't>,
-) -> Result<&'t str, TextFault>
-    ensures { IsReading (λ w. (w.now, state_of cursor.new)) result (name_at (map known types.now) (state_of cursor.old)) }
+fn read_new_name<'t>(types: &Definitions, cursor: &mut Cursor<'_, 't>) -> Result<&'t str, TextFault>
+    ensures read { IsReading (λ w. (w.now, state_of cursor.new)) result (name_at (known_by types.now) (state_of cursor.old)) }
+    ensures new { IfOk result (λ w. find (known_by types.now) w.now ≡ None) }
 {
     let Some(Token::Word(name)) = cursor.peek() else {
         return Err(cursor.fault(TextWhy::Syntax));
@@ -159,10 +159,11 @@ fn read_new_name<'t>(
 #[tactic(auto, unfolding(crate::specs::Parsing::entry_at))]
 fn read_entry(
     alloc: Global,
-    types: &[Definition],
+    types: &Definitions,
     cursor: &mut Cursor<'_, '_>,
 ) -> Result<Definition, TextFault>
-    ensures { IsReading (λ d. (known d, state_of cursor.new)) result (entry_at (map known types.now) (state_of cursor.old)) }
+    ensures read { IsReading (λ d. (definition_of d, state_of cursor.new)) result (entry_at (known_by types.now) (state_of cursor.old)) }
+    ensures new { IfOk result (λ d. find (known_by types.now) (string_bytes d.name) ≡ None) }
 {
     let name = read_new_name(types, cursor)?;
     cursor.expect(Sign::Assign)?;
@@ -171,13 +172,22 @@ fn read_entry(
     Ok(Definition { name, schema })
 }
 
+/// One more definition, of a Name that had none.
+fn add(types: &mut Definitions, entry: Definition) -> Result<(), AllocFailed<(String, Schema)>>
+    requires { find (known_by types.old) (string_bytes entry.name) ≡ None }
+    ensures { OnOk result (known_by types.new ≡ known_by types.old ++ definition_of entry ∷ []) }
+{
+    types.insert(entry.name, entry.schema)?;
+    Ok(())
+}
+
 fn read_entries(alloc: Global, cursor: &mut Cursor<'_, '_>) -> Result<Types, TextFault>
     ensures { IsReading knowns result (entries_more (suc (length (state_of cursor.old).left)) [] (state_of cursor.old)) }
 {
-    let mut definitions = Vec::new(alloc);
+    let mut definitions = IndexMap::new(alloc);
     'entries: for turn in 0..cursor.spots.len() + 1 {
         let entry = read_entry(alloc, &definitions, cursor)?;
-        definitions.push(entry)?;
+        add(&mut definitions, entry)?;
         if cursor.spots.is_empty() {
             expect_end(cursor)?;
             return Ok(Types { definitions });

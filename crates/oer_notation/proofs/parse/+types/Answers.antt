@@ -1,16 +1,16 @@
-use Rattle.std.proofs.Common.{◌≡◌, ◌+◌, ◌-◌, map, Ok, sym, ap, ap₂, ◌∙◌, arith}
+use Rattle.std.proofs.Common.{◌≡◌, ◌+◌, ◌-◌, Ok, sym, ap, ap₂, ◌∙◌, arith}
 use Rattle.std.proofs.lemmas.Result.{err_from_is_err_and}
 use Rattle.oer_values.specs.ShapeView.{seen_alternative}
 use Rattle.oer_notation.specs.Reading.{components_more, alternatives_more, type_at, most, Choices, with_marker, with_choice_marker}
 use Rattle.oer_value_notation.specs.State.{state_of, bump}
-use Rattle.oer_notation.specs.Views.{known, components, choices}
+use Rattle.oer_notation.specs.Views.{known_by, components, choices}
 use Rattle.oer_notation.proofs.Loops.{components_err, components_step, components_end, components_over, alternatives_err, alternatives_step, alternatives_end, alternatives_over, same_marker}
 use Rattle.oer_notation.proofs.parse.+types.Goals as goal
 
 pub read_components-returns-in_err-read_component : goal.read_components-returns-in_err-read_component
 read_components-returns-in_err-read_component t c =
     let l = c.components in
-    let type = type_at (map known c.args.types.now) c.args.levels in
+    let type = type_at (known_by c.args.types.now) c.args.levels in
     let p = err_from_is_err_and c.from_residual.result c.from_residual.ensures.1 in
     let some = c.components-test.true in
     rw (p.1, p.2) (λ not_memory. l.invariant ∙ components_err type (most - l.turn) (components l.body) (state_of l.cursor) _ (omega arith) (c.in_err-read_component.ensures not_memory))
@@ -18,7 +18,7 @@ read_components-returns-in_err-read_component t c =
 pub read_components-returns-then-not-take : goal.read_components-returns-then-not-take
 read_components-returns-then-not-take t c =
     let l = c.components in
-    let type = type_at (map known c.args.types.now) c.args.levels in
+    let type = type_at (known_by c.args.types.now) c.args.levels in
     let some = c.components-test.true in
     let read = c.in_ok-read_component.ensures in
     let marked = c.past_marker-body.ensures in
@@ -29,7 +29,7 @@ read_components-returns-then-not-take t c =
 pub read_components-components-preserved : goal.read_components-components-preserved
 read_components-components-preserved t c =
     let l = c.components in
-    let type = type_at (map known c.args.types.now) c.args.levels in
+    let type = type_at (known_by c.args.types.now) c.args.levels in
     let some = c.components-test.true in
     let read = c.in_ok-read_component.ensures in
     let marked = c.past_marker-body.ensures in
@@ -42,12 +42,12 @@ pub read_components-returns : goal.read_components-returns
 read_components-returns t c =
     let l = c.components in
     let over = c.components-test.false in
-    λ not_memory. l.invariant ∙ components_over (type_at (map known c.args.types.now) c.args.levels) (most - l.turn) (components l.body) (state_of l.cursor) (omega arith)
+    λ not_memory. l.invariant ∙ components_over (type_at (known_by c.args.types.now) c.args.levels) (most - l.turn) (components l.body) (state_of l.cursor) (omega arith)
 
 pub read_alternatives-returns-in_err-alternative : goal.read_alternatives-returns-in_err-alternative
 read_alternatives-returns-in_err-alternative t c =
     let l = c.alternatives in
-    let type = type_at (map known c.args.types.now) c.args.levels in
+    let type = type_at (known_by c.args.types.now) c.args.levels in
     let p = err_from_is_err_and c.from_residual.result c.from_residual.ensures.1 in
     let some = c.alternatives-test.true in
     rw (p.1, p.2) (λ not_memory. l.invariant ∙ alternatives_err type c.args.tagged (most - l.place) l.place (choices l.found) (state_of l.cursor) _ (omega arith) (c.in_err-alternative.ensures not_memory))
@@ -55,7 +55,7 @@ read_alternatives-returns-in_err-alternative t c =
 pub read_alternatives-returns-then-not-take : goal.read_alternatives-returns-then-not-take
 read_alternatives-returns-then-not-take t c =
     let l = c.alternatives in
-    let type = type_at (map known c.args.types.now) c.args.levels in
+    let type = type_at (known_by c.args.types.now) c.args.levels in
     let some = c.alternatives-test.true in
     let read = c.in_ok-alternative.ensures in
     let marked = c.past_marker.ensures in
@@ -67,7 +67,7 @@ read_alternatives-returns-then-not-take t c =
 pub read_alternatives-alternatives-preserved : goal.read_alternatives-alternatives-preserved
 read_alternatives-alternatives-preserved t c =
     let l = c.alternatives in
-    let type = type_at (map known c.args.types.now) c.args.levels in
+    let type = type_at (known_by c.args.types.now) c.args.levels in
     let some = c.alternatives-test.true in
     let read = c.in_ok-alternative.ensures in
     let marked = c.past_marker.ensures in
@@ -82,4 +82,4 @@ pub read_alternatives-returns : goal.read_alternatives-returns
 read_alternatives-returns t c =
     let l = c.alternatives in
     let over = c.alternatives-test.false in
-    λ not_memory. l.invariant ∙ alternatives_over (type_at (map known c.args.types.now) c.args.levels) c.args.tagged (most - l.place) l.place (choices l.found) (state_of l.cursor) (omega arith)
+    λ not_memory. l.invariant ∙ alternatives_over (type_at (known_by c.args.types.now) c.args.levels) c.args.tagged (most - l.place) l.place (choices l.found) (state_of l.cursor) (omega arith)

@@ -1,10 +1,9 @@
-use Rattle.std.proofs.Common.{◌≡◌, ◌+◌, ◌-◌, suc, length, map, Ok, sym, ap, ap₂, ◌∙◌, arith}
+use Rattle.std.proofs.Common.{◌≡◌, ◌+◌, ◌-◌, suc, length, Ok, sym, ap, ap₂, ◌∙◌, arith}
 use Rattle.std.proofs.lemmas.Result.{err_from_is_err_and}
-use Rattle.std.proofs.lemmas.List.{map_push}
 use Rattle.oer_lexer.specs.Token.{spots_of}
 use Rattle.oer_value_notation.specs.State.{state_of}
 use Rattle.oer_notation.specs.Parsing.{entries_more}
-use Rattle.oer_notation.specs.Views.{known}
+use Rattle.oer_notation.specs.Views.{definition_of, known_by}
 use Rattle.oer_notation.proofs.Loops.{entries_err, entries_step, entries_end, entries_stop, entries_over, last_spots}
 use Rattle.oer_value_notation.proofs.Turns.{spots_count}
 use Rattle.oer_notation.proofs.types.read_entries.Goals as goal
@@ -15,27 +14,27 @@ returns-in_err-entry c =
     let size = spots_count c.args.cursor.now.spots.now in
     let some = c.entries-test.true in
     let p = err_from_is_err_and c.from_residual.result c.from_residual.ensures.1 in
-    rw (p.1, p.2) (λ not_memory. l.invariant ∙ entries_err (suc (length (spots_of c.args.cursor.now.spots.now)) - l.turn) (map known l.definitions.items) (state_of l.cursor) _ (omega arith) (rw c.deref.ensures.value at (c.in_err-entry.ensures not_memory)))
+    rw (p.1, p.2) (λ not_memory. l.invariant ∙ entries_err (suc (length (spots_of c.args.cursor.now.spots.now)) - l.turn) (known_by l.definitions) (state_of l.cursor) _ (omega arith) (c.in_err-entry.ensures.read not_memory))
 
 pub returns-in_err-expect_end : goal.returns-in_err-expect_end
 returns-in_err-expect_end c =
     let l = c.entries in
     let size = spots_count c.args.cursor.now.spots.now in
     let some = c.entries-test.true in
-    let read = rw c.deref.ensures.value at c.in_ok-entry.ensures in
+    let read = c.in_ok-entry.ensures.read in
     let last = last_spots c.read_entry.new.cursor.spots.now ∙ sym c.is_empty.ensures ∙ c.if-is_empty.true in
     let p = err_from_is_err_and c.from_residual-in_err-expect_end.result c.from_residual-in_err-expect_end.ensures.1 in
-    rw (p.1, p.2) (λ not_memory. l.invariant ∙ entries_stop (suc (length (spots_of c.args.cursor.now.spots.now)) - l.turn) (map known l.definitions.items) (state_of l.cursor) (known c.in_ok-entry.entry) (state_of c.read_entry.new.cursor) _ (omega arith) read last (c.in_err-expect_end.ensures not_memory))
+    rw (p.1, p.2) (λ not_memory. l.invariant ∙ entries_stop (suc (length (spots_of c.args.cursor.now.spots.now)) - l.turn) (known_by l.definitions) (state_of l.cursor) (definition_of c.in_ok-entry.entry) (state_of c.read_entry.new.cursor) _ (omega arith) read last (c.in_err-expect_end.ensures not_memory))
 
 pub returns-then-is_empty : goal.returns-then-is_empty
 returns-then-is_empty c =
     let l = c.entries in
     let size = spots_count c.args.cursor.now.spots.now in
     let some = c.entries-test.true in
-    let read = rw c.deref.ensures.value at c.in_ok-entry.ensures in
+    let read = c.in_ok-entry.ensures.read in
     let last = last_spots c.read_entry.new.cursor.spots.now ∙ sym c.is_empty.ensures ∙ c.if-is_empty.true in
-    let pushed = ap (map known) c.in_ok-push.ensures.items ∙ map_push known l.definitions.items c.in_ok-entry.entry in
-    l.invariant ∙ entries_end (suc (length (spots_of c.args.cursor.now.spots.now)) - l.turn) (map known l.definitions.items) (state_of l.cursor) (known c.in_ok-entry.entry) (state_of c.read_entry.new.cursor) c.in_ok-expect_end.field-0 (omega arith) read last c.in_ok-expect_end.ensures
+    let pushed = c.in_ok-add.ensures in
+    l.invariant ∙ entries_end (suc (length (spots_of c.args.cursor.now.spots.now)) - l.turn) (known_by l.definitions) (state_of l.cursor) (definition_of c.in_ok-entry.entry) (state_of c.read_entry.new.cursor) c.in_ok-expect_end.field-0 (omega arith) read last c.in_ok-expect_end.ensures
     ∙ ap Ok (sym pushed)
 
 pub entries-preserved : goal.entries-preserved
@@ -43,11 +42,11 @@ entries-preserved c =
     let l = c.entries in
     let size = spots_count c.args.cursor.now.spots.now in
     let some = c.entries-test.true in
-    let read = rw c.deref.ensures.value at c.in_ok-entry.ensures in
+    let read = c.in_ok-entry.ensures.read in
     let last = last_spots c.read_entry.new.cursor.spots.now ∙ sym c.is_empty.ensures ∙ c.if-is_empty.false in
-    let pushed = ap (map known) c.in_ok-push.ensures.items ∙ map_push known l.definitions.items c.in_ok-entry.entry in
+    let pushed = c.in_ok-add.ensures in
     let next : suc (length (spots_of c.args.cursor.now.spots.now)) - l.turn - 1 ≡ suc (length (spots_of c.args.cursor.now.spots.now)) - (l.turn + 1) = omega arith in
-    l.invariant ∙ entries_step (suc (length (spots_of c.args.cursor.now.spots.now)) - l.turn) (map known l.definitions.items) (state_of l.cursor) (known c.in_ok-entry.entry) (state_of c.read_entry.new.cursor) (omega arith) read last
+    l.invariant ∙ entries_step (suc (length (spots_of c.args.cursor.now.spots.now)) - l.turn) (known_by l.definitions) (state_of l.cursor) (definition_of c.in_ok-entry.entry) (state_of c.read_entry.new.cursor) (omega arith) read last
     ∙ ap₂ (λ n ks. entries_more n ks (state_of c.read_entry.new.cursor)) next (sym pushed)
 
 pub returns : goal.returns
@@ -55,4 +54,4 @@ returns c =
     let l = c.entries in
     let size = spots_count c.args.cursor.now.spots.now in
     let over = c.entries-test.false in
-    λ not_memory. l.invariant ∙ entries_over (suc (length (spots_of c.args.cursor.now.spots.now)) - l.turn) (map known l.definitions.items) (state_of l.cursor) (omega arith)
+    λ not_memory. l.invariant ∙ entries_over (suc (length (spots_of c.args.cursor.now.spots.now)) - l.turn) (known_by l.definitions) (state_of l.cursor) (omega arith)
