@@ -1,6 +1,9 @@
 -- What the types of the code stand for.
 use Rattle.std.specs.Prelude.{List, String, map, string_bytes}
+use Rattle.std.specs.Arc.{arc_value}
+use Rattle.std.specs.declared.sync.Arc.{Arc}
 use Rattle.indexmap.specs.IndexMap.{IndexMap}
+use Rattle.oer_model.specs.AsnType.{AsnType}
 use Rattle.oer_values.specs.ShapeView.{named_number, seen_addition, seen_alternative, seen_field}
 use Rattle.oer_notation.specs.Reading.{Known, Start, nothing, of_word, of_name, NamedItems, Components, Choices}
 use Rattle.oer_types.specs.Schema.{the_type}
@@ -13,11 +16,15 @@ use Rattle.oer_notation.specs.declared.parse.Items as raw_items
 use Rattle.oer_notation.specs.declared.parse.Start as raw
 use Rattle.oer_notation.specs.declared.parse.Start.TheVariants.{Nothing, Word, Name}
 
--- an entry of a map, which is a definition
-abbrev pub known : {Y : Type 0} → String Y × Schema → Known
-known e = record { name = string_bytes e.0; type = the_type e.1 }
+-- a type that several definitions may share
+abbrev pub shared_type : {Z : Type 0} → Arc Schema Z → AsnType
+shared_type s = the_type (arc_value s)
 
-abbrev pub known_by : {Y S : Type 0} → IndexMap (String Y) Schema S → List Known
+-- an entry of a map, which is a definition
+abbrev pub known : {Y Z : Type 0} → String Y × Arc Schema Z → Known
+known e = record { name = string_bytes e.0; type = shared_type e.1 }
+
+abbrev pub known_by : {Y Z S : Type 0} → IndexMap (String Y) (Arc Schema Z) S → List Known
 known_by m = map known m.entries
 
 abbrev pub definition_of : Definition → Known

@@ -6,7 +6,7 @@ ghost use Rattle.oer_value_notation.specs.State.{IsReading, state_of};
 ghost use Rattle.oer_notation.specs.Reading.{addition_at, alternative_at, alternatives_more, body_at, choice_at, choice_of_choices, class_at, component_at, components_more, field_at, find, is_start, item_at, item_number_at, items_at, items_more, leaf_at, leaf_type_at, list_at, missing_number, missing_tag, most, named_at, no_choices, no_components, numbered_at, past_marker, sequence_at, sequence_of_components, skip_second, start_at, structure_at, tag_at, tagged_at, type_at, with_alternative, word_type};
 ghost use Rattle.oer_lexer.specs.LeafWords.{words_of};
 ghost use Rattle.oer_value_notation.specs.Leaves.{leaf_form};
-ghost use Rattle.oer_notation.specs.Views.{choices, components, known_by, named, start_of};
+ghost use Rattle.oer_notation.specs.Views.{choices, components, known_by, named, shared_type, start_of};
 
 use indexmap::IndexMap;
 use oer_lexer::{LeafWord, Sign, Token};
@@ -19,16 +19,17 @@ use oer_value_notation::{
     read_item_number, read_list_size, read_need, read_tag_number, type_word,
 };
 use std::alloc::{AllocFailed, Global};
+use std::sync::Arc;
 
-/// A Name and its type.
+/// A Name and its type, which other definitions may share.
 #[derive(Drop)]
 pub struct Definition {
     pub name: String,
-    pub schema: Schema,
+    pub schema: Arc<Schema>,
 }
 
 /// Types by their Names, in the order of their definitions.
-pub type Definitions = IndexMap<String, Schema>;
+pub type Definitions = IndexMap<String, Arc<Schema>>;
 
 /// With what a type begins.
 #[derive(Clone, Copy)]
@@ -63,7 +64,7 @@ pub struct Alternatives {
 
 /// With what the type at the next token begins.
 #[tactic(auto, unfolding(crate::specs::Reading::start_at))]
-fn begin<'t>(cursor: &Cursor<'_, 't>) -> Start<'t>
+pub fn begin<'t>(cursor: &Cursor<'_, 't>) -> Start<'t>
     ensures { start_of result ≡ start_at (state_of cursor.now) }
 {
     let Some(Token::Word(word)) = cursor.peek() else {
@@ -240,11 +241,21 @@ fn read_tagged(cursor: &mut Cursor<'_, '_>, tagged: bool, place: u16) -> Result<
     read_tag(cursor)
 }
 
+/// What has the type that a definition gave the Name.
+pub fn find_shared<'d>(types: &'d Definitions, name: &str) -> Option<&'d Arc<Schema>>
+    ensures { option_map (λ s. shared_type s.now) result ≡ find (known_by types.now) name.now }
+{
+    types.get(name)
+}
+
 /// The type that a definition gave the Name.
 pub fn find<'d>(types: &'d Definitions, name: &str) -> Option<&'d Schema>
     ensures { option_map (λ s. the_type s.now) result ≡ find (known_by types.now) name.now }
 {
-    types.get(name)
+    match find_shared(types, name) {
+        Some(schema) => Some(schema),
+        None => None,
+    }
 }
 
 /// The type that a definition gave a Name, as if it were written out.

@@ -1,5 +1,5 @@
 //! From a text to its type, or to its definitions.
-ghost use Rattle.std.specs.Prelude.{◌≡◌, ◌++◌, ◌∷◌, [], IfErr, IfOk, MatchOption, None, OnOk, length, option_map, string_bytes, suc};
+ghost use Rattle.std.specs.Prelude.{◌≡◌, ◌++◌, ◌∷◌, [], IfErr, IfOk, MatchOption, None, Ok, OnOk, length, option_map, string_bytes, suc};
 ghost use Rattle.oer_lexer.specs.Lexing.{lex};
 ghost use Rattle.oer_lexer.specs.Token.{spots_of};
 ghost use Rattle.oer_types.specs.Schema.{the_type};
@@ -8,16 +8,17 @@ ghost use Rattle.oer_notation.specs.Refusing.{AreNoTypes, IsNoType};
 ghost use Rattle.oer_value_notation.specs.State.{IsReading, state_of};
 ghost use Rattle.oer_notation.specs.Reading.{find};
 ghost use Rattle.oer_notation.specs.Parsing.{definition_at, end_of, entries_more, entry_at, name_at, parse, parse_all, start};
-ghost use Rattle.oer_notation.specs.Views.{definition_of, known_by, knowns};
+ghost use Rattle.oer_notation.specs.Views.{definition_of, known_by, knowns, shared_type};
 
 use crate::laws::{what_is_parsed_is_spelled, what_is_spelled_is_parsed};
-use crate::parse::{Definition, Definitions, find, read_type};
+use crate::parse::{Definition, Definitions, Start, begin, find, find_shared, read_type};
 use indexmap::IndexMap;
 use oer_lexer::{Sign, Token, Tokens, lex};
 use oer_types::laws::first_fault;
-use oer_types::{MAX_DEPTH, MAX_PARTS, Schema};
+use oer_types::{MAX_DEPTH, MAX_PARTS, Schema, parts_left};
 use oer_value_notation::{Cursor, TextFault, TextWhy, is_name};
 use std::alloc::{AllocFailed, Global};
+use std::sync::Arc;
 
 /// Types by their Names.
 #[derive(Drop)]
@@ -156,6 +157,42 @@ fn read_new_name<'t>(types: &Definitions, cursor: &mut Cursor<'_, 't>) -> Result
     Ok(name)
 }
 
+/// The type of a definition that is only the Name of an earlier one, whose type it shares. `None` where
+/// it isn't, or where its fault is yet to be found; then the cursor stays.
+fn take_alias(types: &Definitions, cursor: &mut Cursor<'_, '_>) -> Option<Arc<Schema>>
+    ensures { MatchOption result (state_of cursor.new ≡ state_of cursor.old)
+        (λ s. definition_at (known_by types.now) (state_of cursor.old) ≡ Ok (shared_type s, state_of cursor.new)) }
+{
+    let Start::Name(name) = begin(cursor) else {
+        return None;
+    };
+    let schema = find_shared(types, name)?;
+    let left = parts_left(schema.shape(), MAX_PARTS)?;
+    let Ok(shared) = Arc::try_clone(schema) else {
+        return None;
+    };
+    // The law that no fault is found of a well-formed type.
+    first_fault();
+    cursor.parts = left;
+    cursor.bump();
+    Some(shared)
+}
+
+/// The type of a definition, which isn't copied where it is only a Name.
+fn read_meaning(
+    alloc: Global,
+    types: &Definitions,
+    cursor: &mut Cursor<'_, '_>,
+) -> Result<Arc<Schema>, TextFault>
+    ensures { IsReading (λ s. (shared_type s, state_of cursor.new)) result (definition_at (known_by types.now) (state_of cursor.old)) }
+{
+    if let Some(schema) = take_alias(types, cursor) {
+        return Ok(schema);
+    }
+    let schema = read_definition(alloc, types, cursor)?;
+    Ok(Arc::new(alloc, schema)?)
+}
+
 #[tactic(auto, unfolding(crate::specs::Parsing::entry_at))]
 fn read_entry(
     alloc: Global,
@@ -168,12 +205,12 @@ fn read_entry(
     let name = read_new_name(types, cursor)?;
     cursor.expect(Sign::Assign)?;
     let name = String::from_str(alloc, name)?;
-    let schema = read_definition(alloc, types, cursor)?;
+    let schema = read_meaning(alloc, types, cursor)?;
     Ok(Definition { name, schema })
 }
 
 /// One more definition, of a Name that had none.
-fn add(types: &mut Definitions, entry: Definition) -> Result<(), AllocFailed<(String, Schema)>>
+fn add(types: &mut Definitions, entry: Definition) -> Result<(), AllocFailed<(String, Arc<Schema>)>>
     requires { find (known_by types.old) (string_bytes entry.name) ≡ None }
     ensures { OnOk result (known_by types.new ≡ known_by types.old ++ definition_of entry ∷ []) }
 {
