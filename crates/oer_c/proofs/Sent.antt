@@ -8,7 +8,7 @@ use denote.Memory.{lone}
 use denote.RawPtr.{Ptr, block_ptr, null_ptr}
 use denote.Struct.Struct.{exits_of}
 use denote.Struct.Owning.{shape, fields, to}
-use denote.Param.Send.{IsSend, AllSend, Quiet, owning_send, part_keyless, struct_send, sendable}
+use denote.Param.Send.{IsSend, IsSync, AllSend, Quiet, owning_send, part_keyless, struct_send, sendable}
 use Rattle.std.proofs.Crossing.{frees}
 use Rattle.oer_c.specs.Held.{heap, holds}
 use Rattle.oer_c.specs.contracts.shared.Shared as known
@@ -17,9 +17,24 @@ use Rattle.oer_c.specs.contracts.held.Held as held
 use Rattle.std.proofs.Crossing.{crosses}
 use Rattle.oer_values.proofs.shape.Shape.TheLaws.TheKnot as shape
 use Rattle.oer_values.proofs.value.Value.TheLaws.TheKnot as value
+use Rattle.oer_notation.specs.contracts.known.Definitions as definitions
+use Rattle.oer_notation.specs.contracts.types.Types as named
+
+-- the definitions, which stand in a map and in a list
+definitions_send : IsSend definitions.the_row
+definitions_send = search (crosses, shape.crosses, value.crosses, sendable) depth 60 fits 20000
+
+definitions_sync : IsSync definitions.the_row
+definitions_sync = search (crosses, shape.crosses, value.crosses, sendable) depth 60 fits 20000
+
+named_send : IsSend named.the_row
+named_send = search (definitions_send, crosses, shape.crosses, value.crosses, sendable) depth 60 fits 20000
+
+named_sync : IsSync named.the_row
+named_sync = search (definitions_sync, crosses, shape.crosses, value.crosses, sendable) depth 60 fits 20000
 
 types_send : IsSend known.the_row
-types_send = search (crosses, shape.crosses, value.crosses, sendable) depth 60 fits 20000
+types_send = search (named_send, named_sync, crosses, shape.crosses, value.crosses, sendable) depth 60 fits 20000
 
 quiet : {D X : Type 0} (to : D → X) (e : Exit X) → Quiet e → Quiet (hidden (under to e))
 quiet to unchanged q = λ x w. tt

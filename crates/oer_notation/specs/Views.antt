@@ -1,14 +1,14 @@
 -- What the types of the code stand for.
-use Rattle.std.specs.Prelude.{List, String, map, string_bytes}
+use Rattle.std.specs.Prelude.{◌++◌, List, String, map, string_bytes}
 use Rattle.std.specs.Arc.{arc_value}
 use Rattle.std.specs.declared.sync.Arc.{Arc}
-use Rattle.indexmap.specs.IndexMap.{IndexMap}
 use Rattle.oer_model.specs.AsnType.{AsnType}
 use Rattle.oer_values.specs.ShapeView.{named_number, seen_addition, seen_alternative, seen_field}
 use Rattle.oer_notation.specs.Reading.{Known, Start, nothing, of_word, of_name, NamedItems, Components, Choices}
 use Rattle.oer_types.specs.Schema.{the_type}
 use Rattle.oer_types.specs.declared.schema.Schema.{Schema}
-use Rattle.oer_notation.specs.declared.parse.Definition.{Definition}
+use Rattle.oer_notation.specs.declared.known.Definition.{Definition}
+use Rattle.oer_notation.specs.declared.known.Definitions.{Definitions}
 use Rattle.oer_notation.specs.declared.types.Types.{Types}
 use Rattle.oer_notation.specs.declared.parse.Body as raw_body
 use Rattle.oer_notation.specs.declared.parse.Alternatives as raw_alternatives
@@ -24,11 +24,11 @@ shared_type s = the_type (arc_value s)
 abbrev pub known : {Y Z : Type 0} → String Y × Arc Schema Z → Known
 known e = record { name = string_bytes e.0; type = shared_type e.1 }
 
-abbrev pub known_by : {Y Z S : Type 0} → IndexMap (String Y) (Arc Schema Z) S → List Known
-known_by m = map known m.entries
-
 abbrev pub definition_of : Definition → Known
 definition_of d = known (d.name, d.schema)
+
+abbrev pub known_by : Definitions → List Known
+known_by d = map known d.hashed.entries ++ map definition_of d.others.items
 
 abbrev pub knowns : Types → List Known
 knowns t = known_by t.definitions

@@ -1,6 +1,7 @@
 //! The notation of types.
 #![tactic(auto)]
 
+mod known;
 pub mod laws;
 mod parse;
 mod types;

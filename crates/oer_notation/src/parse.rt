@@ -1,35 +1,21 @@
 //! From tokens to a type.
 ghost use Rattle.std.specs.Prelude.{◌≡◌, [], option_map, OnOk, Some, false};
-ghost use Rattle.oer_types.specs.Schema.{the_type};
 ghost use Rattle.oer_values.specs.ShapeView.{named_number, seen_addition, seen_alternative, seen_field, type_of};
 ghost use Rattle.oer_value_notation.specs.State.{IsReading, state_of};
 ghost use Rattle.oer_notation.specs.Reading.{addition_at, alternative_at, alternatives_more, body_at, choice_at, choice_of_choices, class_at, component_at, components_more, field_at, find, is_start, item_at, item_number_at, items_at, items_more, leaf_at, leaf_type_at, list_at, missing_number, missing_tag, most, named_at, no_choices, no_components, numbered_at, past_marker, sequence_at, sequence_of_components, skip_second, start_at, structure_at, tag_at, tagged_at, type_at, with_alternative, word_type};
 ghost use Rattle.oer_lexer.specs.LeafWords.{words_of};
 ghost use Rattle.oer_value_notation.specs.Leaves.{leaf_form};
-ghost use Rattle.oer_notation.specs.Views.{choices, components, known_by, named, shared_type, start_of};
+ghost use Rattle.oer_notation.specs.Views.{choices, components, known_by, named, start_of};
 
-use indexmap::IndexMap;
+use crate::known::{Definitions, find};
 use oer_lexer::{LeafWord, Sign, Token};
-use oer_types::{
-    Addition, Alt, Field, Item, Schema, SchemaFault, Shape, is_within_depth, parts_left,
-};
+use oer_types::{Addition, Alt, Field, Item, SchemaFault, Shape, is_within_depth, parts_left};
 use oer_units::{Class, Tag};
 use oer_value_notation::{
     Cursor, TextFault, TextWhy, TypeWord, is_name, read_bounds, read_bracketed_size,
     read_item_number, read_list_size, read_need, read_tag_number, type_word,
 };
 use std::alloc::{AllocFailed, Global};
-use std::sync::Arc;
-
-/// A Name and its type, which other definitions may share.
-#[derive(Drop)]
-pub struct Definition {
-    pub name: String,
-    pub schema: Arc<Schema>,
-}
-
-/// Types by their Names, in the order of their definitions.
-pub type Definitions = IndexMap<String, Arc<Schema>>;
 
 /// With what a type begins.
 #[derive(Clone, Copy)]
@@ -239,23 +225,6 @@ fn read_tagged(cursor: &mut Cursor<'_, '_>, tagged: bool, place: u16) -> Result<
         return Err(missing_tag(cursor));
     }
     read_tag(cursor)
-}
-
-/// What has the type that a definition gave the Name.
-pub fn find_shared<'d>(types: &'d Definitions, name: &str) -> Option<&'d Arc<Schema>>
-    ensures { option_map (λ s. shared_type s.now) result ≡ find (known_by types.now) name.now }
-{
-    types.get(name)
-}
-
-/// The type that a definition gave the Name.
-pub fn find<'d>(types: &'d Definitions, name: &str) -> Option<&'d Schema>
-    ensures { option_map (λ s. the_type s.now) result ≡ find (known_by types.now) name.now }
-{
-    match find_shared(types, name) {
-        Some(schema) => Some(schema),
-        None => None,
-    }
 }
 
 /// The type that a definition gave a Name, as if it were written out.

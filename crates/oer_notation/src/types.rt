@@ -1,5 +1,5 @@
 //! From a text to its type, or to its definitions.
-ghost use Rattle.std.specs.Prelude.{◌≡◌, ◌++◌, ◌∷◌, [], IfErr, IfOk, MatchOption, None, Ok, OnOk, length, option_map, string_bytes, suc};
+ghost use Rattle.std.specs.Prelude.{◌≡◌, [], IfErr, IfOk, MatchOption, None, Ok, length, option_map, string_bytes, suc};
 ghost use Rattle.oer_lexer.specs.Lexing.{lex};
 ghost use Rattle.oer_lexer.specs.Token.{spots_of};
 ghost use Rattle.oer_types.specs.Schema.{the_type};
@@ -10,14 +10,14 @@ ghost use Rattle.oer_notation.specs.Reading.{find};
 ghost use Rattle.oer_notation.specs.Parsing.{definition_at, end_of, entries_more, entry_at, name_at, parse, parse_all, start};
 ghost use Rattle.oer_notation.specs.Views.{definition_of, known_by, knowns, shared_type};
 
+use crate::known::{Definition, Definitions, add, find, find_shared, none};
 use crate::laws::{what_is_parsed_is_spelled, what_is_spelled_is_parsed};
-use crate::parse::{Definition, Definitions, Start, begin, find, find_shared, read_type};
-use indexmap::IndexMap;
+use crate::parse::{Start, begin, read_type};
 use oer_lexer::{Sign, Token, Tokens, lex};
 use oer_types::laws::first_fault;
 use oer_types::{MAX_DEPTH, MAX_PARTS, Schema, parts_left};
 use oer_value_notation::{Cursor, TextFault, TextWhy, is_name};
-use std::alloc::{AllocFailed, Global};
+use std::alloc::Global;
 use std::sync::Arc;
 
 /// Types by their Names.
@@ -67,8 +67,8 @@ fn read_text(alloc: Global, text: &str) -> Result<Schema, TextFault>
 {
     let tokens = lex(alloc, text)?;
     let mut cursor = first(&tokens);
-    let none = IndexMap::new(alloc);
-    let schema = read_definition(alloc, &none, &mut cursor)?;
+    let known = none(alloc);
+    let schema = read_definition(alloc, &known, &mut cursor)?;
     expect_end(&cursor)?;
     Ok(schema)
 }
@@ -209,19 +209,10 @@ fn read_entry(
     Ok(Definition { name, schema })
 }
 
-/// One more definition, of a Name that had none.
-fn add(types: &mut Definitions, entry: Definition) -> Result<(), AllocFailed<(String, Arc<Schema>)>>
-    requires { find (known_by types.old) (string_bytes entry.name) ≡ None }
-    ensures { OnOk result (known_by types.new ≡ known_by types.old ++ definition_of entry ∷ []) }
-{
-    types.insert(entry.name, entry.schema)?;
-    Ok(())
-}
-
 fn read_entries(alloc: Global, cursor: &mut Cursor<'_, '_>) -> Result<Types, TextFault>
     ensures { IsReading knowns result (entries_more (suc (length (state_of cursor.old).left)) [] (state_of cursor.old)) }
 {
-    let mut definitions = IndexMap::new(alloc);
+    let mut definitions = none(alloc);
     'entries: for turn in 0..cursor.spots.len() + 1 {
         let entry = read_entry(alloc, &definitions, cursor)?;
         add(&mut definitions, entry)?;
