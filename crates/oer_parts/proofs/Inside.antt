@@ -17,12 +17,12 @@ use Rattle.oer_values.specs.declared.shape.Field.{Field}
 use Rattle.oer_model.specs.declared.size.Size.{Size}
 use Rattle.oer_checker.specs.Steps.{addition_map, and_after, got_both, sized_quantity}
 use Rattle.oer_parts.specs.Walk.{IsGot}
-use Rattle.oer_parts.proofs.Entries.{both_ends, walked}
+use Rattle.oer_parts.proofs.Entries.{Ends, both_ends, walked}
 use Rattle.oer_checker.proofs.FieldSteps.{count_is, extensible_then, items_then, map_then, sequence_then}
 use Rattle.oer_parts.proofs.Finds.{added, checks, joined}
 use Rattle.oer_checker.proofs.Joins.{also_is, bind_got}
 use Rattle.oer_checker.proofs.PartSteps.{extension_none, fields_none, lookup_both}
-use Rattle.oer_parts.proofs.Walks.{addition_entries, additions_pass, additions_read, field_entries, fields_pass, fields_read, unknown_entries, unknown_pass, unknown_read}
+use Rattle.oer_parts.proofs.Walks.{addition_entries, additions_pass, additions_read, field_entries, fields_pass, fields_read, nothing, unknown_entries, unknown_pass, unknown_read}
 
 pub not_got : {A : Type 0} (o : Outcome A) (why : Why) (rest : List ℕ) → IsGot o → refused why rest ≡ o → ⊥
 not_got {A} o why rest (x, q, is) e = let same : got x q ≡ refused why rest = is ∙ sym e in absurd (cc)
@@ -90,6 +90,12 @@ module _ (T : AsnType) (xs : List Field) (ys : List Addition) (is : T ≡ extens
 
   pub root_checked : IsGot (check_fields (fields_of xs) bits q)
   root_checked = (split.0, split.1, split.3)
+
+  -- it ends where the SEQUENCE does, if the extension bit isn't set
+  pub root_ends : first_bit s ≡ false → Ends (check_fields (fields_of xs) bits q) ok.1
+  root_ends none =
+      let end : split.1 ≡ ok.1 = nothing split.1 ok.1 split.2 (split.4 ∙ ap (λ (x : Bool). extension (additions_of ys) x split.1) none) in
+      (split.0, ap (λ (t : Place). got split.0 t) (sym end) ∙ split.3)
 
   root : List Part
   root = walked (field_entries xs 0 bits) q split.1 (fields_pass xs 0 bits q split.1 split.0 split.3)

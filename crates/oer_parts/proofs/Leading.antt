@@ -17,7 +17,8 @@ use Rattle.oer_model.proofs.paths.Pieces.{Child, KeptChild, Led, child_in, child
 use Rattle.oer_model.proofs.paths.Splitting.{split_read}
 use Rattle.oer_checker.specs.Check.{Finds, Tells}
 use Rattle.oer_parts.specs.Handing.{Agrees, Follows, Hands, IsHanded, IsMissed}
-use Rattle.oer_parts.specs.Walk.{CanSplit, Enters, IsGot, path_of, step_of}
+use Rattle.oer_parts.specs.Last.{TakesAll}
+use Rattle.oer_parts.specs.Walk.{CanSplit, Enters, path_of, step_of}
 use Rattle.oer_parts.specs.declared.fault.PartFault.{PartFault}
 use Rattle.oer_parts.specs.declared.fault.PartFault.TheVariants.{Read, NoSuchStep, Absent}
 use Rattle.oer_parts.specs.declared.step.Step.{Step}
@@ -29,13 +30,13 @@ front_splits T wf d input verdict (b, rest, split, size, (v, e), flags) =
     let front : take verdict.octets input ≡ b = ap (λ (l : List ℕ). take verdict.octets l) split ∙ take_at b rest verdict.octets (sym size) in
     ((wf, d), (v, subst (λ (s : List ℕ). IsSpelling T v s) (sym front) e.2))
 
--- what is spelt is checked
-pub spelt_checked : (T : AsnType) (b : List ℕ) → CanSplit (Some T) b → IsGot (check_value T (at b (length b)))
+-- what is spelt is checked, to its end
+pub spelt_checked : (T : AsnType) (b : List ℕ) → CanSplit (Some T) b → TakesAll (check_value T (at b (length b)))
 spelt_checked T b ((w, d), (v, s)) =
     let e = (value_lawful T w).complete v b [] 0 s in
     let whole : read_value T (at b (length b)) ≡ got v (at [] 0) = ap₂ (λ (l : List ℕ) (n : ℕ). read_value T (at l n)) (sym (append-nil b)) (let n : length b ≡ length b + 0 = omega arith in n) ∙ e in
     let t = (value_checked T w d).tells (at b (length b)) v (at [] 0) whole in
-    (t.0, at [] 0, sym t.1)
+    (t.0, sym t.1)
 
 -- ---- one step
 

@@ -10,3 +10,4 @@ mod Paths
 pub mod UnitFronts
 mod Standing
 mod Ranging
+mod Lasts

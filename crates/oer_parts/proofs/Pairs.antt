@@ -20,7 +20,7 @@ pub value_octets : (c : Reader Bool) (p q : Place) (f : Bool) → got f q ≡ c 
 unfolding octets_of
 value_octets c p q f e = ap (taken_from p) e
 
-unlike_got : (d : List ℕ) (c : Reader Bool) (p q : Place) (f : Bool) → got f q ≡ unlike d c p → (g : Bool) × (got g q ≡ c p)
+pub unlike_got : (d : List ℕ) (c : Reader Bool) (p q : Place) (f : Bool) → got f q ≡ unlike d c p → (g : Bool) × (got g q ≡ c p)
 unfolding unlike judged bind give
 unlike_got d c p q f e0 = cases (c p) e0 where
   cases : (o : Outcome Bool) → got f q ≡ then_read (λ y. give (y.0 && y.1)) (judge (λ f b. not (same_list b d)) p o) → (g : Bool) × (got g q ≡ o)

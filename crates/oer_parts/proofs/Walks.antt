@@ -28,7 +28,7 @@ other_back i j less = ne_eqb i j (λ e. absurd (omega (arith, e)))
 pub itself : (i : ℕ) → eqb i i ≡ true
 itself i = eq-eqb i i refl
 
-nothing : (p q : Place) (f : Bool) → got f q ≡ give true p → p ≡ q
+pub nothing : (p q : Place) (f : Bool) → got f q ≡ give true p → p ≡ q
 unfolding give
 nothing p q f e = sym (got_place f true q p e)
 
@@ -93,7 +93,7 @@ fields_after : (xs : List Field) (k : ℕ) (s : List Bool) (n : ℕ) → n < k �
 fields_after [] k s n less = tt
 fields_after (x ∷ xs) k s n less = (other_back k n less, fields_after xs (suc k) (bits_left (need_of x.need) s) n (omega arith))
 
-bits_after : (need : Need) (n : ℕ) (s : List Bool) → drop (optional_with need n) s ≡ drop n (bits_left need s)
+pub bits_after : (need : Need) (n : ℕ) (s : List Bool) → drop (optional_with need n) s ≡ drop n (bits_left need s)
 bits_after must n s = refl
 bits_after may n [] = sym (drop_none Bool n)
 bits_after may n (b ∷ s) = refl

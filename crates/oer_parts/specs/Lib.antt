@@ -5,3 +5,4 @@ pub mod Encoding
 pub mod AtMostOne
 pub mod Offsets
 pub mod Ranges
+pub mod Last

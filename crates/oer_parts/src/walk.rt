@@ -11,6 +11,7 @@ ghost use Rattle.oer_model.specs.Fits.{AdditionDefaultsFit, DefaultsFit, FieldDe
 ghost use Rattle.oer_model.specs.Parts.{addition_parts, field_parts, join_parts, knows as knows_step, octets_of, parts_in, read_parts, to_addition, to_chosen, to_component, to_item, unknown_parts};
 ghost use Rattle.oer_values.specs.ShapeView.{additions_of, fields_of, type_of};
 ghost use Rattle.oer_checker.specs.BitView.{IsWhole, bits_in};
+ghost use Rattle.oer_parts.specs.Last.{TakesAll, none_there as no_field_there};
 ghost use Rattle.oer_parts.specs.Offsets.{AreAdditions, AreFields, AreUnknown, IsBefore};
 ghost use Rattle.oer_checker.specs.Places.{place_of};
 ghost use Rattle.oer_parts.specs.Walk.{CanSplit, Enters, IsAfter, IsGot, LooksUp, StandsBy, Stands, read_in, step_of, type_in};
@@ -41,12 +42,17 @@ struct Content<'a> {
     rest: usize,
 }
 
-/// The octets that are an encoding of a value of the type.
-fn encoding_at<'a>(shape: &Shape, cursor: Cursor<'a>) -> Option<&'a [u8]>
+/// The octets that are an encoding of a value of the type. Where it is the last, these are all that
+/// are left, and aren't looked at.
+fn encoding_at<'a>(shape: &Shape, cursor: Cursor<'a>, is_last: bool) -> Option<&'a [u8]>
     requires limits { KeepsLimits (type_of shape.now) }
     requires defaults { DefaultsFit (type_of shape.now) }
+    requires last { is_last ≡ true → TakesAll (check_value (type_of shape.now) (place_of cursor)) }
     ensures { option_map (λ s. s.now) result ≡ read_in (octets_of (check_value (type_of shape.now)) (place_of cursor.entry)) }
 {
+    if is_last {
+        return Some(cursor.rest);
+    }
     let mut end = cursor;
     let Ok(_) = check_shape(shape, &mut end) else {
         return None;
@@ -101,16 +107,34 @@ fn counted_at<'a>(cursor: Cursor<'a>) -> Option<Content<'a>>
     })
 }
 
-/// The component with this number of a root whose presence bits these are, if it is there.
+/// Whether none of the components is there, by their presence bits.
+fn none_there(fields: &[Field], bits: Bits) -> bool
+    ensures { result ≡ no_field_there (fields_of fields.now) (bits_in bits.entry) }
+{
+    let mut left = bits;
+    for field in fields {
+        let (is_present, later) = presence(&field.need, left);
+        if is_present {
+            return false;
+        }
+        left = later;
+    }
+    true
+}
+
+/// The component with this number of a root whose presence bits these are, if it is there. Where the
+/// root is all that is left, its last component that is there needs no check.
 fn field_in<'s, 'a>(
     fields: &'s [Field],
     index: usize,
     bits: Bits<'a>,
     cursor: Cursor<'a>,
+    is_all: bool,
 ) -> Option<Piece<'s, 'a>>
     requires limits { FieldsKeepLimits (fields_of fields.now) }
     requires defaults { FieldDefaultsFit (fields_of fields.now) }
     requires checked { IsGot (fields_checked (fields_of fields.now) (bits_in bits) (place_of cursor)) }
+    requires all { is_all ≡ true → TakesAll (fields_checked (fields_of fields.now) (bits_in bits) (place_of cursor)) }
     ensures found { LooksUp (parts_in (field_parts (fields_of fields.now) 0 (bits_in bits.entry) (place_of cursor.entry))) (to_component index) result }
     ensures stands { Stands (λ n a. AreFields (fields_of fields.now) index (bits_in bits.entry) a) (place_of cursor.entry) result }
 {
@@ -119,7 +143,7 @@ fn field_in<'s, 'a>(
     }
     let field = &fields[index];
     let before = &fields[..index];
-    let (is_present, _) = presence(&field.need, bits.skip(optional(before) as u64));
+    let (is_present, later) = presence(&field.need, bits.skip(optional(before) as u64));
     if !is_present {
         return None;
     }
@@ -127,7 +151,8 @@ fn field_in<'s, 'a>(
     let Ok(_) = check_fields(before, bits, &mut start) else {
         return None;
     };
-    let Some(octets) = encoding_at(&field.shape, start) else {
+    let is_last = is_all && none_there(&fields[index + 1..], later);
+    let Some(octets) = encoding_at(&field.shape, start, is_last) else {
         return None;
     };
     Some(Piece {
@@ -141,7 +166,7 @@ fn field_in<'s, 'a>(
 fn component_of<'s, 'a>(shape: &'s Shape, index: usize, cursor: Cursor<'a>) -> Option<Piece<'s, 'a>>
     requires limits { KeepsLimits (type_of shape.now) }
     requires defaults { DefaultsFit (type_of shape.now) }
-    requires checked { IsGot (check_value (type_of shape.now) (place_of cursor)) }
+    requires checked { TakesAll (check_value (type_of shape.now) (place_of cursor)) }
     ensures found { LooksUp (parts_in (read_parts (type_of shape.now) (place_of cursor.entry))) (to_component index) result }
     ensures stands { Stands (IsBefore (type_of shape.now) (to_component index)) (place_of cursor.entry) result }
 {
@@ -155,14 +180,14 @@ fn component_of<'s, 'a>(shape: &'s Shape, index: usize, cursor: Cursor<'a>) -> O
             let Ok(bits) = preamble(optional(fields) as u64, &mut next) else {
                 return None;
             };
-            field_in(fields, index, bits, next)
+            field_in(fields, index, bits, next, true)
         }
         Some(_) => {
             let mut next = cursor;
             let Ok(bits) = preamble(optional(fields) as u64 + 1, &mut next) else {
                 return None;
             };
-            field_in(fields, index, bits.later(), next)
+            field_in(fields, index, bits.later(), next, !bits.first())
         }
     }
 }
@@ -270,7 +295,7 @@ fn addition_of<'s, 'a>(shape: &'s Shape, index: usize, cursor: Cursor<'a>) -> Op
 fn element_of<'s, 'a>(shape: &'s Shape, index: usize, cursor: Cursor<'a>) -> Option<Piece<'s, 'a>>
     requires limits { KeepsLimits (type_of shape.now) }
     requires defaults { DefaultsFit (type_of shape.now) }
-    requires checked { IsGot (check_value (type_of shape.now) (place_of cursor)) }
+    requires checked { TakesAll (check_value (type_of shape.now) (place_of cursor)) }
     ensures found { LooksUp (parts_in (read_parts (type_of shape.now) (place_of cursor.entry))) (to_item index) result }
     ensures stands { Stands (IsBefore (type_of shape.now) (to_item index)) (place_of cursor.entry) result }
 {
@@ -289,7 +314,8 @@ fn element_of<'s, 'a>(shape: &'s Shape, index: usize, cursor: Cursor<'a>) -> Opt
     let Ok(_) = check_elements(item, index as u64, &mut start) else {
         return None;
     };
-    let Some(octets) = encoding_at(item, start) else {
+    let is_last = index as u64 + 1 == counted.count;
+    let Some(octets) = encoding_at(item, start, is_last) else {
         return None;
     };
     Some(Piece {
@@ -303,7 +329,7 @@ fn element_of<'s, 'a>(shape: &'s Shape, index: usize, cursor: Cursor<'a>) -> Opt
 fn alternative_of<'s, 'a>(shape: &'s Shape, cursor: Cursor<'a>) -> Option<Piece<'s, 'a>>
     requires limits { KeepsLimits (type_of shape.now) }
     requires defaults { DefaultsFit (type_of shape.now) }
-    requires checked { IsGot (check_value (type_of shape.now) (place_of cursor)) }
+    requires checked { TakesAll (check_value (type_of shape.now) (place_of cursor)) }
     ensures found { LooksUp (parts_in (read_parts (type_of shape.now) (place_of cursor.entry))) to_chosen result }
     ensures stands { Stands (IsBefore (type_of shape.now) to_chosen) (place_of cursor.entry) result }
 {
@@ -315,7 +341,7 @@ fn alternative_of<'s, 'a>(shape: &'s Shape, cursor: Cursor<'a>) -> Option<Piece<
         return None;
     };
     if let Some(alternative) = with_tag(root, tag) {
-        let octets = encoding_at(&alternative.shape, next)?;
+        let octets = encoding_at(&alternative.shape, next, true)?;
         return Some(Piece {
             shape: Some(&alternative.shape),
             octets,
@@ -349,7 +375,7 @@ fn alternative_of<'s, 'a>(shape: &'s Shape, cursor: Cursor<'a>) -> Option<Piece<
 fn step_into<'s, 'a>(shape: &'s Shape, octets: &'a [u8], step: Step) -> Option<Piece<'s, 'a>>
     requires limits { KeepsLimits (type_of shape.now) }
     requires defaults { DefaultsFit (type_of shape.now) }
-    requires checked { IsGot (check_value (type_of shape.now) (at octets.now (length octets.now))) }
+    requires checked { TakesAll (check_value (type_of shape.now) (at octets.now (length octets.now))) }
     ensures found { LooksUp (parts_in (read_parts (type_of shape.now) (at octets.now (length octets.now)))) (step_of step) result }
     ensures stands { Stands (IsBefore (type_of shape.now) (step_of step)) (at octets.now (length octets.now)) result }
 {

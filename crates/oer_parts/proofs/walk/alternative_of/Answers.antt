@@ -6,6 +6,7 @@ use Rattle.oer_model.specs.Parts.{octets_of, to_chosen}
 use Rattle.oer_values.specs.ShapeView.{root_of, type_of}
 use Rattle.oer_checker.specs.Places.{place_of}
 use Rattle.oer_parts.proofs.Inside.{not_got}
+use Rattle.oer_parts.proofs.Lasts.{root_last, was_read}
 use Rattle.oer_checker.proofs.PartSteps.{no_such}
 use Rattle.oer_checker.proofs.ShapeCases.{not_choice}
 use Rattle.oer_parts.proofs.TagParts.{alone_found, alone_missing, foreign_part, later_part, root_part}
@@ -22,7 +23,7 @@ returns-in_default-tag_at-clause-found c =
     let s = c.in-Choice in
     let T = type_of c.args.shape.now in
     let k = as_choice c.args.shape.now s.root s.additions s.root.items s.is refl in
-    absurd (not_got (check_value T (place_of c.args.cursor)) _ _ c.requires.checked (by_type T (choice k.extensible (root_of s.root.items k.after)) _ _ k.is (choice_stop k.extensible (root_of s.root.items k.after) _ _ _ c.in_default-tag_at.ensures)))
+    absurd (not_got (check_value T (place_of c.args.cursor)) _ _ (was_read _ c.requires.checked) (by_type T (choice k.extensible (root_of s.root.items k.after)) _ _ k.is (choice_stop k.extensible (root_of s.root.items k.after) _ _ _ c.in_default-tag_at.ensures)))
 
 pub encoding_at-requires-clause-limits : goal.encoding_at-requires-clause-limits
 encoding_at-requires-clause-limits c =
@@ -37,6 +38,14 @@ encoding_at-requires-clause-defaults c =
     let xs = c.deref.result.now in
     let first = c.in-Some.ensures.first in
     root_defaults xs first.0 c.in-Some.alternative.now first.1 first.2 (choice_defaults c.args.shape.now s.root s.additions xs s.is c.deref.ensures.value c.requires.defaults)
+
+pub encoding_at-requires-clause-last : goal.encoding_at-requires-clause-last
+encoding_at-requires-clause-last c always =
+    let s = c.in-Choice in
+    let T = type_of c.args.shape.now in
+    let xs = c.deref.result.now in
+    let k = as_choice c.args.shape.now s.root s.additions xs s.is c.deref.ensures.value in
+    root_last T k.extensible xs k.after k.is (place_of c.args.cursor) (place_of c.tag_at.new.at) c.in-Ok.tag c.in-Some.alternative.now c.in-Ok.ensures c.in-Some.ensures.first c.requires.checked
 
 pub returns-in_err-octets-clause-found : goal.returns-in_err-octets-clause-found
 returns-in_err-octets-clause-found c =
@@ -62,7 +71,7 @@ returns-in_default-additions-clause-found c =
     let T = type_of c.args.shape.now in
     let xs = c.deref.result.now in
     let is = as_closed c.args.shape.now s.root s.additions xs s.is c.in_default-additions.is c.deref.ensures.value in
-    absurd (not_got (check_value T (place_of c.args.cursor)) _ _ c.requires.checked (by_type T (choice false (root_of xs no_alternatives)) _ _ is (choice_none xs _ _ c.in-Ok.tag c.in-Ok.ensures (sym c.in_default-with_tag.ensures.first))))
+    absurd (not_got (check_value T (place_of c.args.cursor)) _ _ (was_read _ c.requires.checked) (by_type T (choice false (root_of xs no_alternatives)) _ _ is (choice_none xs _ _ c.in-Ok.tag c.in-Ok.ensures (sym c.in_default-with_tag.ensures.first))))
 
 pub content_at-requires-clause-limits : goal.content_at-requires-clause-limits
 content_at-requires-clause-limits c =

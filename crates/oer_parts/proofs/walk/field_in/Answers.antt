@@ -8,8 +8,10 @@ use Rattle.oer_checker.proofs.FieldSteps.{field_defaults, field_limits}
 use Rattle.oer_parts.proofs.Finds.{field_defaults_front, field_found, field_missing, fields_front, is_read, is_unread, no_refusal, not_there, same_end}
 use Rattle.oer_parts.proofs.Walks.{field_entry}
 use Rattle.oer_parts.specs.Offsets.{AreFields}
+use Rattle.oer_parts.proofs.Lasts.{field_rest}
 use Rattle.oer_parts.proofs.Standing.{fields_stand, value_stands}
 use Rattle.oer_parts.proofs.walk.field_in.Goals as goal
+use Rattle.oer_parts.proofs.walk.field_in.Goals.{else-is_all, then-is_all}
 
 pub returns-then-index-fields-clause-found : goal.returns-then-index-fields-clause-found
 returns-then-index-fields-clause-found c = let e = c.requires.checked in field_missing c.args.fields.now c.args.index (bits_in c.args.bits) (place_of c.args.cursor) e.1 e.0 e.2 (search rules)
@@ -47,6 +49,20 @@ pub encoding_at-requires-clause-defaults : goal.encoding_at-requires-clause-defa
 encoding_at-requires-clause-defaults c =
     let less : c.args.index < length c.args.fields.now = search rules in
     field_defaults c.args.fields.now c.args.index c.index-fields-index.result less c.index-fields-index.is c.requires.defaults
+
+pub encoding_at-requires-clause-last : goal.encoding_at-requires-clause-last
+encoding_at-requires-clause-last c last =
+    let xs = c.args.fields.now in
+    let x = c.index-fields-index.result in
+    let s = bits_in c.args.bits in
+    let less : c.args.index < length xs = search rules in
+    let bits = c.skip.ensures ∙ ap (λ k. drop k s) c.optional.ensures.is in
+    let there = sym c.presence-is_present.ensures.there ∙ c.if-not-is_present.false in
+    elim c.if-is_all.branch [
+      | then-is_all w ↦ (let none = sym last ∙ w.is_last-is ∙ w.none_there-is_last.ensures in
+          field_rest xs c.args.index s x (place_of c.args.cursor) (place_of c.check_fields.new.at) _ _ _ (c.requires.all w.if-is_all.true) c.in-Ok.ensures less c.index-fields-index.is bits there c.presence-is_present.ensures.left none)
+      | else-is_all w ↦ (let not_all = sym last ∙ w.is_last-is ∙ w.if-is_all.false in absurd (cc))
+    ]
 
 pub returns-in_default-encoding_at-clause-found : goal.returns-in_default-encoding_at-clause-found
 returns-in_default-encoding_at-clause-found c =
