@@ -1,5 +1,5 @@
 -- What a step finds among the parts that were read.
-use Rattle.std.proofs.Common.{◌≡◌, ⊎_elim, arith, ℕ, zero, suc, ◌+◌, ◌-◌, ◌<◌, ◌≤◌, Bool, true, false, List, [], ◌∷◌, ◌++◌, length, take, drop, get_or, Some, None, refl, sym, ap, ◌∙◌, subst, if◌then◌else◌}
+use Rattle.std.proofs.Common.{◌≡◌, ⊎_elim, arith, ℕ, zero, suc, ◌+◌, ◌-◌, ◌<◌, ◌≤◌, Bool, true, false, List, [], ◌∷◌, ◌++◌, length, take, drop, get_or, Option, Some, None, IfSome, option_map, refl, sym, ap, ◌∙◌, subst, if◌then◌else◌}
 use Rattle.std.proofs.lemmas.Bool.{cases_lt}
 use Rattle.std.proofs.lemmas.List.{drop-take, length-take}
 use Rattle.oer_units.specs.declared.fault.Why.{Why}
@@ -15,7 +15,8 @@ use Rattle.oer_values.specs.ShapeView.{additions_of, fields_of, need_of}
 use Rattle.oer_values.specs.declared.shape.Addition.{Addition}
 use Rattle.oer_values.specs.declared.shape.Field.{Field}
 use Rattle.oer_model.specs.SharedSteps.{is_there}
-use Rattle.oer_parts.specs.Walk.{read_in}
+use Rattle.oer_parts.specs.Walk.{IsGot, found_or, read_in, type_in}
+use Rattle.oer_parts.specs.declared.walk.Piece.{Piece}
 use Rattle.oer_checker.proofs.BitLists.{drop_sum}
 use Rattle.oer_parts.proofs.Entries.{Ends, Entry, FoundBy, FoundBy_same, NotIn, Passes, both_ends, found_there, missed, walked}
 use Rattle.oer_checker.proofs.Joins.{bind_got, give_got}
@@ -45,6 +46,17 @@ is_unread true e r s look is (c, t, ends, g, f) same h =
     let here : None ≡ Some c = h ∙ ap (λ (p : Place). read_in (e.octets p)) same ∙ ap read_in (sym g) in
     absurd (cc)
 is_unread false e r s look is f same h = absurd (cc)
+
+-- what an open type holds, as it was found
+pub piece_found : (x : Option Piece) (there : Bool) (e : Entry) (r s : Place) (look : Answer → Answer) → true ≡ there → FoundBy there e r look → s ≡ r → option_map (λ p. p.octets.now) x ≡ read_in (e.octets s) → IfSome x (λ p. type_in p ≡ e.type)
+    → (o : Answer) → found_or o x ≡ look o
+piece_found None there e r s look is f same h kind = absurd (is_unread there e r s look is f same h)
+piece_found (Some p) there e r s look is f same h kind = λ o. ap (λ (V : Option AsnType). found V p.octets.now) kind ∙ is_read there e r s look p.octets.now is f same h o
+
+-- it was checked where it begins
+pub is_checked : (there : Bool) (e : Entry) (r s : Place) (look : Answer → Answer) → true ≡ there → FoundBy there e r look → s ≡ r → IsGot (e.check s)
+is_checked true e r s look is (c, t, (x, ends), g, f) same = (x, t, ends ∙ ap e.check (sym same))
+is_checked false e r s look is f same = absurd (cc)
 
 -- ---- what is asked of the types
 

@@ -1,7 +1,7 @@
 -- Where a part is checked, its octets are read.
-use Rattle.std.proofs.Common.{◌≡◌, ◌<◌, arith, ℕ, zero, suc, ◌-◌, Bool, true, false, not, ◌&&◌, leb, List, Some, None, length, take, refl, sym, ap, ap₂, ◌∙◌}
+use Rattle.std.proofs.Common.{◌≡◌, ℕ, zero, suc, ◌-◌, Bool, true, false, not, ◌&&◌, leb, List, Some, None, length, take, refl, sym, ap, ap₂, ◌∙◌}
 use Rattle.oer_units.specs.declared.fault.Why.{Why}
-use Rattle.oer_units.specs.Reader.{Outcome, Place, Reader, at, bind, bounded, filled_by, give, got, group, leave, leave_at, open_by, refused, then_read, within}
+use Rattle.oer_units.specs.Reader.{Outcome, Place, Reader, at, bind, bounded, filled_by, give, got, group, leave_at, open_by, refused, then_read, within}
 use Rattle.oer_units.specs.Reading.{counted_octets, determinant, open_type, with_length}
 use Rattle.oer_units.specs.Least.{length_octets}
 use Rattle.oer_units.proofs.Closure.{got_place, got_value}
@@ -12,7 +12,6 @@ use Rattle.oer_model.specs.Parts.{octets_of, taken_from}
 use Rattle.oer_checker.specs.Steps.{and_after, between, check_there, got_both, sized_length}
 use Rattle.oer_parts.specs.Walk.{read_in}
 use Rattle.oer_checker.proofs.Joins.{also_is}
-use Rattle.oer_checker.proofs.LengthSteps.{sized_room}
 
 -- ---- a value
 
@@ -116,31 +115,6 @@ module _ (k : ℕ → Reader (List ℕ)) where
     cases (got m s) e = step (leb m s.left) m (m, is_least length_octets m (between p s)) s refl e
     cases (refused w l) e = absurd (cc)
 
-module _ (c : Reader Bool) (p q : Place) (n : ℕ) (f : Bool) (e : got_both n f q ≡ sized_length p) where
-  opened : (o : Outcome Bool) → c (at q.input n) ≡ o → leave (q.left - n) (taken_from (at q.input n) o) ≡ open_type (octets_of c) p
-  unfolding octets_of open_type filled_by
-  opened o is =
-      ap (λ (r : Outcome Bool). leave (q.left - n) (taken_from (at q.input n) r)) (sym is)
-      ∙ ap (λ (b : Bool). open_by b n q (taken_from (at q.input n) (c (at q.input n)))) (sym (sized_room p q n f e))
-      ∙ length_read (λ i. filled_by i (octets_of c)) p q n f e
-
-  pub content_unread : (why : Why) (rest : List ℕ) → refused why rest ≡ c (at q.input n) → None ≡ read_in (open_type (octets_of c) p)
-  content_unread why rest is = ap read_in (opened (refused why rest) (sym is))
-
-  left_more : (k : ℕ) (w rest : List ℕ) (outer : ℕ) → 0 < k → None ≡ read_in (leave_at w rest outer k)
-  left_more zero w rest outer less = absurd (omega arith)
-  left_more (suc k) w rest outer less = refl
-
-  pub content_longer : (g : Bool) (s : Place) → got g s ≡ c (at q.input n) → 0 < s.left → None ≡ read_in (open_type (octets_of c) p)
-  content_longer g s is less = left_more s.left (between (at q.input n) s) s.input (q.left - n) less ∙ ap read_in (opened (got g s) (sym is))
-
-  left_none : (k : ℕ) (w rest : List ℕ) (outer : ℕ) → k ≡ 0 → Some w ≡ read_in (leave_at w rest outer k)
-  left_none zero w rest outer is = refl
-  left_none (suc k) w rest outer is = absurd (cc)
-
-  pub content_read : (g : Bool) (s : Place) (w : List ℕ) → got g s ≡ c (at q.input n) → s.left ≡ 0 → w ≡ between (at q.input n) s → Some w ≡ read_in (open_type (octets_of c) p)
-  content_read g s w is none h = ap Some h ∙ left_none s.left (between (at q.input n) s) s.input (q.left - n) none ∙ ap read_in (opened (got g s) (sym is))
-
 pub counted_unread : (p : Place) (why : Why) (rest : List ℕ) → refused why rest ≡ sized_length p → None ≡ read_in (counted_octets p)
 unfolding counted_octets
 counted_unread p why rest e = length_unread (λ n. group n) p why rest e
@@ -152,7 +126,3 @@ counted_cut p q n f why rest e h = ap read_in (h ∙ length_read (λ n. group n)
 pub counted_read : (p q r : Place) (n : ℕ) (f : Bool) (w : List ℕ) → got_both n f q ≡ sized_length p → got w r ≡ group n q → Some w ≡ read_in (counted_octets p)
 unfolding counted_octets
 counted_read p q r n f w e h = ap read_in (h ∙ length_read (λ n. group n) p q n f e)
-
-pub open_unread : (c : Reader Bool) (p : Place) (why : Why) (rest : List ℕ) → refused why rest ≡ sized_length p → None ≡ read_in (open_type (octets_of c) p)
-unfolding open_type
-open_unread c p why rest e = length_unread (λ n. filled_by n (octets_of c)) p why rest e

@@ -1,9 +1,8 @@
 -- Where a part stands: what is before it is spelt by what the program checked on its way.
-use Rattle.std.proofs.Common.{◌≡◌, arith, ℕ, zero, suc, ◌-◌, ◌<◌, ◌≤◌, Bool, true, false, ◌||◌, List, [], ◌∷◌, ◌++◌, length, take, drop, get_or, Option, Some, None, refl, sym, ap, ap₂, ◌∙◌, subst, append_assoc, length-append, string_bytes}
-use Rattle.std.proofs.lemmas.List.{take_at}
+use Rattle.std.proofs.Common.{◌≡◌, arith, ℕ, zero, suc, ◌+◌, ◌<◌, ◌≤◌, Bool, true, false, ◌||◌, List, [], ◌∷◌, ◌++◌, length, take, drop, get_or, Option, Some, None, refl, sym, ap, ap₂, ◌∙◌, subst, append_assoc, string_bytes}
 use Rattle.oer_units.specs.Lawful.{Lawful}
 use Rattle.oer_units.specs.Reader.{Outcome, Place, at, got, group, refused}
-use Rattle.oer_units.specs.Reading.{open_type, tag}
+use Rattle.oer_units.specs.Reading.{counted_octets, open_type, tag}
 use Rattle.oer_units.specs.Spelling.{IsCounted, IsJoined, IsLength}
 use Rattle.oer_units.specs.declared.tagging.Tag.{Tag}
 use Rattle.oer_units.proofs.Counted.{counted_octets_lawful}
@@ -12,7 +11,7 @@ use Rattle.oer_units.proofs.Units.{group_lawful}
 use Rattle.oer_model.specs.AsnType.{Additions, Alternatives, AsnType, Fields, Need, addition, choice, default, extensible_sequence, field, may, must, no_additions, no_alternatives, sequence, sequence_of}
 use Rattle.oer_model.specs.AsnValue.{AsnValue, Places, absent, no_places, present, unknown}
 use Rattle.oer_model.specs.Bits.{IsPreamble, first_bit, later_bits}
-use Rattle.oer_model.specs.Checking.{check_additions, check_fields, check_times, check_unknown, check_value}
+use Rattle.oer_model.specs.Checking.{check_additions, check_fields, check_open, check_times, check_unknown, check_value}
 use Rattle.oer_model.specs.Constraints.{AdditionsKeepLimits, FieldsKeepLimits, KeepsLimits, addition_count, has_tag, optional, same_tag}
 use Rattle.oer_model.specs.Encoding.{ByBit, ByNeed, IsItself, IsSpelling, SpellsAdditions, SpellsFields, SpellsUnknown}
 use Rattle.oer_model.specs.Fits.{AdditionDefaultsFit, DefaultsFit, FieldDefaultsFit}
@@ -30,14 +29,15 @@ use Rattle.oer_model.proofs.reading.Main.{open_is_lawful, value_lawful}
 use Rattle.oer_model.proofs.reading.Parts.{preamble_lawful}
 use Rattle.oer_model.proofs.paths.Splitting.{taken_lawful}
 use Rattle.oer_parts.specs.Offsets.{AreAdditions, AreFields, AreUnknown, IsBefore, IsByTag, IsOpening, additions_to, fields_to}
-use Rattle.oer_checker.specs.Steps.{addition_map, between, got_both, sized_length, sized_quantity}
-use Rattle.oer_parts.specs.Walk.{IsAfter, Stands, read_in}
+use Rattle.oer_checker.specs.Steps.{addition_map, got_both, sized_length, sized_quantity}
+use Rattle.oer_parts.specs.Walk.{IsAfter, IsGot, Stands, read_in}
 use Rattle.oer_parts.specs.declared.walk.Piece.{Piece}
 use Rattle.oer_checker.proofs.BitLists.{drop_none}
 use Rattle.oer_parts.proofs.Entries.{Entry, Passes, Passes_by}
 use Rattle.oer_checker.proofs.FieldSteps.{count_is}
 use Rattle.oer_parts.proofs.Finds.{addition_defaults_front, additions_front, field_defaults_front, fields_front}
-use Rattle.oer_parts.proofs.UnitFronts.{length_sound, map_sound, quantity_sound, value_sound}
+use Rattle.oer_parts.proofs.Pairs.{open_octets}
+use Rattle.oer_parts.proofs.UnitFronts.{length_sound, map_sound, quantity_sound}
 use Rattle.oer_parts.proofs.Walks.{addition_entries, addition_entry, additions_pass, field_entries, field_entry, fields_pass, item_entries, items_pass, unknown_entries, unknown_pass}
 
 -- ---- what was read
@@ -168,22 +168,6 @@ value_stands T w d F a p q c rest e f read n =
     let o = value_front T w d q c read in
     (a, o.0, e ∙ ap (λ (l : List ℕ). a ++ l) o.1, n ∙ ap (λ (l : List ℕ). length l) o.1, f (length c))
 
-between_is : (p q : Place) (b : List ℕ) → p.input ≡ b ++ q.input → between p q ≡ b
-between_is p q b e =
-    let n : length p.input - length q.input ≡ length b = omega (arith, ap length e, length-append b q.input) in
-    ap₂ (λ (k : ℕ) (l : List ℕ). take k l) n e ∙ take_at b q.input (length b) refl
-
--- the content of an open type
-pub content_stands : (T : AsnType) → KeepsLimits T → DefaultsFit T → (p q r : Place) (n : ℕ) (f g : Bool) (c : List ℕ) (rest : ℕ) → got_both n f q ≡ sized_length p → got g r ≡ check_value T (at q.input n) → r.left ≡ 0 → c ≡ between (at q.input n) r → rest ≡ length q.input
-    → IsAfter (λ n l. IsLength n l) p c rest
-content_stands T w d p q r n f g c rest long e none is many =
-    let l = length_sound p (n, f) q (sym long) in
-    let v = value_sound T w d (at q.input n) g r (sym e) in
-    let words : c ≡ v.0 = is ∙ between_is (at q.input n) r v.0 v.2 in
-    let split : q.input ≡ c ++ r.input = v.2 ∙ ap (λ (b : List ℕ). b ++ r.input) (sym words) in
-    let all : n ≡ length c = omega (arith, v.3, none, ap length words) in
-    (l.0, r.input, l.2 ∙ ap (λ (b : List ℕ). l.0 ++ b) split, many ∙ ap (λ (b : List ℕ). length b) split, subst (λ (k : ℕ). IsLength k l.0) all l.1.0)
-
 -- octets that a length counts
 pub counted_stands : (p q r : Place) (n : ℕ) (f : Bool) (c : List ℕ) (rest : ℕ) → got_both n f q ≡ sized_length p → got c r ≡ group n q → rest ≡ length q.input → IsAfter (λ n l. IsLength n l) p c rest
 counted_stands p q r n f c rest long e many =
@@ -192,6 +176,16 @@ counted_stands p q r n f c rest long e many =
     let split : q.input ≡ c ++ r.input = v.2 ∙ ap (λ (b : List ℕ). b ++ r.input) (sym v.1.0) in
     let all : n ≡ length c = sym (ap length v.1.0 ∙ v.1.1) in
     (l.0, r.input, l.2 ∙ ap (λ (b : List ℕ). l.0 ++ b) split, many ∙ ap (λ (b : List ℕ). length b) split, subst (λ (k : ℕ). IsLength k l.0) all l.1.0)
+
+-- a content that was checked is what its length counts
+pub content_counted : (T : AsnType) → KeepsLimits T → DefaultsFit T → (p : Place) → IsGot (check_open (check_value T) p) → read_in (counted_octets p) ≡ read_in (open_type (octets_of (check_value T)) p)
+content_counted T w d p (f, q, e) =
+    let o = open_octets (check_value T) p q f e in
+    let a = (opens T w d).sound p o.0 q (sym o.1) in
+    let (l, s, split, long, (words, held)) = a.1 in
+    let counted = counted_octets_lawful.complete o.0 a.0 q.input q.left (l, s, split, long, sym words) in
+    let place : p ≡ at (a.0 ++ q.input) (length a.0 + q.left) = ap₂ at a.2 a.3 in
+    ap (λ (t : Place). read_in (counted_octets t)) place ∙ ap read_in counted ∙ ap read_in o.1
 
 -- ---- components
 
@@ -221,15 +215,15 @@ root_stands T fs more is i k p q s bits x many e b h =
 
 -- ---- additions
 
-pub addition_stands : (xs : List Addition) (i : ℕ) (s : List Bool) (p q : Place) (f : Bool) (c : List ℕ) (rest : ℕ) → AdditionsKeepLimits (additions_of xs) → AdditionDefaultsFit (additions_of xs) → i < length xs → got f q ≡ check_additions (additions_of (take i xs)) s p
-    → IsAfter (λ n l. IsLength n l) q c rest → IsAfter (AreAdditions (additions_of xs) i s) p c rest
-addition_stands xs i s p q f c rest w d less e h =
+pub addition_stands : (xs : List Addition) (i : ℕ) (s : List Bool) (p q : Place) (f : Bool) (x : Option Piece) → AdditionsKeepLimits (additions_of xs) → AdditionDefaultsFit (additions_of xs) → i < length xs → got f q ≡ check_additions (additions_of (take i xs)) s p
+    → Stands (λ n l. IsLength n l) q x → Stands (AreAdditions (additions_of xs) i s) p x
+addition_stands xs i s p q f x w d less e h =
     let o = additions_spelt (take i xs) (additions_front xs i w) (addition_defaults_front xs i d) 0 s p q (additions_pass (take i xs) 0 s p q f e) in
     let count : i ≤ addition_count (additions_of xs) = omega (arith, count_is xs) in
     let none = drop_short (addition_count (additions_of xs)) i s count in
     let known = subst (λ (more : Additions). SpellsAdditions more s o.0 o.1) (additions_first xs i) o.2 in
     let no_more : SpellsUnknown (IsCounted IsItself) (addition_count (additions_of xs)) (drop (addition_count (additions_of xs)) (take i s)) [] [] = subst (λ (l : List Bool). SpellsUnknown (IsCounted IsItself) (addition_count (additions_of xs)) l [] []) (sym none) (refl, refl) in
-    further (λ n l. IsLength n l) (AreAdditions (additions_of xs) i s) o.1 p q c rest o.3 (λ n l f. (o.0, o.1, l, refl, known, ([], [], l, refl, no_more, f))) h
+    stands_further (λ n l. IsLength n l) (AreAdditions (additions_of xs) i s) o.1 p q x o.3 (λ n l f. (o.0, o.1, l, refl, known, ([], [], l, refl, no_more, f))) h
 
 pub beyond_stands : (xs : List Addition) (i : ℕ) (s : List Bool) (p q : Place) (f : Bool) (x : Option Piece) → AdditionsKeepLimits (additions_of xs) → AdditionDefaultsFit (additions_of xs) → length xs ≤ i → got f q ≡ check_additions (additions_of xs) s p
     → Stands (AreUnknown (length xs) i s) q x → Stands (AreAdditions (additions_of xs) i s) p x
@@ -238,10 +232,10 @@ beyond_stands xs i s p q f x w d le e h =
     let known = subst (λ (more : Additions). SpellsAdditions more s o.0 o.1) (additions_all (additions_of xs) i (omega (arith, count_is xs))) o.2 in
     stands_further (AreUnknown (length xs) i s) (AreAdditions (additions_of xs) i s) o.1 p q x o.3 (λ n l f. (o.0, o.1, l, refl, known, subst (λ (k : ℕ). AreUnknown k i s n l) (sym (count_is xs)) f)) h
 
-pub unknown_stands : (known i : ℕ) (s : List Bool) (p q : Place) (f : Bool) (c : List ℕ) (rest : ℕ) → got f q ≡ check_unknown (drop known (take i s)) p → IsAfter (λ n l. IsLength n l) q c rest → IsAfter (AreUnknown known i s) p c rest
-unknown_stands known i s p q f c rest e h =
+pub unknown_stands : (known i : ℕ) (s : List Bool) (p q : Place) (f : Bool) (x : Option Piece) → got f q ≡ check_unknown (drop known (take i s)) p → Stands (λ n l. IsLength n l) q x → Stands (AreUnknown known i s) p x
+unknown_stands known i s p q f x e h =
     let o = unknown_spelt (drop known (take i s)) known p q (unknown_pass (drop known (take i s)) known p q f e) in
-    further (λ n l. IsLength n l) (AreUnknown known i s) o.1 p q c rest o.3 (λ n l f. (o.0, o.1, l, refl, o.2, f)) h
+    stands_further (λ n l. IsLength n l) (AreUnknown known i s) o.1 p q x o.3 (λ n l f. (o.0, o.1, l, refl, o.2, f)) h
 
 pub added_stands : (T : AsnType) (xs : List Field) (ys : List Addition) (is : T ≡ extensible_sequence (fields_of xs) (additions_of ys)) (i k n : ℕ) (p q r t : Place) (s bits marks : List Bool) (f g : Bool) (x : Option Piece) → FieldsKeepLimits (fields_of xs) → FieldDefaultsFit (fields_of xs)
     → k ≡ suc (optional (fields_of xs)) → got s q ≡ preamble k p → first_bit s ≡ true → bits ≡ later_bits s → got f r ≡ check_fields (fields_of xs) bits q → got_both marks g t ≡ addition_map n r
@@ -308,8 +302,8 @@ root_alternative_stands T extensible xs after is p q t a c rest i w d e less at 
     subst (λ (U : AsnType). IsAfter (IsBefore U to_chosen) p c rest) (sym is) (further AtOnce (IsBefore (choice extensible (root_of xs after)) to_chosen) o.0 p q c rest o.2
     (λ n l none. (t, o.0, l, refl, o.1, subst (λ (b : List ℕ). IsOpening (root_of xs after) t n b) (sym none) (root_opening xs after t i a n less at same before))) (here q c v.0 rest v.1 many))
 
-pub open_alternative_stands : (T : AsnType) (xs ys : List Alt) (is : T ≡ choice true (root_of xs (later_of ys))) (p q : Place) (t : Tag) (c : List ℕ) (rest : ℕ) → got t q ≡ tag p → has_tag t (root_of xs no_alternatives) ≡ false → IsAfter (λ n l. IsLength n l) q c rest → IsAfter (IsBefore T to_chosen) p c rest
-open_alternative_stands T xs ys is p q t c rest e none h =
+pub open_alternative_stands : (T : AsnType) (xs ys : List Alt) (is : T ≡ choice true (root_of xs (later_of ys))) (p q : Place) (t : Tag) (x : Option Piece) → got t q ≡ tag p → has_tag t (root_of xs no_alternatives) ≡ false → Stands (λ n l. IsLength n l) q x → Stands (IsBefore T to_chosen) p x
+open_alternative_stands T xs ys is p q t x e none h =
     let o = tag_lawful.sound p t q (sym e) in
-    subst (λ (U : AsnType). IsAfter (IsBefore U to_chosen) p c rest) (sym is) (further (λ n l. IsLength n l) (IsBefore (choice true (root_of xs (later_of ys))) to_chosen) o.0 p q c rest o.2
+    subst (λ (U : AsnType). Stands (IsBefore U to_chosen) p x) (sym is) (stands_further (λ n l. IsLength n l) (IsBefore (choice true (root_of xs (later_of ys))) to_chosen) o.0 p q x o.2
     (λ n l long. (t, o.0, l, refl, o.1, beyond_opening xs (later_of ys) t n l none (later_opening ys t n l long))) h)

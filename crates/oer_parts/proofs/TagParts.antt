@@ -1,18 +1,20 @@
 -- The alternative of a CHOICE, as a part.
-use Rattle.std.proofs.Common.{◌≡◌, ◌<◌, arith, ℕ, zero, suc, Bool, true, false, ◌||◌, List, [], ◌∷◌, length, take, get_or, Option, Some, None, refl, sym, ap, ◌∙◌}
+use Rattle.std.proofs.Common.{◌≡◌, ◌<◌, arith, ℕ, zero, suc, Bool, true, false, ◌||◌, List, [], ◌∷◌, length, take, get_or, Option, Some, None, IfSome, option_map, refl, sym, ap, ◌∙◌}
 use Rattle.oer_units.specs.declared.tagging.Tag.{Tag}
 use Rattle.oer_units.specs.Reader.{Outcome, Place, Reader, bind, choose, give, got, refused, then_read}
 use Rattle.oer_units.specs.Reading.{counted_octets, open_type, tag}
 use Rattle.oer_model.specs.AsnType.{Alternatives, AsnType, choice, no_alternatives}
-use Rattle.oer_model.specs.Checking.{check_value}
+use Rattle.oer_model.specs.Checking.{check_open, check_value}
 use Rattle.oer_model.specs.Constraints.{has_tag, same_tag}
 use Rattle.oer_model.specs.Parts.{Answer, Part, alone_by_tag, alternative_parts, found, lookup, octets_of, part, parts_in, read_alone, read_parts, to_chosen}
-use Rattle.oer_values.specs.Lookup.{IsFirst}
+use Rattle.oer_values.specs.Lookup.{IsFirst, first_with}
 use Rattle.oer_values.specs.ShapeView.{later_of, root_of, type_of}
 use Rattle.oer_values.specs.declared.shape.Alt.{Alt}
-use Rattle.oer_parts.specs.Walk.{read_in}
+use Rattle.oer_checker.specs.Steps.{check_later}
+use Rattle.oer_parts.specs.Walk.{IsGot, found_or, read_in, type_in}
+use Rattle.oer_parts.specs.declared.walk.Piece.{Piece}
 use Rattle.oer_checker.proofs.Joins.{bind_got}
-use Rattle.oer_checker.proofs.TagSteps.{not_in_root}
+use Rattle.oer_checker.proofs.TagSteps.{choice_later, later_found, not_in_root}
 
 -- what is read alone is found, or nothing is
 pub alone_found : (V : Option AsnType) (r : Reader (List ℕ)) (q : Place) (w : List ℕ) → Some w ≡ read_in (r q) → (o : Answer) → found V w ≡ lookup o to_chosen (parts_in (read_alone V r q))
@@ -28,6 +30,11 @@ alone_missing V r q e0 o = cases (r q) e0 where
   cases : (a : Outcome (List ℕ)) → None ≡ read_in a → o ≡ lookup o to_chosen (parts_in (then_read (λ c. give (part to_chosen V c ∷ [])) a))
   cases (got c s) e = absurd (cc)
   cases (refused why rest) e = refl
+
+-- the same of what an open type holds
+pub alone_piece : (x : Option Piece) (V : Option AsnType) (r : Reader (List ℕ)) (q : Place) → option_map (λ p. p.octets.now) x ≡ read_in (r q) → IfSome x (λ p. type_in p ≡ V) → (o : Answer) → found_or o x ≡ lookup o to_chosen (parts_in (read_alone V r q))
+alone_piece None V r q h kind o = alone_missing V r q h o
+alone_piece (Some p) V r q h kind o = ap (λ (W : Option AsnType). found W p.octets.now) kind ∙ alone_found V r q p.octets.now h o
 
 -- ---- which alternative it is
 
@@ -101,3 +108,9 @@ pub foreign_part : (T : AsnType) (e : Bool) (xs ys : List Alt) (is : T ≡ choic
 foreign_part T e xs ys is p q t h none later o =
     let has : has_tag t (root_of xs (later_of ys)) ≡ false = not_in_root xs (later_of ys) t (sym none) ∙ later_tags ys t ∙ later in
     ap (λ (l : Outcome (List Part)). lookup o to_chosen (parts_in l)) (by_none (has_tag t (root_of xs (later_of ys))) (alternative_parts (root_of xs (later_of ys)) t) (read_alone None counted_octets) q has ∙ choice_parts T e (root_of xs (later_of ys)) is p q t h)
+
+-- its open type was checked
+pub later_checked : (T : AsnType) (xs ys : List Alt) (is : T ≡ choice true (root_of xs (later_of ys))) (p q : Place) (t : Tag) (a : Alt) → got t q ≡ tag p → IsFirst xs t None → Some a ≡ first_with t ys → IsGot (check_value T p) → IsGot (check_open (check_value (type_of a.shape)) q)
+later_checked T xs ys is p q t a h none first (f, r, e) =
+    let whole = choice_later xs ys p q t (check_later (later_of ys) t q) h (sym none) refl in
+    (f, r, e ∙ ap (λ (U : AsnType). check_value U p) is ∙ sym whole ∙ sym (ap (λ (c : Reader Bool). c q) (later_found ys a t first)))

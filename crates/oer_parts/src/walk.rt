@@ -34,14 +34,6 @@ pub(crate) struct Piece<'s, 'a> {
     pub rest: usize,
 }
 
-/// The content of an open type.
-#[derive(Clone, Copy)]
-struct Content<'a> {
-    octets: &'a [u8],
-    /// How many octets there are from their first on.
-    rest: usize,
-}
-
 /// The octets that are an encoding of a value of the type. Where it is the last, these are all that
 /// are left, and aren't looked at.
 fn encoding_at<'a>(shape: &Shape, cursor: Cursor<'a>, is_last: bool) -> Option<&'a [u8]>
@@ -60,50 +52,24 @@ fn encoding_at<'a>(shape: &Shape, cursor: Cursor<'a>, is_last: bool) -> Option<&
     Some(octets_between(cursor, end))
 }
 
-/// The content of an open type (X.696, 30) that holds a value of the type.
-fn content_at<'a>(shape: &Shape, cursor: Cursor<'a>) -> Option<Content<'a>>
-    requires limits { KeepsLimits (type_of shape.now) }
-    requires defaults { DefaultsFit (type_of shape.now) }
-    ensures read { option_map (λ s. s.octets.now) result ≡ read_in (open_type (octets_of (check_value (type_of shape.now))) (place_of cursor.entry)) }
-    ensures stands { IfSome result (λ s. IsAfter (λ n l. IsLength n l) (place_of cursor.entry) s.octets.now s.rest) }
+/// The content of an open type (X.696, 30): the octets that its length counts.
+fn content_at<'s, 'a>(shape: Option<&'s Shape>, cursor: Cursor<'a>) -> Option<Piece<'s, 'a>>
+    ensures read { option_map (λ p. p.octets.now) result ≡ read_in (counted_octets (place_of cursor.entry)) }
+    ensures kind { IfSome result (λ p. type_in p ≡ option_map (λ s. type_of s.now) shape.entry) }
+    ensures stands { Stands (λ n l. IsLength n l) (place_of cursor.entry) result }
 {
-    let mut next = cursor;
-    let Ok(counted) = sized_length_at(&mut next) else {
+    let mut begin = cursor;
+    let Ok(counted) = sized_length_at(&mut begin) else {
         return None;
     };
-    let content = Cursor {
-        rest: next.rest,
-        left: counted.count,
-    };
-    let mut end = content;
-    let Ok(_) = check_shape(shape, &mut end) else {
+    let mut end = begin;
+    let Ok(content) = group_at(&mut end, counted.count) else {
         return None;
     };
-    if end.left > 0 {
-        return None;
-    }
-    Some(Content {
-        octets: octets_between(content, end),
-        rest: content.rest.len(),
-    })
-}
-
-/// The octets that a length counts.
-fn counted_at<'a>(cursor: Cursor<'a>) -> Option<Content<'a>>
-    ensures read { option_map (λ s. s.octets.now) result ≡ read_in (counted_octets (place_of cursor.entry)) }
-    ensures stands { IfSome result (λ s. IsAfter (λ n l. IsLength n l) (place_of cursor.entry) s.octets.now s.rest) }
-{
-    let mut next = cursor;
-    let Ok(counted) = sized_length_at(&mut next) else {
-        return None;
-    };
-    let mut end = next;
-    let Ok(octets) = group_at(&mut end, counted.count) else {
-        return None;
-    };
-    Some(Content {
-        octets,
-        rest: next.rest.len(),
+    Some(Piece {
+        shape,
+        octets: content,
+        rest: begin.rest.len(),
     })
 }
 
@@ -221,14 +187,7 @@ fn addition_in<'s, 'a>(
         return None;
     };
     let addition = &additions[index];
-    let Some(content) = content_at(&addition.shape, start) else {
-        return None;
-    };
-    Some(Piece {
-        shape: Some(&addition.shape),
-        octets: content.octets,
-        rest: content.rest,
-    })
+    content_at(Some(&addition.shape), start)
 }
 
 /// The addition with this number, of which the type knows so many, where it is there.
@@ -249,14 +208,7 @@ fn unknown_in<'s, 'a>(
     let Ok(_) = check_unknown(bits.until(index as u64), known, &mut start) else {
         return None;
     };
-    let Some(content) = counted_at(start) else {
-        return None;
-    };
-    Some(Piece {
-        shape: None,
-        octets: content.octets,
-        rest: content.rest,
-    })
+    content_at(None, start)
 }
 
 /// The addition of a SEQUENCE with this number, known or not, if it is there.
@@ -352,22 +304,8 @@ fn alternative_of<'s, 'a>(shape: &'s Shape, cursor: Cursor<'a>) -> Option<Piece<
         return None;
     };
     match with_tag(additions, tag) {
-        Some(alternative) => {
-            let content = content_at(&alternative.shape, next)?;
-            Some(Piece {
-                shape: Some(&alternative.shape),
-                octets: content.octets,
-                rest: content.rest,
-            })
-        }
-        None => {
-            let content = counted_at(next)?;
-            Some(Piece {
-                shape: None,
-                octets: content.octets,
-                rest: content.rest,
-            })
-        }
+        Some(alternative) => content_at(Some(&alternative.shape), next),
+        None => content_at(None, next),
     }
 }
 

@@ -2,13 +2,13 @@ use Rattle.std.proofs.Common.{◌∙◌, drop, length, refl, sym, ap}
 use Rattle.oer_model.specs.Bits.{first_bit}
 use Rattle.oer_model.specs.Checking.{check_additions, check_unknown}
 use Rattle.oer_model.specs.Parts.{lookup, parts_in, to_addition, unknown_parts}
-use Rattle.oer_values.specs.ShapeView.{additions_of}
+use Rattle.oer_values.specs.ShapeView.{additions_of, type_of}
 use Rattle.oer_checker.specs.BitView.{bits_in}
 use Rattle.oer_checker.specs.Places.{place_of}
 use Rattle.oer_checker.proofs.FieldSteps.{addition_defaults, addition_limits}
-use Rattle.oer_parts.proofs.Finds.{addition_absent, addition_defaults_front, addition_found, additions_front, is_read, is_unread, no_refusal, nth, parted, same_end, unknown_look}
+use Rattle.oer_parts.proofs.Finds.{addition_absent, addition_defaults_front, addition_found, additions_front, is_checked, no_refusal, nth, parted, piece_found, same_end, unknown_look}
 use Rattle.oer_parts.proofs.Walks.{addition_entry}
-use Rattle.oer_parts.proofs.Standing.{addition_stands, beyond_stands}
+use Rattle.oer_parts.proofs.Standing.{addition_stands, beyond_stands, content_counted}
 use Rattle.oer_parts.proofs.walk.addition_in.Goals as goal
 
 pub returns-then-not-first-clause-found : goal.returns-then-not-first-clause-found
@@ -58,33 +58,23 @@ returns-in_default-check_additions-clause-found c =
     let o = addition_found xs (length xs) refl (bits_in c.args.bits) (place_of c.args.cursor) e.1 e.0 e.2 c.args.index y.0 c.if-index-additions.false y.1 in
     absurd (no_refusal _ o.0 _ _ o.1 c.in_default-check_additions.ensures)
 
-pub content_at-requires-clause-limits : goal.content_at-requires-clause-limits
-content_at-requires-clause-limits c = addition_limits c.args.additions.now c.args.index c.index-additions-index.result c.if-index-additions.false c.index-additions-index.is c.requires.limits
-
-pub content_at-requires-clause-defaults : goal.content_at-requires-clause-defaults
-content_at-requires-clause-defaults c = addition_defaults c.args.additions.now c.args.index c.index-additions-index.result c.if-index-additions.false c.index-additions-index.is c.requires.defaults
-
-pub returns-in_default-content_at-clause-found : goal.returns-in_default-content_at-clause-found
-returns-in_default-content_at-clause-found c =
-    let e = c.requires.checked in
-    let xs = c.args.additions.now in
-    let s = bits_in c.args.bits in
-    let x = c.index-additions-index.result in
-    let o = addition_found xs (length xs) refl s (place_of c.args.cursor) e.1 e.0 e.2 c.args.index x c.if-index-additions.false c.index-additions-index.is in
-    let there = sym c.if-not-first.false ∙ c.first.ensures ∙ ap first_bit c.skip.ensures in
-    let ends = same_end _ o.0 (place_of c.check_additions-2.new.at) _ o.1 c.in-Ok-check_additions.ensures in
-    absurd (is_unread _ (addition_entry x c.args.index (first_bit (drop c.args.index s))) o.0 (place_of c.check_additions-2.new.at) _ there o.2 ends c.in_default-content_at.ensures.read)
-
 pub returns-clause-found : goal.returns-clause-found
 returns-clause-found c =
     let e = c.requires.checked in
     let xs = c.args.additions.now in
-    let s = bits_in c.args.bits in
+    let i = c.args.index in
     let x = c.index-additions-index.result in
-    let o = addition_found xs (length xs) refl s (place_of c.args.cursor) e.1 e.0 e.2 c.args.index x c.if-index-additions.false c.index-additions-index.is in
+    let T = type_of x.shape in
+    let s = bits_in c.args.bits in
+    let start = place_of c.check_additions-2.new.at in
+    let entry = addition_entry x i (first_bit (drop i s)) in
+    let o = addition_found xs (length xs) refl s (place_of c.args.cursor) e.1 e.0 e.2 i x c.if-index-additions.false c.index-additions-index.is in
     let there = sym c.if-not-first.false ∙ c.first.ensures ∙ ap first_bit c.skip.ensures in
-    let ends = same_end _ o.0 (place_of c.check_additions-2.new.at) _ o.1 c.in-Ok-check_additions.ensures in
-    is_read _ (addition_entry x c.args.index (first_bit (drop c.args.index s))) o.0 (place_of c.check_additions-2.new.at) _ _ there o.2 ends c.in-Some.ensures.read
+    let ends = same_end _ o.0 start _ o.1 c.in-Ok-check_additions.ensures in
+    let w = addition_limits xs i x c.if-index-additions.false c.index-additions-index.is c.requires.limits in
+    let d = addition_defaults xs i x c.if-index-additions.false c.index-additions-index.is c.requires.defaults in
+    let content = content_counted T w d start (is_checked _ entry o.0 start _ there o.2 ends) in
+    piece_found c.content_at.result _ entry o.0 start _ there o.2 ends (c.content_at.ensures.read ∙ content) c.content_at.ensures.kind
 
 pub returns-then-index-additions-clause-stands : goal.returns-then-index-additions-clause-stands
 returns-then-index-additions-clause-stands c =
@@ -92,4 +82,4 @@ returns-then-index-additions-clause-stands c =
 
 pub returns-clause-stands : goal.returns-clause-stands
 returns-clause-stands c =
-    addition_stands c.args.additions.now c.args.index (bits_in c.args.bits) (place_of c.args.cursor) (place_of c.check_additions-2.new.at) _ _ _ c.requires.limits c.requires.defaults c.if-index-additions.false c.in-Ok-check_additions.ensures c.in-Some.ensures.stands
+    addition_stands c.args.additions.now c.args.index (bits_in c.args.bits) (place_of c.args.cursor) (place_of c.check_additions-2.new.at) _ c.content_at.result c.requires.limits c.requires.defaults c.if-index-additions.false c.in-Ok-check_additions.ensures c.content_at.ensures.stands
