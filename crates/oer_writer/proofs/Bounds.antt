@@ -12,9 +12,9 @@ use Rattle.oer_model.specs.LeafType.{LeafType}
 use Rattle.oer_model.specs.LeafValue as leaf_kind
 use Rattle.oer_model.specs.LeafValue.{LeafValue}
 use Rattle.oer_model.specs.AsnType.{Alternatives, AsnType, Fields, Need, alternative, choice, default, extensible_sequence, field, later, leaf, may, must, no_alternatives, no_fields, sequence, sequence_of}
-use Rattle.oer_model.specs.AsnValue.{AsnValue, Places, Unknown, Values, bool, chosen, enum, int, items, leaf_value, no_places, nothing, octets, seq, text}
-use Rattle.oer_model.specs.Bits.{octets_for, padded}
-use Rattle.oer_model.specs.Canonical.{any_present, any_unknown, canonical_octets, integer_octets, leaf_octets, string_octets}
+use Rattle.oer_model.specs.AsnValue.{AsnValue, Places, Unknown, Values, bit_list, bool, chosen, enum, int, items, leaf_value, no_places, nothing, octets, seq, text}
+use Rattle.oer_model.specs.Bits.{octets_for, padded, spare_bits}
+use Rattle.oer_model.specs.Canonical.{any_present, any_unknown, bit_octets, bitmap_octets, canonical_octets, integer_octets, leaf_octets, string_octets}
 use Rattle.oer_model.specs.Constraints.{Form, fixed, form_of, high_to, low_from, same_tag, signed_counted, signed_fixed, signed_form, signed_within, unsigned_counted, unsigned_fixed, unsigned_form}
 use Rattle.oer_values.specs.ValueView.{places_from, places_of, value_of, values_of}
 use Rattle.oer_values.specs.declared.value.Value.{Value}
@@ -130,6 +130,26 @@ item_bound T z h = leaf_bound 17 (leaf_kind.enum z) (λ kind. item_leaf kind z h
 octets_leaf : (kind : LeafType) (w : List ℕ) → length w < 2 ^ 64 → length (leaf_octets kind (octets w)) ≤ 9 + length w
 octets_leaf (kind.octet_string size) w h = string_few (fixed size) w h
 octets_leaf _ w h = nil (9 + length w)
+
+bitmap_few : (s : List Bool) → length s < 2 ^ 64 → length (bitmap_octets s) ≤ 11 + length s / 8
+unfolding bitmap_octets octets_for
+bitmap_few s h =
+    let w = spare_bits (length s) ∷ padded s in
+    let is : length (padded s) ≡ octets_for (length s) = length-padded s in
+    omega (arith, is, counted_few w (omega (arith, is)))
+
+bits_few_octets : (o : Option ℕ) (s : List Bool) → length s < 2 ^ 64 → length (bit_octets o s) ≤ 11 + length s / 8
+unfolding octets_for
+bits_few_octets (Some n) s h = omega (arith, length-padded s)
+bits_few_octets None s h = bitmap_few s h
+
+bits_leaf : (kind : LeafType) (s : List Bool) → length s < 2 ^ 64 → length (leaf_octets kind (bit_list s)) ≤ 11 + length s / 8
+bits_leaf (kind.bit_string size) s h = bits_few_octets (fixed size) s h
+bits_leaf kind.object_id s h = nil (11 + length s / 8)
+bits_leaf _ s h = nil (11 + length s / 8)
+
+pub bits_bound : (T : AsnType) (s : List Bool) → length s < 2 ^ 64 → length (canonical_octets T (bit_list s)) ≤ 11 + length s / 8
+bits_bound T s h = leaf_bound (11 + length s / 8) (leaf_kind.bit_list s) (λ kind. bits_leaf kind s h) T
 
 pub octets_bound : (T : AsnType) (w : List ℕ) → length w < 2 ^ 64 → length (canonical_octets T (octets w)) ≤ 9 + length w
 octets_bound T w h = leaf_bound (9 + length w) (leaf_kind.octets w) (λ kind. octets_leaf kind w h) T

@@ -2,13 +2,13 @@
 //! come to 2^64 or where it finds no bound. They look at the value alone, and take less time than to
 //! measure it.
 ghost use Rattle.std.specs.Prelude.{map};
-ghost use Rattle.oer_model.specs.AsnValue.{chosen, enum, int, items, octets, seq, text};
+ghost use Rattle.oer_model.specs.AsnValue.{bit_list, chosen, enum, int, items, octets, seq, text};
 ghost use Rattle.oer_values.specs.ValueView.{places_of, unknown_of, value_of, values_of};
 ghost use Rattle.oer_writer.specs.Bounds.{Bounds, BoundsPlaces, BoundsValues};
 
 use crate::most::plus;
 use oer_leaves::{is_extended, quantity_len};
-use oer_types::{Unknown, Value};
+use oer_types::{Bits, Unknown, Value};
 use oer_units::{Tag, tag_len};
 
 // Of an INTEGER.
@@ -23,6 +23,13 @@ fn bound_item(value: i64, done: u64) -> Option<u64>
     ensures { Bounds done (enum value) result }
 {
     plus(done, 17)
+}
+
+// Of a BIT STRING: its length, how many bits aren't used, and an octet for each eight bits begun.
+fn bound_bits(bits: &Bits, done: u64) -> Option<u64>
+    ensures { Bounds done (bit_list bits.now) result }
+{
+    plus(done, bits.count() / 8 + 11)
 }
 
 // Of an OCTET STRING, or of a character string.
@@ -45,6 +52,7 @@ pub(crate) fn bound(value: &Value, done: u64) -> Option<u64>
         Value::Null => Some(done),
         Value::Int(value) => bound_integer(*value, done),
         Value::Enum(value) => bound_item(*value, done),
+        Value::Bits(bits) => bound_bits(bits, done),
         Value::Octets(octets) => bound_string(octets, done),
         Value::Text(text) => bound_string(text.as_bytes(), done),
         Value::Seq {
