@@ -1,28 +1,31 @@
 -- At most how many octets values have, by any type.
-use Rattle.std.proofs.Common.{inl, inr, ◌≡◌, ⊎_elim, ℕ, suc, ◌+◌, ◌-◌, ◌*◌, ◌/◌, ◌^◌, ◌<◌, ◌≤◌, List, [], ◌∷◌, ◌++◌, length, drop, get_or, map, Bool, true, false, ◌||◌, cond, nat_lt, if◌then◌else◌, ℤ, pos, negsuc, FitsSigned, Option, Some, None, IfSome, option_map, arith, refl, sym, ap, ◌∙◌, append-nil, length-append}
+use Rattle.std.proofs.Common.{inl, inr, ◌≡◌, ⊎_elim, ℕ, zero, suc, ◌+◌, ◌-◌, ◌*◌, ◌/◌, ◌^◌, ◌<◌, ◌≤◌, List, [], ◌∷◌, ◌++◌, length, drop, get_or, map, Bool, true, false, ◌||◌, cond, nat_lt, if◌then◌else◌, ℤ, pos, negsuc, FitsSigned, Option, Some, None, IfSome, option_map, arith, refl, sym, ap, ◌∙◌, length-append}
 use Rattle.std.proofs.lemmas.Bool.{cases_lt}
 use Rattle.std.proofs.lemmas.List.{drop_more, drop_all, length-map}
+use Rattle.std.proofs.Math.Nat.{pow-suc}
 use Rattle.std.specs.Int.{w128}
-use Rattle.oer_units.specs.Least.{counted, enumerated_octets, length_octets, signed_octets, tag_octets, unsigned_octets}
+use Rattle.oer_units.specs.Least.{base128_octets, counted, enumerated_octets, length_octets, object_id_octets, signed_octets, subidentifier_octets, tag_octets, unsigned_octets}
 use Rattle.oer_units.specs.declared.tagging.Tag.{Tag}
 use Rattle.oer_units.proofs.Needed.{needed_sixteen}
 use Rattle.oer_units.proofs.Numbers.{length-big_endian, length-signed_octets, length-unsigned_octets, length_octets_above, length_octets_below, needed_least}
+use Rattle.oer_units.proofs.WrittenDigits.{count_first, count_step, upper}
 use Rattle.oer_model.specs.LeafType as kind
 use Rattle.oer_model.specs.LeafType.{LeafType}
 use Rattle.oer_model.specs.LeafValue as leaf_kind
 use Rattle.oer_model.specs.LeafValue.{LeafValue}
-use Rattle.oer_model.specs.AsnType.{Alternatives, AsnType, Fields, Need, alternative, choice, default, extensible_sequence, field, later, leaf, may, must, no_alternatives, no_fields, sequence, sequence_of}
-use Rattle.oer_model.specs.AsnValue.{AsnValue, Places, Unknown, Values, bit_list, bool, chosen, enum, int, items, leaf_value, no_places, nothing, octets, seq, text}
+use Rattle.oer_model.specs.AsnType.{Additions, Alternatives, AsnType, Fields, Need, addition, alternative, choice, default, extensible_sequence, field, later, leaf, may, must, no_additions, no_alternatives, no_fields, sequence, sequence_of}
+use Rattle.oer_model.specs.AsnValue.{AsnValue, Places, Unknown, Values, bit_list, bool, chosen, enum, foreign, int, items, leaf_value, no_places, nothing, octets, oid, seq, text}
 use Rattle.oer_model.specs.Bits.{octets_for, padded, spare_bits}
-use Rattle.oer_model.specs.Canonical.{any_present, any_unknown, bit_octets, bitmap_octets, canonical_octets, integer_octets, leaf_octets, string_octets}
-use Rattle.oer_model.specs.Constraints.{Form, fixed, form_of, high_to, low_from, same_tag, signed_counted, signed_fixed, signed_form, signed_within, unsigned_counted, unsigned_fixed, unsigned_form}
-use Rattle.oer_values.specs.ValueView.{places_from, places_of, value_of, values_of}
+use Rattle.oer_model.specs.Canonical.{any_present, any_unknown, bit_octets, bitmap_octets, canonical_octets, extension_octets, integer_octets, leaf_octets, string_octets, unknown_marks, unknown_octets}
+use Rattle.oer_model.specs.Constraints.{Form, addition_count, fixed, form_of, high_to, low_from, same_tag, signed_counted, signed_fixed, signed_form, signed_within, unsigned_counted, unsigned_fixed, unsigned_form}
+use Rattle.oer_values.specs.ValueView.{places_from, places_of, unknown_of, value_of, values_of}
+use Rattle.oer_values.specs.declared.value.Unknown as rust_unknown
 use Rattle.oer_values.specs.declared.value.Value.{Value}
 use Rattle.oer_model.proofs.bits.LeastBits.{length-padded}
-use Rattle.oer_writer.specs.Bounds.{Bounds, BoundsPlaces, BoundsValues}
-use Rattle.oer_leaves.specs.Parts.{chosen_octets, field_bits, field_octets, first_bits, is_kept, kept_place, place_bit, place_octets_of, root_octets, values_octets}
+use Rattle.oer_writer.specs.Bounds.{Bounds, BoundsAdded, BoundsAdditions, BoundsPlaces, BoundsRoot, BoundsUnknown, BoundsValues}
+use Rattle.oer_leaves.specs.Parts.{addition_octets, chosen_octets, counted_place, field_bits, field_octets, first_bits, is_kept, kept_place, known_bits, known_octets, place_bit, place_octets_of, root_octets, values_octets}
 use Rattle.oer_leaves.proofs.Components.{count_of, extended_is, field_first, values_len}
-use Rattle.oer_leaves.proofs.Places.{field_bits_first}
+use Rattle.oer_leaves.proofs.Places.{field_bits_first, marks_length, unknown_step}
 
 pub nil : (n : ℕ) → 0 ≤ n
 nil n = omega arith
@@ -131,7 +134,7 @@ octets_leaf : (kind : LeafType) (w : List ℕ) → length w < 2 ^ 64 → length 
 octets_leaf (kind.octet_string size) w h = string_few (fixed size) w h
 octets_leaf _ w h = nil (9 + length w)
 
-bitmap_few : (s : List Bool) → length s < 2 ^ 64 → length (bitmap_octets s) ≤ 11 + length s / 8
+bitmap_few : (s : List Bool) → length s / 8 + 2 < 2 ^ 64 → length (bitmap_octets s) ≤ 11 + length s / 8
 unfolding bitmap_octets octets_for
 bitmap_few s h =
     let w = spare_bits (length s) ∷ padded s in
@@ -141,7 +144,7 @@ bitmap_few s h =
 bits_few_octets : (o : Option ℕ) (s : List Bool) → length s < 2 ^ 64 → length (bit_octets o s) ≤ 11 + length s / 8
 unfolding octets_for
 bits_few_octets (Some n) s h = omega (arith, length-padded s)
-bits_few_octets None s h = bitmap_few s h
+bits_few_octets None s h = bitmap_few s (omega (arith, h))
 
 bits_leaf : (kind : LeafType) (s : List Bool) → length s < 2 ^ 64 → length (leaf_octets kind (bit_list s)) ≤ 11 + length s / 8
 bits_leaf (kind.bit_string size) s h = bits_few_octets (fixed size) s h
@@ -162,6 +165,39 @@ text_leaf _ w h = nil (9 + length w)
 pub text_bound : (T : AsnType) (w : List ℕ) → length w < 2 ^ 64 → length (canonical_octets T (text w)) ≤ 9 + length w
 text_bound T w h = leaf_bound (9 + length w) (leaf_kind.text w) (λ kind. text_leaf kind w h) T
 
+-- ---- object identifiers
+
+upper_few : (k n : ℕ) → n < 128 ^ k → length (upper n) ≤ k
+upper_few zero n h = let none : n ≡ 0 = omega arith in omega (arith, ap (λ m. length (upper m)) none)
+upper_few (suc k) zero h = nil (suc k)
+upper_few (suc k) (suc m) h =
+    let power : 128 ^ suc k ≡ 128 ^ k * 128 = pow-suc 128 k in
+    omega (arith, count_step (suc m) (omega arith), upper_few k (suc m / 128) (omega (arith, power, h)))
+
+arc_few : (k n : ℕ) → n / 128 < 128 ^ k → length (base128_octets n) ≤ suc k
+arc_few k n h = omega (arith, count_first n, upper_few k (n / 128) h)
+
+arcs_few : (xs : List ℕ) → ((k : ℕ) → get_or xs k 0 < 2 ^ 128) → length (subidentifier_octets xs) ≤ length xs * 19
+arcs_few [] h = nil (0 * 19)
+arcs_few (x ∷ xs) h =
+    let one : x < 2 ^ 128 = h 0 in
+    omega (arith, length-append (base128_octets x) (subidentifier_octets xs), arc_few 18 x (omega (arith, one)), arcs_few xs (λ k. h (suc k)))
+
+object_few : (w : List ℕ) → ((k : ℕ) → get_or w k 0 < 2 ^ 128) → length (object_id_octets w) ≤ length w * 19
+object_few [] h = nil (0 * 19)
+object_few (a ∷ []) h = nil (1 * 19)
+object_few (a ∷ b ∷ rest) h =
+    let first : a < 2 ^ 128 = h 0 in
+    let second : b < 2 ^ 128 = h 1 in
+    omega (arith, length-append (base128_octets (40 * a + b)) (subidentifier_octets rest), arc_few 19 (40 * a + b) (omega (arith, first, second)), arcs_few rest (λ k. h (suc (suc k))))
+
+oid_leaf : (kind : LeafType) (w : List ℕ) (m : ℕ) → length (object_id_octets w) ≤ m → m < 2 ^ 64 → length (leaf_octets kind (oid w)) ≤ 9 + m
+oid_leaf kind.object_id w m h few = omega (arith, h, counted_few (object_id_octets w) (omega (arith, h, few)))
+oid_leaf _ w m h few = nil (9 + m)
+
+pub oid_bound : (T : AsnType) (w : List ℕ) (m : ℕ) → ((k : ℕ) → get_or w k 0 < 2 ^ 128) → m ≡ length w * 19 → m < 2 ^ 64 → length (canonical_octets T (oid w)) ≤ 9 + m
+oid_bound T w m below is few = leaf_bound (9 + m) (leaf_kind.oid w) (λ kind. oid_leaf kind w m (omega (arith, is, object_few w below)) few) T
+
 -- nor has a value that holds others, by a type that holds none
 seq_none : (kind : LeafType) (ps qs : Places) (us : List Unknown) → leaf_octets kind (seq ps qs us) ≡ []
 seq_none kind.null ps qs us = refl
@@ -174,6 +210,17 @@ items_none _ vs = refl
 chosen_none : (kind : LeafType) (t : Tag) (v : AsnValue) → leaf_octets kind (chosen t v) ≡ []
 chosen_none kind.null t v = refl
 chosen_none _ t v = refl
+
+foreign_none : (kind : LeafType) (t : Tag) (w : List ℕ) → leaf_octets kind (foreign t w) ≡ []
+foreign_none kind.null t w = refl
+foreign_none _ t w = refl
+
+pub foreign_bound : (T : AsnType) (t : Tag) (w : List ℕ) → length w < 2 ^ 64 → length (canonical_octets T (foreign t w)) ≤ length (tag_octets t) + 9 + length w
+foreign_bound (leaf kind) t w h = omega (arith, ap length (foreign_none kind t w))
+foreign_bound (sequence fs) t w h = nil (length (tag_octets t) + 9 + length w)
+foreign_bound (extensible_sequence fs more) t w h = nil (length (tag_octets t) + 9 + length w)
+foreign_bound (sequence_of size U) t w h = nil (length (tag_octets t) + 9 + length w)
+foreign_bound (choice extensible more) t w h = omega (arith, length-append (tag_octets t) (counted w), counted_few w h)
 
 pub null_most : (done : ℕ) → Bounds done nothing (Some done)
 null_most done = λ T. omega (arith, null_bound T)
@@ -248,17 +295,114 @@ places_end start done whole xs i h left fs =
     let none : field_octets gs (places_of (drop i xs)) ≡ [] = ap (λ l. field_octets gs (places_of l)) (drop_all i xs h) ∙ none_left gs in
     omega (arith, (left fs).1, ap length none)
 
-pub seq_bounds : (o : Option ℕ) (done mid : ℕ) (xs : List (Option Value)) (qs : Places) (us : List Unknown) → (any_present qs || any_unknown us) ≡ false → mid ≡ done + (length xs / 8 + 1) → BoundsPlaces mid (places_of xs) o → Bounds done (seq (places_of xs) qs us) o
-seq_bounds None done mid xs qs us off m h = h
-seq_bounds (Some n) done mid xs qs us off m h = go
+pub root_bounds : (o : Option ℕ) (done mid : ℕ) (xs : List (Option Value)) → mid ≡ done + (length xs / 8 + 1) → BoundsPlaces mid (places_of xs) o → BoundsRoot done (places_of xs) o
+root_bounds None done mid xs is h = h
+root_bounds (Some n) done mid xs is h = λ first fs. omega (arith, is, root_few first fs xs, h fs)
+
+-- ---- additions
+
+known_few : (more : Additions) (ps : List (Option AsnValue)) → length (known_bits more (places_from ps)) ≤ length ps
+known_few no_additions ps = nil (length ps)
+known_few (addition n T more) [] = nil 0
+known_few (addition n T more) (None ∷ ps) = omega (arith, known_few more ps)
+known_few (addition n T more) (Some v ∷ ps) = omega (arith, known_few more ps)
+
+known_first : (n : List ℕ) (T : AsnType) (more : Additions) (p : Option AsnValue) (ps : List (Option AsnValue)) → known_octets (addition n T more) (places_from (p ∷ ps)) ≡ counted_place T p ++ known_octets more (places_from ps)
+known_first n T more None ps = refl
+known_first n T more (Some v) ps = refl
+
+-- through a loop: by some of the additions are those that are left
+abbrev pub LeftAdded : ℕ → Places → ℕ → Places → Type 0
+LeftAdded start whole done rest = (more : Additions) → (less : Additions) × (start + length (known_octets more whole) ≤ done + length (known_octets less rest))
+
+pub added_start : (start : ℕ) (whole : Places) → LeftAdded start whole start whole
+added_start start whole = λ more. (more, omega arith)
+
+pub added_more : (start done n : ℕ) (whole : Places) (xs : List (Option Value)) (i : ℕ) (p : Option Value) → i < length xs → p ≡ get_or xs i p → LeftAdded start whole done (places_of (drop i xs)) → ((T : AsnType) → done + length (counted_place T (option_map value_of p)) ≤ n) → LeftAdded start whole n (places_of (drop (i + 1) xs))
+added_more start done n whole xs i p h is left more = λ all. go all (left all).0 (left all).1
+  where
+    rest : List (Option Value)
+    rest = drop (i + 1) xs
+
+    go : (all some : Additions) → start + length (known_octets all whole) ≤ done + length (known_octets some (places_of (drop i xs))) → (less : Additions) × (start + length (known_octets all whole) ≤ n + length (known_octets less (places_of rest)))
+    go all no_additions k = let none : length (known_octets no_additions (places_of (drop i xs))) ≡ 0 = refl in (no_additions, omega (arith, k, none, more (leaf kind.null)))
+    go all (addition name T less) k =
+        let q = option_map value_of p in
+        let is_first = ap (λ l. known_octets (addition name T less) (places_of l)) (drop_more xs i p h ∙ ap (λ y. y ∷ rest) (sym is)) ∙ known_first name T less q (map (option_map value_of) rest) in
+        (less, omega (arith, k, ap length is_first, length-append (counted_place T q) (known_octets less (places_of rest)), more T))
+
+no_more : (less : Additions) → known_octets less no_places ≡ []
+no_more no_additions = refl
+no_more (addition name T less) = refl
+
+pub added_end : (start done : ℕ) (whole : Places) (xs : List (Option Value)) (i : ℕ) → length xs ≤ i → LeftAdded start whole done (places_of (drop i xs)) → (more : Additions) → start + length (known_octets more whole) ≤ done
+added_end start done whole xs i h left more =
+    let less = (left more).0 in
+    let none : known_octets less (places_of (drop i xs)) ≡ [] = ap (λ l. known_octets less (places_of l)) (drop_all i xs h) ∙ no_more less in
+    omega (arith, (left more).1, ap length none)
+
+-- the value of an addition after its length
+pub one_added : (done mid n : ℕ) (v : AsnValue) → mid ≡ done + 9 → n < 2 ^ 64 → ((T : AsnType) → mid + length (canonical_octets T v) ≤ n) → (T : AsnType) → done + length (counted (canonical_octets T v)) ≤ n
+one_added done mid n v is few h T = omega (arith, is, h T, counted_few (canonical_octets T v) (omega (arith, h T, few)))
+
+-- the bits and the octets of unknown additions from a place on, in bits
+abbrev unknown_size : ℕ → List Unknown → ℕ
+unknown_size next us = length (unknown_marks next us) + 8 * length (unknown_octets us)
+
+-- through a loop: from some place on are those that are left
+abbrev pub LeftUnknown : ℕ → List Unknown → ℕ → List Unknown → Type 0
+LeftUnknown start whole done rest = (next : ℕ) → (after : ℕ) × (8 * start + unknown_size next whole ≤ 8 * done + unknown_size after rest)
+
+pub unknown_start : (start : ℕ) (whole : List Unknown) → LeftUnknown start whole start whole
+unknown_start start whole = λ next. (next, omega arith)
+
+pub unknown_more : (start done n : ℕ) (whole : List Unknown) (xs : List rust_unknown.Unknown) (i : ℕ) (x : rust_unknown.Unknown) → i < length xs → x ≡ get_or xs i x → length x.octets.items < 2 ^ 64 → n ≡ done + (x.place / 8 + 10) + length x.octets.items → LeftUnknown start whole done (map unknown_of (drop i xs)) → LeftUnknown start whole n (map unknown_of (drop (i + 1) xs))
+unknown_more start done n whole xs i x h is few e left = λ next.
+    let rest = drop (i + 1) xs in
+    let w = x.octets.items in
+    let from = (left next).0 in
+    let marks : length (unknown_marks from (map unknown_of (drop i xs))) ≡ (x.place - from) + suc (length (unknown_marks (suc x.place) (map unknown_of rest))) = marks_length xs i from x h ∙ ap (λ (y : rust_unknown.Unknown). (y.place - from) + suc (length (unknown_marks (suc y.place) (map unknown_of rest)))) (sym is) in
+    let octs = ap length (unknown_step xs i x w h is refl) in
+    (suc x.place, omega (arith, (left next).1, marks, e, octs, length-append (counted w) (unknown_octets (map unknown_of rest)), counted_few w few))
+
+pub unknown_end : (start done : ℕ) (whole : List Unknown) (xs : List rust_unknown.Unknown) (i : ℕ) → length xs ≤ i → LeftUnknown start whole done (map unknown_of (drop i xs)) → (next : ℕ) → 8 * start + unknown_size next whole ≤ 8 * done
+unknown_end start done whole xs i h left next =
+    let none : unknown_size (left next).0 (map unknown_of (drop i xs)) ≡ 0 = ap (λ l. unknown_size (left next).0 (map unknown_of l)) (drop_all i xs h) in
+    omega (arith, (left next).1, none)
+
+pub additions_bounds : (o : Option ℕ) (done mid last : ℕ) (xs : List (Option Value)) (us : List Unknown) → IfSome o (λ n. n < 2 ^ 64) → mid ≡ done + (length xs / 8 + 11) → BoundsAdded mid (places_of xs) (Some last) → BoundsUnknown last us o → BoundsAdditions done (places_of xs) us o
+additions_bounds None done mid last xs us few m a h = h
+additions_bounds (Some n) done mid last xs us few m a h = λ more.
+    let known = known_bits more (places_of xs) in
+    let marks = unknown_marks (addition_count more) us in
+    let octs = known_octets more (places_of xs) in
+    let rest = unknown_octets us in
+    let bits : length (known ++ marks) ≤ length xs + length marks = omega (arith, length-append known marks, known_few more (map (option_map value_of) xs), length-map xs (option_map value_of)) in
+    let left : done + (length xs / 8 + 11) + length octs ≤ last = omega (arith, m, a more) in
+    let map_few : length (bitmap_octets (known ++ marks)) ≤ 11 + length (known ++ marks) / 8 = bitmap_few (known ++ marks) (omega (arith, bits, left, few, h (addition_count more))) in
+    omega (arith, bits, left, map_few, h (addition_count more), length-append (bitmap_octets (known ++ marks)) (octs ++ rest), length-append octs rest)
+
+extension_few : (x : Bool) (w : List ℕ) → length (extension_octets x w) ≤ length w
+extension_few true w = omega arith
+extension_few false w = nil (length w)
+
+pub extended_few : (fs : Fields) (more : Additions) (ps qs : Places) (us : List Unknown) → (x : Bool) × (length (canonical_octets (extensible_sequence fs more) (seq ps qs us)) ≤ length (root_octets (Some x) fs ps) + length (addition_octets more qs us))
+extended_few fs more ps qs us =
+    let x = any_present qs || any_unknown us in
+    let octs = extension_octets x (addition_octets more qs us) in
+    (x, omega (arith, ap length (extended_is fs more ps qs us x refl), length-append (root_octets (Some x) fs ps) octs, extension_few x (addition_octets more qs us)))
+
+pub seq_bounds : (o : Option ℕ) (done mid : ℕ) (ps qs : Places) (us : List Unknown) → BoundsRoot done ps (Some mid) → BoundsAdditions mid qs us o → Bounds done (seq ps qs us) o
+seq_bounds None done mid ps qs us h a = a
+seq_bounds (Some n) done mid ps qs us h a = go
   where
     less : done + 0 ≤ n
-    less = omega (arith, m, h no_fields)
+    less = omega (arith, h None no_fields, a no_additions)
 
-    go : (T : AsnType) → done + length (canonical_octets T (seq (places_of xs) qs us)) ≤ n
-    go (leaf kind) = omega (arith, less, ap length (seq_none kind (places_of xs) qs us))
-    go (sequence fs) = let e : length (canonical_octets (sequence fs) (seq (places_of xs) qs us)) ≡ length (root_octets None fs (places_of xs)) = refl in omega (arith, e, m, root_few None fs xs, h fs)
-    go (extensible_sequence fs more) = let e = ap length (extended_is fs more (places_of xs) qs us false (sym off) ∙ append-nil (root_octets (Some false) fs (places_of xs))) in omega (arith, e, m, root_few (Some false) fs xs, h fs)
+    go : (T : AsnType) → done + length (canonical_octets T (seq ps qs us)) ≤ n
+    go (leaf kind) = omega (arith, less, ap length (seq_none kind ps qs us))
+    go (sequence fs) = let e : length (canonical_octets (sequence fs) (seq ps qs us)) ≡ length (root_octets None fs ps) = refl in omega (arith, e, h None fs, a no_additions)
+    go (extensible_sequence fs more) = let two = extended_few fs more ps qs us in omega (arith, two.1, h (Some two.0) fs, a more)
     go (sequence_of size U) = less
     go (choice extensible more) = less
 

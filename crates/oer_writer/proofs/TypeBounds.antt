@@ -1,5 +1,5 @@
 -- At most how many octets the values that fit a type have.
-use Rattle.std.proofs.Common.{inl, inr, ◌≡◌, ◌∙◌, ℕ, suc, ◌+◌, ◌*◌, ◌/◌, ◌^◌, ◌<◌, ◌≤◌, List, [], ◌∷◌, ◌++◌, length, drop, get_or, map, Bool, true, false, ◌&&◌, ◌||◌, ℤ, pos, negsuc, ◌-ℤ◌, neg_ℤ, int_le, leb, FitsSigned, Option, Some, None, IfSome, option_map, Vec, Global, arith, refl, sym, ap, subst, append-nil, length-append}
+use Rattle.std.proofs.Common.{inl, inr, ◌≡◌, ◌∙◌, ℕ, suc, ◌+◌, ◌*◌, ◌/◌, ◌^◌, ◌<◌, ◌≤◌, List, [], ◌∷◌, ◌++◌, length, drop, get_or, map, Bool, true, false, ◌&&◌, ℤ, pos, negsuc, ◌-ℤ◌, neg_ℤ, int_le, leb, FitsSigned, Option, Some, None, IfSome, option_map, Vec, Global, arith, refl, sym, ap, subst, length-append}
 use Rattle.std.proofs.lemmas.Bool.{leb-true}
 use Rattle.std.proofs.lemmas.Int.{ints}
 use Rattle.std.proofs.lemmas.List.{drop_more, drop_all, length-map}
@@ -8,10 +8,10 @@ use Rattle.oer_units.specs.Least.{counted, unsigned_octets}
 use Rattle.oer_units.specs.Reading.{is_int128, is_int64}
 use Rattle.oer_units.proofs.Lengths.{both_true}
 use Rattle.oer_units.proofs.Ranges.{int_le-true}
-use Rattle.oer_model.specs.AsnType.{AsnType, Fields, NamedNumber, Need, boolean, default, enumerated, field, integer, may, must, null, octet_string, sequence}
+use Rattle.oer_model.specs.AsnType.{AsnType, Fields, NamedNumber, Need, boolean, default, enumerated, field, integer, may, must, no_additions, null, octet_string, sequence}
 use Rattle.oer_model.specs.AsnValue.{AsnValue, Places, Unknown, Values, absent, items, no_places, no_values, present, seq}
 use Rattle.oer_model.specs.Bits.{octets_for, padded}
-use Rattle.oer_model.specs.Canonical.{any_present, any_unknown, canonical_octets, count, same}
+use Rattle.oer_model.specs.Canonical.{canonical_octets, count, same}
 use Rattle.oer_model.specs.Constraints.{at_most, fixed}
 use Rattle.oer_model.specs.Filling.{filled}
 use Rattle.oer_model.specs.Fits.{AllFit, Fits, FitsFields, listed}
@@ -23,10 +23,11 @@ use Rattle.oer_model.specs.declared.size.Size.{Size}
 use Rattle.oer_values.specs.declared.value.Value.{Value}
 use Rattle.oer_model.proofs.bits.LeastBits.{length-padded}
 use Rattle.oer_model.proofs.fitting.NumberSteps.{wide}
-use Rattle.oer_leaves.specs.Parts.{field_bits, field_octets, root_octets, values_octets}
+use Rattle.oer_leaves.specs.Parts.{field_bits, field_octets, values_octets}
+use Rattle.oer_writer.specs.Bounds.{BoundsAdditions}
 use Rattle.oer_writer.specs.TypeBounds.{BoundsFieldsIn, BoundsIn, BoundsListIn, BoundsPlaceIn, BoundsRootIn, BoundsValuesIn, FieldsHaveMost, HasMost, StringsHaveMost}
-use Rattle.oer_writer.proofs.Bounds.{bool_bound, int_bound, item_bound, kept_few, nil, null_bound, root_few, string_few}
-use Rattle.oer_leaves.proofs.Components.{count_of, extended_is, field_end, field_len, field_none}
+use Rattle.oer_writer.proofs.Bounds.{bool_bound, extended_few, int_bound, item_bound, kept_few, nil, null_bound, root_few, string_few}
+use Rattle.oer_leaves.proofs.Components.{count_of, field_end, field_len, field_none}
 
 -- ---- by the type alone: leaves
 
@@ -218,17 +219,17 @@ root_in : AsnValue → Places
 root_in (seq ps qs us) = ps
 root_in _ = no_places
 
-pub sequence_bounds : (o : Option ℕ) (done : ℕ) (fs : List Field) (additions : Option (Vec Addition Global)) (ps qs : Places) (us : List Unknown) → (any_present qs || any_unknown us) ≡ false → BoundsRootIn (fields_of fs) done ps o → BoundsIn (sequence_with fs additions) done (seq ps qs us) o
+pub sequence_bounds : (o : Option ℕ) (done mid : ℕ) (fs : List Field) (additions : Option (Vec Addition Global)) (ps qs : Places) (us : List Unknown) → BoundsRootIn (fields_of fs) done ps (Some mid) → BoundsAdditions mid qs us o → BoundsIn (sequence_with fs additions) done (seq ps qs us) o
 unfolding root_in
-sequence_bounds None done fs None ps qs us off h = λ f. tt
-sequence_bounds None done fs (Some more) ps qs us off h = λ f. tt
-sequence_bounds (Some n) done fs None ps qs us off h = λ (rs, e, f).
+sequence_bounds None done mid fs None ps qs us h a = λ f. tt
+sequence_bounds None done mid fs (Some more) ps qs us h a = λ f. tt
+sequence_bounds (Some n) done mid fs None ps qs us h a = λ (rs, e, f).
     let fit : FitsFields (fields_of fs) ps = subst (λ x. FitsFields (fields_of fs) x) (sym (ap root_in e)) f in
-    h fit None
-sequence_bounds (Some n) done fs (Some more) ps qs us off h = λ (rs, bs, vs, e, f, _, _).
+    omega (arith, h fit None, a no_additions)
+sequence_bounds (Some n) done mid fs (Some more) ps qs us h a = λ (rs, bs, vs, e, f, _, _).
     let fit : FitsFields (fields_of fs) ps = subst (λ x. FitsFields (fields_of fs) x) (sym (ap root_in e)) f in
-    let is = ap length (extended_is (fields_of fs) (additions_of more.items) ps qs us false (sym off) ∙ append-nil (root_octets (Some false) (fields_of fs) ps)) in
-    omega (arith, is, h fit (Some false))
+    let two = extended_few (fields_of fs) (additions_of more.items) ps qs us in
+    omega (arith, two.1, h fit (Some two.0), a (additions_of more.items))
 
 pub place_bounds : (T : AsnType) (done : ℕ) → BoundsPlaceIn T done None (Some done)
 place_bounds T done = λ f. omega arith

@@ -1,14 +1,13 @@
 //! At most how many octets a value of a type has. Each of these adds them to those done, and answers none
-//! where they come to 2^64 or where it finds no bound. Where the type of an element sets a bound, no
-//! element is looked at.
+//! where they come to 2^64. Where the type of an element sets a bound, no element is looked at.
 ghost use Rattle.std.specs.Prelude.{option_map};
 ghost use Rattle.oer_values.specs.ShapeView.{fields_of, type_of};
 ghost use Rattle.oer_values.specs.ValueView.{places_of, value_of, values_of};
 ghost use Rattle.oer_writer.specs.TypeBounds.{BoundsFieldsIn, BoundsIn, BoundsListIn, BoundsPlaceIn, BoundsRootIn, BoundsValuesIn};
 
-use crate::bound::{bound, bound_values};
+use crate::bound::{bound, bound_additions, bound_values};
 use crate::most::{most, plus, times};
-use oer_leaves::{is_extended, quantity_len};
+use oer_leaves::quantity_len;
 use oer_types::{Field, Shape, Value};
 
 // Of any value.
@@ -26,10 +25,8 @@ pub(crate) fn typed_bound(shape: &Shape, value: &Value, done: u64) -> Option<u64
                 unknown,
             },
         ) => {
-            if is_extended(added, unknown) {
-                return None;
-            }
-            bound_root(fields, root, done)
+            let done = bound_root(fields, root, done)?;
+            bound_additions(added, unknown, done)
         }
         (Shape::SequenceOf { item, .. }, Value::List(values)) => bound_list(item, values, done),
         _ => bound(value, done),

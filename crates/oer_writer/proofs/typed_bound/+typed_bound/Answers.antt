@@ -1,10 +1,10 @@
-use Rattle.std.proofs.Common.{◌≡◌, ◌∙◌, ◌||◌, ap, ap₂, false, map, option_map, sym, subst, drop, rules}
+use Rattle.std.proofs.Common.{◌∙◌, Some, ap, map, option_map, sym, subst, drop, rules}
 use Rattle.oer_model.specs.AsnValue.{items, seq}
 use Rattle.oer_values.specs.ShapeView.{fields_of, type_of}
 use Rattle.oer_values.specs.ValueView.{places_of, unknown_of, value_of, values_of}
-use Rattle.oer_model.specs.Canonical.{any_present, any_unknown}
 use Rattle.oer_values.proofs.Values.{value_of-List, value_of-Seq}
 use Rattle.oer_values.proofs.Shapes.{type_of-Sequence, type_of-SequenceOf}
+use Rattle.oer_writer.specs.Bounds.{BoundsAdditions}
 use Rattle.oer_writer.specs.TypeBounds.{BoundsIn, BoundsListIn, BoundsPlaceIn, BoundsRootIn}
 use Rattle.oer_writer.proofs.TypeBounds.{fields_end, fields_more, fields_none, fields_start, root_bounds, sequence_bounds}
 use Rattle.oer_writer.proofs.typed_bound.+typed_bound.Goals as goal
@@ -27,20 +27,22 @@ bound_fields-returns-in_default t c = fields_none c.args.done c.loop-field.done 
 pub bound_fields-returns : goal.bound_fields-returns
 bound_fields-returns t c = fields_end c.args.done c.loop-field.done (fields_of c.args.fields.now) (places_of c.args.places.now) c.args.fields.now c.loop-field.field-index c.loop-field.rest.now c.loop-field-test.false c.loop-field.invariant
 
-pub typed_bound-returns-else-is_extended : goal.typed_bound-returns-else-is_extended
-typed_bound-returns-else-is_extended t c =
+pub typed_bound-returns-in_ok-done-in-Sequence-Seq : goal.typed_bound-returns-in_ok-done-in-Sequence-Seq
+typed_bound-returns-in_ok-done-in-Sequence-Seq t c =
     let s = c.in-Sequence-Seq in
-    let o = c.bound_root.result in
+    let o = c.bound_additions.result in
     let done = c.args.done in
+    let mid = c.in_ok-done-in-Sequence-Seq.done in
     let ps = places_of s.root.items in
     let qs = places_of s.added.items in
     let us = map unknown_of s.unknown.items in
-    let off : (any_present qs || any_unknown us) ≡ false =
-    ap₂ (λ xs ys. any_present (places_of xs) || any_unknown (map unknown_of ys)) (sym c.deref.ensures.value) (sym c.deref-in-Sequence-Seq.ensures.value) ∙ sym c.is_extended.ensures ∙ c.if-is_extended.false in
-    let root : BoundsRootIn (fields_of s.fields.items) done ps o =
-    subst (λ xs. BoundsRootIn (fields_of s.fields.items) done (places_of xs) o) c.deref-in-Sequence-Seq-3.ensures.value
-    (subst (λ fs. BoundsRootIn (fields_of fs) done (places_of c.deref-in-Sequence-Seq-3.result.now) o) c.deref-in-Sequence-Seq-2.ensures.value c.bound_root.ensures) in
-    let at = sequence_bounds o done s.fields.items s.additions-0 ps qs us off root in
+    let root : BoundsRootIn (fields_of s.fields.items) done ps (Some mid) =
+    subst (λ xs. BoundsRootIn (fields_of s.fields.items) done (places_of xs) (Some mid)) c.deref-in-Sequence-Seq.ensures.value
+    (subst (λ fs. BoundsRootIn (fields_of fs) done (places_of c.deref-in-Sequence-Seq.result.now) (Some mid)) c.deref.ensures.value c.in_ok-done-in-Sequence-Seq.ensures) in
+    let more : BoundsAdditions mid qs us o =
+    subst (λ xs. BoundsAdditions mid (places_of xs) us o) c.deref-in-Sequence-Seq-2.ensures.value
+    (subst (λ ys. BoundsAdditions mid (places_of c.deref-in-Sequence-Seq-2.result.now) (map unknown_of ys) o) c.deref-in-Sequence-Seq-3.ensures.value c.bound_additions.ensures) in
+    let at = sequence_bounds o done mid s.fields.items s.additions-0 ps qs us root more in
     let by_type = subst (λ T. BoundsIn T done (seq ps qs us) o) (sym (ap type_of s.is-0 ∙ type_of-Sequence s.fields s.additions-0)) at in
     subst (λ v. BoundsIn (type_of c.args.shape.now) done v o) (sym (ap value_of s.is-1 ∙ value_of-Seq s.root s.added s.unknown)) by_type
 
