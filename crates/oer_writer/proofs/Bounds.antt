@@ -1,5 +1,5 @@
 -- At most how many octets values have, by any type.
-use Rattle.std.proofs.Common.{inl, inr, ◌≡◌, ⊎_elim, ℕ, zero, suc, ◌+◌, ◌-◌, ◌*◌, ◌/◌, ◌^◌, ◌<◌, ◌≤◌, List, [], ◌∷◌, ◌++◌, length, drop, get_or, map, Bool, true, false, ◌||◌, cond, nat_lt, if◌then◌else◌, ℤ, pos, negsuc, FitsSigned, Option, Some, None, IfSome, option_map, arith, refl, sym, ap, ◌∙◌, length-append}
+use Rattle.std.proofs.Common.{inl, inr, ◌≡◌, ⊎_elim, ℕ, zero, suc, ◌+◌, ◌-◌, ◌*◌, ◌/◌, ◌^◌, ◌<◌, ◌≤◌, List, [], ◌∷◌, ◌++◌, length, drop, get_or, map, Bool, true, false, ◌||◌, cond, nat_lt, if◌then◌else◌, ℤ, pos, negsuc, FitsSigned, Option, Some, None, IfSome, option_map, arith, rules, refl, sym, ap, ◌∙◌, length-append}
 use Rattle.std.proofs.lemmas.Bool.{cases_lt}
 use Rattle.std.proofs.lemmas.List.{drop_more, drop_all, length-map}
 use Rattle.std.proofs.Math.Nat.{pow-suc}
@@ -20,6 +20,7 @@ use Rattle.oer_model.specs.Canonical.{any_present, any_unknown, bit_octets, bitm
 use Rattle.oer_model.specs.Constraints.{Form, addition_count, fixed, form_of, high_to, low_from, same_tag, signed_counted, signed_fixed, signed_form, signed_within, unsigned_counted, unsigned_fixed, unsigned_form}
 use Rattle.oer_values.specs.ValueView.{places_from, places_of, unknown_of, value_of, values_of}
 use Rattle.oer_values.specs.declared.value.Unknown as rust_unknown
+use Rattle.oer_values.specs.declared.value.Value as value
 use Rattle.oer_values.specs.declared.value.Value.{Value}
 use Rattle.oer_model.proofs.bits.LeastBits.{length-padded}
 use Rattle.oer_writer.specs.Bounds.{Bounds, BoundsAdded, BoundsAdditions, BoundsPlaces, BoundsRoot, BoundsUnknown, BoundsValues}
@@ -417,6 +418,14 @@ values_more start done n whole vs i v h is left more = λ T. omega (arith, left 
 
 pub values_end : (start done : ℕ) (whole : Values) (vs : List Value) (i : ℕ) → length vs ≤ i → LeftValues start whole done (values_of (drop i vs)) → (T : AsnType) → start + length (values_octets T whole) ≤ done
 values_end start done whole vs i h left T = omega (arith, left T, ap length (ap (λ l. values_octets T (values_of l)) (drop_all i vs h)))
+
+pub value_of-Bool : (x : Bool) → value_of (value.Bool x) ≡ bool x
+value_of-Bool x = search (rules, value.the_lemmas)
+
+-- a BOOLEAN among them
+pub boolean_more : (start : ℕ) (whole : Values) (vs : List Value) (i : ℕ) (v : Value) (x : Bool) → i < length vs → v ≡ get_or vs i v → v ≡ value.Bool x → LeftValues start whole (start + i) (values_of (drop i vs)) → LeftValues start whole (start + (i + 1)) (values_of (drop (i + 1) vs))
+boolean_more start whole vs i v x h is e left =
+    values_more start (start + i) (start + (i + 1)) whole vs i v h is left (λ T. omega (arith, ap (λ y. length (canonical_octets T y)) (ap value_of e ∙ value_of-Bool x), bool_bound T x))
 
 pub list_bounds : (o : Option ℕ) (done mid : ℕ) (vs : List Value) → mid ≡ done + length (counted (unsigned_octets (length vs))) → BoundsValues mid (values_of vs) o → Bounds done (items (values_of vs)) o
 list_bounds None done mid vs m h = h

@@ -66,6 +66,19 @@ fn bound_unknown(unknown: &[Unknown], done: u64) -> Option<u64>
     Some(done)
 }
 
+// Of elements, if each is a BOOLEAN.
+#[tactic(auto, using(oer_leaves::proofs::Views::views))]
+fn bound_booleans(values: &[Value], done: u64) -> Option<u64>
+    ensures { BoundsValues done (values_of values.now) result }
+{
+    for value in values {
+        let Value::Bool(_) = value else {
+            return None;
+        };
+    }
+    plus(done, values.len() as u64)
+}
+
 // Of any value; what holds no other, without a call.
 #[cycle(bound)]
 #[inline(always)]
@@ -151,7 +164,10 @@ fn bound_list(values: &[Value], done: u64) -> Option<u64>
     ensures { Bounds done (items (values_of values.now)) result }
 {
     let done = plus(done, quantity_len(values.len()))?;
-    bound_values(values, done)
+    match bound_booleans(values, done) {
+        Some(sum) => Some(sum),
+        None => bound_values(values, done),
+    }
 }
 
 #[cycle(bound)]

@@ -1,11 +1,11 @@
-use Rattle.std.proofs.Common.{◌≡◌, Bool, Some, arith, rules, subst, ◌^◌, ◌<◌, ◌∙◌, IfSome, length, map, option_map, sym, ap}
-use Rattle.oer_values.specs.ValueView.{places_of, unknown_of, value_of}
+use Rattle.std.proofs.Common.{◌≡◌, Some, arith, rules, subst, ◌^◌, ◌<◌, ◌∙◌, IfSome, length, map, option_map, sym, ap}
+use Rattle.oer_values.specs.ValueView.{places_of, unknown_of, value_of, values_of}
 use Rattle.oer_model.specs.AsnValue.{bool, nothing}
 use Rattle.oer_values.specs.declared.value.Value as value
 use Rattle.oer_values.proofs.Values.{value_of-Seq}
-use Rattle.oer_writer.specs.Bounds.{Bounds, BoundsAdditions, BoundsRoot}
+use Rattle.oer_writer.specs.Bounds.{Bounds, BoundsAdditions, BoundsRoot, BoundsValues}
 use Rattle.oer_leaves.specs.Parts.{counted_place, place_octets_of}
-use Rattle.oer_writer.proofs.Bounds.{added_end, added_more, added_start, additions_bounds, bool_bound, chosen_bounds, list_bounds, most, null_most, one_added, places_end, places_more, places_start, root_bounds, seq_bounds}
+use Rattle.oer_writer.proofs.Bounds.{added_end, added_more, added_start, additions_bounds, bool_bound, chosen_bounds, list_bounds, most, null_most, one_added, places_end, places_more, places_start, root_bounds, seq_bounds, value_of-Bool}
 use Rattle.oer_writer.proofs.bound.+bound.Goals as goal
 
 pub bound_chosen-returns : goal.bound_chosen-returns
@@ -13,8 +13,12 @@ bound_chosen-returns t c =
     let few : IfSome c.bound.result (λ n. n < 2 ^ 64) = search rules in
     chosen_bounds c.bound.result c.args.done c.in_ok-done.done c.args.tag (value_of c.args.value.now) few (omega (arith, c.in_ok-done.ensures, c.in_ok-plus.ensures, c.tag_len.ensures)) c.bound.ensures
 
-pub bound_list-returns : goal.bound_list-returns
-bound_list-returns t c =
+pub bound_list-returns-in-Some : goal.bound_list-returns-in-Some
+bound_list-returns-in-Some t c =
+    list_bounds (Some c.in-Some.sum) c.args.done c.in_ok-done.done c.args.values.now (omega (arith, c.in_ok-done.ensures, c.quantity_len.ensures)) (subst (λ o. BoundsValues c.in_ok-done.done (values_of c.args.values.now) o) c.in-Some.is c.bound_booleans.ensures)
+
+pub bound_list-returns-in-None : goal.bound_list-returns-in-None
+bound_list-returns-in-None t c =
     list_bounds c.bound_values.result c.args.done c.in_ok-done.done c.args.values.now (omega (arith, c.in_ok-done.ensures, c.quantity_len.ensures)) c.bound_values.ensures
 
 pub bound_places-loop-place-init : goal.bound_places-loop-place-init
@@ -67,9 +71,6 @@ bound-returns-in_ok-bound_root-in-Seq t c =
     subst (λ xs. BoundsAdditions mid (places_of xs) (map unknown_of s.unknown.items) o) c.deref-in-Seq.ensures.value
     (subst (λ us. BoundsAdditions mid (places_of c.deref-in-Seq.result.now) (map unknown_of us) o) c.deref-in-Seq-2.ensures.value c.bound_additions.ensures) in
     subst (λ v. Bounds c.args.done v o) (sym (ap value_of s.is ∙ value_of-Seq s.root s.added s.unknown)) (seq_bounds o c.args.done mid (places_of s.root.items) (places_of s.added.items) (map unknown_of s.unknown.items) root more)
-
-value_of-Bool : (x : Bool) → value_of (value.Bool x) ≡ bool x
-value_of-Bool x = search (rules, value.the_lemmas)
 
 value_of-Null : value_of value.Null ≡ nothing
 value_of-Null = search (rules, value.the_lemmas)
