@@ -1,5 +1,5 @@
 //! Entries of octets: their rows, with names and values.
-ghost use Rattle.std.specs.Prelude.{◌≡◌, ◌≤◌, [], ◌∷◌, ◌++◌, IfOk, map, vec_len};
+ghost use Rattle.std.specs.Prelude.{◌≡◌, ◌≤◌, [], ◌∷◌, ◌++◌, IfOk, map, string_bytes, vec_len};
 ghost use Rattle.oer_types.specs.Schema.{the_type};
 ghost use Rattle.oer_rows.specs.Listing.{rows_of};
 ghost use Rattle.oer_rows.specs.Rows.{line_of};
@@ -10,10 +10,10 @@ use crate::entry::{Entry, What};
 use crate::frame::Frame;
 use crate::leaf::{is_default, leaf_of};
 use crate::plain::PlainJson;
-use crate::text::{kind_of, names_text, path_text};
-use crate::trail::{go_on, go_to, last_of};
+use crate::text::kind_of;
+use crate::trail::Way;
 use crate::units::{length_in, other_length, other_quantity, quantity_in, tag_in};
-use oer_reader::{Role, Row, Step, rows};
+use oer_reader::{Role, Row, rows};
 use oer_types::{Schema, Shape};
 use oer_units::ReadFault;
 use std::alloc::{AllocError, Global};
@@ -38,7 +38,7 @@ impl<'a> Meaning<'a> {
 // The preamble of a SEQUENCE.
 fn preamble<'a>(
     alloc: Global,
-    frame: Frame<'a>,
+    frame: &Frame<'a>,
     octets: &'a [u8],
 ) -> Result<Meaning<'a>, AllocError> {
     let bits = match frame.shape {
@@ -53,7 +53,7 @@ fn preamble<'a>(
 // The bitmap of the additions of a SEQUENCE.
 fn bitmap<'a>(
     alloc: Global,
-    frame: Frame<'a>,
+    frame: &Frame<'a>,
     octets: &'a [u8],
 ) -> Result<Meaning<'a>, AllocError> {
     let Some(
@@ -78,13 +78,11 @@ fn bitmap<'a>(
 }
 
 // The tag of a CHOICE.
-fn choice_tag<'a>(frame: Frame<'a>, octets: &'a [u8]) -> Meaning<'a> {
-    let mut inner = frame;
-    inner.tag = tag_in(octets);
-    let Some(tag) = inner.tag else {
-        return Meaning::plain(What::Unknown);
-    };
-    Meaning::plain(What::Tag(tag, inner.inner(Step::Chosen).name))
+fn choice_tag<'a>(frame: &Frame<'a>, octets: &[u8]) -> Meaning<'a> {
+    match tag_in(octets) {
+        Some(tag) => Meaning::plain(What::Tag(tag, frame.alternative(tag))),
+        None => Meaning::plain(What::Unknown),
+    }
 }
 
 // The quantity of a SEQUENCE OF.
@@ -112,7 +110,7 @@ fn open_length<'a>(alloc: Global, octets: &'a [u8]) -> Result<Meaning<'a>, Alloc
 // A value without parts.
 fn contents<'a>(
     alloc: Global,
-    frame: Frame<'a>,
+    frame: &Frame<'a>,
     octets: &'a [u8],
 ) -> Result<Meaning<'a>, AllocError> {
     let Some(shape) = frame.shape else {
@@ -128,7 +126,7 @@ fn contents<'a>(
 // What the row of a part says.
 fn meaning_of<'a>(
     alloc: Global,
-    frame: Frame<'a>,
+    frame: &Frame<'a>,
     role: Role,
     octets: &'a [u8],
 ) -> Result<Meaning<'a>, AllocError> {
@@ -143,24 +141,6 @@ fn meaning_of<'a>(
     }
 }
 
-// The part, after the octets of a row of it were read.
-fn noted<'a>(frame: Frame<'a>, role: Role, offset: usize, octets: &'a [u8]) -> Frame<'a> {
-    let mut frame = frame;
-    frame.is_begun = true;
-    match role {
-        Role::Preamble => frame.preamble = Some(octets),
-        Role::Bitmap => frame.bitmap = Some(octets),
-        Role::Quantity => frame.count = quantity_in(octets).map(|count| count as usize),
-        Role::Tag => frame.tag = tag_in(octets),
-        Role::Length => {
-            let begin = offset.saturating_add(octets.len());
-            frame.end = length_in(octets).map(|count| begin.saturating_add(count as usize));
-        }
-        Role::Contents | Role::Unknown => frame.is_done = true,
-    }
-    frame
-}
-
 // The octets from this offset on.
 fn octets_from(octets: &[u8], offset: usize) -> &[u8] {
     if offset > octets.len() {
@@ -170,7 +150,7 @@ fn octets_from(octets: &[u8], offset: usize) -> &[u8] {
 }
 
 // Whether the part begins here, and has the value of its DEFAULT.
-fn begins_default(alloc: Global, frame: Frame<'_>, octets: &[u8]) -> Result<bool, AllocError> {
+fn begins_default(alloc: Global, frame: &Frame<'_>, octets: &[u8]) -> Result<bool, AllocError> {
     let (Some(shape), Some(default)) = (frame.shape, frame.default) else {
         return Ok(false);
     };
@@ -180,44 +160,61 @@ fn begins_default(alloc: Global, frame: Frame<'_>, octets: &[u8]) -> Result<bool
     is_default(alloc, shape, default, octets)
 }
 
-// The entry of octets of the part that the last frame is.
+// What is said of a part in the entry of its octets.
+#[derive(Clone, Copy)]
+struct Part<'p> {
+    path: &'p str,
+    names: &'p str,
+    kind: &'static str,
+}
+
+// The part at the end of the way.
+fn part_of<'p>(way: &'p Way<'_>) -> Part<'p>
+    requires { 1 ≤ vec_len way.now.frames }
+    ensures { (result.path.now ≡ string_bytes way.now.path) × (result.names.now ≡ string_bytes way.now.names) }
+{
+    Part {
+        path: way.path.as_str(),
+        names: way.names.as_str(),
+        kind: kind_of(way.last().shape),
+    }
+}
+
+// The entry of octets of the part.
 fn entry<'a>(
     alloc: Global,
-    frames: &[Frame<'a>],
+    part: Part<'_>,
     offset: usize,
     octets: &'a [u8],
     what: What<'a>,
 ) -> Result<Entry<'a>, AllocError>
     ensures { IfOk result (λ made. spot_of made ≡ (offset, octets.entry.now)) }
 {
-    let kind = match frames.last() {
-        Some(frame) => kind_of(frame.shape),
-        None => "-",
-    };
     Ok(Entry {
         offset,
         octets,
-        path: path_text(alloc, frames)?,
-        names: names_text(alloc, frames)?,
-        kind,
+        path: String::from_str(alloc, part.path)?,
+        names: String::from_str(alloc, part.names)?,
+        kind: part.kind,
         what,
         canonical: None,
         is_default: false,
     })
 }
 
-// The entry of a row of the part that the last frame is.
+// The entry of a row of the part at the end of the way.
 fn row_entry<'a>(
     alloc: Global,
-    frames: &[Frame<'a>],
-    frame: Frame<'a>,
+    way: &Way<'a>,
     row: &Row<'a>,
     octets: &[u8],
 ) -> Result<Entry<'a>, AllocError>
+    requires { 1 ≤ vec_len way.now.frames }
     ensures { IfOk result (λ made. spot_of made ≡ spot_in (line_of row.now)) }
 {
+    let frame = way.last();
     let meaning = meaning_of(alloc, frame, row.role, row.octets)?;
-    let mut entry = entry(alloc, frames, row.offset, row.octets, meaning.what)?;
+    let mut entry = entry(alloc, part_of(way), row.offset, row.octets, meaning.what)?;
     entry.canonical = meaning.canonical;
     entry.is_default = begins_default(alloc, frame, octets_from(octets, row.offset))?;
     Ok(entry)
@@ -226,21 +223,19 @@ fn row_entry<'a>(
 // Adds the entry of a row.
 fn add<'a>(
     alloc: Global,
-    frames: &mut Vec<Frame<'a>>,
+    way: &mut Way<'a>,
     row: &Row<'a>,
     octets: &[u8],
     entries: &mut Vec<Entry<'a>>,
 ) -> Result<(), AllocError>
-    requires { 1 ≤ vec_len frames.old }
-    ensures way { IfOk result (λ _. 1 ≤ vec_len frames.new) }
+    requires { 1 ≤ vec_len way.old.frames }
+    ensures way { IfOk result (λ _. 1 ≤ vec_len way.new.frames) }
     ensures added { IfOk result (λ _. map spot_of entries.new.items
         ≡ map spot_of entries.old.items ++ spot_in (line_of row.now) ∷ []) }
 {
-    go_to(frames, row.path.as_slice())?;
-    let frame = last_of(frames.as_slice());
-    entries.push(row_entry(alloc, frames.as_slice(), frame, row, octets)?)?;
-    let _ = frames.pop();
-    frames.push(noted(frame, row.role, row.offset, row.octets))?;
+    way.go_to(alloc, row.path.as_slice())?;
+    entries.push(row_entry(alloc, way, row, octets)?)?;
+    way.note(row.role, row.offset, row.octets);
     Ok(())
 }
 
@@ -271,27 +266,27 @@ fn end_of(entries: &[Entry<'_>]) -> usize {
 // Adds an entry of the octets that were taken last, and says of which part they are.
 fn reject<'a>(
     alloc: Global,
-    frames: &mut Vec<Frame<'a>>,
+    way: &mut Way<'a>,
     octets: &'a [u8],
     fault: ReadFault,
     entries: &mut Vec<Entry<'a>>,
 ) -> Result<Place, AllocError>
-    requires { 1 ≤ vec_len frames.old }
+    requires { 1 ≤ vec_len way.old.frames }
     ensures { IfOk result (λ _. AddsAtMostOne entries.old.items entries.new.items) }
 {
     let end = end_of(entries.as_slice());
     if !entries.is_empty() {
-        go_on(frames, end)?;
+        way.go_on(alloc, end)?;
     }
     let taken = octets_from(octets, end);
     let count = (fault.taken as usize).saturating_sub(end).min(taken.len());
     if count > 0 {
         let what = What::Rejected;
-        entries.push(entry(alloc, frames.as_slice(), end, &taken[..count], what)?)?;
+        entries.push(entry(alloc, part_of(way), end, &taken[..count], what)?)?;
     }
     Ok(Place {
-        path: path_text(alloc, frames.as_slice())?,
-        names: names_text(alloc, frames.as_slice())?,
+        path: String::from_str(alloc, way.path.as_str())?,
+        names: String::from_str(alloc, way.names.as_str())?,
     })
 }
 
@@ -305,8 +300,13 @@ fn follow<'a>(
     ensures { IfOk result (λ _. AddsAtMostOne entries.old.items entries.new.items) }
 {
     let rest = octets_from(octets, end);
+    let part = Part {
+        path: "",
+        names: "",
+        kind: "-",
+    };
     if !rest.is_empty() {
-        entries.push(entry(alloc, &[], end, rest, What::Follows)?)?;
+        entries.push(entry(alloc, part, end, rest, What::Follows)?)?;
     }
     Ok(())
 }
@@ -321,18 +321,17 @@ pub fn entries_of<'a>(
     ensures { IfOk result (λ found. AreOfRows (rows_of (the_type schema.now) octets.now) found.entries.items) }
 {
     let listing = rows(alloc, schema, octets)?;
-    let mut frames = Vec::new(alloc);
-    frames.push(Frame::whole(schema.shape()))?;
+    let mut way = Way::whole(alloc, schema.shape())?;
     let mut entries = Vec::with_capacity(alloc, listing.rows.len())?;
     for row in &listing.rows {
-        add(alloc, &mut frames, row, octets, &mut entries)?;
+        add(alloc, &mut way, row, octets, &mut entries)?;
     }
     let place = match listing.verdict {
         Ok(verdict) => {
             follow(alloc, octets, verdict.octets, &mut entries)?;
             None
         }
-        Err(fault) => Some(reject(alloc, &mut frames, octets, fault, &mut entries)?),
+        Err(fault) => Some(reject(alloc, &mut way, octets, fault, &mut entries)?),
     };
     Ok(Entries { entries, place })
 }

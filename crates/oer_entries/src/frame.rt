@@ -1,6 +1,7 @@
 //! A part on the way to the octets in hand.
 
-use oer_reader::Step;
+use crate::units::{length_in, quantity_in, tag_in};
+use oer_reader::{Role, Step};
 use oer_types::{Addition, Alt, Field, Need, Shape, Value, find_alternative};
 use oer_units::Tag;
 
@@ -45,6 +46,10 @@ pub(crate) struct Frame<'a> {
     pub tag: Option<Tag>,
     /// The step to the part of it that was begun last.
     pub last: Option<Step>,
+    /// How long the text of the path to it is.
+    pub path_end: usize,
+    /// How long the text of the names on that path is.
+    pub names_end: usize,
 }
 
 impl<'a> Frame<'a> {
@@ -63,6 +68,8 @@ impl<'a> Frame<'a> {
             count: None,
             tag: None,
             last: None,
+            path_end: 0,
+            names_end: 0,
         }
     }
 
@@ -122,7 +129,7 @@ impl<'a> Frame<'a> {
     }
 
     // The part to which the step leads, if its type has the step.
-    fn known(self, step: Step) -> Option<Frame<'a>> {
+    fn known(&self, step: Step) -> Option<Frame<'a>> {
         match self.shape? {
             Shape::Sequence { root, additions } => Frame::of_sequence(step, root, additions),
             Shape::SequenceOf { item, .. } => match step {
@@ -138,7 +145,7 @@ impl<'a> Frame<'a> {
     }
 
     /// The part to which the step leads.
-    pub(crate) fn inner(self, step: Step) -> Frame<'a> {
+    pub(crate) fn inner(&self, step: Step) -> Frame<'a> {
         match self.known(step) {
             Some(frame) => frame,
             None => Frame::new(Some(step), Name::Whole, None),
@@ -147,10 +154,36 @@ impl<'a> Frame<'a> {
 
     /// Whether the type knows the alternative that was chosen, or has an extension marker, so that
     /// something follows the tag.
-    pub(crate) fn has_alternative(self) -> bool {
+    pub(crate) fn has_alternative(&self) -> bool {
         let (Some(Shape::Choice { root, additions }), Some(tag)) = (self.shape, self.tag) else {
             return false;
         };
         additions.is_some() || find_alternative(root, additions, tag).is_some()
+    }
+    /// What the alternative with the tag is called.
+    pub(crate) fn alternative(&self, tag: Tag) -> Name<'a> {
+        let Some(Shape::Choice { root, additions }) = self.shape else {
+            return Name::Whole;
+        };
+        match find_alternative(root, additions, tag) {
+            Some(one) => Name::Text(one.name.as_str()),
+            None => Name::Alternative(tag),
+        }
+    }
+
+    /// Notes octets that were read of the part.
+    pub(crate) fn note(&mut self, role: Role, offset: usize, octets: &'a [u8]) {
+        self.is_begun = true;
+        match role {
+            Role::Preamble => self.preamble = Some(octets),
+            Role::Bitmap => self.bitmap = Some(octets),
+            Role::Quantity => self.count = quantity_in(octets).map(|count| count as usize),
+            Role::Tag => self.tag = tag_in(octets),
+            Role::Length => {
+                let begin = offset.saturating_add(octets.len());
+                self.end = length_in(octets).map(|count| begin.saturating_add(count as usize));
+            }
+            Role::Contents | Role::Unknown => self.is_done = true,
+        }
     }
 }

@@ -1,12 +1,15 @@
 //! The text of names, paths and kinds.
-ghost use Rattle.std.specs.Prelude.{◌≡◌, IfOk, string_bytes};
+ghost use Rattle.std.specs.Prelude.{◌≡◌, ◌++◌, IfOk, OnOk, string_bytes, take};
+ghost use Rattle.std.specs.String.Boundary.{IsSplitPoint};
 ghost use Rattle.oer_entries.specs.Names.{text_of};
+ghost use Rattle.oer_entries.specs.Ways.{pointed, step_text};
 
-use crate::frame::{Frame, Name};
+use crate::frame::Name;
 use oer_json::{place_key, tag_key};
 use oer_reader::Step;
 use oer_types::Shape;
 use std::alloc::{AllocError, Global};
+use std::fmt::Write;
 
 /// What a type is called in the notation.
 pub(crate) fn kind_of(shape: Option<&Shape>) -> &'static str {
@@ -32,16 +35,6 @@ pub(crate) fn kind_of(shape: Option<&Shape>) -> &'static str {
     }
 }
 
-// The text of a step, as in the text of a path.
-fn step_text(alloc: Global, step: Step) -> Result<String, AllocError> {
-    match step {
-        Step::Component(index) => format!(in alloc; "c{index}"),
-        Step::Addition(index) => format!(in alloc; "a{index}"),
-        Step::Item(index) => format!(in alloc; "i{index}"),
-        Step::Chosen => String::from_str(alloc, "v"),
-    }
-}
-
 /// The text of a name; what the type doesn't know has the key that it has in JSON (docs/JSON.md).
 pub fn name_text(alloc: Global, name: Name<'_>) -> Result<String, AllocError>
     ensures { IfOk result (λ text. string_bytes text ≡ text_of name.entry) }
@@ -55,33 +48,46 @@ pub fn name_text(alloc: Global, name: Name<'_>) -> Result<String, AllocError>
     }
 }
 
-// Appends a text, after a point where it isn't the first.
-fn push_joined(text: &mut String, next: &str) -> Result<(), AllocError> {
-    if !text.is_empty() {
-        text.push_str(".")?;
+// Appends a point, where the text isn't empty.
+fn push_point(text: &mut String) -> Result<(), AllocError>
+    ensures { OnOk result (string_bytes text.new ≡ pointed (string_bytes text.old)) }
+{
+    if text.is_empty() {
+        return Ok(());
     }
-    text.push_str(next)
+    text.push_str(".")
 }
 
-/// The path to the part that the last frame is, in the spelling of `oer part`. That of the whole is
-/// empty.
-pub(crate) fn path_text(alloc: Global, frames: &[Frame<'_>]) -> Result<String, AllocError> {
-    let mut text = String::new(alloc);
-    for frame in frames {
-        if let Some(step) = frame.step {
-            push_joined(&mut text, step_text(alloc, step)?.as_str())?;
-        }
+/// Appends the text of a step, as in the spelling of a path, after a point where it isn't the first.
+pub(crate) fn push_step(text: &mut String, step: Step) -> Result<(), AllocError>
+    ensures { OnOk result (string_bytes text.new ≡ pointed (string_bytes text.old) ++ step_text step) }
+{
+    push_point(text)?;
+    match step {
+        Step::Component(index) => write!(text, "c{index}"),
+        Step::Addition(index) => write!(text, "a{index}"),
+        Step::Item(index) => write!(text, "i{index}"),
+        Step::Chosen => text.push_str("v"),
     }
-    Ok(text)
 }
 
-/// The names on the way to the part that the last frame is. The whole has none.
-pub(crate) fn names_text(alloc: Global, frames: &[Frame<'_>]) -> Result<String, AllocError> {
-    let mut text = String::new(alloc);
-    for frame in frames {
-        if frame.step.is_some() {
-            push_joined(&mut text, name_text(alloc, frame.name)?.as_str())?;
-        }
+/// Appends a name, after a point where it isn't the first.
+pub(crate) fn push_name(alloc: Global, text: &mut String, name: Name<'_>) -> Result<(), AllocError>
+    ensures { OnOk result (string_bytes text.new ≡ pointed (string_bytes text.old) ++ text_of name.entry) }
+{
+    push_point(text)?;
+    match name {
+        Name::Text(name) => text.push_str(name),
+        Name::Item(index) => write!(text, "{index}"),
+        _ => text.push_str(name_text(alloc, name)?.as_str()),
     }
-    Ok(text)
+}
+
+/// Cuts the text back to so many octets. Where they end within a character it stays.
+pub(crate) fn cut(text: &mut String, count: usize)
+    ensures { IsSplitPoint (string_bytes text.old) count → string_bytes text.new ≡ take count (string_bytes text.old) }
+{
+    if text.is_char_boundary(count) {
+        text.truncate(count);
+    }
 }

@@ -1,20 +1,22 @@
-//! The parts on the way to the octets in hand, from the whole on. There is always one: the whole.
-ghost use Rattle.std.specs.Prelude.{◌≤◌, IfOk, length, vec_len};
+//! The way to the octets in hand: the parts on it, from the whole on, and its texts. There is always one
+//! part: the whole.
+ghost use Rattle.std.specs.Prelude.{◌≤◌, IfOk, vec_len};
 
 use crate::bits::{Bitmap, bit, has_bit};
 use crate::frame::Frame;
-use oer_reader::Step;
+use crate::text::{cut, push_name, push_step};
+use oer_reader::{Role, Step};
 use oer_types::{Addition, Field, Shape};
-use std::alloc::AllocError;
+use std::alloc::{AllocError, Global};
 
-/// The part at the end of the way.
-pub(crate) fn last_of<'a>(frames: &[Frame<'a>]) -> Frame<'a>
-    requires { 1 ≤ length frames.now }
-{
-    match frames.last() {
-        Some(frame) => *frame,
-        None => unreachable!(),
-    }
+/// The parts from the whole to the one in hand, and its texts.
+#[derive(Drop)]
+pub(crate) struct Way<'a> {
+    pub frames: Vec<Frame<'a>>,
+    /// The path to the last part, in the spelling of `oer part`. That of the whole is empty.
+    pub path: String,
+    /// The names on that path. The whole has none.
+    pub names: String,
 }
 
 // How many of the frames are on the path.
@@ -29,32 +31,6 @@ fn shared(frames: &[Frame<'_>], path: &[Step]) -> usize
         count = count.saturating_add(1);
     }
     count
-}
-
-// Goes on to the part of the last frame to which the step leads.
-fn enter<'a>(frames: &mut Vec<Frame<'a>>, step: Step) -> Result<(), AllocError>
-    requires { 1 ≤ vec_len frames.old }
-    ensures { IfOk result (λ _. 1 ≤ vec_len frames.new) }
-{
-    let mut frame = last_of(frames.as_slice());
-    let _ = frames.pop();
-    frame.last = Some(step);
-    frames.push(frame)?;
-    frames.push(frame.inner(step))?;
-    Ok(())
-}
-
-/// Goes to the part at the end of the path, from where the frames are.
-pub(crate) fn go_to<'a>(frames: &mut Vec<Frame<'a>>, path: &[Step]) -> Result<(), AllocError>
-    requires { 1 ≤ vec_len frames.old }
-    ensures { IfOk result (λ _. 1 ≤ vec_len frames.new) }
-{
-    let count = shared(frames.as_slice(), path);
-    frames.truncate(count);
-    for step in path.iter().skip(frames.len().saturating_sub(1)) {
-        enter(frames, *step)?;
-    }
-    Ok(())
 }
 
 // The first component from this one on that has octets, by the preamble.
@@ -100,7 +76,7 @@ enum Next {
 }
 
 // What comes after the components of the root.
-fn next_after_root(frame: Frame<'_>, is_extended: bool) -> Next {
+fn next_after_root(frame: &Frame<'_>, is_extended: bool) -> Next {
     if !is_extended {
         return Next::After;
     }
@@ -118,7 +94,7 @@ fn next_after_root(frame: Frame<'_>, is_extended: bool) -> Next {
 }
 
 // What comes next in a SEQUENCE.
-fn next_in_sequence(frame: Frame<'_>, root: &[Field], additions: &Option<Vec<Addition>>) -> Next {
+fn next_in_sequence(frame: &Frame<'_>, root: &[Field], additions: &Option<Vec<Addition>>) -> Next {
     let Some(preamble) = frame.preamble else {
         return Next::Here;
     };
@@ -137,7 +113,7 @@ fn next_in_sequence(frame: Frame<'_>, root: &[Field], additions: &Option<Vec<Add
 }
 
 // What comes next in a SEQUENCE OF.
-fn next_element(frame: Frame<'_>) -> Next {
+fn next_element(frame: &Frame<'_>) -> Next {
     let Some(count) = frame.count else {
         return Next::Here;
     };
@@ -153,7 +129,7 @@ fn next_element(frame: Frame<'_>) -> Next {
 }
 
 // What comes next in a CHOICE.
-fn next_in_choice(frame: Frame<'_>) -> Next {
+fn next_in_choice(frame: &Frame<'_>) -> Next {
     if frame.last.is_some() {
         return Next::After;
     }
@@ -165,7 +141,7 @@ fn next_in_choice(frame: Frame<'_>) -> Next {
 }
 
 // What comes next in the part.
-fn next_of(frame: Frame<'_>) -> Next {
+fn next_of(frame: &Frame<'_>) -> Next {
     match frame.shape {
         Some(Shape::Sequence { root, additions }) => next_in_sequence(frame, root, additions),
         Some(Shape::SequenceOf { .. }) => next_element(frame),
@@ -175,25 +151,110 @@ fn next_of(frame: Frame<'_>) -> Next {
     }
 }
 
-/// Goes on to the part that comes next, where octets up to this offset were read.
-pub(crate) fn go_on<'a>(frames: &mut Vec<Frame<'a>>, offset: usize) -> Result<(), AllocError>
-    requires { 1 ≤ vec_len frames.old }
-{
-    for _ in 0..frames.len() {
-        let frame = last_of(frames.as_slice());
-        match next_of(frame) {
-            Next::Here => return Ok(()),
-            Next::Inside(step) => return enter(frames, step),
-            Next::After => {}
-        }
-        let is_filled = match frame.end {
-            Some(end) => offset >= end,
-            None => true,
-        };
-        if !is_filled || frames.len() < 2 {
-            return Ok(());
-        }
-        let _ = frames.pop();
+impl<'a> Way<'a> {
+    /// The way to the whole.
+    pub(crate) fn whole(alloc: Global, shape: &'a Shape) -> Result<Way<'a>, AllocError>
+        ensures { IfOk result (λ way. 1 ≤ vec_len way.frames) }
+    {
+        let mut frames = Vec::new(alloc);
+        frames.push(Frame::whole(shape))?;
+        Ok(Way {
+            frames,
+            path: String::new(alloc),
+            names: String::new(alloc),
+        })
     }
-    Ok(())
+
+    /// The part at the end of the way.
+    pub(crate) fn last(&self) -> &Frame<'a>
+        requires { 1 ≤ vec_len self.now.frames }
+    {
+        match self.frames.last() {
+            Some(frame) => frame,
+            None => unreachable!(),
+        }
+    }
+
+    /// Notes octets that were read of the last part.
+    pub(crate) fn note(&mut self, role: Role, offset: usize, octets: &'a [u8])
+        requires { 1 ≤ vec_len self.old.frames }
+        ensures { 1 ≤ vec_len self.new.frames }
+    {
+        let Some(frame) = self.frames.last_mut() else {
+            unreachable!();
+        };
+        frame.note(role, offset, octets);
+    }
+
+    // Goes back to the part with this number, counted from 1, if there are more.
+    fn go_back(&mut self, count: usize)
+        requires { (1 ≤ vec_len self.old.frames) × (1 ≤ count) }
+        ensures { 1 ≤ vec_len self.new.frames }
+    {
+        if count >= self.frames.len() {
+            return;
+        }
+        self.frames.truncate(count);
+        let last = self.last();
+        let path_end = last.path_end;
+        let names_end = last.names_end;
+        cut(&mut self.path, path_end);
+        cut(&mut self.names, names_end);
+    }
+
+    // Goes on to the part of the last one to which the step leads.
+    fn enter(&mut self, alloc: Global, step: Step) -> Result<(), AllocError>
+        requires { 1 ≤ vec_len self.old.frames }
+        ensures { IfOk result (λ _. 1 ≤ vec_len self.new.frames) }
+    {
+        let Some(last) = self.frames.last_mut() else {
+            unreachable!();
+        };
+        last.last = Some(step);
+        let mut inner = last.inner(step);
+        push_step(&mut self.path, step)?;
+        push_name(alloc, &mut self.names, inner.name)?;
+        inner.path_end = self.path.len();
+        inner.names_end = self.names.len();
+        self.frames.push(inner)?;
+        Ok(())
+    }
+
+    /// Goes to the part at the end of the path.
+    pub(crate) fn go_to(&mut self, alloc: Global, path: &[Step]) -> Result<(), AllocError>
+        requires { 1 ≤ vec_len self.old.frames }
+        ensures { IfOk result (λ _. 1 ≤ vec_len self.new.frames) }
+    {
+        let count = shared(self.frames.as_slice(), path);
+        self.go_back(count);
+        for step in path.iter().skip(self.frames.len().saturating_sub(1)) {
+            self.enter(alloc, *step)?;
+        }
+        Ok(())
+    }
+
+    /// Goes on to the part that comes next, where octets up to this offset were read.
+    pub(crate) fn go_on(&mut self, alloc: Global, offset: usize) -> Result<(), AllocError>
+        requires { 1 ≤ vec_len self.old.frames }
+        ensures { IfOk result (λ _. 1 ≤ vec_len self.new.frames) }
+    {
+        for _ in 0..self.frames.len() {
+            let frame = self.last();
+            match next_of(frame) {
+                Next::Here => return Ok(()),
+                Next::Inside(step) => return self.enter(alloc, step),
+                Next::After => {}
+            }
+            let is_filled = match frame.end {
+                Some(end) => offset >= end,
+                None => true,
+            };
+            let count = self.frames.len();
+            if !is_filled || count < 2 {
+                return Ok(());
+            }
+            self.go_back(count - 1);
+        }
+        Ok(())
+    }
 }
