@@ -1,5 +1,6 @@
 pub mod Asked
 pub mod Objects
+pub mod Pushed
 pub mod Laid
 pub mod Terminal
 pub mod Shown

@@ -84,6 +84,11 @@ object_of e = json.object (with_canonical e.canonical
     (member (codes "role") (json.string (role_text e.what))
     (member (codes "value") (value_data e.what) no_members))))))))))
 
+-- the begin of an object, with the member for the canonical spelling, if it is another one
+abbrev pub opening : Option (Vec ℕ Global) → Text
+opening None = codes "{"
+opening (Some octets) = codes "{\"canonical\":" ++ (compact_text (octets_data octets.items) ++ codes ",")
+
 -- what stands before an object: nothing before the first, a comma and a line feed before each other
 abbrev pub separator : Bool → Text
 separator true = []

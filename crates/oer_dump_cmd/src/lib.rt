@@ -2,8 +2,8 @@
 //! JSON.
 #![tactic(auto)]
 
+mod as_json;
 mod help;
-mod json;
 mod layout;
 mod line;
 mod options;

@@ -14,7 +14,7 @@ ghost use Rattle.oer_dump_cmd.specs.Ending.{Accepts, Ends, Prints, streams};
 ghost use Rattle.oer_dump_cmd.specs.Showing.{AreOne, AreOneFor, Displays, IsReasonLine, IsTextOf, Shows, judged_as, judged_for, judged_octets, octets_as, octets_at, octets_for};
 ghost use Rattle.oer_dump_cmd.specs.Words.{oer_dump, texts_asked};
 
-use crate::json::json_of;
+use crate::as_json::json_of;
 use crate::layout::text_of;
 use crate::options::{Form, Options, parsed};
 use oer_cmd::type_text::{TypeText, definitions, named_type, one_type, type_text};
