@@ -46,13 +46,6 @@ at_right t0 t1 t2 t3 cell n one two three = (n, three ∙ ap (λ x. x ++ spaces 
 pub at_left : (t0 t1 t2 cell : Text) (n : ℕ) → 2 ≤ n → t1 ≡ t0 ++ cell → t2 ≡ t1 ++ spaces n → (m : ℕ) × (2 ≤ m) × (t2 ≡ t0 ++ (cell ++ spaces m))
 at_left t0 t1 t2 cell n most one two = (n, most, two ∙ ap (λ x. x ++ spaces n) one ∙ append_assoc t0 cell (spaces n))
 
--- the same text in a cell
-pub same_right : (t t0 a b : Text) → a ≡ b → (n : ℕ) × (t ≡ t0 ++ (spaces n ++ (a ++ spaces 2))) → (n : ℕ) × (t ≡ t0 ++ (spaces n ++ (b ++ spaces 2)))
-same_right t t0 a b e (n, is) = (n, is ∙ ap (λ x. t0 ++ (spaces n ++ (x ++ spaces 2))) e)
-
-pub same_left : (t t0 a b : Text) → a ≡ b → (n : ℕ) × (2 ≤ n) × (t ≡ t0 ++ (a ++ spaces n)) → (n : ℕ) × (2 ≤ n) × (t ≡ t0 ++ (b ++ spaces n))
-same_left t t0 a b e (n, most, is) = (n, most, is ∙ ap (λ x. t0 ++ (x ++ spaces n)) e)
-
 pub pushed : {T E : Type 0} (r : Result T E) (new x old : Text) (P : Type 0) → new ≡ (if is_ok r then x else old) → (new ≡ x → P) → OnOk r P
 pushed (Ok y) new x old P is so = so is
 pushed (Err e) new x old P is so = tt

@@ -22,7 +22,7 @@ cells_of e = record { offset = decimal e.offset; count = decimal (length e.octet
 
 -- those of a line of the program
 abbrev pub cells_in : Line → Cells
-cells_in l = record { offset = string_bytes l.offset; count = string_bytes l.count; path = string_bytes l.path; kind = l.kind.now }
+cells_in l = record { offset = decimal l.offset; count = decimal l.count; path = l.path.now; kind = l.kind.now }
 
 abbrev pub spaces : ℕ → Text
 spaces n = replicate n 32

@@ -1,11 +1,13 @@
 //! Entries as text: a line for each, in columns.
-ghost use Rattle.std.specs.Prelude.{◌≡◌, ◌≤◌, ◌++◌, ℕ, IfOk, OnOk, map, string_bytes};
+ghost use Rattle.std.specs.Prelude.{◌≡◌, ◌<◌, ◌≤◌, ◌++◌, ℕ, IfOk, OnOk, map, string_bytes};
+ghost use Rattle.std.specs.Fmt.{decimal};
 ghost use Rattle.clap.specs.Words.{Text};
 ghost use Rattle.oer_dump_cmd.specs.Layout.{HasLines, IsLine, cells_in, cells_of, spaces};
 
 use crate::line::{Line, line_of};
 use oer_entries::Entry;
 use std::alloc::{AllocError, Global};
+use std::fmt::Write;
 
 /// How many characters names and a value have at least, however narrow the line is.
 const LEAST: usize = 12;
@@ -26,16 +28,30 @@ struct Widths {
 
 // How many characters a text has.
 fn count_of(text: &str) -> usize {
+    if text.is_ascii() {
+        return text.len();
+    }
     text.chars().count()
 }
 
+// How many digits a number has.
+fn digits_of(number: usize) -> usize {
+    let mut left = number;
+    let mut count: usize = 1;
+    while left >= 10 {
+        left /= 10;
+        count = count.saturating_add(1);
+    }
+    count
+}
+
 impl Widths {
-    // Wide enough for these and for the line.
-    fn with(self, line: &Line) -> Widths {
+    // Wide enough for these and for the line, but for its numbers, of which the greatest are kept.
+    fn with(self, line: &Line<'_>) -> Widths {
         let value = count_of(line.value.as_str()).saturating_add(line.note.len());
         Widths {
-            offset: self.offset.max(line.offset.len()),
-            count: self.count.max(line.count.len()),
+            offset: self.offset.max(line.offset),
+            count: self.count.max(line.count),
             path: self.path.max(line.path.len()),
             names: self.names.max(line.names.len()),
             kind: self.kind.max(line.kind.len()),
@@ -44,7 +60,7 @@ impl Widths {
     }
 
     // Wide enough for all lines.
-    fn of(lines: &[Line]) -> Widths {
+    fn of(lines: &[Line<'_>]) -> Widths {
         let mut widths = Widths {
             offset: 0,
             count: 0,
@@ -56,6 +72,8 @@ impl Widths {
         for line in lines {
             widths = widths.with(line);
         }
+        widths.offset = digits_of(widths.offset);
+        widths.count = digits_of(widths.count);
         widths
     }
 
@@ -80,22 +98,40 @@ impl Widths {
     }
 }
 
-// Appends so many spaces.
+// Fewer spaces than eight.
+fn few_spaces(count: usize) -> &'static str
+    requires { count < 8 }
+    ensures { result.now ≡ spaces count }
+{
+    match count {
+        0 => "",
+        1 => " ",
+        2 => "  ",
+        3 => "   ",
+        4 => "    ",
+        5 => "     ",
+        6 => "      ",
+        7 => "       ",
+        _ => unreachable!(),
+    }
+}
+
+// Appends so many spaces, eight at a time.
 fn push_spaces(text: &mut String, count: usize) -> Result<(), AllocError>
     ensures { OnOk result (string_bytes text.new ≡ string_bytes text.old ++ spaces count) }
 {
-    for _ in 0..count {
-        text.push(' ')?;
+    for _ in 0..count / 8 {
+        text.push_str("        ")?;
     }
-    Ok(())
+    text.push_str(few_spaces(count % 8))
 }
 
-// Appends a cell at the right of its column, and a gap.
-fn push_right(text: &mut String, cell: &str, width: usize) -> Result<(), AllocError>
-    ensures { OnOk result ((n : ℕ) × (string_bytes text.new ≡ string_bytes text.old ++ (spaces n ++ (cell.now ++ spaces 2)))) }
+// Appends a number at the right of its column, and a gap.
+fn push_number(text: &mut String, number: usize, width: usize) -> Result<(), AllocError>
+    ensures { OnOk result ((n : ℕ) × (string_bytes text.new ≡ string_bytes text.old ++ (spaces n ++ (decimal number ++ spaces 2)))) }
 {
-    push_spaces(text, width.saturating_sub(cell.len()))?;
-    text.push_str(cell)?;
+    push_spaces(text, width.saturating_sub(digits_of(number)))?;
+    write!(text, "{number}")?;
     push_spaces(text, 2)
 }
 
@@ -113,13 +149,9 @@ fn beside_mark(alloc: Global, room: usize, most: usize) -> Result<usize, AllocEr
     Ok(room.saturating_sub(digits.saturating_add(3)))
 }
 
-// Names that take no more than so many characters: of longer ones the last, after the number of those
-// left out.
-fn names_within(alloc: Global, names: &str, room: usize) -> Result<String, AllocError> {
+// Names of which only so many characters have room: the last, after the number of those left out.
+fn cut_names(alloc: Global, names: &str, room: usize) -> Result<String, AllocError> {
     let count = names.len();
-    if count <= room {
-        return String::from_str(alloc, names);
-    }
     let left = count.saturating_sub(beside_mark(alloc, room, count)?);
     let mut text = format!(in alloc; "+{left}..")?;
     for character in names.chars().skip(left) {
@@ -128,9 +160,20 @@ fn names_within(alloc: Global, names: &str, room: usize) -> Result<String, Alloc
     Ok(text)
 }
 
+// Appends names at the left of their column, and a gap. They take no more characters than it has.
+fn push_names(alloc: Global, text: &mut String, names: &str, width: usize) -> Result<(), AllocError>
+    ensures { OnOk result ((cell : Text) × (n : ℕ) × (2 ≤ n) × (string_bytes text.new ≡ string_bytes text.old ++ (cell ++ spaces n))) }
+{
+    if names.len() <= width {
+        return push_left(text, names, width);
+    }
+    let cut = cut_names(alloc, names, width)?;
+    push_left(text, cut.as_str(), width)
+}
+
 // How many octets are left out where so many octets of the line's value are shown. The quotation mark
 // at the end is none of them.
-fn left_out(line: &Line, shown: usize) -> usize {
+fn left_out(line: &Line<'_>, shown: usize) -> usize {
     let left = line.value.len().saturating_sub(shown);
     let left = if line.value.starts_with('"') {
         left.saturating_sub(1)
@@ -140,12 +183,9 @@ fn left_out(line: &Line, shown: usize) -> usize {
     if line.is_digits { left / 2 } else { left }
 }
 
-// The value, of which a longer one than so many characters is cut, and says how many octets are left out.
-fn value_within(alloc: Global, line: &Line, room: usize) -> Result<String, AllocError> {
+// A value of which only so many characters have room: the first, and how many octets are left out.
+fn cut_value(alloc: Global, line: &Line<'_>, room: usize) -> Result<String, AllocError> {
     let value = line.value.as_str();
-    if value.len() <= room || count_of(value) <= room {
-        return String::from_str(alloc, value);
-    }
     let mut keep = beside_mark(alloc, room, value.len())?;
     if line.is_digits && keep % 2 == 0 {
         keep = keep.saturating_sub(1);
@@ -158,30 +198,45 @@ fn value_within(alloc: Global, line: &Line, room: usize) -> Result<String, Alloc
     format!(in alloc; "{shown}..+{left}")
 }
 
+// Appends the value. One that has more characters than there is room for is cut.
+fn push_value(
+    alloc: Global,
+    text: &mut String,
+    line: &Line<'_>,
+    room: usize,
+) -> Result<(), AllocError>
+    ensures { OnOk result ((value : Text) × (string_bytes text.new ≡ string_bytes text.old ++ value)) }
+{
+    let value = line.value.as_str();
+    if value.len() <= room || count_of(value) <= room {
+        return text.push_str(value);
+    }
+    let cut = cut_value(alloc, line, room)?;
+    text.push_str(cut.as_str())
+}
+
 // Appends the line.
 fn push_line(
     alloc: Global,
     text: &mut String,
-    line: &Line,
+    line: &Line<'_>,
     widths: Widths,
 ) -> Result<(), AllocError>
     ensures { OnOk result ((cells : Text) × IsLine (cells_in line.now) cells × (string_bytes text.new ≡ string_bytes text.old ++ cells)) }
 {
-    push_right(text, line.offset.as_str(), widths.offset)?;
-    push_right(text, line.count.as_str(), widths.count)?;
-    push_left(text, line.path.as_str(), widths.path)?;
-    let names = names_within(alloc, line.names.as_str(), widths.names)?;
-    push_left(text, names.as_str(), widths.names)?;
+    push_number(text, line.offset, widths.offset)?;
+    push_number(text, line.count, widths.count)?;
+    push_left(text, line.path, widths.path)?;
+    push_names(alloc, text, line.names, widths.names)?;
     push_left(text, line.kind, widths.kind)?;
     let room = widths.value.saturating_sub(line.note.len()).max(LEAST);
-    let value = value_within(alloc, line, room)?;
-    text.push_str(value.as_str())?;
+    push_value(alloc, text, line, room)?;
     text.push_str(line.note.as_str())?;
     text.push('\n')
 }
 
 // The cells of each line.
-fn lines_of(alloc: Global, entries: &[Entry<'_>]) -> Result<Vec<Line>, AllocError>
+fn lines_of<'e>(alloc: Global, entries: &'e [Entry<'_>]) -> Result<Vec<Line<'e>>, AllocError>
     ensures { IfOk result (λ lines. map cells_in lines.items ≡ map cells_of entries.now) }
 {
     let mut lines = Vec::with_capacity(alloc, entries.len())?;
@@ -192,7 +247,7 @@ fn lines_of(alloc: Global, entries: &[Entry<'_>]) -> Result<Vec<Line>, AllocErro
 }
 
 // How wide the columns are, where a line has so many characters at most; 0 is no bound.
-fn widths_of(lines: &[Line], width: u64) -> Widths {
+fn widths_of(lines: &[Line<'_>], width: u64) -> Widths {
     let widths = Widths::of(lines);
     if width == 0 {
         return widths;
@@ -201,7 +256,7 @@ fn widths_of(lines: &[Line], width: u64) -> Widths {
 }
 
 // The text of the lines.
-fn laid_out(alloc: Global, lines: &[Line], widths: Widths) -> Result<String, AllocError>
+fn laid_out(alloc: Global, lines: &[Line<'_>], widths: Widths) -> Result<String, AllocError>
     ensures { IfOk result (λ text. HasLines (map cells_in lines.now) (string_bytes text)) }
 {
     let mut text = String::new(alloc);

@@ -1,7 +1,8 @@
 //! The cells of an entry's line.
-ghost use Rattle.std.specs.Prelude.{◌≡◌, IfOk, string_bytes};
+ghost use Rattle.std.specs.Prelude.{◌≡◌, IfOk};
 ghost use Rattle.oer_dump_cmd.specs.Layout.{cells_in, cells_of, or_dash};
 
+use crate::as_json::push_json;
 use crate::tag::tag_text;
 use oer_entries::{Entry, NamedBit, What, name_text};
 use std::alloc::{AllocError, Global};
@@ -11,11 +12,11 @@ const SHOWN: usize = 8;
 
 /// The cells of a line.
 #[derive(Drop)]
-pub(crate) struct Line {
-    pub offset: String,
-    pub count: String,
-    pub path: String,
-    pub names: String,
+pub(crate) struct Line<'e> {
+    pub offset: usize,
+    pub count: usize,
+    pub path: &'e str,
+    pub names: &'e str,
     pub kind: &'static str,
     pub value: String,
     /// Whether the value is octets, two digits for each, between quotation marks.
@@ -25,13 +26,10 @@ pub(crate) struct Line {
 }
 
 // A text; `-` stands for the empty one.
-fn or_dash(alloc: Global, text: &str) -> Result<String, AllocError>
-    ensures { IfOk result (λ cell. string_bytes cell ≡ or_dash text.now) }
+fn or_dash(text: &str) -> &str
+    ensures { result.now ≡ or_dash text.now }
 {
-    if text.is_empty() {
-        return String::from_str(alloc, "-");
-    }
-    String::from_str(alloc, text)
+    if text.is_empty() { "-" } else { text }
 }
 
 // A word, and bits by their names.
@@ -73,7 +71,11 @@ fn value_text(alloc: Global, entry: &Entry<'_>) -> Result<String, AllocError> {
             format!(in alloc; "tag {tag} {name}")
         }
         What::Length(count) => format!(in alloc; "length {count}"),
-        What::Value(value) => value.json.to_string(alloc),
+        What::Value(value) => {
+            let mut text = String::new(alloc);
+            push_json(alloc, &mut text, value)?;
+            Ok(text)
+        }
         What::Unknown | What::Follows | What::Rejected => quoted_digits(alloc, entry.octets),
     }
 }
@@ -117,19 +119,15 @@ fn note(alloc: Global, entry: &Entry<'_>) -> Result<String, AllocError> {
 }
 
 /// The cells of the line of an entry.
-pub(crate) fn line_of(alloc: Global, entry: &Entry<'_>) -> Result<Line, AllocError>
+pub(crate) fn line_of<'e>(alloc: Global, entry: &'e Entry<'_>) -> Result<Line<'e>, AllocError>
     ensures { IfOk result (λ line. cells_in line ≡ cells_of entry.now) }
 {
-    let offset = entry.offset;
-    let count = entry.octets.len();
-    let offset = format!(in alloc; "{offset}")?;
-    let count = format!(in alloc; "{count}")?;
-    let path = or_dash(alloc, entry.path.as_str())?;
+    let path = or_dash(entry.path.as_str());
     Ok(Line {
-        offset,
-        count,
+        offset: entry.offset,
+        count: entry.octets.len(),
         path,
-        names: or_dash(alloc, entry.names.as_str())?,
+        names: or_dash(entry.names.as_str()),
         kind: entry.kind,
         value: value_text(alloc, entry)?,
         is_digits: is_digits(entry),
