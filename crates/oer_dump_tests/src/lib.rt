@@ -1,4 +1,4 @@
-//! Tests of what the program `oer-dump` prints, through `run` alone.
+//! Tests of what the program `oer-dump` prints, through `run` alone, but for `same`.
 #![tactic(auto)]
 
 #[cfg(test)]
@@ -12,6 +12,10 @@ mod kinds;
 #[cfg(test)]
 mod refused;
 #[cfg(test)]
+mod same;
+#[cfg(test)]
 mod shared;
+#[cfg(test)]
+mod start;
 #[cfg(test)]
 mod widths;

@@ -1,0 +1,142 @@
+//! A part on the way to the octets in hand.
+
+use oer_entries::Name;
+use oer_reader::Step;
+use oer_types::{Addition, Alt, Field, Need, Shape, Value, find_alternative};
+use oer_units::Tag;
+
+/// A part on the way to the octets in hand, and what was read of it so far.
+#[derive(Clone, Copy)]
+pub(crate) struct Frame<'a> {
+    /// The step that leads to it from the part around it; the whole has none.
+    pub step: Option<Step>,
+    pub name: Name<'a>,
+    /// Its type, if that is known.
+    pub shape: Option<&'a Shape>,
+    /// The value of which it says that a component may be absent.
+    pub default: Option<&'a Value>,
+    /// Whether octets of it were read.
+    pub is_begun: bool,
+    /// Whether it is a value without parts, and was read.
+    pub is_done: bool,
+    /// Where the open type ends that it fills.
+    pub end: Option<usize>,
+    /// The preamble of a SEQUENCE.
+    pub preamble: Option<&'a [u8]>,
+    /// The bitmap of its additions.
+    pub bitmap: Option<&'a [u8]>,
+    /// How many elements a SEQUENCE OF has.
+    pub count: Option<usize>,
+    /// The tag of a CHOICE.
+    pub tag: Option<Tag>,
+    /// The step to the part of it that was begun last.
+    pub last: Option<Step>,
+}
+
+impl<'a> Frame<'a> {
+    // A part of which nothing was read yet.
+    fn new(step: Option<Step>, name: Name<'a>, shape: Option<&'a Shape>) -> Frame<'a> {
+        Frame {
+            step,
+            name,
+            shape,
+            default: None,
+            is_begun: false,
+            is_done: false,
+            end: None,
+            preamble: None,
+            bitmap: None,
+            count: None,
+            tag: None,
+            last: None,
+        }
+    }
+
+    /// The whole.
+    pub(crate) fn whole(shape: &'a Shape) -> Frame<'a> {
+        Frame::new(None, Name::Whole, Some(shape))
+    }
+
+    // A component of the root.
+    fn component(step: Step, field: &'a Field) -> Frame<'a> {
+        let mut frame = Frame::new(
+            Some(step),
+            Name::Text(field.name.as_str()),
+            Some(&field.shape),
+        );
+        if let Need::Default(value) = &field.need {
+            frame.default = Some(value);
+        }
+        frame
+    }
+
+    // An addition, which the type may not know.
+    fn addition(step: Step, index: usize, known: Option<&'a Addition>) -> Frame<'a> {
+        match known {
+            Some(one) => Frame::new(Some(step), Name::Text(one.name.as_str()), Some(&one.shape)),
+            None => Frame::new(Some(step), Name::Addition(index), None),
+        }
+    }
+
+    // The alternative with the tag, which the type may not know.
+    fn chosen(step: Step, tag: Tag, known: Option<&'a Alt>) -> Frame<'a> {
+        match known {
+            Some(one) => Frame::new(Some(step), Name::Text(one.name.as_str()), Some(&one.shape)),
+            None => Frame::new(Some(step), Name::Alternative(tag), None),
+        }
+    }
+
+    // The part of a SEQUENCE to which the step leads.
+    fn of_sequence(
+        step: Step,
+        root: &'a [Field],
+        additions: &'a Option<Vec<Addition>>,
+    ) -> Option<Frame<'a>> {
+        match step {
+            Step::Component(index) => {
+                let field = root.get(index)?;
+                Some(Frame::component(step, field))
+            }
+            Step::Addition(index) => {
+                let Some(additions) = additions else {
+                    return None;
+                };
+                Some(Frame::addition(step, index, additions.get(index)))
+            }
+            _ => None,
+        }
+    }
+
+    // The part to which the step leads, if its type has the step.
+    fn known(self, step: Step) -> Option<Frame<'a>> {
+        match self.shape? {
+            Shape::Sequence { root, additions } => Frame::of_sequence(step, root, additions),
+            Shape::SequenceOf { item, .. } => match step {
+                Step::Item(index) => Some(Frame::new(Some(step), Name::Item(index), Some(item))),
+                _ => None,
+            },
+            Shape::Choice { root, additions } => {
+                let tag = self.tag?;
+                Some(Frame::chosen(step, tag, find_alternative(root, additions, tag)))
+            }
+            _ => None,
+        }
+    }
+
+    /// The part to which the step leads.
+    pub(crate) fn inner(self, step: Step) -> Frame<'a> {
+        match self.known(step) {
+            Some(frame) => frame,
+            None => Frame::new(Some(step), Name::Whole, None),
+        }
+    }
+
+    /// Whether the type knows the alternative that was chosen, or has an extension marker, so that
+    /// something follows the tag.
+    pub(crate) fn has_alternative(self) -> bool {
+        let (Some(Shape::Choice { root, additions }), Some(tag)) = (self.shape, self.tag) else {
+            return false;
+        };
+        additions.is_some() || find_alternative(root, additions, tag).is_some()
+    }
+}

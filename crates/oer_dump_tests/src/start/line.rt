@@ -1,0 +1,132 @@
+//! The cells of an entry's line.
+
+use crate::start::tag::tag_text;
+use oer_entries::{Entry, NamedBit, What, name_text};
+use std::alloc::{AllocError, Global};
+
+/// How many octets a note shows at most.
+const SHOWN: usize = 8;
+
+/// The cells of a line.
+#[derive(Drop)]
+pub(crate) struct Line {
+    pub offset: String,
+    pub count: String,
+    pub path: String,
+    pub names: String,
+    pub kind: &'static str,
+    pub value: String,
+    /// Whether the value is octets, two digits for each, between quotation marks.
+    pub is_digits: bool,
+    /// What stands behind the value.
+    pub note: String,
+}
+
+// A text; `-` stands for the empty one.
+fn or_dash(alloc: Global, text: &str) -> Result<String, AllocError> {
+    if text.is_empty() {
+        return String::from_str(alloc, "-");
+    }
+    String::from_str(alloc, text)
+}
+
+// A word, and bits by their names.
+fn bits_text(alloc: Global, word: &str, bits: &[NamedBit<'_>]) -> Result<String, AllocError> {
+    let mut text = String::from_str(alloc, word)?;
+    for bit in bits {
+        text.push_str(" ")?;
+        text.push_str(name_text(alloc, bit.name)?.as_str())?;
+        text.push_str(if bit.is_set { "=1" } else { "=0" })?;
+    }
+    Ok(text)
+}
+
+// Octets in hexadecimal digits, between quotation marks.
+fn quoted_digits(alloc: Global, octets: &[u8]) -> Result<String, AllocError> {
+    let digits = hex::encode(alloc, octets)?;
+    format!(in alloc; "\"{digits}\"")
+}
+
+// The first of the octets in hexadecimal digits, and how many are left out.
+fn first_digits(alloc: Global, octets: &[u8]) -> Result<String, AllocError> {
+    if octets.len() <= SHOWN {
+        return hex::encode(alloc, octets);
+    }
+    let digits = hex::encode(alloc, &octets[..SHOWN])?;
+    let left = octets.len().saturating_sub(SHOWN);
+    format!(in alloc; "{digits}..+{left}")
+}
+
+// What the octets of the entry say.
+fn value_text(alloc: Global, entry: &Entry<'_>) -> Result<String, AllocError> {
+    match &entry.what {
+        What::Preamble(bits) => bits_text(alloc, "preamble", bits.as_slice()),
+        What::Bitmap(bits) => bits_text(alloc, "bitmap", bits.as_slice()),
+        What::Quantity(count) => format!(in alloc; "quantity {count}"),
+        What::Tag(tag, name) => {
+            let tag = tag_text(alloc, *tag)?;
+            let name = name_text(alloc, *name)?;
+            format!(in alloc; "tag {tag} {name}")
+        }
+        What::Length(count) => format!(in alloc; "length {count}"),
+        What::Value(value) => value.json.to_string(alloc),
+        What::Unknown | What::Follows | What::Rejected => quoted_digits(alloc, entry.octets),
+    }
+}
+
+// Whether the value is octets.
+fn is_digits(entry: &Entry<'_>) -> bool {
+    match entry.what {
+        What::Value(_) => entry.kind == "OCTET STRING",
+        What::Unknown | What::Follows | What::Rejected => true,
+        _ => false,
+    }
+}
+
+// What canonical octets have in place of these.
+fn push_canonical(alloc: Global, note: &mut String, entry: &Entry<'_>) -> Result<(), AllocError> {
+    let Some(canonical) = &entry.canonical else {
+        return Ok(());
+    };
+    note.push_str(" -- basic ")?;
+    note.push_str(first_digits(alloc, entry.octets)?.as_str())?;
+    if canonical.is_empty() {
+        return note.push_str(", canonical none");
+    }
+    note.push_str(", canonical ")?;
+    note.push_str(first_digits(alloc, canonical.as_slice())?.as_str())
+}
+
+// What stands behind the value.
+fn note(alloc: Global, entry: &Entry<'_>) -> Result<String, AllocError> {
+    let mut note = String::new(alloc);
+    match entry.what {
+        What::Follows => note.push_str(" -- follows")?,
+        What::Rejected => note.push_str(" -- rejected")?,
+        _ => {}
+    }
+    push_canonical(alloc, &mut note, entry)?;
+    if entry.is_default {
+        note.push_str(" -- DEFAULT, canonical absent")?;
+    }
+    Ok(note)
+}
+
+/// The cells of the line of an entry.
+pub(crate) fn line_of(alloc: Global, entry: &Entry<'_>) -> Result<Line, AllocError> {
+    let offset = entry.offset;
+    let count = entry.octets.len();
+    let offset = format!(in alloc; "{offset}")?;
+    let count = format!(in alloc; "{count}")?;
+    let path = or_dash(alloc, entry.path.as_str())?;
+    Ok(Line {
+        offset,
+        count,
+        path,
+        names: or_dash(alloc, entry.names.as_str())?,
+        kind: entry.kind,
+        value: value_text(alloc, entry)?,
+        is_digits: is_digits(entry),
+        note: note(alloc, entry)?,
+    })
+}

@@ -1,0 +1,15 @@
+//! Tags in the notation.
+
+use oer_units::{Class, Tag};
+use std::alloc::{AllocError, Global};
+
+/// A tag in the notation.
+pub(crate) fn tag_text(alloc: Global, tag: Tag) -> Result<String, AllocError> {
+    let number = tag.number;
+    match tag.class {
+        Class::Universal => format!(in alloc; "[UNIVERSAL {number}]"),
+        Class::Application => format!(in alloc; "[APPLICATION {number}]"),
+        Class::Context => format!(in alloc; "[{number}]"),
+        Class::Private => format!(in alloc; "[PRIVATE {number}]"),
+    }
+}
