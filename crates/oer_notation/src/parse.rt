@@ -1,15 +1,19 @@
 //! From tokens to a type.
-ghost use Rattle.std.specs.Prelude.{◌≡◌, [], option_map, OnOk, Some, false};
+ghost use Rattle.std.specs.Prelude.{◌≡◌, [], option_map, IfOk, OnOk, Some, false};
 ghost use Rattle.oer_values.specs.ShapeView.{named_number, seen_addition, seen_alternative, seen_field, type_of};
 ghost use Rattle.oer_value_notation.specs.State.{IsReading, state_of};
 ghost use Rattle.oer_notation.specs.Reading.{addition_at, alternative_at, alternatives_more, body_at, choice_at, choice_of_choices, class_at, component_at, components_more, field_at, find, is_start, item_at, item_number_at, items_at, items_more, leaf_at, leaf_type_at, list_at, missing_number, missing_tag, most, named_at, no_choices, no_components, numbered_at, past_marker, sequence_at, sequence_of_components, skip_second, start_at, structure_at, tag_at, tagged_at, type_at, with_alternative, word_type};
 ghost use Rattle.oer_lexer.specs.LeafWords.{words_of};
 ghost use Rattle.oer_value_notation.specs.Leaves.{leaf_form};
+ghost use Rattle.oer_types.specs.AnyFault.{any_fault, any_fault_here, inside};
+ghost use Rattle.oer_notation.specs.Soundness.{Tells, TellsMore, choices_have_fault, components_have_fault};
 ghost use Rattle.oer_notation.specs.Views.{choices, components, known_by, named, start_of};
 
 use crate::known::{Definitions, find};
 use oer_lexer::{LeafWord, Sign, Token};
-use oer_types::{Addition, Alt, Field, Item, SchemaFault, Shape, is_within_depth, parts_left};
+use oer_types::{
+    Addition, Alt, Field, Item, SchemaFault, Shape, has_any_fault_here, is_within_depth, parts_left,
+};
 use oer_units::{Class, Tag};
 use oer_value_notation::{
     Cursor, TextFault, TextWhy, TypeWord, is_name, read_bounds, read_bracketed_size,
@@ -236,7 +240,8 @@ fn read_named(
     levels: u8,
     name: &str,
 ) -> Result<Shape, TextFault>
-    ensures { IsReading (λ s. (type_of s, state_of cursor.new)) result (named_at levels (find (known_by types.now) name.now) (state_of cursor.old)) }
+    ensures read { IsReading (λ s. (type_of s, state_of cursor.new)) result (named_at levels (find (known_by types.now) name.now) (state_of cursor.old)) }
+    ensures sound { IfOk result (λ s. any_fault (type_of s) ≡ false) }
 {
     let Some(schema) = find(types, name) else {
         return Err(cursor.fault(TextWhy::Name));
@@ -251,7 +256,8 @@ fn read_known(
     cursor: &mut Cursor<'_, '_>,
     levels: u8,
 ) -> Result<Shape, TextFault>
-    ensures { IsReading (λ s. (type_of s, state_of cursor.new)) result (named_at levels (Some (type_of shape.now)) (state_of cursor.old)) }
+    ensures read { IsReading (λ s. (type_of s, state_of cursor.new)) result (named_at levels (Some (type_of shape.now)) (state_of cursor.old)) }
+    ensures same { IfOk result (λ s. type_of s ≡ type_of shape.now) }
 {
     let deep = cursor.fault(TextWhy::Schema(SchemaFault::TooDeep));
     if levels == 0 {
@@ -269,7 +275,17 @@ fn read_known(
     Ok(shape)
 }
 
-/// A type, in which so many levels of types may nest.
+/// Not sound any more where the type has a fault of its own.
+fn note_fault(shape: &Shape, sound: &mut bool)
+    ensures { Tells sound.old sound.new (any_fault_here (type_of shape.now)) }
+{
+    if has_any_fault_here(shape) {
+        *sound = false;
+    }
+}
+
+/// A type, in which so many levels of types may nest. Each type that it reads is asked once for faults of
+/// its own; one that a Name stands for was asked in its definition. It stays `sound` only where none was found.
 #[cycle(types)]
 #[tactic(auto, unfolding(crate::specs::Reading::type_at))]
 pub fn read_type(
@@ -277,8 +293,10 @@ pub fn read_type(
     types: &Definitions,
     cursor: &mut Cursor<'_, '_>,
     levels: u8,
+    sound: &mut bool,
 ) -> Result<Shape, TextFault>
-    ensures { IsReading (λ s. (type_of s, state_of cursor.new)) result (type_at (known_by types.now) levels (state_of cursor.old)) }
+    ensures read { IsReading (λ s. (type_of s, state_of cursor.new)) result (type_at (known_by types.now) levels (state_of cursor.old)) }
+    ensures sound { IfOk result (λ s. Tells sound.old sound.new (any_fault (type_of s))) }
 {
     match begin(cursor) {
         Start::Nothing => Err(cursor.fault(TextWhy::Syntax)),
@@ -290,7 +308,9 @@ pub fn read_type(
             let full = cursor.full();
             cursor.part(full)?;
             cursor.bump();
-            read_word_type(alloc, types, cursor, levels - 1, word)
+            let shape = read_word_type(alloc, types, cursor, levels - 1, sound, word)?;
+            note_fault(&shape, sound);
+            Ok(shape)
         }
     }
 }
@@ -303,13 +323,15 @@ fn read_word_type(
     types: &Definitions,
     cursor: &mut Cursor<'_, '_>,
     levels: u8,
+    sound: &mut bool,
     word: TypeWord,
 ) -> Result<Shape, TextFault>
-    ensures { IsReading (λ s. (type_of s, state_of cursor.new)) result (word_type (type_at (known_by types.now) levels) word (state_of cursor.old)) }
+    ensures read { IsReading (λ s. (type_of s, state_of cursor.new)) result (word_type (type_at (known_by types.now) levels) word (state_of cursor.old)) }
+    ensures sound { IfOk result (λ s. Tells sound.old sound.new (inside any_fault_here (type_of s))) }
 {
     match word {
-        TypeWord::Sequence => read_sequence(alloc, types, cursor, levels),
-        TypeWord::Choice => read_choice(alloc, types, cursor, levels),
+        TypeWord::Sequence => read_sequence(alloc, types, cursor, levels, sound),
+        TypeWord::Choice => read_choice(alloc, types, cursor, levels, sound),
         TypeWord::Leaf(leaf) => read_leaf(alloc, cursor, leaf),
     }
 }
@@ -377,13 +399,15 @@ fn read_sequence(
     types: &Definitions,
     cursor: &mut Cursor<'_, '_>,
     levels: u8,
+    sound: &mut bool,
 ) -> Result<Shape, TextFault>
-    ensures { IsReading (λ s. (type_of s, state_of cursor.new)) result (sequence_at (type_at (known_by types.now) levels) (state_of cursor.old)) }
+    ensures read { IsReading (λ s. (type_of s, state_of cursor.new)) result (sequence_at (type_at (known_by types.now) levels) (state_of cursor.old)) }
+    ensures sound { IfOk result (λ s. Tells sound.old sound.new (inside any_fault_here (type_of s))) }
 {
     if cursor.take(Sign::OpenBrace) {
-        return read_structure(alloc, types, cursor, levels);
+        return read_structure(alloc, types, cursor, levels, sound);
     }
-    read_list(alloc, types, cursor, levels)
+    read_list(alloc, types, cursor, levels, sound)
 }
 
 #[cycle(types)]
@@ -393,12 +417,14 @@ fn read_list(
     types: &Definitions,
     cursor: &mut Cursor<'_, '_>,
     levels: u8,
+    sound: &mut bool,
 ) -> Result<Shape, TextFault>
-    ensures { IsReading (λ s. (type_of s, state_of cursor.new)) result (list_at (type_at (known_by types.now) levels) (state_of cursor.old)) }
+    ensures read { IsReading (λ s. (type_of s, state_of cursor.new)) result (list_at (type_at (known_by types.now) levels) (state_of cursor.old)) }
+    ensures sound { IfOk result (λ s. Tells sound.old sound.new (inside any_fault_here (type_of s))) }
 {
     let size = read_list_size(cursor)?;
     cursor.expect_word("OF")?;
-    let item = read_type(alloc, types, cursor, levels)?;
+    let item = read_type(alloc, types, cursor, levels, sound)?;
     Ok(Shape::SequenceOf {
         size,
         item: Box::new(alloc, item)?,
@@ -412,15 +438,17 @@ fn read_structure(
     types: &Definitions,
     cursor: &mut Cursor<'_, '_>,
     levels: u8,
+    sound: &mut bool,
 ) -> Result<Shape, TextFault>
-    ensures { IsReading (λ s. (type_of s, state_of cursor.new)) result (structure_at (type_at (known_by types.now) levels) (state_of cursor.old)) }
+    ensures read { IsReading (λ s. (type_of s, state_of cursor.new)) result (structure_at (type_at (known_by types.now) levels) (state_of cursor.old)) }
+    ensures sound { IfOk result (λ s. Tells sound.old sound.new (inside any_fault_here (type_of s))) }
 {
     let mut body = Body {
         root: Vec::new(alloc),
         added: Vec::new(alloc),
         extensible: false,
     };
-    read_body(alloc, types, cursor, levels, &mut body)?;
+    read_body(alloc, types, cursor, levels, sound, &mut body)?;
     cursor.expect(Sign::CloseBrace)?;
     Ok(sequence(body))
 }
@@ -447,22 +475,24 @@ fn read_body(
     types: &Definitions,
     cursor: &mut Cursor<'_, '_>,
     levels: u8,
+    sound: &mut bool,
     body: &mut Body,
 ) -> Result<(), TextFault>
     requires { components body.old ≡ no_components false }
-    ensures { IsReading (λ x. (components body.new, state_of cursor.new)) result (body_at (type_at (known_by types.now) levels) (state_of cursor.old)) }
+    ensures read { IsReading (λ x. (components body.new, state_of cursor.new)) result (body_at (type_at (known_by types.now) levels) (state_of cursor.old)) }
+    ensures sound { OnOk result (TellsMore sound.old sound.new (components_have_fault (components body.old)) (components_have_fault (components body.new))) }
 {
     if cursor.is_at(Sign::CloseBrace) {
         return Ok(());
     }
     if !cursor.take(Sign::Ellipsis) {
-        return read_components(alloc, types, cursor, levels, body);
+        return read_components(alloc, types, cursor, levels, sound, body);
     }
     body.extensible = true;
     if !cursor.take(Sign::Comma) {
         return Ok(());
     }
-    read_components(alloc, types, cursor, levels, body)
+    read_components(alloc, types, cursor, levels, sound, body)
 }
 
 #[cycle(types)]
@@ -471,12 +501,14 @@ fn read_components(
     types: &Definitions,
     cursor: &mut Cursor<'_, '_>,
     levels: u8,
+    sound: &mut bool,
     body: &mut Body,
 ) -> Result<(), TextFault>
-    ensures { IsReading (λ x. (components body.new, state_of cursor.new)) result (components_more (type_at (known_by types.now) levels) most (components body.old) (state_of cursor.old)) }
+    ensures read { IsReading (λ x. (components body.new, state_of cursor.new)) result (components_more (type_at (known_by types.now) levels) most (components body.old) (state_of cursor.old)) }
+    ensures sound { OnOk result (TellsMore sound.old sound.new (components_have_fault (components body.old)) (components_have_fault (components body.new))) }
 {
     'components: for turn in 0..u16::MAX {
-        read_component(alloc, types, cursor, levels, body)?;
+        read_component(alloc, types, cursor, levels, sound, body)?;
         body.extensible = past_marker(cursor, body.extensible);
         if !cursor.take(Sign::Comma) {
             return Ok(());
@@ -493,16 +525,18 @@ fn read_component(
     types: &Definitions,
     cursor: &mut Cursor<'_, '_>,
     levels: u8,
+    sound: &mut bool,
     body: &mut Body,
 ) -> Result<(), TextFault>
-    ensures { IsReading (λ x. (components body.new, state_of cursor.new)) result (component_at (type_at (known_by types.now) levels) (components body.old) (state_of cursor.old)) }
+    ensures read { IsReading (λ x. (components body.new, state_of cursor.new)) result (component_at (type_at (known_by types.now) levels) (components body.old) (state_of cursor.old)) }
+    ensures sound { OnOk result (TellsMore sound.old sound.new (components_have_fault (components body.old)) (components_have_fault (components body.new))) }
 {
     if body.extensible {
-        let addition = read_addition(alloc, types, cursor, levels)?;
+        let addition = read_addition(alloc, types, cursor, levels, sound)?;
         body.added.push(addition)?;
         return Ok(());
     }
-    let field = read_field(alloc, types, cursor, levels)?;
+    let field = read_field(alloc, types, cursor, levels, sound)?;
     body.root.push(field)?;
     Ok(())
 }
@@ -514,12 +548,14 @@ fn read_field(
     types: &Definitions,
     cursor: &mut Cursor<'_, '_>,
     levels: u8,
+    sound: &mut bool,
 ) -> Result<Field, TextFault>
-    ensures { IsReading (λ f. (seen_field f, state_of cursor.new)) result (field_at (type_at (known_by types.now) levels) (state_of cursor.old)) }
+    ensures read { IsReading (λ f. (seen_field f, state_of cursor.new)) result (field_at (type_at (known_by types.now) levels) (state_of cursor.old)) }
+    ensures sound { IfOk result (λ f. Tells sound.old sound.new (any_fault (seen_field f).type)) }
 {
     let name = cursor.id()?;
     let name = String::from_str(alloc, name)?;
-    let shape = read_type(alloc, types, cursor, levels)?;
+    let shape = read_type(alloc, types, cursor, levels, sound)?;
     let need = read_need(alloc, cursor, &shape)?;
     Ok(Field { name, shape, need })
 }
@@ -531,12 +567,14 @@ fn read_addition(
     types: &Definitions,
     cursor: &mut Cursor<'_, '_>,
     levels: u8,
+    sound: &mut bool,
 ) -> Result<Addition, TextFault>
-    ensures { IsReading (λ a. (seen_addition a, state_of cursor.new)) result (addition_at (type_at (known_by types.now) levels) (state_of cursor.old)) }
+    ensures read { IsReading (λ a. (seen_addition a, state_of cursor.new)) result (addition_at (type_at (known_by types.now) levels) (state_of cursor.old)) }
+    ensures sound { IfOk result (λ a. Tells sound.old sound.new (any_fault (seen_addition a).type)) }
 {
     let name = cursor.id()?;
     let name = String::from_str(alloc, name)?;
-    let shape = read_type(alloc, types, cursor, levels)?;
+    let shape = read_type(alloc, types, cursor, levels, sound)?;
     let _ = cursor.take_word("OPTIONAL");
     Ok(Addition { name, shape })
 }
@@ -548,12 +586,14 @@ fn read_choice(
     types: &Definitions,
     cursor: &mut Cursor<'_, '_>,
     levels: u8,
+    sound: &mut bool,
 ) -> Result<Shape, TextFault>
-    ensures { IsReading (λ s. (type_of s, state_of cursor.new)) result (choice_at (type_at (known_by types.now) levels) (state_of cursor.old)) }
+    ensures read { IsReading (λ s. (type_of s, state_of cursor.new)) result (choice_at (type_at (known_by types.now) levels) (state_of cursor.old)) }
+    ensures sound { IfOk result (λ s. Tells sound.old sound.new (inside any_fault_here (type_of s))) }
 {
     cursor.expect(Sign::OpenBrace)?;
     let tagged = cursor.is_before(Sign::OpenBracket);
-    let found = read_alternatives(alloc, types, cursor, levels, tagged)?;
+    let found = read_alternatives(alloc, types, cursor, levels, sound, tagged)?;
     cursor.expect(Sign::CloseBrace)?;
     Ok(choice(found))
 }
@@ -579,9 +619,11 @@ fn read_alternatives(
     types: &Definitions,
     cursor: &mut Cursor<'_, '_>,
     levels: u8,
+    sound: &mut bool,
     tagged: bool,
 ) -> Result<Alternatives, TextFault>
-    ensures { IsReading (λ a. (choices a, state_of cursor.new)) result (alternatives_more (type_at (known_by types.now) levels) tagged most 0 no_choices (state_of cursor.old)) }
+    ensures read { IsReading (λ a. (choices a, state_of cursor.new)) result (alternatives_more (type_at (known_by types.now) levels) tagged most 0 no_choices (state_of cursor.old)) }
+    ensures sound { IfOk result (λ a. Tells sound.old sound.new (choices_have_fault (choices a))) }
 {
     let mut found = Alternatives {
         root: Vec::new(alloc),
@@ -589,7 +631,7 @@ fn read_alternatives(
         extensible: false,
     };
     'alternatives: for place in 0..u16::MAX {
-        let alternative = read_alternative(alloc, types, cursor, levels, tagged, place)?;
+        let alternative = read_alternative(alloc, types, cursor, levels, sound, tagged, place)?;
         add_alternative(&mut found, alternative)?;
         found.extensible = past_marker(cursor, found.extensible);
         if !cursor.take(Sign::Comma) {
@@ -615,14 +657,16 @@ fn read_alternative(
     types: &Definitions,
     cursor: &mut Cursor<'_, '_>,
     levels: u8,
+    sound: &mut bool,
     tagged: bool,
     place: u16,
 ) -> Result<Alt, TextFault>
-    ensures { IsReading (λ a. (seen_alternative a, state_of cursor.new)) result (alternative_at (type_at (known_by types.now) levels) tagged place (state_of cursor.old)) }
+    ensures read { IsReading (λ a. (seen_alternative a, state_of cursor.new)) result (alternative_at (type_at (known_by types.now) levels) tagged place (state_of cursor.old)) }
+    ensures sound { IfOk result (λ a. Tells sound.old sound.new (any_fault (seen_alternative a).type)) }
 {
     let name = cursor.id()?;
     let tag = read_tagged(cursor, tagged, place)?;
     let name = String::from_str(alloc, name)?;
-    let shape = read_type(alloc, types, cursor, levels)?;
+    let shape = read_type(alloc, types, cursor, levels, sound)?;
     Ok(Alt { name, tag, shape })
 }

@@ -1,10 +1,12 @@
 -- A type of which no fault is found in one walk has none of the faults after the first two.
-use Rattle.std.proofs.Common.{◌≡◌, ℕ, zero, suc, List, [], ◌∷◌, drop, Bool, true, false, ◌||◌, None, refl, true≢false}
+use Rattle.std.proofs.Common.{◌≡◌, ℕ, zero, suc, List, [], ◌∷◌, drop, Bool, true, false, ◌||◌, Option, Some, None, if◌then◌else◌, refl, true≢false}
 use Rattle.oer_model.specs.AsnType.{Additions, Alternatives, AsnType, Fields, addition, alternative, choice, extensible_sequence, field, later, leaf, no_additions, no_alternatives, no_fields, sequence, sequence_of}
-use Rattle.oer_model.specs.FaultTest.{first_in, has_fault_here, in_additions, in_alternatives, in_fields, later_faults, somewhere}
+use Rattle.oer_model.proofs.faults.Faults.{no_fault_found}
+use Rattle.oer_model.specs.FaultTest.{first_fault, first_in, has_fault, has_fault_here, in_additions, in_alternatives, in_fields, later_faults, somewhere}
 use Rattle.oer_model.specs.declared.fault.SchemaFault.{SchemaFault}
 use Rattle.oer_model.specs.declared.fault.SchemaFault.TheVariants.{TooDeep, TooManyParts, BoundOrder, SizeOrder, BadName, RepeatedName, NoItems, RepeatedNumber, RepeatedTag, DefaultMisfit, EmptyElement}
-use Rattle.oer_types.specs.AnyFault.{any_fault_here, any_here}
+use Rattle.oer_model.specs.WellFormed.{IsWellFormed}
+use Rattle.oer_types.specs.AnyFault.{any_fault, any_fault_here, any_here, inside}
 use Rattle.oer_values.proofs.Shapes.{shapes}
 
 pub or_false : (a : Bool) → (a || false) ≡ a
@@ -78,3 +80,109 @@ none_of f T e = nowhere (has_fault_here f) any_fault_here (each f) T e
 
 pub none_later : (T : AsnType) → somewhere any_fault_here T ≡ false → first_in T later_faults ≡ None
 none_later T e = rw (none_of BoundOrder T e, none_of SizeOrder T e, none_of BadName T e, none_of RepeatedName T e, none_of NoItems T e, none_of RepeatedNumber T e, none_of RepeatedTag T e, none_of DefaultMisfit T e, none_of EmptyElement T e) refl
+
+-- ---- the other way round
+
+abbrev or : (AsnType → Bool) → (AsnType → Bool) → AsnType → Bool
+or q r T = q T || r T
+
+mutual
+  or_nowhere : (q r : AsnType → Bool) (T : AsnType) → somewhere q T ≡ false → somewhere r T ≡ false → somewhere (or q r) T ≡ false
+  or_nowhere q r (leaf kind) d e = neither (q (leaf kind)) (r (leaf kind)) d e
+  or_nowhere q r (sequence fs) d e =
+      let T = sequence fs in
+      neither (or q r T) (in_fields (or q r) fs) (neither (q T) (r T) (left (q T) (in_fields q fs) d) (left (r T) (in_fields r fs) e))
+      (or_not_in_fields q r fs (right (q T) (in_fields q fs) d) (right (r T) (in_fields r fs) e))
+  or_nowhere q r (extensible_sequence fs more) d e =
+      let T = extensible_sequence fs more in
+      let qs = right (q T) (in_fields q fs || in_additions q more) d in
+      let rs = right (r T) (in_fields r fs || in_additions r more) e in
+      neither (or q r T) (in_fields (or q r) fs || in_additions (or q r) more)
+      (neither (q T) (r T) (left (q T) (in_fields q fs || in_additions q more) d) (left (r T) (in_fields r fs || in_additions r more) e))
+      (neither (in_fields (or q r) fs) (in_additions (or q r) more)
+      (or_not_in_fields q r fs (left (in_fields q fs) (in_additions q more) qs) (left (in_fields r fs) (in_additions r more) rs))
+      (or_not_in_additions q r more (right (in_fields q fs) (in_additions q more) qs) (right (in_fields r fs) (in_additions r more) rs)))
+  or_nowhere q r (sequence_of s U) d e =
+      let T = sequence_of s U in
+      neither (or q r T) (somewhere (or q r) U) (neither (q T) (r T) (left (q T) (somewhere q U) d) (left (r T) (somewhere r U) e))
+      (or_nowhere q r U (right (q T) (somewhere q U) d) (right (r T) (somewhere r U) e))
+  or_nowhere q r (choice extensible more) d e =
+      let T = choice extensible more in
+      neither (or q r T) (in_alternatives (or q r) more) (neither (q T) (r T) (left (q T) (in_alternatives q more) d) (left (r T) (in_alternatives r more) e))
+      (or_not_in_alternatives q r more (right (q T) (in_alternatives q more) d) (right (r T) (in_alternatives r more) e))
+
+  or_not_in_fields : (q r : AsnType → Bool) (fs : Fields) → in_fields q fs ≡ false → in_fields r fs ≡ false → in_fields (or q r) fs ≡ false
+  or_not_in_fields q r no_fields d e = refl
+  or_not_in_fields q r (field name need T fs) d e = neither (somewhere (or q r) T) (in_fields (or q r) fs)
+      (or_nowhere q r T (left (somewhere q T) (in_fields q fs) d) (left (somewhere r T) (in_fields r fs) e))
+      (or_not_in_fields q r fs (right (somewhere q T) (in_fields q fs) d) (right (somewhere r T) (in_fields r fs) e))
+
+  or_not_in_additions : (q r : AsnType → Bool) (more : Additions) → in_additions q more ≡ false → in_additions r more ≡ false → in_additions (or q r) more ≡ false
+  or_not_in_additions q r no_additions d e = refl
+  or_not_in_additions q r (addition name T more) d e = neither (somewhere (or q r) T) (in_additions (or q r) more)
+      (or_nowhere q r T (left (somewhere q T) (in_additions q more) d) (left (somewhere r T) (in_additions r more) e))
+      (or_not_in_additions q r more (right (somewhere q T) (in_additions q more) d) (right (somewhere r T) (in_additions r more) e))
+
+  or_not_in_alternatives : (q r : AsnType → Bool) (more : Alternatives) → in_alternatives q more ≡ false → in_alternatives r more ≡ false → in_alternatives (or q r) more ≡ false
+  or_not_in_alternatives q r no_alternatives d e = refl
+  or_not_in_alternatives q r (alternative name t T more) d e = neither (somewhere (or q r) T) (in_alternatives (or q r) more)
+      (or_nowhere q r T (left (somewhere q T) (in_alternatives q more) d) (left (somewhere r T) (in_alternatives r more) e))
+      (or_not_in_alternatives q r more (right (somewhere q T) (in_alternatives q more) d) (right (somewhere r T) (in_alternatives r more) e))
+  or_not_in_alternatives q r (later name t T more) d e = neither (somewhere (or q r) T) (in_alternatives (or q r) more)
+      (or_nowhere q r T (left (somewhere q T) (in_alternatives q more) d) (left (somewhere r T) (in_alternatives r more) e))
+      (or_not_in_alternatives q r more (right (somewhere q T) (in_alternatives q more) d) (right (somewhere r T) (in_alternatives r more) e))
+
+mutual
+  none_nowhere : (T : AsnType) → somewhere (any_here []) T ≡ false
+  none_nowhere (leaf kind) = refl
+  none_nowhere (sequence fs) = none_in_fields fs
+  none_nowhere (extensible_sequence fs more) = neither (in_fields (any_here []) fs) (in_additions (any_here []) more) (none_in_fields fs) (none_in_additions more)
+  none_nowhere (sequence_of s T) = none_nowhere T
+  none_nowhere (choice extensible more) = none_in_alternatives more
+
+  none_in_fields : (fs : Fields) → in_fields (any_here []) fs ≡ false
+  none_in_fields no_fields = refl
+  none_in_fields (field name need T fs) = neither (somewhere (any_here []) T) (in_fields (any_here []) fs) (none_nowhere T) (none_in_fields fs)
+
+  none_in_additions : (more : Additions) → in_additions (any_here []) more ≡ false
+  none_in_additions no_additions = refl
+  none_in_additions (addition name T more) = neither (somewhere (any_here []) T) (in_additions (any_here []) more) (none_nowhere T) (none_in_additions more)
+
+  none_in_alternatives : (more : Alternatives) → in_alternatives (any_here []) more ≡ false
+  none_in_alternatives no_alternatives = refl
+  none_in_alternatives (alternative name t T more) = neither (somewhere (any_here []) T) (in_alternatives (any_here []) more) (none_nowhere T) (none_in_alternatives more)
+  none_in_alternatives (later name t T more) = neither (somewhere (any_here []) T) (in_alternatives (any_here []) more) (none_nowhere T) (none_in_alternatives more)
+
+-- where the first fault of a list is none, the first of the list isn't there, and none of the rest is first
+not_some : (b : Bool) (f : SchemaFault) (o : Option SchemaFault) → (if b then Some f else o) ≡ None → (b ≡ false) × (o ≡ None)
+not_some true f o e = absurd (cc)
+not_some false f o e = (refl, e)
+
+one_more : (f : SchemaFault) (fs : List SchemaFault) (T : AsnType) → somewhere (has_fault_here f) T ≡ false → somewhere (any_here fs) T ≡ false → somewhere (any_here (f ∷ fs)) T ≡ false
+one_more f fs T d e = or_nowhere (has_fault_here f) (any_here fs) T d e
+
+-- a well-formed type has none of the faults after the first two
+pub sound : (T : AsnType) → IsWellFormed T → any_fault T ≡ false
+sound T w =
+    let n : first_fault T ≡ None = (no_fault_found T).1 w.faultless in
+    let a2 = (not_some (has_fault TooManyParts T) TooManyParts (first_in T later_faults) (not_some (has_fault TooDeep T) TooDeep (first_in T (TooManyParts ∷ later_faults)) n).1).1 in
+    let a3 = not_some (has_fault BoundOrder T) BoundOrder (first_in T (drop 1 later_faults)) a2 in
+    let a4 = not_some (has_fault SizeOrder T) SizeOrder (first_in T (drop 2 later_faults)) a3.1 in
+    let a5 = not_some (has_fault BadName T) BadName (first_in T (drop 3 later_faults)) a4.1 in
+    let a6 = not_some (has_fault RepeatedName T) RepeatedName (first_in T (drop 4 later_faults)) a5.1 in
+    let a7 = not_some (has_fault NoItems T) NoItems (first_in T (drop 5 later_faults)) a6.1 in
+    let a8 = not_some (has_fault RepeatedNumber T) RepeatedNumber (first_in T (drop 6 later_faults)) a7.1 in
+    let a9 = not_some (has_fault RepeatedTag T) RepeatedTag (first_in T (drop 7 later_faults)) a8.1 in
+    let a10 = not_some (has_fault DefaultMisfit T) DefaultMisfit (first_in T (drop 8 later_faults)) a9.1 in
+    let a11 = not_some (has_fault EmptyElement T) EmptyElement (first_in T (drop 9 later_faults)) a10.1 in
+    one_more BoundOrder (drop 1 later_faults) T a3.0 (one_more SizeOrder (drop 2 later_faults) T a4.0 (one_more BadName (drop 3 later_faults) T a5.0 (one_more RepeatedName (drop 4 later_faults) T a6.0
+    (one_more NoItems (drop 5 later_faults) T a7.0 (one_more RepeatedNumber (drop 6 later_faults) T a8.0 (one_more RepeatedTag (drop 7 later_faults) T a9.0 (one_more DefaultMisfit (drop 8 later_faults) T a10.0
+    (one_more EmptyElement (drop 9 later_faults) T a11.0 (none_nowhere T)))))))))
+
+-- of the type itself, or of a type in it
+pub here_or_inside : (T : AsnType) → any_fault_here T ≡ false → inside any_fault_here T ≡ false → any_fault T ≡ false
+here_or_inside (leaf kind) d e = d
+here_or_inside (sequence fs) d e = neither (any_fault_here (sequence fs)) (in_fields any_fault_here fs) d e
+here_or_inside (extensible_sequence fs more) d e = neither (any_fault_here (extensible_sequence fs more)) (in_fields any_fault_here fs || in_additions any_fault_here more) d e
+here_or_inside (sequence_of s T) d e = neither (any_fault_here (sequence_of s T)) (somewhere any_fault_here T) d e
+here_or_inside (choice extensible more) d e = neither (any_fault_here (choice extensible more)) (in_alternatives any_fault_here more) d e

@@ -21,4 +21,5 @@ pub use oer_values::{
     is_in_range, is_same_tag, may_be_unused, octets_needed, optional, same_filled_at, spare_bits,
     with_tag,
 };
+pub use rule::has_any_fault_here;
 pub use schema::{ADDITION_PLACES, MAX_DEPTH, MAX_PARTS, Schema};

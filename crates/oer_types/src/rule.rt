@@ -330,7 +330,7 @@ fn has_empty_element(shape: &Shape) -> bool
 /// Whether the type itself has any of the faults after the first two, whatever the types in it have. A type of
 /// one kind can't have the faults of another.
 #[tactic(auto, using(crate::proofs::AnyFault::here))]
-fn has_any_fault_here(shape: &Shape) -> bool
+pub fn has_any_fault_here(shape: &Shape) -> bool
     ensures { result ≡ any_fault_here (type_of shape.now) }
 {
     match shape {

@@ -27,9 +27,10 @@ pub struct Schema {
 }
 
 impl Schema {
-    ghost use Rattle.std.specs.Prelude.{◌≡◌, MatchResult};
+    ghost use Rattle.std.specs.Prelude.{◌≡◌, MatchResult, false};
     ghost use Rattle.oer_model.specs.Constraints.{KeepsLimits};
     ghost use Rattle.oer_model.specs.Fits.{DefaultsFit};
+    ghost use Rattle.oer_types.specs.AnyFault.{any_fault};
     ghost use Rattle.oer_types.specs.Schema.{shape_of};
     ghost use Rattle.oer_model.specs.WellFormed.{IsFirstFault};
 
@@ -41,6 +42,19 @@ impl Schema {
             (λ refused. IsFirstFault (type_of shape) refused.0 × (refused.1 ≡ shape)) }
     {
         match first_fault(&shape) {
+            Some(fault) => Err((fault, shape)),
+            None => Ok(Schema { shape }),
+        }
+    }
+
+    /// The same of a shape in which no type has a fault other than the first two, as each type in it was
+    /// asked for (`has_any_fault_here`). So it looks at depth and parts only.
+    pub fn of_sound(shape: Shape) -> Result<Schema, (SchemaFault, Shape)>
+        requires { any_fault (type_of shape) ≡ false }
+        ensures { MatchResult result (λ schema. (shape_of schema ≡ shape) × IsWellFormed (type_of shape))
+            (λ refused. IsFirstFault (type_of shape) refused.0 × (refused.1 ≡ shape)) }
+    {
+        match fault_of_whole(&shape) {
             Some(fault) => Err((fault, shape)),
             None => Ok(Schema { shape }),
         }
@@ -67,6 +81,7 @@ impl Schema {
 ghost use Rattle.std.specs.Prelude.{◌≡◌, None, false};
 ghost use Rattle.oer_model.specs.FaultTest.{first_fault as spec_first_fault, first_in, has_fault, later_faults};
 ghost use Rattle.oer_model.specs.Widths.{HasWidths};
+ghost use Rattle.oer_types.specs.AnyFault.{any_fault};
 ghost use Rattle.oer_model.specs.declared.fault.SchemaFault.TheVariants.{TooManyParts};
 
 /// Whether the type has more parts than it may have. Where it hasn't, its numbers are known.
@@ -92,6 +107,22 @@ fn first_fault(shape: &Shape) -> Option<SchemaFault>
         return Some(SchemaFault::TooManyParts);
     }
     later_fault(shape)
+}
+
+/// The fault of least number of a type that has no fault other than the first two, which are of the whole type.
+#[tactic(auto, using(crate::proofs::AnyFault::none_later))]
+fn fault_of_whole(shape: &Shape) -> Option<SchemaFault>
+    requires { any_fault (type_of shape.now) ≡ false }
+    ensures first { result ≡ spec_first_fault (type_of shape.now) }
+    ensures widths { result ≡ None → HasWidths (type_of shape.now) }
+{
+    if !is_within_depth(shape, MAX_DEPTH) {
+        return Some(SchemaFault::TooDeep);
+    }
+    if has_too_many_parts(shape) {
+        return Some(SchemaFault::TooManyParts);
+    }
+    None
 }
 
 /// The fault of least number after the first two. Most types have none, which one walk finds.
