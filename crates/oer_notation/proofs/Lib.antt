@@ -21,3 +21,4 @@ pub mod SoundValues
 pub mod Spelling
 pub mod Took
 pub mod WordTable
+pub mod Soundness

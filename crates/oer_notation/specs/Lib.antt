@@ -4,3 +4,4 @@ pub mod Parsing
 pub mod Reading
 pub mod Views
 pub mod Refusing
+pub mod Soundness

@@ -1,8 +1,11 @@
 //! From a text to its type, or to its definitions.
-ghost use Rattle.std.specs.Prelude.{◌≡◌, [], IfErr, IfOk, MatchOption, None, Ok, length, option_map, string_bytes, suc};
+ghost use Rattle.std.specs.Prelude.{◌≡◌, [], IfErr, IfOk, MatchOption, MatchResult, None, Ok, false, length, option_map, string_bytes, suc, true};
 ghost use Rattle.oer_lexer.specs.Lexing.{lex};
 ghost use Rattle.oer_lexer.specs.Token.{spots_of};
-ghost use Rattle.oer_types.specs.Schema.{the_type};
+ghost use Rattle.oer_model.specs.WellFormed.{IsFirstFault, IsWellFormed};
+ghost use Rattle.oer_types.specs.AnyFault.{any_fault};
+ghost use Rattle.oer_types.specs.Schema.{shape_of, the_type};
+ghost use Rattle.oer_values.specs.ShapeView.{type_of};
 ghost use Rattle.oer_notation.specs.Grammar.{IsDefined, IsNew, Spells, SpellsAll};
 ghost use Rattle.oer_notation.specs.Refusing.{AreNoTypes, IsNoType};
 ghost use Rattle.oer_value_notation.specs.State.{IsReading, state_of};
@@ -15,7 +18,7 @@ use crate::laws::{what_is_parsed_is_spelled, what_is_spelled_is_parsed};
 use crate::parse::{Start, begin, read_type};
 use oer_lexer::{Sign, Token, Tokens, lex};
 use oer_types::laws::first_fault;
-use oer_types::{MAX_DEPTH, MAX_PARTS, Schema, parts_left};
+use oer_types::{MAX_DEPTH, MAX_PARTS, Schema, SchemaFault, Shape, parts_left};
 use oer_value_notation::{Cursor, TextFault, TextWhy, is_name};
 use std::alloc::Global;
 use std::sync::Arc;
@@ -115,6 +118,18 @@ fn expect_end(cursor: &Cursor<'_, '_>) -> Result<(), TextFault>
     }
 }
 
+/// The type of a shape. One that is sound isn't walked through again, and what it has from Names neither.
+fn schema_of(shape: Shape, sound: bool) -> Result<Schema, (SchemaFault, Shape)>
+    requires { sound ≡ true → any_fault (type_of shape) ≡ false }
+    ensures { MatchResult result (λ schema. (shape_of schema ≡ shape) × IsWellFormed (type_of shape))
+        (λ refused. IsFirstFault (type_of shape) refused.0 × (refused.1 ≡ shape)) }
+{
+    if sound {
+        return Schema::of_sound(shape);
+    }
+    Schema::new(shape)
+}
+
 /// A well-formed type.
 #[tactic(auto, unfolding(crate::specs::Parsing::definition_at))]
 fn read_definition(
@@ -126,10 +141,11 @@ fn read_definition(
 {
     let at = cursor.fault(TextWhy::Syntax).at;
     cursor.parts = MAX_PARTS;
-    let shape = read_type(alloc, types, cursor, MAX_DEPTH)?;
-    // The law that the fault found is the one that `Schema::new` names.
+    let mut sound = true;
+    let shape = read_type(alloc, types, cursor, MAX_DEPTH, &mut sound)?;
+    // The law that the fault found is the one that `schema_of` names.
     first_fault();
-    match Schema::new(shape) {
+    match schema_of(shape, sound) {
         Ok(schema) => Ok(schema),
         Err((fault, _)) => Err(TextFault {
             at,
