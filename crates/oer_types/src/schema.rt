@@ -78,10 +78,9 @@ impl Schema {
     }
 }
 
-ghost use Rattle.std.specs.Prelude.{◌≡◌, None, false};
+ghost use Rattle.std.specs.Prelude.{◌≡◌, MatchOption, None, Some, false};
 ghost use Rattle.oer_model.specs.FaultTest.{first_fault as spec_first_fault, first_in, has_fault, later_faults};
 ghost use Rattle.oer_model.specs.Widths.{HasWidths};
-ghost use Rattle.oer_types.specs.AnyFault.{any_fault};
 ghost use Rattle.oer_model.specs.declared.fault.SchemaFault.TheVariants.{TooManyParts};
 
 /// Whether the type has more parts than it may have. Where it hasn't, its numbers are known.
@@ -95,26 +94,10 @@ fn has_too_many_parts(shape: &Shape) -> bool
     }
 }
 
-/// The fault of least number.
-fn first_fault(shape: &Shape) -> Option<SchemaFault>
-    ensures first { result ≡ spec_first_fault (type_of shape.now) }
-    ensures widths { result ≡ None → HasWidths (type_of shape.now) }
-{
-    if !is_within_depth(shape, MAX_DEPTH) {
-        return Some(SchemaFault::TooDeep);
-    }
-    if has_too_many_parts(shape) {
-        return Some(SchemaFault::TooManyParts);
-    }
-    later_fault(shape)
-}
-
-/// The fault of least number of a type that has no fault other than the first two, which are of the whole type.
-#[tactic(auto, using(crate::proofs::AnyFault::none_later))]
+/// Which of the two faults of a whole type comes first: its depth, or how many parts it has.
 fn fault_of_whole(shape: &Shape) -> Option<SchemaFault>
-    requires { any_fault (type_of shape.now) ≡ false }
-    ensures first { result ≡ spec_first_fault (type_of shape.now) }
-    ensures widths { result ≡ None → HasWidths (type_of shape.now) }
+    ensures { MatchOption result ((spec_first_fault (type_of shape.now) ≡ first_in (type_of shape.now) later_faults) × HasWidths (type_of shape.now))
+        (λ fault. spec_first_fault (type_of shape.now) ≡ Some fault) }
 {
     if !is_within_depth(shape, MAX_DEPTH) {
         return Some(SchemaFault::TooDeep);
@@ -123,6 +106,17 @@ fn fault_of_whole(shape: &Shape) -> Option<SchemaFault>
         return Some(SchemaFault::TooManyParts);
     }
     None
+}
+
+/// The fault of least number.
+fn first_fault(shape: &Shape) -> Option<SchemaFault>
+    ensures first { result ≡ spec_first_fault (type_of shape.now) }
+    ensures widths { result ≡ None → HasWidths (type_of shape.now) }
+{
+    match fault_of_whole(shape) {
+        Some(fault) => Some(fault),
+        None => later_fault(shape),
+    }
 }
 
 /// The fault of least number after the first two. Most types have none, which one walk finds.
