@@ -6,8 +6,8 @@ use oer_reader::read;
 use oer_text::{parse_type, parse_types};
 use oer_types::{
     Addition, Alphabet, Alt, Bits, Field, Item, Need, Schema, Shape, Size, Unknown, Value,
-    are_characters, contains_tag, filled, find_alternative, fits, is_same_tag, optional,
-    same_filled, same_filled_at, with_tag,
+    are_characters, contains_tag, filled, find_alternative, fits, has_any_fault_here, is_same_tag,
+    optional, same_filled, same_filled_at, with_tag,
 };
 use oer_units::{Class, Metered, Tag};
 use oer_values::{fill_in, known_additions, known_later};
@@ -216,13 +216,26 @@ fn faulty(at: Global, fault: &str) -> Result<Shape, AllocError> {
     }
 }
 
+// Each but the first two is a fault of the type itself.
 fn is_faulty(at: Global, fault: &str) -> Result<(), Fail> {
-    has_fault(at, fault, faulty(at, fault)?, fault)
+    let shape = faulty(at, fault)?;
+    let is_of_whole = fault == "TooDeep" || fault == "TooManyParts";
+    is_well(fault, has_any_fault_here(&shape) != is_of_whole)?;
+    has_fault(at, fault, shape, fault)
 }
 
 #[test]
 fn each_fault_of_a_shape(rt: HostRuntime) -> Result<(), Fail> {
     each(rt.alloc(), FAULTS, is_faulty)
+}
+
+#[test]
+fn types_without_a_fault_of_their_own() -> Result<(), Fail> {
+    is_well("BOOLEAN", !has_any_fault_here(&Shape::Boolean))?;
+    match Schema::of_sound(Shape::Boolean) {
+        Ok(schema) => is_well("the shape", matches!(schema.shape(), Shape::Boolean)),
+        Err(_) => Err(Fail::new("a fault")),
+    }
 }
 
 // SEQUENCE {a NULL, ..., a NULL}.

@@ -47,14 +47,15 @@ impl Schema {
         }
     }
 
-    /// The same of a shape in which no type has a fault other than the first two, as each type in it was
-    /// asked for (`has_any_fault_here`). So it looks at depth and parts only.
+    /// The type of a shape in which no type has a fault of its own after the first two, as
+    /// `has_any_fault_here` finds of each. The result is that of `new`, but only the depth and the
+    /// parts are looked at.
     pub fn of_sound(shape: Shape) -> Result<Schema, (SchemaFault, Shape)>
         requires { any_fault (type_of shape) ≡ false }
         ensures { MatchResult result (λ schema. (shape_of schema ≡ shape) × IsWellFormed (type_of shape))
             (λ refused. IsFirstFault (type_of shape) refused.0 × (refused.1 ≡ shape)) }
     {
-        match fault_of_whole(&shape) {
+        match fault_of_sound(&shape) {
             Some(fault) => Err((fault, shape)),
             None => Ok(Schema { shape }),
         }
@@ -81,6 +82,7 @@ impl Schema {
 ghost use Rattle.std.specs.Prelude.{◌≡◌, MatchOption, None, Some, false};
 ghost use Rattle.oer_model.specs.FaultTest.{first_fault as spec_first_fault, first_in, has_fault, later_faults};
 ghost use Rattle.oer_model.specs.Widths.{HasWidths};
+ghost use Rattle.oer_types.specs.AnyFault.{any_fault};
 ghost use Rattle.oer_model.specs.declared.fault.SchemaFault.TheVariants.{TooManyParts};
 
 /// Whether the type has more parts than it may have. Where it hasn't, its numbers are known.
@@ -94,10 +96,12 @@ fn has_too_many_parts(shape: &Shape) -> bool
     }
 }
 
-/// Which of the two faults of a whole type comes first: its depth, or how many parts it has.
+/// The first two faults, which are of the whole type.
 fn fault_of_whole(shape: &Shape) -> Option<SchemaFault>
-    ensures { MatchOption result ((spec_first_fault (type_of shape.now) ≡ first_in (type_of shape.now) later_faults) × HasWidths (type_of shape.now))
+    ensures first { MatchOption result
+        (spec_first_fault (type_of shape.now) ≡ first_in (type_of shape.now) later_faults)
         (λ fault. spec_first_fault (type_of shape.now) ≡ Some fault) }
+    ensures widths { result ≡ None → HasWidths (type_of shape.now) }
 {
     if !is_within_depth(shape, MAX_DEPTH) {
         return Some(SchemaFault::TooDeep);
@@ -117,6 +121,16 @@ fn first_fault(shape: &Shape) -> Option<SchemaFault>
         Some(fault) => Some(fault),
         None => later_fault(shape),
     }
+}
+
+/// The fault of least number of a type that has none after the first two.
+#[tactic(auto, using(crate::proofs::AnyFault::none_later))]
+fn fault_of_sound(shape: &Shape) -> Option<SchemaFault>
+    requires { any_fault (type_of shape.now) ≡ false }
+    ensures first { result ≡ spec_first_fault (type_of shape.now) }
+    ensures widths { result ≡ None → HasWidths (type_of shape.now) }
+{
+    fault_of_whole(shape)
 }
 
 /// The fault of least number after the first two. Most types have none, which one walk finds.
