@@ -1,9 +1,9 @@
 -- Types of which no part has a fault.
-use Rattle.std.proofs.Common.{◌≡◌, ℕ, List, [], ◌∷◌, ◌++◌, Bool, true, false, ◌||◌, Option, Some, None, IfOk, Result, Ok, Err, refl, subst, true≢false}
+use Rattle.std.proofs.Common.{◌≡◌, List, [], ◌∷◌, ◌++◌, Bool, true, false, ◌||◌, IfOk, Result, Ok, Err, refl, subst, true≢false}
 use Rattle.oer_lexer.specs.declared.leaf.LeafWord.{LeafWord}
 use Rattle.oer_lexer.specs.LeafWords.{words_of}
 use Rattle.oer_model.specs.AsnType.{AsnType, Alternatives, leaf, no_alternatives}
-use Rattle.oer_model.specs.FaultTest.{in_additions, in_alternatives, in_fields, somewhere}
+use Rattle.oer_model.specs.FaultTest.{in_additions, in_alternatives, in_fields}
 use Rattle.oer_values.specs.ShapeView.{SeenAddition, SeenAlternative, SeenField, additions_from, fields_from, later_from, root_from}
 use Rattle.oer_types.specs.AnyFault.{any_fault, any_fault_here, inside}
 use Rattle.oer_model.specs.WellFormed.{IsWellFormed}
@@ -15,7 +15,7 @@ use Rattle.oer_value_notation.specs.Numbers.{bounds_at, bracketed_size_at}
 use Rattle.oer_value_notation.specs.State.{IsReading, State, Read}
 use Rattle.oer_value_notation.specs.declared.fault.TextFault.{TextFault}
 use Rattle.oer_notation.proofs.Took.{bind_ok, same_ok}
-use Rattle.oer_notation.specs.Reading.{Choices, Components, choice_of_choices, items_at, leaf_at, leaf_type_at, sequence_of_components, skip_second, with_addition, with_alternative, with_choice_marker, with_field, with_marker}
+use Rattle.oer_notation.specs.Reading.{Choices, Components, choice_of_choices, items_at, leaf_at, leaf_type_at, sequence_of_components, skip_second, with_alternative}
 use Rattle.oer_value_notation.specs.Leaves.{LeafForm, bounded, leaf_form, listed, plain, sized}
 use Rattle.oer_notation.specs.Soundness.{Tells, TellsMore, choices_have_fault, components_have_fault}
 

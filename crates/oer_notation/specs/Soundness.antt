@@ -1,6 +1,5 @@
 -- What a flag of the parser tells: whether all types that were read since it was set have no fault after the first two.
 use Rattle.std.specs.Prelude.{◌≡◌, Bool, true, false, ◌||◌}
-use Rattle.oer_model.specs.AsnType.{no_alternatives}
 use Rattle.oer_model.specs.FaultTest.{in_additions, in_alternatives, in_fields}
 use Rattle.oer_values.specs.ShapeView.{additions_from, fields_from, later_from, root_from}
 use Rattle.oer_types.specs.AnyFault.{any_fault_here}

@@ -275,11 +275,11 @@ fn read_known(
     Ok(shape)
 }
 
-/// Not sound any more where the type has a fault of its own.
+/// Not sound any more where the type has a fault of its own. Where one was found before, no other is looked for.
 fn note_fault(shape: &Shape, sound: &mut bool)
     ensures { Tells sound.old sound.new (any_fault_here (type_of shape.now)) }
 {
-    if has_any_fault_here(shape) {
+    if *sound && has_any_fault_here(shape) {
         *sound = false;
     }
 }

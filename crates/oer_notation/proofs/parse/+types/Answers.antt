@@ -4,10 +4,10 @@ use Rattle.std.proofs.lemmas.List.{map_push}
 use Rattle.oer_values.specs.ShapeView.{seen_addition, seen_alternative, seen_field}
 use Rattle.oer_notation.specs.Reading.{components_more, alternatives_more, type_at, most, Choices, with_marker, with_choice_marker}
 use Rattle.oer_value_notation.specs.State.{state_of, bump}
-use Rattle.oer_notation.specs.Soundness.{Tells, TellsMore, choices_have_fault, components_have_fault}
+use Rattle.oer_notation.specs.Soundness.{Tells, choices_have_fault, components_have_fault}
 use Rattle.oer_notation.specs.Views.{known_by, components, choices}
 use Rattle.oer_notation.proofs.Loops.{components_err, components_step, components_end, components_over, alternatives_err, alternatives_step, alternatives_end, alternatives_over, same_marker}
-use Rattle.oer_notation.proofs.Soundness.{choice_tells, leaf_tells, named_tells, none_more, sequence_tells, then_more, whole, with_one_addition, with_one_alternative, with_one_field}
+use Rattle.oer_notation.proofs.Soundness.{choice_tells, leaf_tells, then_more, with_one_addition, with_one_alternative, with_one_field}
 use Rattle.oer_notation.proofs.parse.+types.Goals as goal
 
 pub read_components-returns-in_err-read_component-clause-read : goal.read_components-returns-in_err-read_component-clause-read

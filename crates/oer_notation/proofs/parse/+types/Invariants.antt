@@ -48,11 +48,11 @@ decreases-read_word_type l = 10 * l.levels + 9
 abbrev pub invariant-read_components-components : goal.invariant-read_components-components
 invariant-read_components-components l = record {
   read : components_more (type_at (known_by l.types) l.levels) most (components l.fn.body) (state_of l.fn.cursor) ≡ components_more (type_at (known_by l.types) l.levels) (most - l.turn) (components l.body) (state_of l.cursor);
-  sound : TellsMore l.fn.sound l.sound (components_have_fault (components l.fn.body)) (components_have_fault (components l.body))
+  sound : TellsMore l.fn.sound l.sound (components_have_fault (components l.fn.body)) (components_have_fault (components l.body));
 }
 
 abbrev pub invariant-read_alternatives-alternatives : goal.invariant-read_alternatives-alternatives
 invariant-read_alternatives-alternatives l = record {
   read : alternatives_more (type_at (known_by l.types) l.levels) l.tagged most 0 no_choices (state_of l.fn.cursor) ≡ alternatives_more (type_at (known_by l.types) l.levels) l.tagged (most - l.place) l.place (choices l.found) (state_of l.cursor);
-  sound : Tells l.fn.sound l.sound (choices_have_fault (choices l.found))
+  sound : Tells l.fn.sound l.sound (choices_have_fault (choices l.found));
 }
