@@ -258,7 +258,17 @@ static void measure_text(const char *what, enum call call, const char *text, uin
 
 #define BRACES "}}}}}}}}}}}}}}}}}}}}}}}}}}}}}}"
 
+/* A type with 40 names within so many others. */
+static void measure_many_names(const char *level, size_t levels, const char *type, const char *part, const char *end) {
+    char innermost[2048];
+    size_t i, length = (size_t)sprintf(innermost, "%s {", type);
+    for (i = 0; i < 40; i++) length += (size_t)sprintf(innermost + length, "%sb%u%s", i ? ", " : "", (unsigned)i, part);
+    strcpy(innermost + length, end);
+    measure_text("many names", READ, repeated("A ::= ", level, levels, innermost), OER_OK);
+}
+
 static void measure_texts(void) {
+    static const char *const around[] = { "SEQUENCE {a ", "SEQUENCE {..., a ", "CHOICE {a " };
     static char fields[LARGE];
     size_t i, length = (size_t)sprintf(fields, "A ::= SEQUENCE {");
     for (i = 0; i < 4095; i++) length += (size_t)sprintf(fields + length, "%sa%u BOOLEAN", i ? ", " : "", (unsigned)i);
@@ -268,6 +278,11 @@ static void measure_texts(void) {
     measure_text("a type that is too deep", READ, repeated("A ::= ", "CHOICE {a ", 80000, "NULL"), OER_REJECTED);
     measure_text("a type that is too deep", READ, repeated("A ::= ", "SEQUENCE {a ", 80000, "NULL"), OER_REJECTED);
     measure_text("a type that is too deep", READ, repeated("A ::= ", "SEQUENCE {..., a ", 60000, "NULL"), OER_REJECTED);
+    for (i = 0; i < sizeof around / sizeof *around; i++) {
+        measure_many_names(around[i], 31, "ENUMERATED", "", "}}" BRACES);
+        measure_many_names(around[i], 30, "SEQUENCE", " BOOLEAN", "}" BRACES);
+        measure_many_names(around[i], 30, "CHOICE", " BOOLEAN", "}" BRACES);
+    }
     measure_text("a deep default", READ, repeated("A ::= ", "SEQUENCE {a ", 31, "INTEGER DEFAULT 1}" BRACES), OER_OK);
     measure_text("a deep default", READ, repeated("A ::= ", "SEQUENCE {a ", 31, "ENUMERATED {a(1)} DEFAULT a}" BRACES), OER_OK);
     measure_text("a deep default", READ, repeated("A ::= ", "SEQUENCE {a ", 31, "BIT STRING (SIZE(2)) DEFAULT '01'B}" BRACES), OER_OK);
