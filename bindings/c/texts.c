@@ -1,0 +1,67 @@
+/* Texts of types that cost more than their length, if types are copied or Names are looked through: texts
+ *
+ * Each is read within 64 MB of addresses and 10 seconds of the processor, and its last Name is found. It
+ * prints what is not, and then its status is 1. */
+#define _DEFAULT_SOURCE
+#include "oer.h"
+
+#include <stdio.h>
+#include <stdlib.h>
+#include <sys/resource.h>
+
+enum { MOST_MEMORY = 64 << 20, MOST_SECONDS = 10, LARGE = 1 << 20 };
+
+static char text[LARGE];
+static int failed = 0;
+
+/* No more than this from now on. */
+static void allow(int what, rlim_t most) {
+    struct rlimit limit;
+    limit.rlim_cur = most;
+    limit.rlim_max = most;
+    if (setrlimit(what, &limit) != 0) {
+        perror("texts: setrlimit");
+        exit(2);
+    }
+}
+
+/* Reads the text, and finds the octet to be a value of the Name. */
+static void read_text(const char *what, size_t length, const char *name, size_t name_length, uint8_t octet) {
+    oer_types types = OER_TYPES_NONE;
+    if (oer_types_read(&types, text, length).status != OER_OK) {
+        printf("texts: %s: not read\n", what);
+        failed = 1;
+        return;
+    }
+    if (oer_check(&types, name, name_length, &octet, 1).status != OER_OK) {
+        printf("texts: %s: %s not found\n", what, name);
+        failed = 1;
+    }
+    oer_types_free(&types);
+}
+
+/* 1,600 Names of an ENUMERATED of 4,094 items. */
+static void read_names(void) {
+    size_t length = (size_t)sprintf(text, "A ::= ENUMERATED {");
+    unsigned i;
+    for (i = 0; i < 4094; i++) length += (size_t)sprintf(text + length, "%sa%u", i ? ", " : "", i);
+    length += (size_t)sprintf(text + length, "}\n");
+    for (i = 0; i < 1600; i++) length += (size_t)sprintf(text + length, "B%u ::= A\n", i);
+    read_text("Names of one type", length, "B1599", 5, 7);
+}
+
+/* 32,000 small types. */
+static void read_small(void) {
+    size_t length = 0;
+    unsigned i;
+    for (i = 0; i < 32000; i++) length += (size_t)sprintf(text + length, "A%u ::= BOOLEAN\n", i);
+    read_text("many small types", length, "A31999", 6, 0xff);
+}
+
+int main(void) {
+    allow(RLIMIT_AS, MOST_MEMORY);
+    allow(RLIMIT_CPU, MOST_SECONDS);
+    read_names();
+    read_small();
+    return failed;
+}
