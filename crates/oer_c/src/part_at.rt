@@ -85,7 +85,7 @@ fn found(range: Range<usize>, taken: u64) -> Located
 }
 
 // Where the part is in the octets.
-#[tactic(auto, using(crate::proofs::Locating::unread, crate::proofs::Locating::lies_there))]
+#[tactic(auto, using(crate::proofs::Locating::unread))]
 fn locate(alloc: Global, schema: &Schema, octets: &[u8], path: &[u8]) -> Located
     ensures { IsLocated (the_type schema.now) octets.now path.now result }
 {
