@@ -28,7 +28,7 @@ static void put_number(uint64_t number) {
 }
 
 static void put_vector(const struct vector *vector) {
-    static const char *const tasks[] = { "check", "canon", "part", "to_json", "from_json" };
+    static const char *const tasks[] = { "check", "canon", "part", "to_json", "from_json", "whole" };
     printf("vector\t%s", tasks[vector->task]);
     put_text(vector->type);
     (vector->task == FROM_JSON ? put_text : put_digits)(vector->given);

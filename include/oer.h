@@ -2,8 +2,9 @@
  *
  * A text of definitions is read once into an oer_types. By the types in it octets are checked,
  * rewritten as canonical octets, taken apart, shown as JSON, and made from JSON. Each call is a
- * function of crates/oer_c, and is proved to do what its contract there says. This file and the code
- * that calls the library are not proved: a caller has to keep the rules below.
+ * function of crates/oer_c, and is proved to do what its contract there says; oer_types_free first asks
+ * whether its pointer is NULL. This file and the code that calls the library are not proved: a caller has
+ * to keep the rules below.
  *
  * A call that writes takes a buffer of the caller's, and never writes past it. It writes all of the
  * answer or nothing: where the status is not OER_OK, the buffer is as it was.
@@ -21,15 +22,15 @@
  * - oer_types_free gives the memory back, where no other oer_types has the types. After it the oer_types
  *   is as new: each call on it answers OER_NO_TYPES, and types may be read into it again. To free it twice
  *   is allowed.
- * - No pointer is NULL, that of oer_types_free neither. A pointer that comes with a length points to
- *   that many octets. Those that are read are initialized. Those of an output buffer needn't be: what is
- *   written follows from what is read, and the rest of the buffer stays as it is. With length 0 nothing is
- *   read or written there, and any pointer but NULL will do.
+ * - No pointer is NULL; only oer_types_free may be given NULL. A pointer that comes with a length points
+ *   to that many octets. Those that are read are initialized. Those of an output buffer needn't be: what
+ *   is written follows from what is read, and the rest of the buffer stays as it is. With length 0 nothing
+ *   is read or written there, and any pointer but NULL will do.
  * - The output buffer and each oer_types overlap nothing else that is passed to the call. Inputs may
  *   overlap each other.
  * - Memory comes from malloc, realloc and free, which have to belong together. It may run out: then
- *   the status is OER_MEMORY, and what the call was given is as before. oer_check and oer_check_many
- *   take none.
+ *   the status is OER_MEMORY, and what the call was given is as before. oer_check, oer_check_whole and
+ *   oer_check_many take none.
  * - A call takes at most 96 KB of stack. This is measured (docs/LIBRARY.md), and not proved.
  * - No call is made from a signal handler, or in the child of a fork of a process with threads.
  *
@@ -63,20 +64,22 @@ uint32_t oer_version(void);
 
 /* What a call answers in `status`. */
 enum oer_status {
-    OER_OK = 0,       /* the call did what it is for */
-    OER_REJECTED = 1, /* the octets are no encoding, the text spells no types, or the JSON is no value
-                         of the type; `why` has the reason */
-    OER_NO_TYPES = 2, /* the oer_types has no types */
-    OER_UNNAMED = 3,  /* no definition has the name */
-    OER_MEMORY = 4,   /* an allocation failed */
-    OER_ROOM = 5,     /* the buffer is too small: `written` says how many octets are needed */
-    OER_NO_PATH = 6,  /* the text is not a path */
-    OER_NO_STEP = 7,  /* the path has a step that the type doesn't have, one past the last element, or
-                         one to an addition that the type doesn't know and that isn't there; or it
-                         goes on from a part that the type doesn't know */
-    OER_ABSENT = 8,   /* the path leads to a component or a known addition that is absent */
-    OER_NO_JSON = 9,  /* the text is not JSON, or not UTF-8 */
-    OER_OUTSIDE = 10  /* the message is not all in the octets */
+    OER_OK = 0,             /* the call did what it is for */
+    OER_REJECTED = 1,       /* the octets are no encoding, the text spells no types, or the JSON is no value
+                               of the type; `why` has the reason */
+    OER_NO_TYPES = 2,       /* the oer_types has no types */
+    OER_UNNAMED = 3,        /* no definition has the name */
+    OER_MEMORY = 4,         /* an allocation failed */
+    OER_ROOM = 5,           /* the buffer is too small: `written` says how many octets are needed */
+    OER_NO_PATH = 6,        /* the text is not a path */
+    OER_NO_STEP = 7,        /* the path has a step that the type doesn't have, one past the last element, or
+                               one to an addition that the type doesn't know and that isn't there; or it
+                               goes on from a part that the type doesn't know */
+    OER_ABSENT = 8,         /* the path leads to a component or a known addition that is absent */
+    OER_NO_JSON = 9,        /* the text is not JSON, or not UTF-8 */
+    OER_OUTSIDE = 10,       /* the message is not all in the octets */
+    OER_NOT_CANONICAL = 11, /* the octets are an encoding, but not the canonical one */
+    OER_FOLLOWS = 12        /* an encoding is at the front of the octets, and others follow it */
 };
 
 /* Why octets are rejected: `why` of oer_checked, oer_written and oer_located at OER_REJECTED, except in
@@ -103,7 +106,7 @@ enum oer_reason {
 
 /* Why definitions are rejected: `why` of oer_parsed at OER_REJECTED (docs/NOTATION.md). */
 enum oer_text_reason {
-    OER_TEXT_NOT_UTF8 = 0,         /* the text is not UTF-8; `place` is 0, wherever it isn't */
+    OER_TEXT_NOT_UTF8 = 0,         /* the text is not UTF-8 from `place` on */
     OER_TEXT_TOKEN = 2,            /* no token begins here, or it has no end */
     OER_TEXT_SYNTAX = 3,           /* a token that the grammar doesn't have here */
     OER_TEXT_NUMBER = 4,           /* a number out of range for its place */
@@ -151,19 +154,21 @@ typedef struct oer_parsed {
     uint32_t status; /* OER_OK, OER_REJECTED or OER_MEMORY */
     uint32_t why;    /* at OER_REJECTED the reason, an enum oer_text_reason; else 0 */
     uint64_t place;  /* at OER_REJECTED the octet of the text at which the token or type begins that
-                        shows the fault, and 0 at OER_TEXT_NOT_UTF8; at OER_OK the length of the text;
+                        shows the fault; at OER_TEXT_NOT_UTF8 the one from which on it isn't UTF-8: the
+                        octets before it are, and no longer front is; at OER_OK the length of the text;
                         else 0 */
 } oer_parsed;
 
 /* What a check answers. */
 typedef struct oer_checked {
     uint32_t status;    /* OER_OK, OER_REJECTED, OER_NO_TYPES or OER_UNNAMED; of oer_check_many
-                           OER_OK, OER_REJECTED or OER_OUTSIDE */
+                           OER_OK, OER_REJECTED or OER_OUTSIDE; of oer_check_whole OER_NOT_CANONICAL
+                           or OER_FOLLOWS too */
     uint32_t why;       /* at OER_REJECTED the reason, an enum oer_reason; else 0 */
-    uint64_t octets;    /* at OER_OK how many octets the encoding has; at OER_REJECTED how many had
-                           been looked at when it was rejected; else 0 */
-    uint32_t canonical; /* at OER_OK 1 where the encoding is canonical, 0 where it is another one;
-                           else 0 */
+    uint64_t octets;    /* at OER_OK, OER_NOT_CANONICAL and OER_FOLLOWS how many octets the encoding has;
+                           at OER_REJECTED how many had been looked at when it was rejected; else 0 */
+    uint32_t canonical; /* at OER_OK and OER_FOLLOWS 1 where the encoding is canonical, 0 where it is
+                           another one; else 0 */
 } oer_checked;
 
 /* Where a message is in octets. */
@@ -176,9 +181,9 @@ typedef struct oer_message {
 typedef struct oer_written {
     uint32_t status;  /* each call says which */
     uint32_t why;     /* at OER_REJECTED the reason; else 0 */
-    uint64_t octets;  /* at OER_OK and OER_ROOM how many octets the encoding has that was read; at
-                         OER_REJECTED how many had been looked at; else 0. oer_part and oer_from_json
-                         answer 0 at OER_OK and OER_ROOM, oer_from_json at OER_REJECTED too */
+    uint64_t octets;  /* at OER_OK, OER_ROOM, OER_NO_STEP and OER_ABSENT how many octets the encoding has
+                         that was read; at OER_REJECTED how many had been looked at; else 0.
+                         oer_from_json always answers 0 */
     uint64_t written; /* at OER_OK how many octets were written; at OER_ROOM how many are needed; else
                          0 */
 } oer_written;
@@ -187,9 +192,10 @@ typedef struct oer_written {
 typedef struct oer_located {
     uint32_t status; /* the call says which */
     uint32_t why;    /* at OER_REJECTED the reason, an enum oer_reason; else 0 */
-    uint64_t octets; /* at OER_REJECTED how many octets had been looked at; else 0 */
+    uint64_t octets; /* at OER_OK, OER_NO_STEP and OER_ABSENT how many octets the encoding has; at
+                        OER_REJECTED how many had been looked at; else 0 */
     size_t at;       /* at OER_OK the place of the part's first octet; else 0 */
-    size_t length;   /* at OER_OK how many octets it has; else 0 */
+    size_t length;   /* at OER_OK how many octets the part has; else 0 */
 } oer_located;
 
 /* The greatest limit, 2^64 - 1: an encoding of more octets is rejected with OER_LIMIT. No octets in memory
@@ -206,8 +212,8 @@ typedef struct oer_located {
  * OER_REJECTED and OER_MEMORY the types are those from before. */
 oer_parsed oer_types_read(oer_types *types, const char *text, size_t text_length) OER_NO_NULL;
 
-/* Frees the types. It is not called with NULL, as free may be. */
-void oer_types_free(oer_types *types) OER_NO_NULL;
+/* Frees the types. With NULL it does nothing, as free does. */
+void oer_types_free(oer_types *types);
 
 /* Gives `other` the types of `types`, in place of those that were there. They are in memory once, and are
  * freed when no oer_types has them. Each of the two is used by itself: one thread may call with the one
@@ -220,6 +226,14 @@ uint32_t oer_types_share(oer_types *types, oer_types *other) OER_NO_NULL;
  * follows it is not looked at: compare `octets` of the answer with octets_length. */
 oer_checked oer_check(oer_types *types, const char *name, size_t name_length,
                       const uint8_t *octets, size_t octets_length) OER_NO_NULL;
+
+/* Whether the octets are the canonical encoding (Canonical-OER) of a value of the type with the name, and
+ * nothing else: what has to be asked before a signature over them counts.
+ * OER_OK: they are. OER_FOLLOWS: an encoding is at the front, and others follow it, from octets + `octets`
+ * of the answer on. OER_NOT_CANONICAL: they are an encoding, but not the canonical one. OER_REJECTED: no
+ * encoding is at the front, as in oer_check. OER_NO_TYPES, OER_UNNAMED. */
+oer_checked oer_check_whole(oer_types *types, const char *name, size_t name_length,
+                            const uint8_t *octets, size_t octets_length) OER_NO_NULL;
 
 /* Checks each message as oer_check does. A message is a part of the octets; messages may overlap. Its
  * answer has its place among the answers. That has the status of oer_check, or OER_OUTSIDE where the
@@ -240,7 +254,8 @@ oer_written oer_canon(oer_types *types, const char *name, size_t name_length,
 
 /* Writes the part of the encoding at the front of the octets to which the path leads, as it stands in
  * them. A path is steps joined by dots (docs/COMMAND.md): c0 a component, a0 an addition, i0 an
- * element, v the alternative chosen. What follows the encoding is not looked at.
+ * element, v the alternative chosen. What follows the encoding is not looked at: it begins at octets +
+ * `octets` of the answer, also where the path leads nowhere.
  * OER_OK, OER_REJECTED, OER_NO_TYPES, OER_UNNAMED, OER_MEMORY, OER_ROOM, OER_NO_PATH, OER_NO_STEP,
  * OER_ABSENT. */
 oer_written oer_part(oer_types *types, const char *name, size_t name_length,
@@ -249,7 +264,8 @@ oer_written oer_part(oer_types *types, const char *name, size_t name_length,
                      uint8_t *out, size_t room) OER_NO_NULL;
 
 /* Says where that part lies: it is the `length` octets from octets + at on, and nothing is copied. Of a
- * part without octets `at` is its place, which may be octets_length.
+ * part without octets `at` is its place, which may be octets_length. What follows the encoding begins at
+ * octets + `octets` of the answer, as of oer_part.
  * OER_OK, OER_REJECTED, OER_NO_TYPES, OER_UNNAMED, OER_MEMORY, OER_NO_PATH, OER_NO_STEP, OER_ABSENT. */
 oer_located oer_part_at(oer_types *types, const char *name, size_t name_length,
                         const uint8_t *octets, size_t octets_length,

@@ -102,8 +102,9 @@ struct error {
     /* At OER_REJECTED the reason, of the enumeration that `of` names. Else 0. */
     std::uint32_t why;
     /* At OER_REJECTED the place. Of octets: how many had been looked at. Of definitions: the octet of
-     * the text at which the token or type begins that shows the fault. Of JSON: 0. With any other
-     * status 0. */
+     * the text at which the token or type begins that shows the fault, or from which on it is not UTF-8.
+     * Of JSON: 0. At OER_NO_STEP, OER_ABSENT, OER_NOT_CANONICAL and OER_FOLLOWS how many octets the
+     * encoding has. With any other status 0. */
     std::uint64_t place;
     /* At OER_ROOM how many octets the buffer has to have. Else 0. */
     std::uint64_t needed;
@@ -226,8 +227,8 @@ public:
     const T *end() const noexcept { return data() + size_; }
     const T &operator[](std::size_t place) const noexcept { return at_[place]; }
 
-    /* How many octets the encoding has that was read: what canon() and to_json() read of the octets
-     * that they were given. 0 of the other calls. */
+    /* How many octets the encoding has that was read: what canon(), part() and to_json() read of the
+     * octets that they were given. 0 of the other calls. */
     std::uint64_t read() const noexcept { return read_; }
 
 #ifdef __cpp_lib_span
@@ -263,9 +264,16 @@ struct checked {
 /* Where a message or a part is in octets: its place and its length. */
 typedef oer_message message;
 
+/* What part_at() answers. */
+struct located : message {
+    /* How many octets the encoding has that the part is in. */
+    std::uint64_t read;
+};
+
 /* What a call answers that writes into a buffer of the caller's. */
 struct written {
-    /* How many octets the encoding has that was read: canon_into() and to_json_into(). Else 0. */
+    /* How many octets the encoding has that was read: canon_into(), part_into() and to_json_into(). Else
+     * 0. */
     std::uint64_t read;
     /* How many octets were written, from the first of the buffer on. Those after them are as before. */
     std::size_t size;
@@ -470,6 +478,17 @@ public:
         return checked_of(oer_check(&held_, name.data(), name.size(), given.data(), given.size()));
     }
 
+    /* Whether the octets are the canonical encoding (Canonical-OER) of a value of the type with the name, and
+     * nothing else: what has to be asked before a signature over them counts. The result is ok() where they
+     * are. It takes no memory.
+     *   OER_FOLLOWS  an encoding is at the front, and others follow it: `place` is that of the first one
+     *   OER_NOT_CANONICAL  they are an encoding, but not the canonical one
+     *   OER_REJECTED  no encoding is at the front, as in check() */
+    result<checked> check_whole(text_in name, octets_in given) noexcept {
+        if (missing(name, given)) return nowhere(subject::octets);
+        return checked_of(oer_check_whole(&held_, name.data(), name.size(), given.data(), given.size()));
+    }
+
     /* Checks each message as check() does. A message is a part of the octets; messages may overlap. Its
      * answer is at its place among the answers: checked_of() of it is what check() returns, or the error
      * has OER_OUTSIDE where the message is not all in the octets. It takes no memory. The answer is how
@@ -519,7 +538,8 @@ public:
 
     /* The part of the encoding at the front of the octets to which the path leads, as it stands in them.
      * A path is steps joined by dots (docs/COMMAND.md): c0 a component, a0 an addition, i0 an element,
-     * v the alternative chosen. What follows the encoding is not looked at.
+     * v the alternative chosen. What follows the encoding is not looked at: read() of the answer, and `place`
+     * where the path leads nowhere, say how many octets the encoding has.
      *   OER_REJECTED  the octets don't begin with an encoding: `why` is an oer_reason, `place` how many
      *                octets had been looked at
      *   OER_NO_PATH  the text is not a path
@@ -546,14 +566,20 @@ public:
     }
 
     /* Where that part lies in the octets: it is the `length` octets from the place `at` on, and nothing is
-     * copied. Of a part without octets `at` is its place. The errors are those of part(). */
-    result<message> part_at(text_in name, octets_in given, text_in path) noexcept {
+     * copied. Of a part without octets `at` is its place. `read` says how many octets the encoding has. The
+     * errors are those of part(). */
+    result<located> part_at(text_in name, octets_in given, text_in path) noexcept {
         if (missing(name, given, path)) return nowhere(subject::octets);
         oer_located found =
             oer_part_at(&held_, name.data(), name.size(), given.data(), given.size(), path.data(), path.size());
-        message place = { found.at, found.length };
-        if (found.status == OER_OK) return result<message>(std::move(place));
-        return result<message>(fault(found.status, found.why, found.octets, 0, subject::octets));
+        if (found.status != OER_OK) {
+            return result<located>(fault(found.status, found.why, found.octets, 0, subject::octets));
+        }
+        located place = located();
+        place.at = found.at;
+        place.length = found.length;
+        place.read = found.octets;
+        return result<located>(std::move(place));
     }
 
     /* The JSON (docs/JSON.md) of the value whose encoding, of at most `limit` octets, is at the front of
@@ -620,7 +646,7 @@ private:
 
     /* The error of an answer that is not OER_OK. */
     static error fault(const oer_written &answer, subject of) noexcept {
-        return fault(answer.status, answer.why, answer.status == OER_REJECTED ? answer.octets : 0, answer.written, of);
+        return fault(answer.status, answer.why, answer.status == OER_ROOM ? 0 : answer.octets, answer.written, of);
     }
 
     static result<written> told(const oer_written &answer, subject of) noexcept {
@@ -665,7 +691,8 @@ const char *at(const char *const (&table)[N], std::uint32_t number) noexcept {
 
 inline const char *status(std::uint32_t number) noexcept {
     static const char *const table[] = { "Ok",   "Rejected", "NoTypes",    "Unnamed", "Memory",
-                                         "Room", "NoPath",  "NoStep", "Absent",  "NoJson", "Outside" };
+                                         "Room", "NoPath",  "NoStep", "Absent",  "NoJson", "Outside",
+                                         "NotCanonical", "Follows" };
     return at(table, number);
 }
 

@@ -17,10 +17,10 @@ enum { STACK = 8 << 20, FILL = 0xa5, LARGE = 1 << 20 };
 
 /* ---- a call in a thread of its own */
 
-enum call { NONE, READ, SHARE, CHECK, CHECK_MANY, CANON, PART, PART_AT, TO_JSON, FROM_JSON, FREE };
+enum call { NONE, READ, SHARE, CHECK, CHECK_WHOLE, CHECK_MANY, CANON, PART, PART_AT, TO_JSON, FROM_JSON, FREE };
 
-static const char *const names[] = { "none", "oer_types_read", "oer_types_share", "oer_check", "oer_check_many", "oer_canon",
-                                     "oer_part", "oer_part_at", "oer_to_json", "oer_from_json", "oer_types_free" };
+static const char *const names[] = { "none", "oer_types_read", "oer_types_share", "oer_check", "oer_check_whole", "oer_check_many",
+                                     "oer_canon", "oer_part", "oer_part_at", "oer_to_json", "oer_from_json", "oer_types_free" };
 
 /* What the call is given; `status` is what it answers. */
 struct job {
@@ -57,6 +57,9 @@ static void *run(void *given) {
         break;
     case CHECK:
         job->status = oer_check(&job->types, job->name, name, job->octets, job->octets_length).status;
+        break;
+    case CHECK_WHOLE:
+        job->status = oer_check_whole(&job->types, job->name, name, job->octets, job->octets_length).status;
         break;
     case CHECK_MANY:
         job->status = oer_check_many(&job->types, job->name, name, job->octets, job->octets_length, &message, 1, &answer, 1);
@@ -128,6 +131,7 @@ static uint8_t out[LARGE], json[LARGE];
 static void measure_all(const char *what, const char *types, const char *name, const uint8_t *octets, size_t length,
                         const char *path) {
     struct job job;
+    int canonical;
     memset(&job, 0, sizeof job);
     job.name = name;
     job.text = types;
@@ -140,6 +144,8 @@ static void measure_all(const char *what, const char *types, const char *name, c
     measure(&job, READ, what, OER_OK);
     measure(&job, SHARE, what, OER_OK);
     measure(&job, CHECK, what, OER_OK);
+    canonical = oer_check(&job.types, name, strlen(name), octets, length).canonical == 1;
+    measure(&job, CHECK_WHOLE, what, canonical ? OER_OK : OER_NOT_CANONICAL);
     measure(&job, CHECK_MANY, what, OER_OK);
     measure(&job, CANON, what, OER_OK);
     measure(&job, PART, what, OER_OK);

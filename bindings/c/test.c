@@ -114,13 +114,20 @@ static struct octets given_of(const struct vector *vector) {
     return vector->task == FROM_JSON ? from_text(vector->given) : from_hex(vector->given);
 }
 
-/* What the call of the vector answers, with the octets or the text that it is given; the answer of a check
- * has its `canonical` in `written`. */
+/* The answer of a check, with its `canonical` in `written`. */
+static oer_written as_written(oer_checked checked) {
+    oer_written written;
+    written.status = checked.status;
+    written.why = checked.why;
+    written.octets = checked.octets;
+    written.written = checked.canonical;
+    return written;
+}
+
+/* What the call of the vector answers, with the octets or the text that it is given. */
 static oer_written call_with(oer_types *types, const char *name, const struct vector *vector,
                              const struct octets *given, uint8_t *out, size_t room) {
     size_t length = strlen(name);
-    oer_written written;
-    oer_checked checked;
     switch (vector->task) {
     case CANON:
         return oer_canon(types, name, length, given->at, given->length, vector->limit, out, room);
@@ -130,13 +137,10 @@ static oer_written call_with(oer_types *types, const char *name, const struct ve
         return oer_to_json(types, name, length, given->at, given->length, vector->limit, (char *)out, room);
     case FROM_JSON:
         return oer_from_json(types, name, length, (const char *)given->at, given->length, out, room);
+    case WHOLE:
+        return as_written(oer_check_whole(types, name, length, given->at, given->length));
     default:
-        checked = oer_check(types, name, length, given->at, given->length);
-        written.status = checked.status;
-        written.why = checked.why;
-        written.octets = checked.octets;
-        written.written = checked.canonical;
-        return written;
+        return as_written(oer_check(types, name, length, given->at, given->length));
     }
 }
 
@@ -313,6 +317,18 @@ static void test_rejected_text(const struct rejected_text *row) {
     oer_types_free(&types);
 }
 
+/* NULL has nothing to free, also where the call is known by its address. */
+static void test_free_of_null(void) {
+    void (*volatile free_by)(oer_types *) = oer_types_free;
+    oer_types types = types_of("BOOLEAN");
+    struct vector check = { CHECK, 0, "ff", 0, OER_NO_LIMIT, 0, 0, 0, 0, 0 };
+    oer_types_free(NULL);
+    free_by(NULL);
+    EXPECT(call(&types, "A", &check, 0, 0).octets == 1, "types that are not freed");
+    free_by(&types);
+    EXPECT(is_only(call(&types, "A", &check, 0, 0), OER_NO_TYPES), "types that are freed");
+}
+
 static void test_kept_types(void) {
     struct vector check = { CHECK, 0, "ff", 0, OER_NO_LIMIT, 0, 0, 0, 0, 0 };
     oer_types types = OER_TYPES_NONE, other;
@@ -362,15 +378,21 @@ static void test_certificate(const char *folder) {
     EXPECT(checked.status == OER_OK && checked.octets == 230 && checked.canonical == 1, "certificate");
     checked = oer_check(&types, "Certificate", 11, basic.at, basic.length);
     EXPECT(checked.status == OER_OK && checked.octets == 236 && checked.canonical == 0, "basic");
+    checked = oer_check_whole(&types, "Certificate", 11, certificate.at, certificate.length);
+    EXPECT(checked.status == OER_OK && checked.octets == 230, "the whole certificate");
+    checked = oer_check_whole(&types, "Certificate", 11, certificate.at, certificate.length + 1);
+    EXPECT(checked.status == OER_FOLLOWS && checked.octets == 230, "a certificate and an octet");
+    checked = oer_check_whole(&types, "Certificate", 11, basic.at, basic.length);
+    EXPECT(checked.status == OER_NOT_CANONICAL && checked.octets == 236, "the whole basic one");
     answer = oer_canon(&types, "Certificate", 11, basic.at, basic.length, 236, out.at, 230);
     EXPECT(answer.status == OER_OK && answer.octets == 236 && answer.written == 230, "canon");
     EXPECT(memcmp(out.at, certificate.at, 230) == 0, "canon");
     answer = oer_canon(&types, "Certificate", 11, basic.at, basic.length, 235, out.at, 230);
     EXPECT(answer.status == OER_REJECTED && answer.why == OER_LIMIT && answer.written == 0, "limit");
     answer = oer_part(&types, "Certificate", 11, certificate.at, 230, "c3", 2, out.at, sizeof out.at);
-    EXPECT(answer.status == OER_OK && answer.written == 152, "toBeSigned");
+    EXPECT(answer.status == OER_OK && answer.octets == 230 && answer.written == 152, "toBeSigned");
     EXPECT(memcmp(out.at, certificate.at + 12, 152) == 0, "toBeSigned");
-    EXPECT(is_located(locate(&types, "Certificate", &certificate, "c3"), OER_OK, 0, 0, 12, 152), "toBeSigned");
+    EXPECT(is_located(locate(&types, "Certificate", &certificate, "c3"), OER_OK, 0, 230, 12, 152), "toBeSigned");
     answer = oer_to_json(&types, "Certificate", 11, basic.at, basic.length, OER_NO_LIMIT, (char *)json.at, sizeof json.at);
     EXPECT(answer.status == OER_OK && answer.octets == 236, "to_json");
     answer = oer_from_json(&types, "Certificate", 11, (char *)json.at, (size_t)answer.written, out.at, sizeof out.at);
@@ -402,7 +424,7 @@ static void fail_in_turn(const struct vector *vector) {
     }
     EXPECT(answer.status == vector->status && answer.why == vector->why, vector->given);
     EXPECT(answer.octets == vector->octets && answer.written == vector->written, vector->given);
-    EXPECT(vector->task != CHECK || nth == 1, "a check takes no memory");
+    EXPECT((vector->task != CHECK && vector->task != WHOLE) || nth == 1, "a check takes no memory");
     oer_types_free(&types);
 }
 
@@ -507,6 +529,16 @@ static uint8_t random_octet(void) {
 /* How many strings are encodings, and how many of these are canonical. */
 static long encodings, canonicals;
 
+/* What oer_check_whole answers follows from what oer_check does. */
+static void compare_whole(oer_types *types, const uint8_t *octets, size_t length, oer_checked checked) {
+    oer_checked whole = oer_check_whole(types, "A", 1, octets, length);
+    uint32_t wanted = checked.status;
+    if (wanted == OER_OK && !checked.canonical) wanted = OER_NOT_CANONICAL;
+    if (checked.status == OER_OK && checked.octets < length) wanted = OER_FOLLOWS;
+    EXPECT(whole.status == wanted && whole.why == checked.why, "the whole");
+    EXPECT(whole.octets == checked.octets && whole.canonical == checked.canonical, "the whole");
+}
+
 /* That the calls agree on the octets. */
 static void compare(oer_types *types, const uint8_t *octets, size_t length) {
     uint8_t out[256], again[256];
@@ -518,6 +550,7 @@ static void compare(oer_types *types, const uint8_t *octets, size_t length) {
     EXPECT(canon.status == checked.status && shown.status == checked.status, "status");
     EXPECT(canon.why == checked.why && shown.why == checked.why, "why");
     EXPECT(canon.octets == checked.octets && shown.octets == checked.octets, "octets");
+    compare_whole(types, octets, length, checked);
     if (checked.status != OER_OK) {
         EXPECT(checked.status == OER_REJECTED && checked.why >= OER_END && checked.why <= OER_UNKNOWN_ADDITION, "a reason");
         EXPECT(checked.octets <= length && canon.written == 0, "octets");
@@ -590,6 +623,7 @@ int main(int count, char **words) {
     for (i = 0; i < COUNT(places); i++) test_place(&places[i]);
     for (i = 0; i < COUNT(rejected_texts); i++) test_rejected_text(&rejected_texts[i]);
     test_kept_types();
+    test_free_of_null();
     test_shared_types();
     test_certificate(words[1]);
     test_random(atol(words[2]));

@@ -6,11 +6,11 @@
 
 #include "oer.h"
 
-enum task { CHECK, CANON, PART, TO_JSON, FROM_JSON };
+enum task { CHECK, CANON, PART, TO_JSON, FROM_JSON, WHOLE };
 
 /* A call: the definition of the type A, what it is given (octets in hexadecimal digits, or JSON), the
  * path or NULL, the limit, and the answer: the fields of it, and what is written, where something is
- * (octets in digits, or JSON). For CHECK `written` is `canonical`. */
+ * (octets in digits, or JSON). For CHECK and WHOLE `written` is `canonical`. */
 struct vector {
     enum task task;
     const char *type;
@@ -55,6 +55,22 @@ static const struct vector vectors[] = {
     { CHECK, "BOOLEAN", "", 0, ALL, OER_REJECTED, OER_END, 0, 0, 0 },
     { CHECK, "OCTET STRING", ENDLESS, 0, ALL, OER_REJECTED, OER_LIMIT, 9, 0, 0 },
 
+    { WHOLE, BOOLEANS, "0102ff00", 0, ALL, OER_OK, 0, 4, 1, 0 },
+    { WHOLE, BOOLEANS, "0200020107", 0, ALL, OER_NOT_CANONICAL, 0, 5, 0, 0 },
+    { WHOLE, BOOLEANS, "0102ff00ffff", 0, ALL, OER_FOLLOWS, 0, 4, 1, 0 },
+    { WHOLE, BOOLEANS, "0102ff0000", 0, ALL, OER_FOLLOWS, 0, 4, 1, 0 },
+    { WHOLE, BOOLEANS, "0102ff", 0, ALL, OER_REJECTED, OER_END, 3, 0, 0 },
+    { WHOLE, "BOOLEAN", "01", 0, ALL, OER_NOT_CANONICAL, 0, 1, 0, 0 },
+    { WHOLE, "BOOLEAN", "0102", 0, ALL, OER_FOLLOWS, 0, 1, 0, 0 },
+    { WHOLE, BYTE, "40ff08", 0, ALL, OER_OK, 0, 3, 1, 0 },
+    { WHOLE, BYTE, "40ff07", 0, ALL, OER_NOT_CANONICAL, 0, 3, 0, 0 },
+    { WHOLE, ADDITIONS, "80ff020020810109", 0, ALL, OER_NOT_CANONICAL, 0, 8, 0, 0 },
+    { WHOLE, "OCTET STRING", "0361", 0, ALL, OER_REJECTED, OER_END, 2, 0, 0 },
+    { WHOLE, "NULL", "", 0, ALL, OER_OK, 0, 0, 1, 0 },
+    { WHOLE, "NULL", "00", 0, ALL, OER_FOLLOWS, 0, 0, 1, 0 },
+    { WHOLE, "BOOLEAN", "", 0, ALL, OER_REJECTED, OER_END, 0, 0, 0 },
+    { WHOLE, "OCTET STRING", ENDLESS, 0, ALL, OER_REJECTED, OER_LIMIT, 9, 0, 0 },
+
     { CANON, BOOLEANS, "0200020107", 0, ALL, OER_OK, 0, 5, 4, "0102ffff" },
     { CANON, "BOOLEAN", "01", 0, ALL, OER_OK, 0, 1, 1, "ff" },
     { CANON, "BOOLEAN", "0102", 0, ALL, OER_OK, 0, 1, 1, "ff" },
@@ -81,11 +97,14 @@ static const struct vector vectors[] = {
     { CANON, HIGH_TAGS, "bf05", 0, ALL, OER_REJECTED, OER_TAG_FORM, 2, 0, 0 },
     { CANON, HIGH_TAGS, "80", 0, ALL, OER_REJECTED, OER_UNKNOWN_ALTERNATIVE, 1, 0, 0 },
 
-    { PART, BOOLEANS, "0200020107", "i1", ALL, OER_OK, 0, 0, 1, "07" },
-    { PART, ADDITIONS, "80ff0206800109", "a0", ALL, OER_OK, 0, 0, 1, "09" },
-    { PART, ADDITIONS, "80ff0206800109", "a1", ALL, OER_ABSENT, 0, 0, 0, 0 },
-    { PART, ADDITIONS, "80ff0206800109", "c1", ALL, OER_NO_STEP, 0, 0, 0, 0 },
-    { PART, CHOSEN, "8103026162", "v", ALL, OER_OK, 0, 0, 3, "026162" },
+    { PART, BOOLEANS, "0200020107", "i1", ALL, OER_OK, 0, 5, 1, "07" },
+    { PART, BOOLEANS, "0200020107ff", "i1", ALL, OER_OK, 0, 5, 1, "07" },
+    { PART, BOOLEANS, "0100ff", "i0", ALL, OER_NO_STEP, 0, 2, 0, 0 },
+    { PART, ADDITIONS, "80ff0206800109", "a0", ALL, OER_OK, 0, 7, 1, "09" },
+    { PART, ADDITIONS, "80ff0206800109", "a1", ALL, OER_ABSENT, 0, 7, 0, 0 },
+    { PART, ADDITIONS, "80ff020680010900", "a1", ALL, OER_ABSENT, 0, 7, 0, 0 },
+    { PART, ADDITIONS, "80ff0206800109", "c1", ALL, OER_NO_STEP, 0, 7, 0, 0 },
+    { PART, CHOSEN, "8103026162", "v", ALL, OER_OK, 0, 5, 3, "026162" },
     { PART, "BOOLEAN", "ff", "c01", ALL, OER_NO_PATH, 0, 0, 0, 0 },
     { PART, "BOOLEAN", "ff", "", ALL, OER_NO_PATH, 0, 0, 0, 0 },
     { PART, "BOOLEAN", "ff", "\377", ALL, OER_NO_PATH, 0, 0, 0, 0 },
@@ -124,21 +143,23 @@ struct place {
 };
 
 static const struct place places[] = {
-    { BOOLEANS, "0200020107", "i1", OER_OK, 0, 0, 4, 1 },
-    { BOOLEANS, "0103ffffff", "i0", OER_OK, 0, 0, 2, 1 },
-    { BOOLEANS, "0103ffffff", "i2", OER_OK, 0, 0, 4, 1 },
-    { BOOLEANS, "0103ffffff", "i3", OER_NO_STEP, 0, 0, 0, 0 },
-    { ADDITIONS, "80ff0206800109", "c0", OER_OK, 0, 0, 1, 1 },
-    { ADDITIONS, "80ff0206800109", "a0", OER_OK, 0, 0, 6, 1 },
-    { ADDITIONS, "80ff0206800109", "a1", OER_ABSENT, 0, 0, 0, 0 },
-    { ADDITIONS, "80ff0206c001090109", "a1", OER_OK, 0, 0, 8, 1 },
-    { ADDITIONS, "80ff020430010900", "a3", OER_OK, 0, 0, 8, 0 },
-    { BYTE, "20ff", "c2", OER_OK, 0, 0, 2, 0 },
-    { BYTE, "60ff0800", "c1", OER_OK, 0, 0, 2, 1 },
-    { CHOSEN, "8103026162", "v", OER_OK, 0, 0, 2, 3 },
-    { CHOSEN, "8502616200", "v", OER_OK, 0, 0, 2, 2 },
-    { "SEQUENCE OF SEQUENCE OF BOOLEAN", "01020101ff0102ffff", "i1", OER_OK, 0, 0, 5, 4 },
-    { "SEQUENCE OF SEQUENCE OF BOOLEAN", "01020101ff0102ffff", "i1.i0", OER_OK, 0, 0, 7, 1 },
+    { BOOLEANS, "0200020107", "i1", OER_OK, 0, 5, 4, 1 },
+    { BOOLEANS, "020002010701", "i1", OER_OK, 0, 5, 4, 1 },
+    { BOOLEANS, "0103ffffff", "i0", OER_OK, 0, 5, 2, 1 },
+    { BOOLEANS, "0103ffffff", "i2", OER_OK, 0, 5, 4, 1 },
+    { BOOLEANS, "0103ffffff", "i3", OER_NO_STEP, 0, 5, 0, 0 },
+    { ADDITIONS, "80ff0206800109", "c0", OER_OK, 0, 7, 1, 1 },
+    { ADDITIONS, "80ff0206800109", "a0", OER_OK, 0, 7, 6, 1 },
+    { ADDITIONS, "80ff0206800109", "a1", OER_ABSENT, 0, 7, 0, 0 },
+    { ADDITIONS, "80ff0206c001090109", "a1", OER_OK, 0, 9, 8, 1 },
+    { ADDITIONS, "80ff020430010900", "a3", OER_OK, 0, 8, 8, 0 },
+    { BYTE, "20ff", "c2", OER_OK, 0, 2, 2, 0 },
+    { BYTE, "60ff0800", "c1", OER_OK, 0, 3, 2, 1 },
+    { BYTE, "20ff00", "c1", OER_ABSENT, 0, 2, 0, 0 },
+    { CHOSEN, "8103026162", "v", OER_OK, 0, 5, 2, 3 },
+    { CHOSEN, "8502616200", "v", OER_OK, 0, 4, 2, 2 },
+    { "SEQUENCE OF SEQUENCE OF BOOLEAN", "01020101ff0102ffff", "i1", OER_OK, 0, 9, 5, 4 },
+    { "SEQUENCE OF SEQUENCE OF BOOLEAN", "01020101ff0102ffff", "i1.i0", OER_OK, 0, 9, 7, 1 },
     { "BOOLEAN", "ff", "c01", OER_NO_PATH, 0, 0, 0, 0 },
     { "BOOLEAN", "ff", "\377", OER_NO_PATH, 0, 0, 0, 0 },
     { "OCTET STRING", "0361", "c0", OER_REJECTED, OER_END, 2, 0, 0 },
@@ -153,7 +174,11 @@ struct rejected_text {
 };
 
 static const struct rejected_text rejected_texts[] = {
-    { "A ::= BOOLEAN \377", OER_TEXT_NOT_UTF8, 0 },
+    { "\377", OER_TEXT_NOT_UTF8, 0 },
+    { "A ::= BOOLEAN \377", OER_TEXT_NOT_UTF8, 14 },
+    { "A ::= $ \303\244 \303", OER_TEXT_NOT_UTF8, 11 },
+    { "A ::= NULL -- \355\240\200", OER_TEXT_NOT_UTF8, 14 },
+    { "A ::= NULL -- \360\237\230", OER_TEXT_NOT_UTF8, 14 },
     { "A ::= INTEGER (05)", OER_TEXT_TOKEN, 15 },
     { "A ::= INTEGER (170141183460469231731687303715884105728)", OER_TEXT_NUMBER, 15 },
     { "A ::= CHOICE {a [0] NULL, b NULL}", OER_TEXT_MIXED, 28 },

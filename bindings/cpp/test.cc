@@ -207,6 +207,8 @@ static answer call(oer::types &types, const char *name, const vector &row) {
         return of(types.part(name, given, row.path));
     case TO_JSON:
         return of(types.to_json(name, given, row.limit));
+    case WHOLE:
+        return of(types.check_whole(name, given));
     default:
         return of(types.check(name, given));
     }
@@ -282,10 +284,10 @@ static void test_vector(const vector &row) {
     answer made = call(types, "A", row);
     EXPECT(made.error.status == row.status && made.error.why == row.why && made.error.needed == 0, row.given);
     EXPECT(made.error.place == (row.status ? row.octets : 0), row.given);
-    EXPECT(made.read == (row.status ? 0 : row.octets) && made.size == row.written, row.given);
+    EXPECT(made.read == (row.status ? 0 : row.octets) && made.size == (row.status ? 0 : row.written), row.given);
     EXPECT(made.made == wanted(row), row.given);
     EXPECT(!made.error.status || made.error.of == subject_of(row), row.given);
-    if (row.task != CHECK) test_rooms(types, row);
+    if (row.task != CHECK && row.task != WHOLE) test_rooms(types, row);
     EXPECT(is_only(call(types, "B", row).error, OER_UNNAMED), row.given);
     EXPECT(is_only(call(types, "", row).error, OER_UNNAMED), row.given);
     EXPECT(is_only(call(types, "\377", row).error, OER_UNNAMED), row.given);
@@ -304,12 +306,12 @@ static void test_vector(const vector &row) {
 static void test_place(const place &row) {
     oer::types types = types_of(row.type);
     bytes given = from_hex(row.given);
-    oer::result<oer::message> found = types.part_at("A", given, row.path);
+    oer::result<oer::located> found = types.part_at("A", given, row.path);
     test_value(found);
     EXPECT(found.error().status == row.status && found.error().why == row.why, row.given);
     EXPECT(found.error().place == row.octets && found.error().needed == 0, row.given);
     EXPECT(found.ok() == (row.status == OER_OK), row.given);
-    if (found.ok()) EXPECT(found.value().at == row.at && found.value().length == row.length, row.given);
+    if (found.ok()) EXPECT(found->at == row.at && found->length == row.length && found->read == row.octets, row.given);
     EXPECT(is_only(types.part_at("B", given, row.path).error(), OER_UNNAMED), row.given);
     types.free();
     EXPECT(is_only(types.part_at("A", given, row.path).error(), OER_NO_TYPES), row.given);
@@ -494,6 +496,7 @@ static void test_null_pointers() {
         std::uint8_t room[8];
         char letters[8];
         EXPECT(is_only(types.check(name, given).error(), OER_OUTSIDE), "check");
+        EXPECT(is_only(types.check_whole(name, given).error(), OER_OUTSIDE), "check_whole");
         EXPECT(is_only(types.check_many(name, given, { &all, 1 }, { &answer, 1 }).error(), OER_OUTSIDE), "check_many");
         EXPECT(is_only(types.canon(name, given).error(), OER_OUTSIDE), "canon");
         EXPECT(is_only(types.canon_into(name, given, room).error(), OER_OUTSIDE), "canon_into");
@@ -561,8 +564,17 @@ static void test_certificate(const std::string &folder) {
     EXPECT(copy(types.canon("Certificate", basic, 236).value()) == certificate, "canon");
     EXPECT(types.canon("Certificate", basic, 235).error().why == OER_LIMIT, "limit");
     EXPECT(copy(types.part("Certificate", certificate, "c3").value()) == signed_part, "toBeSigned");
-    oer::message place = types.part_at("Certificate", certificate, "c3").value();
-    EXPECT(place.at == 12 && place.length == 152, "toBeSigned");
+    oer::located place = types.part_at("Certificate", certificate, "c3").value();
+    EXPECT(place.at == 12 && place.length == 152 && place.read == 230, "toBeSigned");
+    const oer::message &message = place;
+    oer_checked alone;
+    EXPECT(types.check_many("Certificate", certificate, { &message, 1 }, { &alone, 1 }).ok(), "a part as a message");
+    EXPECT(types.check_whole("Certificate", certificate).ok(), "the whole certificate");
+    EXPECT(types.check_whole("Certificate", basic).error().name() == std::string("NotCanonical"), "the whole basic one");
+    certificate.push_back(0);
+    EXPECT(types.check_whole("Certificate", certificate).error().name() == std::string("Follows"), "an octet follows");
+    EXPECT(types.check_whole("Certificate", certificate).error().place == 230, "an octet follows");
+    certificate.pop_back();
     oer::text json = types.to_json("Certificate", basic).value();
     EXPECT(copy(types.from_json("Certificate", json).value()) == certificate, "json");
 }
@@ -595,7 +607,7 @@ static void test_numbers(const std::string &file) {
         words >> name >> number;
         EXPECT(name.compare(0, 4, "OER_") == 0, name);
         name = name.substr(4);
-        bool status = statuses <= OER_OUTSIDE;
+        bool status = statuses <= OER_FOLLOWS;
         oer::subject of = oer::subject::octets;
         if (name.compare(0, 5, "TEXT_") == 0) of = oer::subject::definitions;
         if (name.compare(0, 5, "JSON_") == 0) of = oer::subject::json;

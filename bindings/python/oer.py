@@ -33,9 +33,9 @@ from types import TracebackType
 from typing import Any, Callable, Dict, List, NamedTuple, Optional, Sequence, Tuple, Type, Union
 
 __all__ = [
-    "VERSION_NUMBER", "version", "Types", "Checked", "Canonical", "Json", "Place", "Reason", "TextReason", "JsonReason",
+    "VERSION_NUMBER", "version", "Types", "Checked", "Canonical", "Json", "Part", "Place", "Reason", "TextReason", "JsonReason",
     "Error", "Rejected", "OctetsRejected", "DefinitionsRejected", "JsonRejected", "NoTypes", "Unnamed",
-    "OutOfMemory", "NoPath", "NoStep", "Absent", "NotJson", "Outside",
+    "OutOfMemory", "NoPath", "NoStep", "Absent", "NotJson", "Outside", "NotCanonical", "Follows",
 ]
 
 VERSION_NUMBER = 100
@@ -70,7 +70,7 @@ class Reason(enum.IntEnum):
 class TextReason(enum.IntEnum):
     """Why definitions are rejected (NOTATION.md)."""
 
-    NOT_UTF8 = 0  # the text is not UTF-8; the place is 0, wherever it isn't
+    NOT_UTF8 = 0  # the text is not UTF-8 from the place on
     TOKEN = 2  # no token begins here, or it has no end
     SYNTAX = 3  # a token that the grammar doesn't have here
     NUMBER = 4  # a number out of range for its place
@@ -134,7 +134,7 @@ class OctetsRejected(Rejected):
 
 class DefinitionsRejected(Rejected):
     """The text spells no types. `reason` is a TextReason, `place` the octet of the text, counted from 0, at
-    which the token or type begins that shows the fault."""
+    which the token or type begins that shows the fault, or from which on it is not UTF-8."""
 
     what = "definitions"
 
@@ -181,19 +181,28 @@ class NoStep(Error):
     """The path has a step that the type doesn't have, one past the last element, or one to an addition that
     the type doesn't know and that isn't there; or it goes on from a part that the type doesn't know."""
 
-    def __init__(self, step: str, path: str) -> None:
+    def __init__(self, step: str, path: str, read: int) -> None:
         super().__init__(f"there is no step {_shown(step)} (path {_shown(path)})")
         self.step = step
         """The first such step."""
         self.path = path
         """The path up to this step, with it."""
+        self.read = read
+        """How many octets the encoding has, here and in Absent and Follows."""
 
     def __reduce__(self) -> Tuple[Any, ...]:
-        return (type(self), (self.step, self.path))
+        return (type(self), (self.step, self.path, self.read))
 
 
 class Absent(Error):
     """The path leads to a component or a known addition that is absent."""
+
+    def __init__(self, read: int) -> None:
+        super().__init__("the part is absent")
+        self.read = read
+
+    def __reduce__(self) -> Tuple[Any, ...]:
+        return (type(self), (self.read,))
 
 
 class NotJson(Error):
@@ -202,6 +211,21 @@ class NotJson(Error):
 
 class Outside(Error):
     """The message is not all in the octets."""
+
+
+class NotCanonical(Error):
+    """The octets are an encoding, but not the canonical one."""
+
+
+class Follows(Error):
+    """An encoding is at the front of the octets, and others follow it."""
+
+    def __init__(self, read: int) -> None:
+        super().__init__(f"octets follow the encoding, which has {read}")
+        self.read = read
+
+    def __reduce__(self) -> Tuple[Any, ...]:
+        return (type(self), (self.read,))
 
 
 def _shown(text: str) -> str:
@@ -236,18 +260,30 @@ class Json(NamedTuple):
     """How many octets the encoding has that was read."""
 
 
+class Part(NamedTuple):
+    """What part() returns."""
+
+    octets: bytes
+    """The octets of the part."""
+    read: int
+    """How many octets the encoding has that it is in."""
+
+
 class Place(NamedTuple):
-    """What part_at() returns."""
+    """What part_at() returns. It may be given to check_many() as a message."""
 
     at: int
     """The place of the part's first octet."""
     length: int
     """How many octets it has."""
+    read: int
+    """How many octets the encoding has that it is in."""
 
 
 # ---- the calls, as oer.h has them
 
-_OK, _REJECTED, _NO_TYPES, _UNNAMED, _MEMORY, _ROOM, _NO_PATH, _NO_STEP, _ABSENT, _NO_JSON, _OUTSIDE = range(11)
+(_OK, _REJECTED, _NO_TYPES, _UNNAMED, _MEMORY, _ROOM, _NO_PATH, _NO_STEP, _ABSENT, _NO_JSON, _OUTSIDE, _NOT_CANONICAL,
+ _FOLLOWS) = range(13)
 _NO_LIMIT = 2**64 - 1
 _MOST = ctypes.c_size_t(-1).value  # the greatest place and length
 _KEPT = 65536  # a buffer of more octets is not kept for the next call
@@ -309,6 +345,7 @@ def _load() -> ctypes.CDLL:
         "oer_types_free": ([handle], None),
         "oer_types_share": ([handle, handle], ctypes.c_uint32),
         "oer_check": ([handle] + given + given, _Checked),
+        "oer_check_whole": ([handle] + given + given, _Checked),
         "oer_check_many": ([handle] + given + given + [ctypes.c_void_p, size] + out, ctypes.c_uint32),
         "oer_canon": ([handle] + given + given + [limit] + out, _Written),
         "oer_part": ([handle] + given + given + given + out, _Written),
@@ -333,14 +370,14 @@ def version() -> int:
 _ERRORS: Dict[int, Tuple[Type[Error], str]] = {
     _NO_TYPES: (NoTypes, "there are no types"),
     _MEMORY: (OutOfMemory, "an allocation failed"),
-    _ABSENT: (Absent, "the part is absent"),
     _NO_JSON: (NotJson, "the text is not JSON"),
     _OUTSIDE: (Outside, "the message is not all in the octets"),
+    _NOT_CANONICAL: (NotCanonical, "the octets are not the canonical encoding"),
 }
 
 
 def _error(status: int, name: bytes = b"", path: bytes = b"") -> Error:
-    """The exception of a status other than OK, REJECTED and NO_STEP."""
+    """The exception of a status other than OK, REJECTED, NO_STEP, ABSENT and FOLLOWS."""
     if status == _UNNAMED:
         return Unnamed(_readable(name))
     if status == _NO_PATH:
@@ -382,7 +419,7 @@ def _limited(limit: Optional[int]) -> int:
 def _message(message: Tuple[int, int]) -> Tuple[int, int]:
     """A message as the library takes it. One for whose numbers it has none is outside of all octets."""
     try:
-        at, length = (_number(number) for number in message)
+        at, length = (_number(number) for number in (message[:2] if isinstance(message, Place) else message))
     except ValueError:
         raise TypeError("a message is a place and a length") from None
     if 0 <= at <= _MOST and 0 <= length <= _MOST:
@@ -451,6 +488,20 @@ class Types:
             raise found
         return found
 
+    def check_whole(self, name: Text, octets: Octets) -> None:
+        """That the octets are the canonical encoding (Canonical-OER) of a value of the type with the name,
+        and nothing else: what has to be asked before a signature over them counts.
+
+        Raises Follows if an encoding is at the front and others follow it, NotCanonical if they are an
+        encoding and not the canonical one, and OctetsRejected if no encoding is at the front.
+        """
+        named, given = _text(name), _octets(octets)
+        answer = self._call(_library.oer_check_whole, named, len(named), given, len(given))
+        if answer.status == _FOLLOWS:
+            raise Follows(answer.octets)
+        if answer.status != _OK:
+            raise self._rejection(answer, named)
+
     def check_many(self, name: Text, octets: Octets,
                    messages: Sequence[Tuple[int, int]]) -> List[Union[Checked, Error]]:
         """Checks each message as check() does, in one call. A message is the place of its first octet and
@@ -481,7 +532,7 @@ class Types:
             raise self._rejection(answer, named)
         return Canonical(made, answer.octets)
 
-    def part(self, name: Text, octets: Octets, path: Text) -> bytes:
+    def part(self, name: Text, octets: Octets, path: Text) -> Part:
         """The part of the encoding at the front of the octets to which the path leads, as it stands in them.
         A path is steps joined by dots: c0 a component, a0 an addition, i0 an element, v the alternative
         chosen. What follows the encoding is not looked at.
@@ -493,7 +544,7 @@ class Types:
             _library.oer_part, (named, len(named), given, len(given), steps, len(steps)), len(given))
         if answer.status != _OK:
             raise self._no_part(answer, named, given, steps)
-        return made
+        return Part(made, answer.octets)
 
     def part_at(self, name: Text, octets: Octets, path: Text) -> Place:
         """Where that part lies in the octets: it is octets[at:at + length].
@@ -504,7 +555,7 @@ class Types:
         answer = self._part_at(named, given, steps)
         if answer.status != _OK:
             raise self._no_part(answer, named, given, steps)
-        return Place(answer.at, answer.length)
+        return Place(answer.at, answer.length, answer.octets)
 
     def to_json(self, name: Text, octets: Octets, limit: Optional[int] = None) -> Json:
         """The JSON of the value whose encoding, of at most `limit` octets, is at the front of the octets.
@@ -570,12 +621,14 @@ class Types:
     def _no_part(self, answer: Any, named: bytes, given: bytes, steps: bytes) -> Error:
         """The same, of an answer about a path."""
         if answer.status == _NO_STEP:
-            return self._no_step(named, given, steps.split(b"."))
+            return self._no_step(named, given, steps.split(b"."), answer.octets)
+        if answer.status == _ABSENT:
+            return Absent(answer.octets)
         if answer.status == _NO_PATH:
             return _error(answer.status, named, steps)
         return self._rejection(answer, named)
 
-    def _no_step(self, named: bytes, given: bytes, steps: List[bytes]) -> NoStep:
+    def _no_step(self, named: bytes, given: bytes, steps: List[bytes], read: int) -> NoStep:
         """The exception of the first step that isn't there: the shorter paths tell which, by halves."""
         there, lacking = 0, len(steps)
         while lacking - there > 1:
@@ -584,7 +637,7 @@ class Types:
                 lacking = middle
             else:
                 there = middle
-        return NoStep(_readable(steps[lacking - 1]), _readable(b".".join(steps[:lacking])))
+        return NoStep(_readable(steps[lacking - 1]), _readable(b".".join(steps[:lacking])), read)
 
     def _gather(self, call: Callable[..., Any], given: Tuple[Any, ...], room: int) -> Tuple[Any, bytes]:
         """Calls with a buffer of at least `room` octets, and where that is too small once more with as many

@@ -63,6 +63,8 @@ class Vector(NamedTuple):
     def call(self, types: oer.Types, name: Any) -> Any:
         if self.task == "check":
             return types.check(name, self.given)
+        if self.task == "whole":
+            return types.check_whole(name, self.given)  # type: ignore[func-returns-value]
         if self.task == "canon":
             return types.canon(name, self.given, self.limit)
         if self.task == "part":
@@ -75,6 +77,10 @@ class Vector(NamedTuple):
         """What is returned."""
         if self.task == "check":
             return (self.octets, self.written == 1)
+        if self.task == "whole":
+            return None
+        if self.task == "part":
+            return oer.Part(self.answer, self.octets)
         if self.task == "canon":
             return (self.answer, self.octets)
         if self.task == "to_json":
@@ -87,7 +93,8 @@ class Vector(NamedTuple):
             if self.task == "from_json":
                 return (oer.JsonRejected, self.why, None)
             return (oer.OctetsRejected, self.why, self.octets)
-        return ({6: oer.NoPath, 7: oer.NoStep, 8: oer.Absent, 9: oer.NotJson}[self.status], None, None)
+        errors = {6: oer.NoPath, 7: oer.NoStep, 8: oer.Absent, 9: oer.NotJson, 11: oer.NotCanonical, 12: oer.Follows}
+        return (errors[self.status], None, None)
 
 
 VECTORS = [
@@ -121,6 +128,8 @@ class Calls(unittest.TestCase):
                     self.assertEqual(row.call(types, "A"), row.wanted())
                 else:
                     self.assertEqual(self.raised(lambda: row.call(types, "A")), row.raised())
+                if row.status in (7, 8, 12):
+                    self.assertEqual(self.problem(lambda: row.call(types, "A")).read, row.octets)
                 for name in ("B", "", b"\xff"):
                     self.assertEqual(self.raised(lambda: row.call(types, name)), (oer.Unnamed, None, None))
 
@@ -131,11 +140,13 @@ class Calls(unittest.TestCase):
             status, why, octets, at, length = (int(number) for number in numbers)
             with self.subTest(given=digits, path=path), types_of(from_hex(kind)) as types:
                 if status == 0:
-                    self.assertEqual(types.part_at("A", given, path), oer.Place(at, length))
-                    self.assertEqual(types.part("A", given, path), given[at:at + length])
+                    self.assertEqual(types.part_at("A", given, path), oer.Place(at, length, octets))
+                    self.assertEqual(types.part("A", given, path), oer.Part(given[at:at + length], octets))
                 else:
                     wanted = (oer.OctetsRejected, why, octets) if status == 1 else (errors[status], None, None)
                     self.assertEqual(self.raised(lambda: types.part_at("A", given, path)), wanted)
+                if status in (7, 8):
+                    self.assertEqual(self.problem(lambda: types.part_at("A", given, path)).read, octets)
                 self.assertEqual(self.raised(lambda: types.part_at("B", given, path)), (oer.Unnamed, None, None))
             self.assertEqual(self.raised(lambda: types.part_at("A", given, path)), (oer.NoTypes, None, None))
 
@@ -266,7 +277,7 @@ class Calls(unittest.TestCase):
                 return 1000
 
         self.assertEqual(types.check_many("A", b"\xff", Messages([(0, 1)])), [(1, True)])
-        self.assertEqual(types.check_many("A", b"\xff", iter([oer.Place(0, 1)])), [(1, True)])  # type: ignore[arg-type]
+        self.assertEqual(types.check_many("A", b"\xff", iter([oer.Place(0, 1, 1)])), [(1, True)])  # type: ignore[arg-type]
 
     def test_types_are_freed(self) -> None:
         with mock.patch.object(oer, "_library", wraps=oer._library) as library:
@@ -314,7 +325,7 @@ class Calls(unittest.TestCase):
     def test_steps(self) -> None:
         types = types_of(b"SEQUENCE {a SEQUENCE OF SEQUENCE {b BOOLEAN}, ...}")
         octets = bytes.fromhex("000102ff00")
-        self.assertEqual(types.part("A", octets, "c0.i1.c0"), b"\x00")
+        self.assertEqual(types.part("A", octets, "c0.i1.c0"), (b"\x00", 5))
         for path, count in (("c1", 1), ("v.c0.c0.c0.c0", 1), ("c0.c0.i0", 2), ("c0.i2.c0", 2), ("c0.i1.c1", 3), ("c0.i1.c0.v", 4),
                             ("c0.i1.c0.v.v.v.v.v", 4), ("a0", 1), ("a0.c0", 1), ("c0.i0.i0.i0", 3)):
             for call in (types.part, types.part_at):
@@ -340,6 +351,8 @@ class Calls(unittest.TestCase):
             (lambda: types.part_at("A", b"\x00", ""), "'' is not a path"),
             (lambda: types.part("A", b"\x00", "c1"), "there is no step 'c1' (path 'c1')"),
             (lambda: types.part("A", b"\x00", "c0"), "the part is absent"),
+            (lambda: types.check_whole("A", b"\x80\x01"), "the octets are not the canonical encoding"),
+            (lambda: types.check_whole("A", b"\x00\x01"), "octets follow the encoding, which has 1"),
             (lambda: types.from_json("A", "{"), "the text is not JSON"),
         )
         for call, message in table:
@@ -398,11 +411,14 @@ for call in (lambda: types.check("B", b""), lambda: types.part("A", b"\\0", "c0"
         certificate, basic = hex_file("certificate-rsu.hex"), hex_file("certificate-rsu-basic.hex")
         self.assertEqual(types.check("Certificate", certificate), (230, True))
         self.assertEqual(types.check("Certificate", basic), (236, False))
+        self.assertIsNone(types.check_whole("Certificate", certificate))  # type: ignore[func-returns-value]
+        self.assertIsInstance(self.problem(lambda: types.check_whole("Certificate", basic)), oer.NotCanonical)
+        self.assertEqual(self.problem(lambda: types.check_whole("Certificate", certificate + b"\0")).read, 230)
         self.assertEqual(types.canon("Certificate", basic, 236), (certificate, 236))
         rejected = self.raised(lambda: types.canon("Certificate", basic, 235))
         self.assertEqual(rejected[:2], (oer.OctetsRejected, oer.Reason.LIMIT))
-        self.assertEqual(types.part("Certificate", certificate, "c3"), hex_file("tbs-rsu.hex"))
-        self.assertEqual(types.part_at("Certificate", certificate, "c3"), (12, 152))
+        self.assertEqual(types.part("Certificate", certificate, "c3"), (hex_file("tbs-rsu.hex"), 230))
+        self.assertEqual(types.part_at("Certificate", certificate, "c3"), (12, 152, 230))
         json = types.to_json("Certificate", basic)
         self.assertEqual(types.from_json("Certificate", json.text), certificate)
 
@@ -414,8 +430,9 @@ class Header(unittest.TestCase):
         found = {"OER_" + reason.name: reason.value for reason in oer.Reason}
         found.update({"OER_TEXT_" + reason.name: reason.value for reason in oer.TextReason})
         found.update({"OER_JSON_" + reason.name: reason.value for reason in oer.JsonReason})
-        statuses = "OK REJECTED NO_TYPES UNNAMED MEMORY ROOM NO_PATH NO_STEP ABSENT NO_JSON OUTSIDE".split()
-        found.update({"OER_" + name: getattr(oer, "_" + name) for name in statuses})
+        statuses = "OK REJECTED NO_TYPES UNNAMED MEMORY ROOM NO_PATH NO_STEP ABSENT NO_JSON OUTSIDE "
+        statuses += "NOT_CANONICAL FOLLOWS"
+        found.update({"OER_" + name: getattr(oer, "_" + name) for name in statuses.split()})
         self.assertEqual(found, {name: int(number) for name, number in rows("number")})
 
     def test_layout(self) -> None:

@@ -19,7 +19,8 @@ pub enum Error {
     Definitions {
         /// What is wrong with it.
         reason: TextReason,
-        /// The octet of the text at which the token or type begins that shows the fault, counted from 0.
+        /// The octet of the text at which the token or type begins that shows the fault, or from which on it
+        /// is not UTF-8, counted from 0.
         place: u64,
     },
     /// The JSON is no value of the type.
@@ -43,13 +44,27 @@ pub enum Error {
     /// The path has a step that the type doesn't have, one past the last element, or one to an addition
     /// that the type doesn't know and that isn't there; or it goes on from a part that the type doesn't
     /// know.
-    NoStep,
+    NoStep {
+        /// How many octets the encoding has.
+        read: u64,
+    },
     /// The path leads to a component or a known addition that is absent.
-    Absent,
+    Absent {
+        /// How many octets the encoding has.
+        read: u64,
+    },
     /// The text is not JSON, or not UTF-8.
     NoJson,
     /// The message is not all in the octets.
     Outside,
+    /// The octets are an encoding, but not the canonical one. Only [`Types::check_whole`](crate::Types::check_whole)
+    /// returns this and the next one.
+    NotCanonical,
+    /// An encoding is at the front of the octets, and others follow it.
+    Follows {
+        /// How many octets the encoding has: the place of the first one that follows.
+        read: u64,
+    },
     /// A status or reason that this crate doesn't know. No library of the version that the crate was
     /// made for answers it.
     Unknown {
@@ -72,7 +87,8 @@ impl Error {
     }
 
     /// The place, where octets or definitions are rejected: how many octets had been looked at, or the
-    /// octet of the text at which the token or type begins that shows the fault.
+    /// octet of the text at which the token or type begins that shows the fault, or from which on it is not
+    /// UTF-8.
     pub fn place(&self) -> Option<u64> {
         match self {
             Error::Octets { place, .. } | Error::Definitions { place, .. } => Some(*place),
@@ -80,18 +96,21 @@ impl Error {
         }
     }
 
-    /// The error of a status that is neither OK nor REJECTED. `needed` is of ROOM.
-    fn of_status(status: u32, why: u32, needed: u64) -> Error {
+    /// The error of a status that is neither OK nor REJECTED. `read` is how many octets the encoding has, and
+    /// `needed` is of ROOM.
+    fn of_status(status: u32, why: u32, read: u64, needed: u64) -> Error {
         match status {
             sys::NO_TYPES => Error::NoTypes,
             sys::UNNAMED => Error::Unnamed,
             sys::MEMORY => Error::Memory,
             sys::ROOM => Error::Room { needed },
             sys::NO_PATH => Error::NoPath,
-            sys::NO_STEP => Error::NoStep,
-            sys::ABSENT => Error::Absent,
+            sys::NO_STEP => Error::NoStep { read },
+            sys::ABSENT => Error::Absent { read },
             sys::NO_JSON => Error::NoJson,
             sys::OUTSIDE => Error::Outside,
+            sys::NOT_CANONICAL => Error::NotCanonical,
+            sys::FOLLOWS => Error::Follows { read },
             _ => Error::Unknown { status, why },
         }
     }
@@ -100,7 +119,7 @@ impl Error {
     pub(crate) fn of_octets(status: u32, why: u32, place: u64, needed: u64) -> Error {
         match Reason::from_number(why) {
             Some(reason) if status == sys::REJECTED => Error::Octets { reason, place },
-            _ => Error::of_status(status, why, needed),
+            _ => Error::of_status(status, why, place, needed),
         }
     }
 
@@ -108,7 +127,7 @@ impl Error {
     pub(crate) fn of_definitions(status: u32, why: u32, place: u64) -> Error {
         match TextReason::from_number(why) {
             Some(reason) if status == sys::REJECTED => Error::Definitions { reason, place },
-            _ => Error::of_status(status, why, 0),
+            _ => Error::of_status(status, why, 0, 0),
         }
     }
 
@@ -116,7 +135,7 @@ impl Error {
     pub(crate) fn of_json(status: u32, why: u32, needed: u64) -> Error {
         match JsonReason::from_number(why) {
             Some(reason) if status == sys::REJECTED => Error::Json { reason },
-            _ => Error::of_status(status, why, needed),
+            _ => Error::of_status(status, why, 0, needed),
         }
     }
 }
@@ -132,10 +151,12 @@ impl fmt::Display for Error {
             Error::Memory => out.write_str("an allocation failed"),
             Error::Room { needed } => write!(out, "the buffer is too small: {needed} octets are needed"),
             Error::NoPath => out.write_str("not a path"),
-            Error::NoStep => out.write_str("the type has no such step"),
-            Error::Absent => out.write_str("the part is absent"),
+            Error::NoStep { .. } => out.write_str("the type has no such step"),
+            Error::Absent { .. } => out.write_str("the part is absent"),
             Error::NoJson => out.write_str("not JSON"),
             Error::Outside => out.write_str("the message is not all in the octets"),
+            Error::NotCanonical => out.write_str("not the canonical encoding"),
+            Error::Follows { read } => write!(out, "octets follow the encoding, which has {read}"),
             Error::Unknown { status, why } => write!(out, "status {status}, reason {why}"),
         }
     }
@@ -151,7 +172,7 @@ mod tests {
     /// Each status of the header but OK and REJECTED has the error with its name.
     #[test]
     fn statuses_are_those_of_the_header() {
-        for row in &table::rows("number")[2..11] {
+        for row in &table::rows("number")[2..13] {
             let wanted = row[0].strip_prefix("OER_").unwrap().replace('_', "").to_lowercase();
             let status = row[1].parse().unwrap();
             for error in [
@@ -165,6 +186,13 @@ mod tests {
             }
         }
         assert_eq!(Error::of_octets(sys::ROOM, 0, 0, 7), Error::Room { needed: 7 });
+        for (status, wanted) in [
+            (sys::NO_STEP, Error::NoStep { read: 5 }),
+            (sys::ABSENT, Error::Absent { read: 5 }),
+            (sys::FOLLOWS, Error::Follows { read: 5 }),
+        ] {
+            assert_eq!(Error::of_octets(status, 0, 5, 0), wanted);
+        }
         assert_eq!(Error::of_json(sys::REJECTED, 99, 0), Error::Unknown { status: 1, why: 99 });
         assert_eq!(Error::of_octets(99, 3, 0, 0), Error::Unknown { status: 99, why: 3 });
     }

@@ -95,8 +95,8 @@ pub struct Json {
 /// What the calls return that write into a buffer of the caller's.
 #[derive(Clone, Copy, Debug, PartialEq, Eq)]
 pub struct Written {
-    /// How many octets the encoding has that was read: [`Types::canon_into`], [`Types::to_json_into`].
-    /// Else 0.
+    /// How many octets the encoding has that was read: [`Types::canon_into`], [`Types::part_into`],
+    /// [`Types::to_json_into`]. Else 0.
     pub read: usize,
     /// How many octets were written, from the first of the buffer on. Those after them are as before.
     pub size: usize,
@@ -119,6 +119,8 @@ pub struct Part<'a> {
     pub octets: &'a [u8],
     /// How many octets are before them.
     pub at: usize,
+    /// How many octets the encoding has that they are in. What follows it begins there.
+    pub read: usize,
 }
 
 impl Part<'_> {
@@ -245,6 +247,30 @@ impl Types {
         checked(&answer)
     }
 
+    /// That the octets are the canonical encoding (Canonical-OER) of a value of the type with the name, and
+    /// nothing else: what has to be asked before a signature over them counts. It takes no memory.
+    ///
+    /// # Errors
+    ///
+    /// [`Error::Follows`] if an encoding is at the front and others follow it, [`Error::NotCanonical`] if they
+    /// are an encoding and not the canonical one, and [`Error::Octets`] if no encoding is at the front.
+    ///
+    /// ```
+    /// let types = oer::Types::parse("A ::= BOOLEAN")?;
+    /// assert_eq!(types.check_whole("A", &[0xff]), Ok(()));
+    /// assert_eq!(types.check_whole("A", &[0x01]), Err(oer::Error::NotCanonical));
+    /// assert_eq!(types.check_whole("A", &[0xff, 0xff]), Err(oer::Error::Follows { read: 1 }));
+    /// # Ok::<(), oer::Error>(())
+    /// ```
+    pub fn check_whole(&self, name: impl AsRef<[u8]>, octets: &[u8]) -> Result<(), Error> {
+        let name = name.as_ref();
+        // SAFETY: as in `check`.
+        let answer = unsafe {
+            sys::oer_check_whole(self.held.get(), name.as_ptr().cast(), name.len(), octets.as_ptr(), octets.len())
+        };
+        checked(&answer).map(|_| ())
+    }
+
     /// Checks each message as [`Types::check`] does, in one call. A message is a range of the octets, and
     /// ranges may overlap. Returns the answers in the order of the messages. A range that ends before it
     /// starts is not in the octets.
@@ -367,7 +393,7 @@ impl Types {
     /// ```
     /// let types = oer::Types::parse("A ::= SEQUENCE OF BOOLEAN")?;
     /// let part = types.part("A", &[0x02, 0x00, 0x02, 0x01, 0x07], "i1")?;
-    /// assert_eq!((part.octets, part.range()), (&[0x07][..], 4..5));
+    /// assert_eq!((part.octets, part.range(), part.read), (&[0x07][..], 4..5, 5));
     /// # Ok::<(), oer::Error>(())
     /// ```
     pub fn part<'a>(
@@ -390,7 +416,11 @@ impl Types {
             )
         };
         match answer.status {
-            sys::OK => Ok(Part { octets: &octets[answer.at..][..answer.length], at: answer.at }),
+            sys::OK => Ok(Part {
+                octets: &octets[answer.at..][..answer.length],
+                at: answer.at,
+                read: answer.octets as usize,
+            }),
             status => Err(Error::of_octets(status, answer.why, answer.octets, 0)),
         }
     }

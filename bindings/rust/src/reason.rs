@@ -83,7 +83,7 @@ reasons! {
 reasons! {
     /// Why definitions are rejected (NOTATION.md).
     TextReason {
-        /// The text is not UTF-8. The place is 0, wherever it isn't.
+        /// The text is not UTF-8 from the place on.
         NotUtf8 = 0,
         /// No token begins here, or it has no end.
         Token = 2,

@@ -58,6 +58,8 @@ pub const NO_STEP: u32 = 7;
 pub const ABSENT: u32 = 8;
 pub const NO_JSON: u32 = 9;
 pub const OUTSIDE: u32 = 10;
+pub const NOT_CANONICAL: u32 = 11;
+pub const FOLLOWS: u32 = 12;
 
 extern "C" {
     pub fn oer_version() -> u32;
@@ -65,6 +67,13 @@ extern "C" {
     pub fn oer_types_free(types: *mut OerTypes);
     pub fn oer_types_share(types: *mut OerTypes, other: *mut OerTypes) -> u32;
     pub fn oer_check(
+        types: *mut OerTypes,
+        name: *const c_char,
+        name_length: usize,
+        octets: *const u8,
+        octets_length: usize,
+    ) -> OerChecked;
+    pub fn oer_check_whole(
         types: *mut OerTypes,
         name: *const c_char,
         name_length: usize,

@@ -60,8 +60,9 @@ impl Vector {
     fn call(&self, types: &Types, name: &[u8]) -> Result<Made, Error> {
         let (octets, read, canonical) = match self.task.as_str() {
             "check" => types.check(name, &self.given).map(|found| (Vec::new(), found.octets, found.canonical)),
+            "whole" => types.check_whole(name, &self.given).map(|()| (Vec::new(), self.given.len(), true)),
             "canon" => types.canon_within(name, &self.given, self.limit).map(|made| (made.octets, made.read, false)),
-            "part" => types.part(name, &self.given, &self.path).map(|part| (part.octets.to_vec(), 0, false)),
+            "part" => types.part(name, &self.given, &self.path).map(|part| (part.octets.to_vec(), part.read, false)),
             "to_json" => types
                 .to_json_within(name, &self.given, self.limit)
                 .map(|made| (made.text.into_bytes(), made.read, false)),
@@ -86,14 +87,16 @@ impl Vector {
             0 => Ok(Made {
                 octets: self.answer.clone(),
                 read: self.octets as usize,
-                canonical: self.task == "check" && self.written == 1,
+                canonical: ["check", "whole"].contains(&&*self.task) && self.written == 1,
             }),
             1 if self.task == "from_json" => Err(Error::Json { reason: JsonReason::from_number(self.why).unwrap() }),
             1 => Err(Error::Octets { reason: Reason::from_number(self.why).unwrap(), place: self.octets }),
             6 => Err(Error::NoPath),
-            7 => Err(Error::NoStep),
-            8 => Err(Error::Absent),
+            7 => Err(Error::NoStep { read: self.octets }),
+            8 => Err(Error::Absent { read: self.octets }),
             9 => Err(Error::NoJson),
+            11 => Err(Error::NotCanonical),
+            12 => Err(Error::Follows { read: self.octets }),
             status => panic!("no row has status {status}"),
         }
     }
@@ -128,12 +131,13 @@ fn parts_lie_where_the_table_says() {
             0 => Ok(at..at + length),
             1 => Err(Error::Octets { reason: Reason::from_number(numbers[1] as u32).unwrap(), place: numbers[2] }),
             6 => Err(Error::NoPath),
-            7 => Err(Error::NoStep),
-            8 => Err(Error::Absent),
+            7 => Err(Error::NoStep { read: numbers[2] }),
+            8 => Err(Error::Absent { read: numbers[2] }),
             status => panic!("no row has status {status}"),
         };
         let found = types.part("A", &given, &path);
         assert_eq!(found.map(|part| part.range()), wanted, "{given:02x?}");
+        assert!(found.map_or(true, |part| part.read as u64 == numbers[2]), "{given:02x?}");
         assert_eq!(found.map(|part| part.octets.as_ptr()), wanted.map(|place| given[place].as_ptr()));
         assert_eq!(types.part("B", &given, &path), Err(Error::Unnamed));
         assert_eq!(Types::new().part("A", &given, &path), Err(Error::NoTypes));
@@ -174,7 +178,7 @@ fn threads_share_types() {
 
 #[test]
 fn buffers_are_filled_or_kept() {
-    for row in vectors().iter().filter(|row| row.task != "check") {
+    for row in vectors().iter().filter(|row| !["check", "whole"].contains(&&*row.task)) {
         let types = row.types();
         for room in 0..row.answer.len() {
             let mut out = vec![0xbb; room];
@@ -227,7 +231,7 @@ fn spelt(name: &str) -> String {
 #[test]
 fn numbers_are_those_of_the_header() {
     let rows = table::rows("number");
-    for row in &rows[11..] {
+    for row in &rows[13..] {
         let (name, number) = (row[0].strip_prefix("OER_").unwrap(), row[1].parse().unwrap());
         let (found, name) = match (name.strip_prefix("TEXT_"), name.strip_prefix("JSON_")) {
             (Some(name), _) => (TextReason::from_number(number).map(|why| (why.name(), why.number())), name),
@@ -237,7 +241,7 @@ fn numbers_are_those_of_the_header() {
         let (found, again) = found.unwrap();
         assert_eq!((found.to_lowercase(), again), (spelt(name), number));
     }
-    assert_eq!(rows.len(), 51);
+    assert_eq!(rows.len(), 53);
     assert_eq!((Reason::from_number(2), TextReason::from_number(1), JsonReason::from_number(7)), (None, None, None));
     assert_eq!(table::rows("version")[0][0], oer::version().to_string());
 }
@@ -248,7 +252,8 @@ fn errors_are_errors() {
     let rejected: Box<dyn std::error::Error> = Box::new(types.check("A", &[3, 0x61]).unwrap_err());
     assert_eq!(rejected.to_string(), "octets rejected: End, 2 octets looked at");
     assert_eq!(types.check("A", &[3]).unwrap_err().place(), Some(1));
-    assert_eq!((Error::Absent.reason(), Error::Absent.place()), (None, None));
+    let absent = Error::Absent { read: 1 };
+    assert_eq!((absent.reason(), absent.place()), (None, None));
     let rejected = types.from_json("A", "true").unwrap_err();
     assert_eq!((rejected.reason(), rejected.place()), (Some("Kind"), None));
 }
@@ -270,11 +275,14 @@ fn the_certificate_of_the_example() {
     let (certificate, basic) = (from_hex(&file("certificate-rsu.hex")), from_hex(&file("certificate-rsu-basic.hex")));
     assert_eq!(types.check("Certificate", &certificate), Ok(Checked { octets: 230, canonical: true }));
     assert_eq!(types.check("Certificate", &basic), Ok(Checked { octets: 236, canonical: false }));
+    assert_eq!(types.check_whole("Certificate", &certificate), Ok(()));
+    assert_eq!(types.check_whole("Certificate", &basic), Err(Error::NotCanonical));
+    assert_eq!(types.check_whole("Certificate", &[&certificate[..], &[0]].concat()), Err(Error::Follows { read: 230 }));
     assert_eq!(types.canon("Certificate", &basic).unwrap().octets, certificate);
     let rejected = types.canon_within("Certificate", &basic, 235).unwrap_err();
     assert_eq!(rejected.reason(), Some("Limit"));
     let part = types.part("Certificate", &certificate, "c3").unwrap();
-    assert_eq!((part.range(), part.octets), (12..164, &from_hex(&file("tbs-rsu.hex"))[..]));
+    assert_eq!((part.range(), part.read, part.octets), (12..164, 230, &from_hex(&file("tbs-rsu.hex"))[..]));
     let json = types.to_json("Certificate", &basic).unwrap();
     assert_eq!(types.from_json("Certificate", json.text), Ok(certificate));
 }

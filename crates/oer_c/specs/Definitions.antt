@@ -1,6 +1,6 @@
 -- What reading definitions answers, and which types there are then.
 use Rattle.std.specs.Prelude.{◌≡◌, ◌≢◌, ℕ, List, length, Option, Some, Err, ◌⊎◌}
-use Rattle.std.specs.Str.{IsUtf8}
+use Rattle.std.specs.Str.{IsUtf8, IsValidUpTo}
 use Rattle.oer_notation.specs.Grammar.{AreWellFormed, SpellsAll}
 use Rattle.oer_notation.specs.Parsing.{parse_all}
 use Rattle.oer_notation.specs.Reading.{Known}
@@ -18,10 +18,11 @@ answer status why place = record { status = status; why = why; place = place }
 abbrev pub IsFault : TextFault → Parsed → Type 0
 IsFault fault p = (p ≡ answer 4 0 0) ⊎ ((p ≡ answer 1 (text_number fault.why) fault.at) × (fault.why ≢ Memory))
 
--- The text is not UTF-8; or it spells no well-formed types, and this is the first fault from the left; or an allocation failed.
+-- The text is not UTF-8, and so many octets are its longest front that is; or it spells no well-formed types, and this is the first fault from
+-- the left; or an allocation failed.
 abbrev pub IsRejected : List ℕ → Parsed → Type 0
 IsRejected text p = (p ≡ answer 4 0 0)
-    ⊎ (((IsUtf8 text → ⊥) × (p ≡ answer 1 0 0))
+    ⊎ (((place : ℕ) × (IsUtf8 text → ⊥) × IsValidUpTo text place × (p ≡ answer 1 0 place))
     ⊎ ((fault : TextFault) × (p ≡ answer 1 (text_number fault.why) fault.at) × (parse_all text ≡ Err fault)
     × ((definitions : List Known) → SpellsAll definitions text → AreWellFormed definitions → ⊥)))
 

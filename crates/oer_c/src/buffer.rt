@@ -1,6 +1,6 @@
 //! Octets put into a buffer of the caller's.
 ghost use Rattle.std.specs.Prelude.{◌≡◌, leb, length};
-ghost use Rattle.oer_c.specs.Buffers.{IsFilled, IsPut, only_written, rejection};
+ghost use Rattle.oer_c.specs.Buffers.{IsFilled, IsPut, only_written, rejection, wrote};
 
 use crate::status::{OK, REJECTED, ROOM};
 use oer_units::ReadFault;
@@ -14,8 +14,8 @@ pub struct Written {
     pub status: u32,
     /// At `REJECTED` the number of the reason; else 0.
     pub why: u32,
-    /// How many octets the encoding has that was read, or how many were looked at before the
-    /// error; else 0.
+    /// How many octets the encoding has that is at the front, or how many were looked at before
+    /// they were rejected; else 0.
     pub octets: u64,
     /// How many octets were written, or at `ROOM` how many are needed; else 0.
     pub written: u64,
@@ -31,6 +31,18 @@ pub(crate) fn only_status(status: u32) -> Written
         status,
         why: 0,
         octets: 0,
+        written: 0,
+    }
+}
+
+/// A status of a path in an encoding of so many octets.
+pub(crate) fn missed(status: u32, taken: u64) -> Written
+    ensures { result ≡ wrote status taken 0 }
+{
+    Written {
+        status,
+        why: 0,
+        octets: taken,
         written: 0,
     }
 }

@@ -1,7 +1,7 @@
 //! Checking octets.
-ghost use Rattle.std.specs.Prelude.{◌≡◌, Some};
+ghost use Rattle.std.specs.Prelude.{◌≡◌, Err, Some};
 ghost use Rattle.oer_types.specs.Schema.{the_type};
-ghost use Rattle.oer_c.specs.Checking.{IsChecked, only};
+ghost use Rattle.oer_c.specs.Checking.{IsChecked, numbers, only};
 ghost use Rattle.oer_c.specs.Naming.{ByName};
 ghost use Rattle.oer_c.specs.Sharing.{types_of};
 
@@ -11,6 +11,7 @@ use crate::status::{NO_TYPES, OK, REJECTED, UNNAMED};
 use oer_reader::check;
 use oer_text::Types;
 use oer_types::Schema;
+use oer_units::ReadFault;
 use std::alloc::Global;
 
 /// What a check answers. It takes 24 octets: `status` at 0, `why` at 4, `octets` at 8 and
@@ -18,13 +19,14 @@ use std::alloc::Global;
 #[repr(C)]
 #[derive(Clone, Copy)]
 pub struct Checked {
-    /// `OK`, `REJECTED`, `NO_TYPES` or `UNNAMED`.
+    /// One of the statuses.
     pub status: u32,
     /// At `REJECTED` the number of the reason; else 0.
     pub why: u32,
-    /// At `OK` how many octets the encoding has, at `REJECTED` how many were looked at; else 0.
+    /// How many octets the encoding has that is at the front, or how many were looked at before
+    /// they were rejected; else 0.
     pub octets: u64,
-    /// At `OK` 1 where the encoding is canonical, and 0 where it is another one; else 0.
+    /// 1 where the encoding at the front is canonical, and 0 where it is another one or none is.
     pub canonical: u32,
 }
 
@@ -42,6 +44,18 @@ pub(crate) fn only(status: u32) -> Checked
     }
 }
 
+/// Octets are rejected.
+pub(crate) fn rejected(fault: ReadFault) -> Checked
+    ensures { result ≡ numbers (Err fault) }
+{
+    Checked {
+        status: REJECTED,
+        why: u32::from(fault.why.number()),
+        octets: fault.taken,
+        canonical: 0,
+    }
+}
+
 /// What `check` answers, in numbers.
 pub(crate) fn judged(schema: &Schema, octets: &[u8]) -> Checked
     ensures { IsChecked (the_type schema.now) octets.now result }
@@ -53,12 +67,7 @@ pub(crate) fn judged(schema: &Schema, octets: &[u8]) -> Checked
             octets: verdict.octets as u64,
             canonical: u32::from(verdict.canonical),
         },
-        Err(fault) => Checked {
-            status: REJECTED,
-            why: u32::from(fault.why.number()),
-            octets: fault.taken,
-            canonical: 0,
-        },
+        Err(fault) => rejected(fault),
     }
 }
 

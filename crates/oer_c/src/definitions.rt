@@ -20,8 +20,8 @@ pub struct Parsed {
     pub status: u32,
     /// At `REJECTED` the number of the reason, 0 where the text is not UTF-8; else 0.
     pub why: u32,
-    /// At `REJECTED` the byte of the text at which the token or type begins that shows the fault; at
-    /// `OK` the length of the text; else 0.
+    /// At `REJECTED` the byte of the text at which the token or type begins that shows the fault, or
+    /// before which the longest front ends that is UTF-8; at `OK` the length of the text; else 0.
     pub place: u64,
 }
 
@@ -62,8 +62,9 @@ fn read(alloc: Global, text: &[u8]) -> Result<Box<Shared>, Parsed>
     ensures spells { IfOk result (λ shared. SpellsAll (knowns (types_in shared.value)) text.now) }
     ensures rejected { IfErr result (IsRejected text.now) }
 {
-    let Ok(text) = std::str::from_utf8(text) else {
-        return Err(answer(REJECTED, 0, 0));
+    let text = match std::str::from_utf8(text) {
+        Ok(text) => text,
+        Err(fault) => return Err(answer(REJECTED, 0, fault.valid_up_to() as u64)),
     };
     match parse_types(alloc, text) {
         Ok(types) => boxed(alloc, types),
@@ -75,8 +76,8 @@ fn read(alloc: Global, text: &[u8]) -> Result<Box<Shared>, Parsed>
 /// types that the handle had, as if it were freed before. The status is
 ///
 /// - `OK`: the handle has the types that the text spells;
-/// - `REJECTED`: the text is not UTF-8, or it spells no well-formed types, for the reason `why` at
-///   `place`, the first one from the left;
+/// - `REJECTED`: the text is not UTF-8, and `place` octets are its longest front that is; or it spells
+///   no well-formed types, for the reason `why` at `place`, the first one from the left;
 /// - `MEMORY`: an allocation failed.
 ///
 /// Unless it is `OK` the handle has the types from before.
@@ -95,9 +96,10 @@ pub extern "C" fn oer_types_read(alloc: Global, types: &mut Handle, text: &[u8])
 }
 
 /// Takes the types from the handle, if it has any, and frees them where no other handle has them; it
-/// has none then.
+/// has none then. `oer_types_free` of the library is this, where its pointer is not NULL
+/// (`bindings/c/free.c`).
 #[unsafe(no_mangle)]
-pub extern "C" fn oer_types_free(alloc: Global, types: &mut Handle)
+pub extern "C" fn oer_types_clear(alloc: Global, types: &mut Handle)
     ensures { types_of types.new.held.shared ≡ None }
 {
     let _types = types.take(alloc);

@@ -21,3 +21,4 @@ mod shared;
 mod show;
 mod status;
 mod version;
+mod whole;

@@ -6,12 +6,12 @@ ghost use Rattle.oer_c.specs.Naming.{ByName};
 ghost use Rattle.oer_c.specs.Parts.{IsCopied};
 ghost use Rattle.oer_c.specs.Sharing.{types_of};
 
-use crate::buffer::{Written, only_status, put, reject};
+use crate::buffer::{Written, missed, only_status, put, reject};
 use crate::handle::Handle;
 use crate::naming::find_type;
 use crate::path::steps_of;
 use crate::status::{ABSENT, NO_STEP, NO_TYPES, UNNAMED};
-use oer_reader::{PartFault, part};
+use oer_reader::{Encoding, PartFault};
 use oer_text::Types;
 use oer_types::Schema;
 use std::alloc::Global;
@@ -25,11 +25,16 @@ fn copied(alloc: Global, schema: &Schema, octets: &[u8], path: &[u8], out: &mut 
         Ok(steps) => steps,
         Err(status) => return only_status(status),
     };
-    match part(schema, octets, steps.as_slice()) {
-        Ok(found) => put(out, found, 0),
+    let encoding = match Encoding::at_front(schema, octets) {
+        Ok(encoding) => encoding,
+        Err(fault) => return reject(fault),
+    };
+    let taken = encoding.verdict.octets as u64;
+    match encoding.part(steps.as_slice()) {
+        Ok(found) => put(out, found, taken),
         Err(PartFault::Read(fault)) => reject(fault),
-        Err(PartFault::NoSuchStep) => only_status(NO_STEP),
-        Err(PartFault::Absent) => only_status(ABSENT),
+        Err(PartFault::NoSuchStep) => missed(NO_STEP, taken),
+        Err(PartFault::Absent) => missed(ABSENT, taken),
     }
 }
 
@@ -52,7 +57,8 @@ fn named(
 
 /// Writes the part of the Basic-OER encoding (X.696) at the front of the octets to which the path
 /// leads, as it stands in them, into the buffer. The type is the one that the Name has. What follows
-/// the encoding is not looked at. The status is
+/// the encoding is not looked at; it begins after `octets` of them, wherever an encoding is at the
+/// front. The status is
 ///
 /// - `OK`: the part, `written` octets, is in the buffer;
 /// - `ROOM`: the buffer has room for fewer than these `written` octets;

@@ -1,20 +1,21 @@
 //! Saying where parts of octets lie.
-ghost use Rattle.std.specs.Prelude.{◌≡◌, Some};
+ghost use Rattle.std.specs.Prelude.{◌≡◌, ◌≤◌, ◌-◌, Some};
 ghost use Rattle.oer_units.specs.Faults.{why_number};
 ghost use Rattle.oer_types.specs.Schema.{the_type};
 ghost use Rattle.oer_c.specs.Naming.{ByName};
-ghost use Rattle.oer_c.specs.Parts.{IsLocated, nowhere};
+ghost use Rattle.oer_c.specs.Parts.{IsLocated, nowhere, somewhere};
 ghost use Rattle.oer_c.specs.Sharing.{types_of};
 
 use crate::handle::Handle;
 use crate::naming::find_type;
 use crate::path::steps_of;
 use crate::status::{ABSENT, NO_STEP, NO_TYPES, OK, REJECTED, UNNAMED};
-use oer_reader::{PartFault, part_range};
+use oer_reader::{Encoding, PartFault};
 use oer_text::Types;
 use oer_types::Schema;
 use oer_units::ReadFault;
 use std::alloc::Global;
+use std::ops::Range;
 
 /// What a call answers that says where a part lies. It takes 32 octets: `status` at 0, `why` at 4,
 /// `octets` at 8, `at` at 16 and `length` at 24.
@@ -25,7 +26,8 @@ pub struct Located {
     pub status: u32,
     /// At `REJECTED` the number of the reason; else 0.
     pub why: u32,
-    /// At `REJECTED` how many octets were looked at; else 0.
+    /// How many octets the encoding has that is at the front, or how many were looked at before
+    /// they were rejected; else 0.
     pub octets: u64,
     /// At `OK` how many octets are before the part; else 0.
     pub at: usize,
@@ -35,17 +37,24 @@ pub struct Located {
 
 const _: () = prove!(size_of::<Located>() == 32);
 
-// A status and nothing else.
-fn only(status: u32) -> Located
-    ensures { result ≡ nowhere status 0 0 }
+// A status, and how many octets the encoding has.
+fn missed(status: u32, taken: u64) -> Located
+    ensures { result ≡ nowhere status 0 taken }
 {
     Located {
         status,
         why: 0,
-        octets: 0,
+        octets: taken,
         at: 0,
         length: 0,
     }
+}
+
+// A status and nothing else.
+fn only(status: u32) -> Located
+    ensures { result ≡ nowhere status 0 0 }
+{
+    missed(status, 0)
 }
 
 // Octets are rejected.
@@ -61,6 +70,20 @@ fn rejected(fault: ReadFault) -> Located
     }
 }
 
+// The part is there, in an encoding of so many octets.
+fn found(range: Range<usize>, taken: u64) -> Located
+    requires { range.start ≤ range.end }
+    ensures { result ≡ somewhere taken range.start (range.end - range.start) }
+{
+    Located {
+        status: OK,
+        why: 0,
+        octets: taken,
+        at: range.start,
+        length: range.end - range.start,
+    }
+}
+
 // Where the part is in the octets.
 #[tactic(auto, using(crate::proofs::Locating::unread, crate::proofs::Locating::lies_there))]
 fn locate(alloc: Global, schema: &Schema, octets: &[u8], path: &[u8]) -> Located
@@ -70,17 +93,16 @@ fn locate(alloc: Global, schema: &Schema, octets: &[u8], path: &[u8]) -> Located
         Ok(steps) => steps,
         Err(status) => return only(status),
     };
-    match part_range(schema, octets, steps.as_slice()) {
-        Ok(range) => Located {
-            status: OK,
-            why: 0,
-            octets: 0,
-            at: range.start,
-            length: range.end - range.start,
-        },
+    let encoding = match Encoding::at_front(schema, octets) {
+        Ok(encoding) => encoding,
+        Err(fault) => return rejected(fault),
+    };
+    let taken = encoding.verdict.octets as u64;
+    match encoding.part_range(steps.as_slice()) {
+        Ok(range) => found(range, taken),
         Err(PartFault::Read(fault)) => rejected(fault),
-        Err(PartFault::NoSuchStep) => only(NO_STEP),
-        Err(PartFault::Absent) => only(ABSENT),
+        Err(PartFault::NoSuchStep) => missed(NO_STEP, taken),
+        Err(PartFault::Absent) => missed(ABSENT, taken),
     }
 }
 
@@ -96,7 +118,8 @@ fn named(alloc: Global, types: &Types, name: &[u8], octets: &[u8], path: &[u8]) 
 
 /// Says where the part of the Basic-OER encoding (X.696) at the front of the octets lies to which the
 /// path leads: after how many of the octets, and how many it has. So the part is theirs, and no copy.
-/// The type is the one that the Name has. What follows the encoding is not looked at. The status is
+/// The type is the one that the Name has. What follows the encoding is not looked at; it begins after
+/// `octets` of them, wherever an encoding is at the front. The status is
 ///
 /// - `OK`: the part is the `length` octets from `at` on;
 /// - `REJECTED`: no encoding is at the front, for the reason `why`, which was decided after `octets`

@@ -32,3 +32,9 @@ pub const NO_JSON: u32 = 9;
 
 /// The message is not all in the octets.
 pub const OUTSIDE: u32 = 10;
+
+/// The octets are an encoding, but not the canonical one.
+pub const NOT_CANONICAL: u32 = 11;
+
+/// Octets follow the encoding.
+pub const FOLLOWS: u32 = 12;
