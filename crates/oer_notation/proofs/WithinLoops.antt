@@ -1,8 +1,10 @@
 -- The turns of the loop over definitions that may have so many parts, and what is read against reading without such a number.
-use Rattle.std.proofs.Common.{◌≡◌, ℕ, zero, suc, ◌+◌, ◌-◌, ◌≤◌, ◌<◌, List, [], ◌∷◌, ◌++◌, length, Bool, true, false, leb, Result, Ok, Err, refl, sym, ap, ◌∙◌, subst, arith, sub-one, IfOk, IfErr}
+use Rattle.std.proofs.Common.{◌≡◌, ◌≢◌, ℕ, zero, suc, ◌+◌, ◌-◌, ◌≤◌, ◌<◌, List, [], ◌∷◌, ◌++◌, length, Bool, true, false, leb, Result, Ok, Err, refl, sym, ap, ◌∙◌, subst, arith, sub-one, IfOk, IfErr}
 use Rattle.std.proofs.lemmas.Bool.{leb-true, leb-false}
 use Rattle.oer_lexer.specs.Lexing.{lex}
 use Rattle.oer_model.specs.Nodes.{type_nodes}
+use Rattle.oer_notation.specs.Grammar.{SpellsAll}
+use Rattle.oer_notation.specs.Laws.{ParseAllRefuses, ParseAllSound}
 use Rattle.oer_notation.specs.Parsing.{end_of, entries_more, entry_at, is_last, parse_all, start}
 use Rattle.oer_notation.specs.Reading.{Known}
 use Rattle.oer_notation.proofs.Loops.{entries_end, entries_err, entries_over, entries_step, entries_stop}
@@ -125,8 +127,11 @@ says_end n left known s k r (Ok u) is fit last end =
     rw (within_end (suc n) left known s k r u (omega arith) is fit last end, entries_end (suc n) known s k r u (omega arith) is last end)
     (let parts = parts_after known k in let few = leb-true (type_nodes k.type) left fit in (refl, omega arith))
 says_end n left known s k r (Err f) is fit last end =
-    rw (within_stop (suc n) left known s k r f (omega arith) is fit last end, entries_stop (suc n) known s k r f (omega arith) is
-        last end) refl
+    rw (
+      within_stop (suc n) left known s k r f (omega arith) is fit last end,
+      entries_stop (suc n) known s k r f (omega arith) is
+          last end,
+    ) refl
 
 says_last : (n : ℕ) → SaysAll n → (left : ℕ) (known : List Known) (s : State) (k : Known) (r : State) (b : Bool)
     → entry_at known s ≡ Ok (k, r) → leb (type_nodes k.type) left ≡ true → is_last r.left ≡ b
@@ -142,13 +147,16 @@ says_fits : (n : ℕ) → SaysAll n → (left : ℕ) (known : List Known) (s : S
 says_fits n more left known s k r false is past =
     rw (within_more (suc n) left known s k r (omega arith) is past)
     (λ ks read. let grown = grows_by n (grows n) known s ks k r is read in let many = leb-false (type_nodes k.type) left past in
-        omega arith)
+    omega arith)
 says_fits n more left known s k r true is fit = says_last n more left known s k r (is_last r.left) is fit refl
 
 says_step : (n : ℕ) → SaysAll n → (left : ℕ) (known : List Known) (s : State) (r : Read Known) → entry_at known s ≡ r
     → Says left known (entries_within (suc n) left known s) (entries_more (suc n) known s)
-says_step n more left known s (Err e) is = rw (within_err (suc n) left known s e (omega arith) is, entries_err (suc n) known s e
-    (omega arith) is) refl
+says_step n more left known s (Err e) is = rw (
+  within_err (suc n) left known s e (omega arith) is,
+  entries_err (suc n) known s e
+      (omega arith) is,
+) refl
 says_step n more left known s (Ok e) is = says_fits n more left known s e.0 e.1 (leb (type_nodes e.0.type) left) is refl
 
 says : (n : ℕ) → SaysAll n
@@ -172,9 +180,16 @@ module _ {A : Type 0} (view : A → List Known) (most : ℕ) (bs : List ℕ) whe
   few_within (Ok x) is = let few = (subst (λ o. Says most [] o (parse_all bs)) is (says_of most bs)).1 in omega arith
   few_within (Err f) is = tt
 
-  pub refuses_within : (result : Result A WithinFault) → IsReadWithin view result (parse_within most bs) → IfErr result
+  pub spells_within : ParseAllSound → (result : Result A WithinFault) → IsReadWithin view result (parse_within most bs)
+      → IfOk result (λ x. SpellsAll (view x) bs)
+  spells_within sound (Ok x) is = (sound bs (view x) (subst (λ o. Says most [] o (parse_all bs)) is (says_of most bs)).0).0
+  spells_within sound (Err f) is = tt
+
+  pub refuses_within : ParseAllRefuses → (result : Result A WithinFault) → IsReadWithin view result (parse_within most bs) → IfErr result
       (AreNotWithin most bs)
-  refuses_within (Ok x) is = tt
-  refuses_within (Err (Text e)) is = λ other. subst (λ o. Says most [] o (parse_all bs)) (is other) (says_of most bs)
-  refuses_within (Err (Parts at)) is = λ ks read. let more = subst (λ o. Says most [] o (parse_all bs)) is (says_of most bs) ks
+  refuses_within none (Ok x) is = tt
+  refuses_within none (Err (Text e)) is = (fault, λ other. none bs e (fault other)) where
+    fault : e.why ≢ why.Memory → parse_all bs ≡ Err e
+    fault other = subst (λ o. Says most [] o (parse_all bs)) (is other) (says_of most bs)
+  refuses_within none (Err (Parts at)) is = λ ks read. let more = subst (λ o. Says most [] o (parse_all bs)) is (says_of most bs) ks
       read in omega arith

@@ -4,6 +4,7 @@ use Rattle.oer_lexer.specs.Lexing.{lex}
 use Rattle.oer_model.specs.Nodes.{type_nodes}
 use Rattle.oer_notation.specs.Parsing.{end_of, entry_at, is_last, parse_all, start}
 use Rattle.oer_notation.specs.Reading.{Known}
+use Rattle.oer_notation.specs.Refusing.{AreNoTypes}
 use Rattle.oer_notation.specs.declared.within.WithinFault.{WithinFault}
 use Rattle.oer_notation.specs.declared.within.WithinFault.TheVariants.{Parts, Text}
 use Rattle.oer_value_notation.specs.State.{State, fault}
@@ -44,7 +45,8 @@ abbrev pub IsMemory : WithinFault → Type 0
 IsMemory (Text e) = e.why ≡ why.Memory
 IsMemory (Parts at) = ⊥
 
--- Unless memory ran out, the fault is that of the text, whatever parts it may have; or the text spells no definitions with so few parts.
+-- The fault is that of the text, whatever parts its types may have, unless memory ran out; or the text spells no definitions whose types have
+-- so few parts.
 abbrev pub AreNotWithin : ℕ → List ℕ → WithinFault → Type 0
-AreNotWithin most text (Text e) = e.why ≢ why.Memory → parse_all text ≡ Err e
+AreNotWithin most text (Text e) = (e.why ≢ why.Memory → parse_all text ≡ Err e) × AreNoTypes e text
 AreNotWithin most text (Parts at) = (definitions : List Known) → parse_all text ≡ Ok definitions → most < parts_of definitions

@@ -1,5 +1,6 @@
 //! Definitions whose types may have so many parts together.
 ghost use Rattle.std.specs.Prelude.{◌≡◌, ◌<◌, ◌≤◌, ◌+◌, [], IfErr, IfOk, MatchOption, Ok, length, suc};
+ghost use Rattle.oer_notation.specs.Grammar.{SpellsAll};
 ghost use Rattle.oer_notation.specs.Parsing.{parse_all};
 ghost use Rattle.oer_model.specs.Nodes.{type_nodes};
 ghost use Rattle.oer_notation.specs.Views.{definition_of, knowns};
@@ -8,6 +9,7 @@ ghost use Rattle.oer_notation.specs.declared.within.WithinFault.TheVariants.{Tex
 ghost use Rattle.oer_value_notation.specs.State.{state_of};
 
 use crate::known::{Definition, add, none};
+use crate::laws::{what_is_parsed_is_spelled, what_is_spelled_is_parsed};
 use crate::types::{Types, expect_end, first, read_entry};
 use oer_lexer::lex;
 use oer_types::{MAX_PARTS, parts_left};
@@ -50,9 +52,12 @@ impl From<AllocError> for WithinFault {
 pub fn parse_types_within(alloc: Global, text: &str, parts: u64) -> Result<Types, WithinFault>
     ensures exact { IsReadWithin knowns result (parse_within parts text.now) }
     ensures read { IfOk result (λ types. parse_all text.now ≡ Ok (knowns types)) }
+    ensures spells { IfOk result (λ types. SpellsAll (knowns types) text.now) }
     ensures within { IfOk result (λ types. parts_of (knowns types) ≤ parts) }
     ensures refused { IfErr result (AreNotWithin parts text.now) }
 {
+    what_is_parsed_is_spelled();
+    what_is_spelled_is_parsed();
     read_text_within(alloc, text, parts)
 }
 

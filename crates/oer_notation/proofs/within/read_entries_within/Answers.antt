@@ -20,7 +20,7 @@ returns-in_err-entry c =
     let p = err_from_is_err_and c.from_residual.result c.from_residual.ensures.1 in
     rw (p.1, p.2)
     (λ not_memory. l.invariant ∙ within_err (suc (length (spots_of c.args.cursor.now.spots.now)) - l.turn) l.left (known_by
-        l.definitions) (state_of l.cursor) _ (omega arith) (c.in_err-entry.ensures.read not_memory))
+    l.definitions) (state_of l.cursor) _ (omega arith) (c.in_err-entry.ensures.read not_memory))
 
 pub returns-in_default : goal.returns-in_default
 returns-in_default c =
@@ -31,7 +31,7 @@ returns-in_default c =
     let past : leb parts l.left ≡ false = lt-leb parts l.left c.in_default.ensures in
     l.invariant
     ∙ within_more (suc (length (spots_of c.args.cursor.now.spots.now)) - l.turn) l.left (known_by l.definitions) (state_of
-        l.cursor) (definition_of c.in_ok-entry.entry) (state_of c.read_entry.new.cursor) (omega arith) c.in_ok-entry.ensures.read past
+    l.cursor) (definition_of c.in_ok-entry.entry) (state_of c.read_entry.new.cursor) (omega arith) c.in_ok-entry.ensures.read past
     ∙ ap (λ f. Err (Parts f.at)) (sym c.fault-at.ensures)
 
 pub returns-in_err-expect_end : goal.returns-in_err-expect_end
@@ -46,8 +46,8 @@ returns-in_err-expect_end c =
     let p = err_from_is_err_and c.from_residual-in_err-expect_end.result c.from_residual-in_err-expect_end.ensures.1 in
     rw (p.1, p.2)
     (λ not_memory. l.invariant ∙ within_stop (suc (length (spots_of c.args.cursor.now.spots.now)) - l.turn) l.left (known_by
-        l.definitions) (state_of l.cursor) (definition_of c.in_ok-entry.entry) (state_of c.read_entry.new.cursor) _ (omega arith)
-            c.in_ok-entry.ensures.read (le-leb parts l.left few) last (c.in_err-expect_end.ensures not_memory))
+    l.definitions) (state_of l.cursor) (definition_of c.in_ok-entry.entry) (state_of c.read_entry.new.cursor) _ (omega arith)
+    c.in_ok-entry.ensures.read (le-leb parts l.left few) last (c.in_err-expect_end.ensures not_memory))
 
 pub returns-then-is_empty : goal.returns-then-is_empty
 returns-then-is_empty c =
@@ -60,8 +60,8 @@ returns-then-is_empty c =
     let last = last_spots c.read_entry.new.cursor.spots.now ∙ sym c.is_empty.ensures ∙ c.if-is_empty.true in
     l.invariant
     ∙ within_end (suc (length (spots_of c.args.cursor.now.spots.now)) - l.turn) l.left (known_by l.definitions) (state_of l.cursor)
-        (definition_of c.in_ok-entry.entry) (state_of c.read_entry.new.cursor) c.in_ok-expect_end.field-0 (omega arith)
-            c.in_ok-entry.ensures.read (le-leb parts l.left few) last c.in_ok-expect_end.ensures
+    (definition_of c.in_ok-entry.entry) (state_of c.read_entry.new.cursor) c.in_ok-expect_end.field-0 (omega arith)
+    c.in_ok-entry.ensures.read (le-leb parts l.left few) last c.in_ok-expect_end.ensures
     ∙ ap Ok (sym c.in_ok-add.ensures)
 
 pub entries-preserved : goal.entries-preserved
@@ -75,15 +75,15 @@ entries-preserved c =
     let rest : l.left - parts ≡ c.in-Some.rest = omega arith in
     let last = last_spots c.read_entry.new.cursor.spots.now ∙ sym c.is_empty.ensures ∙ c.if-is_empty.false in
     let next : suc (length (spots_of c.args.cursor.now.spots.now)) - l.turn - 1 ≡ suc (length (spots_of
-        c.args.cursor.now.spots.now)) - (l.turn + 1) = omega arith in
+    c.args.cursor.now.spots.now)) - (l.turn + 1) = omega arith in
     l.invariant
     ∙ within_step (suc (length (spots_of c.args.cursor.now.spots.now)) - l.turn) l.left (known_by l.definitions) (state_of
-        l.cursor) (definition_of c.in_ok-entry.entry) (state_of c.read_entry.new.cursor) (omega arith) c.in_ok-entry.ensures.read
-            (le-leb parts l.left few) last
+    l.cursor) (definition_of c.in_ok-entry.entry) (state_of c.read_entry.new.cursor) (omega arith) c.in_ok-entry.ensures.read
+    (le-leb parts l.left few) last
     ∙ ap₂ (λ n left. entries_within n left (known_by l.definitions ++ definition_of c.in_ok-entry.entry ∷ []) (state_of
-        c.read_entry.new.cursor)) next rest
+    c.read_entry.new.cursor)) next rest
     ∙ ap (λ ks. entries_within (suc (length (spots_of c.args.cursor.now.spots.now)) - (l.turn + 1)) c.in-Some.rest ks (state_of
-        c.read_entry.new.cursor)) (sym c.in_ok-add.ensures)
+    c.read_entry.new.cursor)) (sym c.in_ok-add.ensures)
 
 pub returns : goal.returns
 returns c =
@@ -91,4 +91,4 @@ returns c =
     let size = spots_count c.args.cursor.now.spots.now in
     let over = c.entries-test.false in
     λ not_memory. l.invariant ∙ within_over (suc (length (spots_of c.args.cursor.now.spots.now)) - l.turn) l.left (known_by
-        l.definitions) (state_of l.cursor) (omega arith)
+    l.definitions) (state_of l.cursor) (omega arith)
