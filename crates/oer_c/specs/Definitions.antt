@@ -36,7 +36,8 @@ abbrev pub IsRead : List ℕ → Option Types → Option Types → Parsed → Ty
 IsRead text old new p = ((t : Types) × (new ≡ Some t) × SpellsAll (knowns t) text × (p ≡ answer 0 0 (length text)))
     ⊎ ((new ≡ old) × IsRejected text p)
 
--- The text is rejected, however many parts its types may have; or they have more parts together, with the definition that begins at the place.
+-- The text is rejected, however many parts its types may have; or they have more parts together, with the definition that begins at
+-- the place.
 abbrev pub IsRejectedWithin : ℕ → List ℕ → Parsed → Type 0
 IsRejectedWithin most text p = IsRejected text p
     ⊎ ((place : ℕ) × (p ≡ answer 1 20 place) × ((definitions : List Known) → parse_all text ≡ Ok definitions → most < parts_of definitions))
