@@ -124,7 +124,8 @@ enum oer_text_reason {
     OER_TEXT_REPEATED_NUMBER = 16, /* the same number twice in an ENUMERATED */
     OER_TEXT_REPEATED_TAG = 17,    /* the same tag twice in a CHOICE */
     OER_TEXT_DEFAULT_MISFIT = 18,  /* a default that doesn't fit its type */
-    OER_TEXT_EMPTY_ELEMENT = 19    /* a SEQUENCE OF whose elements may take no octets */
+    OER_TEXT_EMPTY_ELEMENT = 19,   /* a SEQUENCE OF whose elements may take no octets */
+    OER_TEXT_PARTS = 20            /* oer_types_read_within: all types together have more parts */
 };
 
 /* Why JSON is rejected: `why` of oer_written at OER_REJECTED, in oer_from_json (docs/JSON.md). */
@@ -211,6 +212,14 @@ typedef struct oer_located {
 /* Reads definitions `Name ::= type` (docs/NOTATION.md), in place of the types that were there. At
  * OER_REJECTED and OER_MEMORY the types are those from before. */
 oer_parsed oer_types_read(oer_types *types, const char *text, size_t text_length) OER_NO_NULL;
+
+/* Reads definitions as oer_types_read does, if their types have at most `parts` parts together
+ * (docs/NOTATION.md, Limits); else they are rejected with OER_TEXT_PARTS, where the definition begins with
+ * which they have more. A name within a type stands for a copy of its type, so a text of some kilobytes may
+ * take hundreds of megabytes: use this call for texts from someone else. 65,536 parts are enough for the
+ * types of IEEE 1609.2, and take some 20 MB. */
+oer_parsed oer_types_read_within(oer_types *types, const char *text, size_t text_length, uint64_t parts)
+    OER_NO_NULL;
 
 /* Frees the types. With NULL it does nothing, as free does. */
 void oer_types_free(oer_types *types);

@@ -437,21 +437,22 @@ public:
     ~types() { free(); }
 
     /* The types of the definitions, each `Name ::= type` (docs/NOTATION.md). Errors: those of read(). */
-    static result<types> of(text_in definitions) noexcept {
+    static result<types> of(text_in definitions, std::uint64_t parts = OER_NO_LIMIT) noexcept {
         types made;
-        result<std::uint64_t> read = made.read(definitions);
+        result<std::uint64_t> read = made.read(definitions, parts);
         if (!read.ok()) return result<types>(read.error());
         return result<types>(std::move(made));
     }
 
-    /* Reads definitions, in place of the types that were there. The answer is the length of the text.
+    /* Reads definitions, in place of the types that were there, if these have at most `parts` parts
+     * together (docs/NOTATION.md, Limits). The answer is the length of the text.
      *   OER_REJECTED  the text spells no types: `why` is an oer_text_reason, `place` the octet of the
      *                text at which the token or type begins that shows the fault
      *   OER_MEMORY   an allocation failed
      * After an error the types are those from before. */
-    result<std::uint64_t> read(text_in definitions) noexcept {
+    result<std::uint64_t> read(text_in definitions, std::uint64_t parts = OER_NO_LIMIT) noexcept {
         if (missing(definitions)) return nowhere(subject::definitions);
-        oer_parsed parsed = oer_types_read(&held_, definitions.data(), definitions.size());
+        oer_parsed parsed = oer_types_read_within(&held_, definitions.data(), definitions.size(), parts);
         if (parsed.status == OER_OK) return result<std::uint64_t>(std::move(parsed.place));
         return result<std::uint64_t>(fault(parsed.status, parsed.why, parsed.place, 0, subject::definitions));
     }
@@ -709,7 +710,7 @@ inline const char *text_reason(std::uint32_t number) noexcept {
     static const char *const table[] = {
         "NotUtf8", nullptr, "Token", "Syntax", "Number", "Name", "Repeated", "Mixed", "Default", "TooDeep",
         "TooManyParts", "BoundOrder", "SizeOrder", "BadName", "RepeatedName", "NoItems", "RepeatedNumber",
-        "RepeatedTag", "DefaultMisfit", "EmptyElement"
+        "RepeatedTag", "DefaultMisfit", "EmptyElement", "Parts"
     };
     return at(table, number);
 }

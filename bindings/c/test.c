@@ -317,6 +317,27 @@ static void test_rejected_text(const struct rejected_text *row) {
     oer_types_free(&types);
 }
 
+/* Definitions whose types have more parts together than they may have leave the types from before. */
+static void test_read_within(void) {
+    static const struct { const char *text; uint64_t parts; uint32_t status, why; uint64_t place; } rows[] = {
+        { "A ::= NULL B ::= SEQUENCE {a A}", 3, OER_OK, 0, 31 },
+        { "A ::= NULL B ::= SEQUENCE {a A}", 2, OER_REJECTED, OER_TEXT_PARTS, 11 },
+        { "A ::= NULL", UINT64_MAX, OER_OK, 0, 10 },
+        { "A ::= NULL", 0, OER_REJECTED, OER_TEXT_PARTS, 0 },
+        { "A ::= NULL B ::= C", 1, OER_REJECTED, OER_TEXT_NAME, 17 },
+        { "A ::= \377", 1, OER_REJECTED, OER_TEXT_NOT_UTF8, 6 }
+    };
+    struct vector check = { CHECK, 0, "ff", 0, OER_NO_LIMIT, 0, 0, 0, 0, 0 };
+    size_t i;
+    for (i = 0; i < COUNT(rows); i++) {
+        oer_types types = types_of("BOOLEAN");
+        oer_parsed parsed = oer_types_read_within(&types, rows[i].text, strlen(rows[i].text), rows[i].parts);
+        EXPECT(parsed.status == rows[i].status && parsed.why == rows[i].why && parsed.place == rows[i].place, rows[i].text);
+        EXPECT(call(&types, "A", &check, 0, 0).octets == (rows[i].status == OER_OK ? 0 : 1), rows[i].text);
+        oer_types_free(&types);
+    }
+}
+
 /* NULL has nothing to free, also where the call is known by its address. */
 static void test_free_of_null(void) {
     void (*volatile free_by)(oer_types *) = oer_types_free;
@@ -623,6 +644,7 @@ int main(int count, char **words) {
     for (i = 0; i < COUNT(places); i++) test_place(&places[i]);
     for (i = 0; i < COUNT(rejected_texts); i++) test_rejected_text(&rejected_texts[i]);
     test_kept_types();
+    test_read_within();
     test_free_of_null();
     test_shared_types();
     test_certificate(words[1]);

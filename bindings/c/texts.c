@@ -58,10 +58,28 @@ static void read_small(void) {
     read_text("many small types", length, "A31999", 6, 0xff);
 }
 
+/* 1,600 types, each with a copy of a SEQUENCE of 2,000 components, of which so few parts are read. */
+static void read_copies(void) {
+    size_t length = (size_t)sprintf(text, "A ::= SEQUENCE {");
+    oer_types types = OER_TYPES_NONE;
+    oer_parsed parsed;
+    unsigned i;
+    for (i = 0; i < 2000; i++) length += (size_t)sprintf(text + length, "%sa%u NULL", i ? ", " : "", i);
+    length += (size_t)sprintf(text + length, "}\n");
+    for (i = 0; i < 1600; i++) length += (size_t)sprintf(text + length, "B%u ::= SEQUENCE {a A}\n", i);
+    parsed = oer_types_read_within(&types, text, length, 65536);
+    if (parsed.status != OER_REJECTED || parsed.why != OER_TEXT_PARTS) {
+        printf("texts: copies of one type: status %u, reason %u\n", (unsigned)parsed.status, (unsigned)parsed.why);
+        failed = 1;
+    }
+    oer_types_free(&types);
+}
+
 int main(void) {
     allow(RLIMIT_AS, MOST_MEMORY);
     allow(RLIMIT_CPU, MOST_SECONDS);
     read_names();
     read_small();
+    read_copies();
     return failed;
 }

@@ -385,6 +385,19 @@ static void test_rejected_text(const rejected_text &row) {
     EXPECT(types.check("A", octets).value().octets == 1, row.text);
 }
 
+// Definitions whose types have more parts together than they may have leave the types from before.
+static void test_parts() {
+    const char *text = "A ::= NULL B ::= SEQUENCE {a A}";
+    const bytes octets(1, 0xff);
+    oer::types types = types_of("BOOLEAN");
+    oer::error more = types.read(text, 2).error();
+    EXPECT(more.status == OER_REJECTED && more.why == OER_TEXT_PARTS && more.place == 11, text);
+    EXPECT(std::string(more.name()) == "Parts", text);
+    EXPECT(types.check("A", octets).value().octets == 1, text);
+    EXPECT(oer::types::of(text, 2).error().why == OER_TEXT_PARTS, text);
+    EXPECT(oer::types::of(text, 3).ok() && types.read(text, 3).value() == 31, text);
+}
+
 // Types in place of others, by reading and by moving.
 static void test_kept_types() {
     const bytes octets(1, 0xff);
@@ -701,6 +714,7 @@ int main(int count, char **words) {
     for (const place &row : places) test_place(row);
     for (const vector &row : vectors) test_memory(row);
     for (const rejected_text &row : rejected_texts) test_rejected_text(row);
+    test_parts();
     test_kept_types();
     test_shared_types();
     test_arguments();

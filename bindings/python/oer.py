@@ -89,6 +89,7 @@ class TextReason(enum.IntEnum):
     REPEATED_TAG = 17  # the same tag twice in a CHOICE
     DEFAULT_MISFIT = 18  # a default that doesn't fit its type
     EMPTY_ELEMENT = 19  # a SEQUENCE OF whose elements may take no octets
+    PARTS = 20  # all types together have more parts than they may have
 
 
 class JsonReason(enum.IntEnum):
@@ -341,7 +342,7 @@ def _load() -> ctypes.CDLL:
     handle, size, limit = ctypes.POINTER(_Types), ctypes.c_size_t, ctypes.c_uint64
     given, out = [ctypes.c_char_p, size], [ctypes.c_void_p, size]
     calls: Dict[str, Tuple[Any, Any]] = {
-        "oer_types_read": ([handle] + given, _Parsed),
+        "oer_types_read_within": ([handle] + given + [limit], _Parsed),
         "oer_types_free": ([handle], None),
         "oer_types_share": ([handle, handle], ctypes.c_uint32),
         "oer_check": ([handle] + given + given, _Checked),
@@ -437,22 +438,25 @@ class Types:
     exceptions stand with each. After an exception the types are those from before.
     """
 
-    def __init__(self, definitions: Optional[Text] = None) -> None:
+    def __init__(self, definitions: Optional[Text] = None, parts: Optional[int] = None) -> None:
         """Reads the definitions, as read() does; without any there are no types."""
         self._held = _Types()
         self._at = ctypes.byref(self._held)
         self._one = threading.RLock()
         self._room: Optional[Any] = None
         if definitions is not None:
-            self.read(definitions)
+            self.read(definitions, parts)
 
-    def read(self, definitions: Text) -> None:
+    def read(self, definitions: Text, parts: Optional[int] = None) -> None:
         """Reads definitions, each `Name ::= type`, in place of the types that were there.
 
-        Raises DefinitionsRejected if the text spells no types.
+        With `parts`, their types may have at most so many parts together (NOTATION.md, Limits). Use it for
+        definitions from someone else: a short text may spell many parts, and they take memory.
+
+        Raises DefinitionsRejected if the text spells no types, or if they have more parts (PARTS).
         """
         text = _text(definitions)
-        parsed = self._call(_library.oer_types_read, text, len(text))
+        parsed = self._call(_library.oer_types_read_within, text, len(text), _limited(parts))
         if parsed.status == _REJECTED:
             raise DefinitionsRejected(TextReason(parsed.why), parsed.place)
         if parsed.status != _OK:

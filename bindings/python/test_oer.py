@@ -189,6 +189,15 @@ class Calls(unittest.TestCase):
                 self.assertEqual(self.raised(lambda: types.read(from_hex(text))), wanted)
                 self.assertEqual(types.check("A", b"\xff"), (1, True))
 
+    def test_parts(self) -> None:
+        text = "A ::= NULL B ::= SEQUENCE {a A}"
+        for parts in (3, 2**70, None):
+            with self.subTest(parts=parts), oer.Types(text, parts) as types:
+                self.assertEqual(types.check("A", b""), (0, True))
+        self.assertEqual(self.raised(lambda: oer.Types(text, parts=2)), (oer.DefinitionsRejected, 20, 11))
+        self.assertEqual(self.raised(lambda: oer.Types(text, parts=0)), (oer.DefinitionsRejected, 20, 0))
+        self.assertRaises(ValueError, oer.Types, text, -1)
+
     def test_types_in_place_of_others(self) -> None:
         types = types_of(b"BOOLEAN")
         types.read("B ::= BOOLEAN")
@@ -297,7 +306,7 @@ class Calls(unittest.TestCase):
         types = types_of(b"NULL")
         for status, wanted in ((4, oer.OutOfMemory), (42, oer.Error)):
             with mock.patch.object(oer, "_library") as library:
-                library.oer_types_read.return_value = oer._Parsed(status, 0, 0)
+                library.oer_types_read_within.return_value = oer._Parsed(status, 0, 0)
                 library.oer_check.return_value = oer._Checked(status, 0, 0, 0)
                 library.oer_canon.return_value = oer._Written(status, 0, 0, 0)
                 for call in (lambda: types.read("A ::= NULL"), lambda: types.check("A", b""),

@@ -187,6 +187,40 @@ impl Types {
         }
     }
 
+    /// The types of the definitions, if they have at most `parts` parts together (NOTATION.md, Limits). Use it
+    /// for definitions from someone else: a short text may spell many parts, and they take memory.
+    ///
+    /// # Errors
+    ///
+    /// Those of [`Types::read_within`].
+    ///
+    /// ```
+    /// let text = "A ::= NULL B ::= SEQUENCE {a A}";
+    /// assert!(oer::Types::parse_within(text, 3).is_ok());
+    /// let rejected = oer::Types::parse_within(text, 2).unwrap_err();
+    /// assert_eq!(rejected, oer::Error::Definitions { reason: oer::TextReason::Parts, place: 11 });
+    /// ```
+    pub fn parse_within(definitions: impl AsRef<[u8]>, parts: u64) -> Result<Types, Error> {
+        let mut types = Types::new();
+        types.read_within(definitions, parts)?;
+        Ok(types)
+    }
+
+    /// Reads definitions as [`Types::read`] does, if their types have at most `parts` parts together.
+    ///
+    /// # Errors
+    ///
+    /// Those of [`Types::read`], and [`TextReason::Parts`] at the definition with which they have more.
+    pub fn read_within(&mut self, definitions: impl AsRef<[u8]>, parts: u64) -> Result<(), Error> {
+        let text = definitions.as_ref();
+        // SAFETY: as in `read`.
+        let parsed = unsafe { sys::oer_types_read_within(self.held.get(), text.as_ptr().cast(), text.len(), parts) };
+        match parsed.status {
+            sys::OK => Ok(()),
+            status => Err(Error::of_definitions(status, parsed.why, parsed.place)),
+        }
+    }
+
     /// Frees the types. After it there are none, and types may be read again.
     ///
     /// ```

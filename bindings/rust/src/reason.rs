@@ -121,6 +121,8 @@ reasons! {
         DefaultMisfit = 18,
         /// A SEQUENCE OF whose elements may take no octets.
         EmptyElement = 19,
+        /// All types together have more parts than they may have.
+        Parts = 20,
     }
 }
 

@@ -64,6 +64,7 @@ pub const FOLLOWS: u32 = 12;
 extern "C" {
     pub fn oer_version() -> u32;
     pub fn oer_types_read(types: *mut OerTypes, text: *const c_char, text_length: usize) -> OerParsed;
+    pub fn oer_types_read_within(types: *mut OerTypes, text: *const c_char, text_length: usize, parts: u64) -> OerParsed;
     pub fn oer_types_free(types: *mut OerTypes);
     pub fn oer_types_share(types: *mut OerTypes, other: *mut OerTypes) -> u32;
     pub fn oer_check(

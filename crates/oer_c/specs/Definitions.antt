@@ -1,10 +1,11 @@
 -- What reading definitions answers, and which types there are then.
-use Rattle.std.specs.Prelude.{◌≡◌, ◌≢◌, ℕ, List, length, Option, Some, Err, ◌⊎◌}
+use Rattle.std.specs.Prelude.{◌≡◌, ◌≢◌, ◌<◌, ◌≤◌, ℕ, List, length, Option, Some, Ok, Err, ◌⊎◌}
 use Rattle.std.specs.Str.{IsUtf8, IsValidUpTo}
 use Rattle.oer_notation.specs.Grammar.{AreWellFormed, SpellsAll}
 use Rattle.oer_notation.specs.Parsing.{parse_all}
 use Rattle.oer_notation.specs.Reading.{Known}
 use Rattle.oer_notation.specs.Views.{knowns}
+use Rattle.oer_notation.specs.Within.{parts_of}
 use Rattle.oer_value_notation.specs.declared.fault.TextFault.{TextFault}
 use Rattle.oer_value_notation.specs.declared.fault.TextWhy.TheVariants.{Memory}
 use Rattle.oer_notation.specs.declared.types.Types.{Types}
@@ -18,11 +19,15 @@ answer status why place = record { status = status; why = why; place = place }
 abbrev pub IsFault : TextFault → Parsed → Type 0
 IsFault fault p = (p ≡ answer 4 0 0) ⊎ ((p ≡ answer 1 (text_number fault.why) fault.at) × (fault.why ≢ Memory))
 
--- The text is not UTF-8, and so many octets are its longest front that is; or it spells no well-formed types, and this is the first fault from
+-- The text is not UTF-8, and so many octets are its longest front that is.
+abbrev pub IsNotUtf8 : List ℕ → Parsed → Type 0
+IsNotUtf8 text p = (place : ℕ) × (IsUtf8 text → ⊥) × IsValidUpTo text place × (p ≡ answer 1 0 place)
+
+-- The text is not UTF-8; or it spells no well-formed types, and this is the first fault from
 -- the left; or an allocation failed.
 abbrev pub IsRejected : List ℕ → Parsed → Type 0
 IsRejected text p = (p ≡ answer 4 0 0)
-    ⊎ (((place : ℕ) × (IsUtf8 text → ⊥) × IsValidUpTo text place × (p ≡ answer 1 0 place))
+    ⊎ (IsNotUtf8 text p
     ⊎ ((fault : TextFault) × (p ≡ answer 1 (text_number fault.why) fault.at) × (parse_all text ≡ Err fault)
     × ((definitions : List Known) → SpellsAll definitions text → AreWellFormed definitions → ⊥)))
 
@@ -30,3 +35,15 @@ IsRejected text p = (p ≡ answer 4 0 0)
 abbrev pub IsRead : List ℕ → Option Types → Option Types → Parsed → Type 0
 IsRead text old new p = ((t : Types) × (new ≡ Some t) × SpellsAll (knowns t) text × (p ≡ answer 0 0 (length text)))
     ⊎ ((new ≡ old) × IsRejected text p)
+
+-- The text is rejected, however many parts its types may have; or they have more parts together, with the definition that begins at
+-- the place.
+abbrev pub IsRejectedWithin : ℕ → List ℕ → Parsed → Type 0
+IsRejectedWithin most text p = IsRejected text p
+    ⊎ ((place : ℕ) × (p ≡ answer 1 20 place) × ((definitions : List Known) → parse_all text ≡ Ok definitions → most < parts_of definitions))
+
+-- There are types that the text spells, of no more parts together; or the text is rejected, and there are those from before.
+abbrev pub IsReadWithin : ℕ → List ℕ → Option Types → Option Types → Parsed → Type 0
+IsReadWithin most text old new p =
+    ((t : Types) × (new ≡ Some t) × SpellsAll (knowns t) text × (parts_of (knowns t) ≤ most) × (p ≡ answer 0 0 (length text)))
+    ⊎ ((new ≡ old) × IsRejectedWithin most text p)

@@ -1,15 +1,17 @@
 //! Reading definitions, and freeing them.
-ghost use Rattle.std.specs.Prelude.{◌≡◌, None, IfErr, IfOk};
+ghost use Rattle.std.specs.Prelude.{◌≡◌, ◌≤◌, None, IfErr, IfOk};
+ghost use Rattle.std.specs.Str.{IsUtf8};
 ghost use Rattle.oer_notation.specs.Grammar.{SpellsAll};
 ghost use Rattle.oer_notation.specs.Views.{knowns};
-ghost use Rattle.oer_c.specs.Definitions.{IsFault, IsRead, IsRejected, answer};
+ghost use Rattle.oer_notation.specs.Within.{parts_of};
+ghost use Rattle.oer_c.specs.Definitions.{IsFault, IsNotUtf8, IsRead, IsReadWithin, IsRejected, IsRejectedWithin, answer};
 ghost use Rattle.oer_c.specs.Sharing.{types_in, types_of};
 
 use crate::handle::Handle;
 use crate::reason;
 use crate::shared::Shared;
 use crate::status::{MEMORY, OK, REJECTED};
-use oer_text::{TextFault, TextWhy, Types, parse_types};
+use oer_text::{TextFault, TextWhy, Types, WithinFault, parse_types, parse_types_within};
 use std::alloc::Global;
 
 /// What reading definitions answers. It takes 16 octets: `status` at 0, `why` at 4 and `place` at 8.
@@ -57,18 +59,39 @@ fn boxed(alloc: Global, types: Types) -> Result<Box<Shared>, Parsed>
     }
 }
 
+// The text, if it is UTF-8.
+fn utf8(text: &[u8]) -> Result<&str, Parsed>
+    ensures same { IfOk result (λ s. s.now ≡ text.now) }
+    ensures is { IfOk result (λ s. IsUtf8 text.now) }
+    ensures rejected { IfErr result (IsNotUtf8 text.now) }
+{
+    match std::str::from_utf8(text) {
+        Ok(text) => Ok(text),
+        Err(fault) => Err(answer(REJECTED, 0, fault.valid_up_to() as u64)),
+    }
+}
+
 // The definitions of the text, on the heap.
 fn read(alloc: Global, text: &[u8]) -> Result<Box<Shared>, Parsed>
     ensures spells { IfOk result (λ shared. SpellsAll (knowns (types_in shared.value)) text.now) }
     ensures rejected { IfErr result (IsRejected text.now) }
 {
-    let text = match std::str::from_utf8(text) {
-        Ok(text) => text,
-        Err(fault) => return Err(answer(REJECTED, 0, fault.valid_up_to() as u64)),
-    };
-    match parse_types(alloc, text) {
+    match parse_types(alloc, utf8(text)?) {
         Ok(types) => boxed(alloc, types),
         Err(fault) => Err(reject(fault)),
+    }
+}
+
+// The definitions of the text, on the heap, if their types have no more parts together.
+fn read_within(alloc: Global, text: &[u8], parts: u64) -> Result<Box<Shared>, Parsed>
+    ensures spells { IfOk result (λ shared. SpellsAll (knowns (types_in shared.value)) text.now) }
+    ensures within { IfOk result (λ shared. parts_of (knowns (types_in shared.value)) ≤ parts) }
+    ensures rejected { IfErr result (IsRejectedWithin parts text.now) }
+{
+    match parse_types_within(alloc, utf8(text)?, parts) {
+        Ok(types) => boxed(alloc, types),
+        Err(WithinFault::Text(fault)) => Err(reject(fault)),
+        Err(WithinFault::Parts(at)) => Err(answer(REJECTED, reason::TEXT_PARTS, at as u64)),
     }
 }
 
@@ -86,6 +109,32 @@ pub extern "C" fn oer_types_read(alloc: Global, types: &mut Handle, text: &[u8])
     ensures { IsRead text.now (types_of types.old.held.shared) (types_of types.new.held.shared) result }
 {
     match read(alloc, text) {
+        Ok(found) => {
+            let _earlier = types.take(alloc);
+            *types = Handle::of(found);
+            answer(OK, 0, text.len() as u64)
+        }
+        Err(rejected) => rejected,
+    }
+}
+
+/// Reads the definitions of the text as [`oer_types_read`] does, if their types have at most `parts` parts
+/// together (NOTATION.md). A short text may spell many parts, since a Name stands for a copy of its type.
+/// The status is that of `oer_types_read`, or
+///
+/// - `REJECTED` with the reason 20: with the definition that begins at `place` the types have more parts.
+///
+/// Unless it is `OK` the handle has the types from before.
+#[unsafe(no_mangle)]
+pub extern "C" fn oer_types_read_within(
+    alloc: Global,
+    types: &mut Handle,
+    text: &[u8],
+    parts: u64,
+) -> Parsed
+    ensures { IsReadWithin parts text.now (types_of types.old.held.shared) (types_of types.new.held.shared) result }
+{
+    match read_within(alloc, text, parts) {
         Ok(found) => {
             let _earlier = types.take(alloc);
             *types = Handle::of(found);

@@ -23,6 +23,9 @@ fn of_schema(fault: SchemaFault) -> u32
     }
 }
 
+/// The number of the reason that the types of definitions have more parts together than they may have.
+pub(crate) const TEXT_PARTS: u32 = 20;
+
 /// The number of a reason for which definitions are rejected: from 1 on in the order of `TextWhy`,
 /// and from 9 on in that of `SchemaFault`.
 pub(crate) fn of_text(why: TextWhy) -> u32

@@ -7,7 +7,8 @@ use std::env::{self, Env};
 use std::io::{BufReader, ErrorKind, IsTerminal};
 use std::process::ExitCode;
 
-// How many characters a line may have if the arguments don't say. COLUMNS is asked for a terminal alone.
+// How many characters a line may have if the arguments don't say. COLUMNS is asked for a terminal alone;
+// without one there is no bound.
 fn width_of<R: Env + Alloc>(rt: &R, is_terminal: bool) -> u64 {
     if !is_terminal {
         return usual_width(false, None);

@@ -1,11 +1,12 @@
 -- Lines, as they are laid out.
-use Rattle.std.proofs.Common.{◌≡◌, ◌∙◌, ℕ, ◌+◌, ◌<◌, ◌≤◌, List, [], ◌∷◌, ◌++◌, length, get_or, map, take, refl, sym, ap, append-nil, append_assoc}
+use Rattle.std.proofs.Common.{◌≡◌, ◌∙◌, ℕ, ◌+◌, ◌<◌, ◌≤◌, List, [], ◌∷◌, ◌++◌, length, get_or, map, take, refl, sym, ap, subst, append_assoc}
 use Rattle.std.specs.Prelude.{Result, Ok, Err, OnOk, if◌then◌else◌}
 use Rattle.std.specs.Result.{is_ok}
 use Rattle.std.proofs.lemmas.List.{map-append, map_more}
 use Rattle.clap.specs.Words.{Text}
 use Rattle.oer_entries.specs.declared.entry.Entry.{Entry}
 use Rattle.oer_dump_cmd.specs.Layout.{HasLines, Cells, IsLine, cells_in, cells_of, spaces}
+use Rattle.oer_dump_cmd.specs.Visible.{visible}
 use Rattle.oer_dump_cmd.specs.declared.line.Line.{Line}
 
 -- the cells so far, with those of one more
@@ -18,25 +19,36 @@ cells_more es i e old new l lt is so one own =
 flat_cell : (t a c s : Text) → ((t ++ a) ++ c) ++ s ≡ t ++ (a ++ (c ++ s))
 flat_cell t a c s = simp append_assoc
 
-flat_line : (t0 a o s b n p c m d k f v w e : Text)
-    → (((((((t0 ++ (a ++ (o ++ s))) ++ (b ++ (n ++ s))) ++ (p ++ c)) ++ (m ++ d)) ++ (k ++ f)) ++ v) ++ w) ++ e
-    ≡ t0 ++ (a ++ (o ++ (s ++ (b ++ (n ++ (s ++ (p ++ (c ++ (m ++ (d ++ (k ++ (f ++ ((v ++ w) ++ e)))))))))))))
-flat_line t0 a o s b n p c m d k f v w e = simp append_assoc
+flat_line : (t0 a o s b n p c m d k f v w : Text)
+    → ((((((t0 ++ (a ++ (o ++ s))) ++ (b ++ (n ++ s))) ++ (p ++ c)) ++ (m ++ d)) ++ (k ++ f)) ++ v) ++ w
+    ≡ t0 ++ (a ++ (o ++ (s ++ (b ++ (n ++ (s ++ (p ++ (c ++ (m ++ (d ++ (k ++ (f ++ (v ++ w)))))))))))))
+flat_line t0 a o s b n p c m d k f v w = simp append_assoc
 
-pub line_made : (cs : Cells) (t0 t1 t2 t3 t4 t5 t6 t7 t8 names value note : Text)
+pub line_made : (cs : Cells) (t0 t1 t2 t3 t4 t5 t6 t7 names value note : Text)
     → (n : ℕ) × (t1 ≡ t0 ++ (spaces n ++ (cs.offset ++ spaces 2))) → (n : ℕ) × (t2 ≡ t1 ++ (spaces n ++ (cs.count ++ spaces 2)))
     → (n : ℕ) × (2 ≤ n) × (t3 ≡ t2 ++ (cs.path ++ spaces n)) → (n : ℕ) × (2 ≤ n) × (t4 ≡ t3 ++ (names ++ spaces n)) → (n : ℕ) × (2 ≤ n) × (t5 ≡ t4 ++ (cs.kind ++ spaces n))
-    → t6 ≡ t5 ++ value → t7 ≡ t6 ++ note → t8 ≡ t7 ++ 10 ∷ [] → (line : Text) × IsLine cs line × (t8 ≡ t0 ++ line)
-line_made cs t0 t1 t2 t3 t4 t5 t6 t7 t8 names value note (a, e1) (b, e2) (c, l3, e3) (d, l4, e4) (f, l5, e5) e6 e7 e8 = (
-  spaces a ++ (cs.offset ++ (spaces 2 ++ (spaces b ++ (cs.count ++ (spaces 2 ++ (cs.path ++ (spaces c ++ (names ++ (spaces d ++ (cs.kind ++ (spaces f ++ ((value ++ note) ++ 10 ∷ [])))))))))))),
+    → t6 ≡ t5 ++ value → t7 ≡ t6 ++ note → (line : Text) × IsLine cs line × (t7 ≡ t0 ++ line)
+line_made cs t0 t1 t2 t3 t4 t5 t6 t7 names value note (a, e1) (b, e2) (c, l3, e3) (d, l4, e4) (f, l5, e5) e6 e7 = (
+  spaces a ++ (cs.offset ++ (spaces 2 ++ (spaces b ++ (cs.count ++ (spaces 2 ++ (cs.path ++ (spaces c ++ (names ++ (spaces d ++ (cs.kind ++ (spaces f ++ (value ++ note)))))))))))),
   record { names = names; value = value ++ note; before_offset = a; before_count = b; after_path = c; after_names = d; after_kind = f; is = refl; apart = (l3, l4, l5) },
-  rw (e8, e7, e6, e5, e4, e3, e2, e1) (flat_line t0 (spaces a) cs.offset (spaces 2) (spaces b) cs.count cs.path (spaces c) names (spaces d) cs.kind (spaces f) value note (10 ∷ [])),
+  rw (e7, e6, e5, e4, e3, e2, e1) (flat_line t0 (spaces a) cs.offset (spaces 2) (spaces b) cs.count cs.path (spaces c) names (spaces d) cs.kind (spaces f) value note),
 )
 
-pub line_more : (cs : List Cells) (text line new : Text) (c : Cells) → HasLines cs text → IsLine c line → new ≡ text ++ line → HasLines (cs ++ c ∷ []) new
-line_more [] text line new c none is e = (line, [], e ∙ ap (λ x. x ++ line) none ∙ sym (append-nil line), is, refl)
+-- the cells alone
+pub cells_alone : (cs : Cells) (t0 t1 : Text) → t0 ≡ [] → (cells : Text) × IsLine cs cells × (t1 ≡ t0 ++ cells) → IsLine cs t1
+cells_alone cs t0 t1 none (cells, is, e) = subst (IsLine cs) (sym (e ∙ ap (λ x. x ++ cells) none)) is
+
+-- the line, as it is printed
+pub line_shown : (cs : Cells) (t0 t1 t2 shown cells : Text) → IsLine cs cells → shown ≡ cells → t1 ≡ t0 ++ visible shown → t2 ≡ t1 ++ 10 ∷ []
+    → (line : Text) × IsLine cs line × (t2 ≡ t0 ++ (visible line ++ 10 ∷ []))
+line_shown cs t0 t1 t2 shown cells is so one two =
+    (cells, is, two ∙ ap (λ x. x ++ 10 ∷ []) one ∙ append_assoc t0 (visible shown) (10 ∷ []) ∙ ap (λ s. t0 ++ (visible s ++ 10 ∷ [])) so)
+
+pub line_more : (cs : List Cells) (text line new : Text) (c : Cells) → HasLines cs text → IsLine c line → new ≡ text ++ (visible line ++ 10 ∷ []) → HasLines (cs ++ c ∷ []) new
+line_more [] text line new c none is e = (line, [], e ∙ ap (λ x. x ++ (visible line ++ 10 ∷ [])) none, is, refl)
 line_more (d ∷ cs) text line new c (first, rest, e0, own, more) is e =
-    (first, rest ++ line, e ∙ ap (λ x. x ++ line) e0 ∙ append_assoc first rest line, own, line_more cs rest line (rest ++ line) c more is refl)
+    let end : Text = visible line ++ 10 ∷ [] in
+    (first, rest ++ end, e ∙ ap (λ x. x ++ end) e0 ∙ append_assoc (visible first) (10 ∷ rest) end, own, line_more cs rest line (rest ++ end) c more is refl)
 
 -- a cell at the right of its column
 pub at_right : (t0 t1 t2 t3 cell : Text) (n : ℕ) → t1 ≡ t0 ++ spaces n → t2 ≡ t1 ++ cell → t3 ≡ t2 ++ spaces 2 → (m : ℕ) × (t3 ≡ t0 ++ (spaces m ++ (cell ++ spaces 2)))

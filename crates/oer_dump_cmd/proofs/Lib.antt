@@ -5,3 +5,4 @@ pub mod Laid
 pub mod Terminal
 pub mod Shown
 pub mod Ends
+mod Visibly

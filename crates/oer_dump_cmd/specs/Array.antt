@@ -17,6 +17,7 @@ use Rattle.oer_entries.specs.declared.entry.Entry.{Entry}
 use Rattle.oer_entries.specs.declared.entry.What.{What}
 use Rattle.oer_entries.specs.declared.entry.What.TheVariants as what
 use Rattle.oer_entries.specs.declared.frame.Name.{Name}
+use Rattle.oer_dump_cmd.specs.Visible.{visible}
 
 -- a tag in the notation
 abbrev pub class_text : Class → Text
@@ -45,6 +46,7 @@ value_data (what.Preamble bits) = bits_data bits.items
 value_data (what.Bitmap bits) = bits_data bits.items
 value_data (what.Quantity n) = json.number (unsigned n)
 value_data (what.Tag t name) = tag_data t name
+value_data (what.UnknownTag t name) = tag_data t name
 value_data (what.Length n) = json.number (unsigned n)
 value_data (what.Value j) = view j.json
 value_data what.Unknown = json.null
@@ -57,6 +59,7 @@ role_text (what.Preamble bits) = codes "preamble"
 role_text (what.Bitmap bits) = codes "bitmap"
 role_text (what.Quantity n) = codes "quantity"
 role_text (what.Tag t name) = codes "tag"
+role_text (what.UnknownTag t name) = codes "rejected"
 role_text (what.Length n) = codes "length"
 role_text (what.Value j) = codes "value"
 role_text what.Unknown = codes "unknown"
@@ -94,10 +97,10 @@ abbrev pub separator : Bool → Text
 separator true = []
 separator false = 44 ∷ 10 ∷ []
 
--- the texts of objects; is_first: none stands before them
+-- the texts of objects, printed as Visible.antt says; is_first: none stands before them
 abbrev pub objects_text : Bool → List Entry → Text
 objects_text is_first [] = []
-objects_text is_first (e ∷ es) = separator is_first ++ (compact_text (object_of e) ++ objects_text false es)
+objects_text is_first (e ∷ es) = separator is_first ++ (visible (compact_text (object_of e)) ++ objects_text false es)
 
 abbrev pub array_text : List Entry → Text
 array_text es = codes "[" ++ objects_text true es ++ 93 ∷ 10 ∷ []

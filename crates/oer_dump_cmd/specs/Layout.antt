@@ -4,6 +4,7 @@ use Rattle.std.specs.Fmt.{decimal}
 use Rattle.clap.specs.Words.{Text}
 use Rattle.oer_entries.specs.declared.entry.Entry.{Entry}
 use Rattle.oer_dump_cmd.specs.declared.line.Line.{Line}
+use Rattle.oer_dump_cmd.specs.Visible.{visible}
 
 -- what is never cut of a line
 pub record Cells : Type 0 where
@@ -38,10 +39,10 @@ pub record IsLine (c : Cells) (line : Text) : Type 0 where
   pub after_names : ℕ
   pub after_kind : ℕ
   pub is : line ≡ spaces before_offset ++ (c.offset ++ (spaces 2 ++ (spaces before_count ++ (c.count ++ (spaces 2 ++ (c.path ++ (spaces after_path
-      ++ (names ++ (spaces after_names ++ (c.kind ++ (spaces after_kind ++ (value ++ 10 ∷ []))))))))))))
+      ++ (names ++ (spaces after_names ++ (c.kind ++ (spaces after_kind ++ value)))))))))))
   pub apart : (2 ≤ after_path) × (2 ≤ after_names) × (2 ≤ after_kind)
 
--- a line for each, in their order
+-- a line for each, in their order: printed as Visible.antt says, and behind it a line feed
 abbrev pub HasLines : List Cells → Text → Type 0
 HasLines [] text = text ≡ []
-HasLines (c ∷ cs) text = (line : Text) × (rest : Text) × (text ≡ line ++ rest) × IsLine c line × HasLines cs rest
+HasLines (c ∷ cs) text = (line : Text) × (rest : Text) × (text ≡ visible line ++ 10 ∷ rest) × IsLine c line × HasLines cs rest

@@ -57,8 +57,9 @@ abbrev pub texts_given : List Text → Texts
 texts_given words = record { one = given words (codes "type"); types = given words (codes "types"); name = given words (codes "name") }
 
 -- How many characters a line may have if the words don't say, where the variable COLUMNS has this text: the number that it writes, if
--- standard output is a terminal and the number is below 2^64; else 100.
+-- standard output is a terminal and the number is below 2^64; 100, if it is a terminal and there is no such number. Where it is no
+-- terminal there is no bound: 0 stands for that.
 abbrev pub IsUsualWidth : Bool → Option Text → ℕ → Type 0
-IsUsualWidth false columns width = width ≡ 100
+IsUsualWidth false columns width = width ≡ 0
 IsUsualWidth true None width = width ≡ 100
 IsUsualWidth true (Some text) width = (NumberOf text width × (width < 2 ^ 64)) ⊎ ((width ≡ 100) × ((n : ℕ) → NumberOf text n → 2 ^ 64 ≤ n))

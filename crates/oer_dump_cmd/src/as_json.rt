@@ -7,9 +7,11 @@ ghost use Rattle.serde_json.specs.Data.{boolean};
 ghost use Rattle.serde_json.specs.View.{view};
 ghost use Rattle.serde_json.specs.Written.{comma_if, compact_text};
 ghost use Rattle.oer_entries.specs.Names.{text_of};
+ghost use Rattle.oer_dump_cmd.specs.Visible.{visible};
 ghost use Rattle.oer_dump_cmd.specs.Array.{array_text, bit_data, bits_data, object_of, octets_data, opening, role_text, separator, tag_data, value_data};
 
 use crate::tag::tag_text;
+use crate::visible::push_visible;
 use oer_entries::{Entry, Name, NamedBit, PlainJson, What, name_text};
 use oer_units::Tag;
 use serde_json::Value as Json;
@@ -136,6 +138,7 @@ fn push_value(alloc: Global, text: &mut String, what: &What<'_>) -> Result<(), A
         What::Bitmap(bits) => push_bits(alloc, text, bits.as_slice()),
         What::Quantity(count) => write!(text, "{count}"),
         What::Tag(tag, name) => push_tag(alloc, text, *tag, *name),
+        What::UnknownTag(tag, name) => push_tag(alloc, text, *tag, *name),
         What::Length(count) => write!(text, "{count}"),
         What::Value(value) => push_json(alloc, text, value),
         What::Unknown => text.push_str("null"),
@@ -153,6 +156,7 @@ fn role(what: &What<'_>) -> &'static str
         What::Bitmap(_) => "bitmap",
         What::Quantity(_) => "quantity",
         What::Tag(..) => "tag",
+        What::UnknownTag(..) => "rejected",
         What::Length(_) => "length",
         What::Value(_) => "value",
         What::Unknown => "unknown",
@@ -231,6 +235,15 @@ fn push_object(alloc: Global, text: &mut String, entry: &Entry<'_>) -> Result<()
     text.push_str("}")
 }
 
+// Appends the object of an entry as it is printed.
+fn push_line(alloc: Global, text: &mut String, entry: &Entry<'_>) -> Result<(), AllocError>
+    ensures { OnOk result (string_bytes text.new ≡ string_bytes text.old ++ visible (compact_text (object_of entry.now))) }
+{
+    let mut object = String::new(alloc);
+    push_object(alloc, &mut object, entry)?;
+    push_visible(text, object.as_str())
+}
+
 // What stands before an object.
 fn separator(is_first: bool) -> &'static str
     ensures { result.now ≡ separator is_first }
@@ -246,7 +259,7 @@ pub(crate) fn json_of(alloc: Global, entries: Vec<Entry<'_>>) -> Result<String, 
     let mut is_first = true;
     for entry in entries {
         text.push_str(separator(is_first))?;
-        push_object(alloc, &mut text, &entry)?;
+        push_line(alloc, &mut text, &entry)?;
         is_first = false;
     }
     text.push_str("]\n")?;

@@ -39,6 +39,7 @@ Documents, in the source: docs/COMMAND.md (this program), docs/NOTATION.md
 pub const LIMIT: &str = "How many octets there may be";
 
 pub const WIDTH: &str = "How many characters a line may have, 0 for no bound.
-Without it as many as a line of the terminal, or 100";
+Without it as many as a line of the terminal, or 100;
+no bound where standard output is no terminal";
 
 pub const JSON: &str = "Print one JSON array, of an object for each line";

@@ -1,10 +1,12 @@
 //! Entries as text: a line for each, in columns.
-ghost use Rattle.std.specs.Prelude.{◌≡◌, ◌<◌, ◌≤◌, ◌++◌, ℕ, IfOk, OnOk, map, string_bytes};
+ghost use Rattle.std.specs.Prelude.{◌≡◌, ◌<◌, ◌≤◌, [], ◌∷◌, ◌++◌, ℕ, IfOk, OnOk, map, string_bytes};
 ghost use Rattle.std.specs.Fmt.{decimal};
 ghost use Rattle.clap.specs.Words.{Text};
 ghost use Rattle.oer_dump_cmd.specs.Layout.{HasLines, IsLine, cells_in, cells_of, spaces};
+ghost use Rattle.oer_dump_cmd.specs.Visible.{visible};
 
 use crate::line::{Line, line_of};
+use crate::visible::push_visible;
 use oer_entries::Entry;
 use std::alloc::{AllocError, Global};
 use std::fmt::Write;
@@ -215,8 +217,8 @@ fn push_value(
     text.push_str(cut.as_str())
 }
 
-// Appends the line.
-fn push_line(
+// Appends the cells of the line.
+fn push_cells(
     alloc: Global,
     text: &mut String,
     line: &Line<'_>,
@@ -231,7 +233,29 @@ fn push_line(
     push_left(text, line.kind, widths.kind)?;
     let room = widths.value.saturating_sub(line.note.len()).max(LEAST);
     push_value(alloc, text, line, room)?;
-    text.push_str(line.note.as_str())?;
+    text.push_str(line.note.as_str())
+}
+
+// The cells of the line.
+fn cells_text(alloc: Global, line: &Line<'_>, widths: Widths) -> Result<String, AllocError>
+    ensures { IfOk result (λ text. IsLine (cells_in line.now) (string_bytes text)) }
+{
+    let mut text = String::new(alloc);
+    push_cells(alloc, &mut text, line, widths)?;
+    Ok(text)
+}
+
+// Appends the line.
+fn push_line(
+    alloc: Global,
+    text: &mut String,
+    line: &Line<'_>,
+    widths: Widths,
+) -> Result<(), AllocError>
+    ensures { OnOk result ((cells : Text) × IsLine (cells_in line.now) cells × (string_bytes text.new ≡ string_bytes text.old ++ (visible cells ++ 10 ∷ []))) }
+{
+    let cells = cells_text(alloc, line, widths)?;
+    push_visible(text, cells.as_str())?;
     text.push('\n')
 }
 

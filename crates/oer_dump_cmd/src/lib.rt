@@ -9,6 +9,7 @@ mod line;
 mod options;
 mod program;
 mod tag;
+mod visible;
 mod width;
 
 pub use program::run;

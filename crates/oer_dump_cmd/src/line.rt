@@ -4,6 +4,7 @@ ghost use Rattle.oer_dump_cmd.specs.Layout.{cells_in, cells_of, or_dash};
 
 use crate::as_json::push_json;
 use crate::tag::tag_text;
+use crate::visible::push_visible;
 use oer_entries::{Entry, NamedBit, What, name_text};
 use std::alloc::{AllocError, Global};
 
@@ -65,15 +66,17 @@ fn value_text(alloc: Global, entry: &Entry<'_>) -> Result<String, AllocError> {
         What::Preamble(bits) => bits_text(alloc, "preamble", bits.as_slice()),
         What::Bitmap(bits) => bits_text(alloc, "bitmap", bits.as_slice()),
         What::Quantity(count) => format!(in alloc; "quantity {count}"),
-        What::Tag(tag, name) => {
+        What::Tag(tag, name) | What::UnknownTag(tag, name) => {
             let tag = tag_text(alloc, *tag)?;
             let name = name_text(alloc, *name)?;
             format!(in alloc; "tag {tag} {name}")
         }
         What::Length(count) => format!(in alloc; "length {count}"),
         What::Value(value) => {
+            let mut json = String::new(alloc);
+            push_json(alloc, &mut json, value)?;
             let mut text = String::new(alloc);
-            push_json(alloc, &mut text, value)?;
+            push_visible(&mut text, json.as_str())?;
             Ok(text)
         }
         What::Unknown | What::Follows | What::Rejected => quoted_digits(alloc, entry.octets),
@@ -108,7 +111,7 @@ fn note(alloc: Global, entry: &Entry<'_>) -> Result<String, AllocError> {
     let mut note = String::new(alloc);
     match entry.what {
         What::Follows => note.push_str(" -- follows")?,
-        What::Rejected => note.push_str(" -- rejected")?,
+        What::UnknownTag(..) | What::Rejected => note.push_str(" -- rejected")?,
         _ => {}
     }
     push_canonical(alloc, &mut note, entry)?;

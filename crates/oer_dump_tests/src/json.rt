@@ -55,6 +55,34 @@ fn rejected(rt: HostRuntime) -> Result<(), Fail> {
 }
 
 #[test]
+fn unknown_tag(rt: HostRuntime) -> Result<(), Fail> {
+    let words = ["--type=CHOICE {a NULL}", "--json", "--hex=81"];
+    let text =
+        r##"[{"count":1,"default":false,"kind":"CHOICE","names":"","octets":"81","offset":0,"path":"","role":"rejected","value":{"name":"#c1","tag":"[1]"}}]
+"##;
+    expect(
+        rt.alloc(),
+        &words,
+        (1, text, "oer: UnknownAlternative at 1, in the whole\n"),
+    )
+}
+
+#[test]
+fn spelt_out(rt: HostRuntime) -> Result<(), Fail> {
+    let words = [
+        "--type=SEQUENCE OF UTF8String",
+        "--json",
+        "--hex=010206c29b324ac3a903e280ae",
+    ];
+    let text =
+        r##"[{"count":2,"default":false,"kind":"SEQUENCE OF","names":"","octets":"0102","offset":0,"path":"","role":"quantity","value":2},
+{"count":7,"default":false,"kind":"UTF8String","names":"0","octets":"06c29b324ac3a9","offset":2,"path":"i0","role":"value","value":"\u009b2Jé"},
+{"count":4,"default":false,"kind":"UTF8String","names":"1","octets":"03e280ae","offset":9,"path":"i1","role":"value","value":"\u202e"}]
+"##;
+    expect(rt.alloc(), &words, (0, text, ""))
+}
+
+#[test]
 fn nothing(rt: HostRuntime) -> Result<(), Fail> {
     let words = ["--type=BOOLEAN", "--json", "--hex="];
     expect(

@@ -53,6 +53,61 @@ const KINDS: &[(&str, &str, &str)] = &[
     ),
 ];
 
+/// Texts with characters that are spelt out, and with the ones before and behind these, which are not.
+const SPELT_OUT: &[(&str, &str, &str)] = &[
+    (
+        "UTF8String",
+        "05c29b324a41",
+        r#"0  6  -  -  UTF8String  "\u009b2JA""#,
+    ),
+    ("IA5String", "017f", r#"0  2  -  -  IA5String  "\u007f""#),
+    (
+        "IA5String",
+        "051b0a1f207e",
+        r#"0  6  -  -  IA5String  "\u001b\n\u001f ~""#,
+    ),
+    (
+        "UTF8String",
+        "067ec280c29f41",
+        r#"0  7  -  -  UTF8String  "~\u0080\u009fA""#,
+    ),
+    (
+        "UTF8String",
+        "08d89cd89bd89dc2a0",
+        "0  9  -  -  UTF8String  \"\\u061c\u{061b}\u{061d}\u{a0}\"",
+    ),
+    (
+        "UTF8String",
+        "0ce2808ee2808fe2808de28090",
+        "0  13  -  -  UTF8String  \"\\u200e\\u200f\u{200d}\u{2010}\"",
+    ),
+    (
+        "UTF8String",
+        "15e280a8e280a9e280aae280abe280ace280ade280ae",
+        r#"0  22  -  -  UTF8String  "\u2028\u2029\u202a\u202b\u202c\u202d\u202e""#,
+    ),
+    (
+        "UTF8String",
+        "06e280a7e280af",
+        "0  7  -  -  UTF8String  \"\u{2027}\u{202f}\"",
+    ),
+    (
+        "UTF8String",
+        "0ce281a6e281a7e281a8e281a9",
+        r#"0  13  -  -  UTF8String  "\u2066\u2067\u2068\u2069""#,
+    ),
+    (
+        "UTF8String",
+        "06e281a5e281aa",
+        "0  7  -  -  UTF8String  \"\u{2065}\u{206a}\"",
+    ),
+    (
+        "UTF8String",
+        "04f09f9880",
+        "0  5  -  -  UTF8String  \"\u{1f600}\"",
+    ),
+];
+
 /// The same, of SEQUENCEs and CHOICEs.
 const PARTS: &[(&str, &str, &str)] = &[
     (
@@ -271,6 +326,14 @@ const BASIC: &[(&str, &str, &str)] = &[
 #[test]
 fn kinds(rt: HostRuntime) -> Result<(), Fail> {
     for (kind, digits, lines) in KINDS {
+        has_lines(rt.alloc(), kind, digits, lines)?;
+    }
+    Ok(())
+}
+
+#[test]
+fn spelt_out(rt: HostRuntime) -> Result<(), Fail> {
+    for (kind, digits, lines) in SPELT_OUT {
         has_lines(rt.alloc(), kind, digits, lines)?;
     }
     Ok(())

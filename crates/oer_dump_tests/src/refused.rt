@@ -200,8 +200,24 @@ const REFUSED: &[(&str, &str, &str, &str)] = &[
     (
         TAGGED,
         "80",
-        "0  1  -  -  CHOICE  tag [0] #c0",
+        "0  1  -  -  CHOICE  tag [0] #c0 -- rejected",
         "UnknownAlternative at 1, in the whole",
+    ),
+    (
+        "CHOICE {a NULL}",
+        "81ff",
+        "0  1  -  -  CHOICE  tag [1] #c1 -- rejected",
+        "UnknownAlternative at 1, in the whole",
+    ),
+    (
+        "SEQUENCE OF CHOICE {a BOOLEAN, b NULL}",
+        "010280ff7f9001",
+        "
+0  2  -     -    SEQUENCE OF  quantity 2
+2  1  i0    0    CHOICE       tag [0] a
+3  1  i0.v  0.a  BOOLEAN      true
+4  3  i1    1    CHOICE       tag [APPLICATION 2049] #a2049 -- rejected",
+        "UnknownAlternative at 7, in i1, 1",
     ),
     (
         "CHOICE {a NULL, ..., b OCTET STRING}",

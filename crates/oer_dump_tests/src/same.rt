@@ -76,7 +76,7 @@ fn octets(alloc: Global, numbers: &mut Numbers) -> Result<Vec<u8>, Fail> {
 
 // Whether what the octets are has this name of an alternative.
 fn is_chosen(alloc: Global, what: &What<'_>, chosen: &Option<String>) -> Result<bool, AllocError> {
-    let What::Tag(_, name) = what else {
+    let (What::Tag(_, name) | What::UnknownTag(_, name)) = what else {
         return Ok(chosen.is_none());
     };
     let Some(chosen) = chosen else {

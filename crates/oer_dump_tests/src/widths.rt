@@ -47,8 +47,8 @@ const USUAL: &[(bool, Option<&str>, u64)] = &[
     (true, Some(""), 100),
     (true, Some("-1"), 100),
     (true, None, 100),
-    (false, Some("40"), 100),
-    (false, None, 100),
+    (false, Some("40"), 0),
+    (false, None, 0),
 ];
 
 #[test]
@@ -97,6 +97,15 @@ fn narrow_width(rt: HostRuntime) -> Result<(), Fail> {
         "--hex=28000102030405060708090a0b0c0d0e0f101112131415161718191a1b1c1d1e1f2021222324252627";
     let lines = "0  41  -  -  OCTET STRING  \"000102..+37\n";
     let words = ["--width=40", "--type=OCTET STRING", digits];
+    expect(rt.alloc(), &words, (0, lines, ""))
+}
+
+#[test]
+fn spelt_out_width(rt: HostRuntime) -> Result<(), Fail> {
+    // Eight times U+009B, which is 48 characters as it is spelt out. 25 characters stand before the value.
+    let digits = "--hex=10c29bc29bc29bc29bc29bc29bc29bc29b";
+    let lines = "0  17  -  -  UTF8String  \"\\u009b\\u0..+39\n";
+    let words = ["--width=40", "--type=UTF8String", digits];
     expect(rt.alloc(), &words, (0, lines, ""))
 }
 

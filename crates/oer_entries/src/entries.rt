@@ -80,7 +80,10 @@ fn bitmap<'a>(
 // The tag of a CHOICE.
 fn choice_tag<'a>(frame: &Frame<'a>, octets: &[u8]) -> Meaning<'a> {
     match tag_in(octets) {
-        Some(tag) => Meaning::plain(What::Tag(tag, frame.alternative(tag))),
+        Some(tag) if frame.has_alternative(tag) => {
+            Meaning::plain(What::Tag(tag, frame.alternative(tag)))
+        }
+        Some(tag) => Meaning::plain(What::UnknownTag(tag, frame.alternative(tag))),
         None => Meaning::plain(What::Unknown),
     }
 }

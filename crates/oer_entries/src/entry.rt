@@ -16,6 +16,9 @@ pub enum What<'a> {
     Quantity(u64),
     /// The tag of a CHOICE, and the name of the alternative.
     Tag(Tag, Name<'a>),
+    /// The tag of a CHOICE without an extension marker, of which no alternative has the tag: by it all
+    /// octets are rejected. The name is the key that such an alternative has in JSON.
+    UnknownTag(Tag, Name<'a>),
     /// The length of an open type.
     Length(u64),
     /// A value without parts, as its JSON. Where it is octets, each has two digits there.

@@ -152,14 +152,15 @@ impl<'a> Frame<'a> {
         }
     }
 
-    /// Whether the type knows the alternative that was chosen, or has an extension marker, so that
-    /// something follows the tag.
-    pub(crate) fn has_alternative(&self) -> bool {
-        let (Some(Shape::Choice { root, additions }), Some(tag)) = (self.shape, self.tag) else {
+    /// Whether the type knows the alternative with the tag, or has an extension marker, so that something
+    /// follows the tag.
+    pub(crate) fn has_alternative(&self, tag: Tag) -> bool {
+        let Some(Shape::Choice { root, additions }) = self.shape else {
             return false;
         };
         additions.is_some() || find_alternative(root, additions, tag).is_some()
     }
+
     /// What the alternative with the tag is called.
     pub(crate) fn alternative(&self, tag: Tag) -> Name<'a> {
         let Some(Shape::Choice { root, additions }) = self.shape else {

@@ -133,10 +133,9 @@ fn next_in_choice(frame: &Frame<'_>) -> Next {
     if frame.last.is_some() {
         return Next::After;
     }
-    if frame.has_alternative() {
-        Next::Inside(Step::Chosen)
-    } else {
-        Next::Here
+    match frame.tag {
+        Some(tag) if frame.has_alternative(tag) => Next::Inside(Step::Chosen),
+        _ => Next::Here,
     }
 }
 

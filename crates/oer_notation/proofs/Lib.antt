@@ -22,3 +22,4 @@ pub mod Spelling
 pub mod Took
 pub mod WordTable
 pub mod Soundness
+pub mod WithinLoops

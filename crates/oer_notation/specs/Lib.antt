@@ -5,3 +5,4 @@ pub mod Reading
 pub mod Views
 pub mod Refusing
 pub mod Soundness
+pub mod Within

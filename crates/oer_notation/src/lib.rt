@@ -5,6 +5,8 @@ mod known;
 pub mod laws;
 mod parse;
 mod types;
+mod within;
 
 pub use oer_value_notation::{TextFault, TextWhy};
 pub use types::{Types, parse_type, parse_types};
+pub use within::{WithinFault, parse_types_within};

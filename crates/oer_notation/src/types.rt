@@ -26,7 +26,7 @@ use std::sync::Arc;
 /// Types by their Names.
 #[derive(Drop)]
 pub struct Types {
-    definitions: Definitions,
+    pub(crate) definitions: Definitions,
 }
 
 impl Types {
@@ -87,7 +87,7 @@ fn read_definitions(alloc: Global, text: &str) -> Result<Types, TextFault>
 }
 
 /// Before the first token.
-fn first<'s, 't>(tokens: &'s Tokens<'t>) -> Cursor<'s, 't>
+pub(crate) fn first<'s, 't>(tokens: &'s Tokens<'t>) -> Cursor<'s, 't>
     ensures { state_of result ≡ start (record { spots = spots_of tokens.now.spots.items; end = tokens.now.end; complete = tokens.now.complete }) }
 {
     let why = if tokens.complete {
@@ -106,7 +106,7 @@ fn first<'s, 't>(tokens: &'s Tokens<'t>) -> Cursor<'s, 't>
 }
 
 /// Whether the text ends here.
-fn expect_end(cursor: &Cursor<'_, '_>) -> Result<(), TextFault>
+pub(crate) fn expect_end(cursor: &Cursor<'_, '_>) -> Result<(), TextFault>
     ensures { IsReading (λ x. x) result (end_of (state_of cursor.now)) }
 {
     if cursor.peek().is_some() {
@@ -210,7 +210,7 @@ fn read_meaning(
 }
 
 #[tactic(auto, unfolding(crate::specs::Parsing::entry_at))]
-fn read_entry(
+pub(crate) fn read_entry(
     alloc: Global,
     types: &Definitions,
     cursor: &mut Cursor<'_, '_>,

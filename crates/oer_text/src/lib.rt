@@ -7,6 +7,8 @@ pub mod laws;
 mod printing;
 
 pub use oer_json::{JsonFault, from_json, laws as json_laws, to_json};
-pub use oer_notation::{TextFault, TextWhy, Types, parse_type, parse_types};
+pub use oer_notation::{
+    TextFault, TextWhy, Types, WithinFault, parse_type, parse_types, parse_types_within,
+};
 pub use oer_printer::PrintFault;
 pub use printing::print_type;

@@ -1,5 +1,5 @@
 //! Texts that spell types, and those that spell none.
-use oer_text::{TextFault, TextWhy, parse_type, parse_types, print_type};
+use oer_text::{TextFault, TextWhy, parse_type, parse_types, parse_types_within, print_type};
 use oer_types::SchemaFault;
 use oer_vectors::{REFUSED_DEFINITIONS, REFUSED_TYPES};
 use std::alloc::Global;
@@ -127,6 +127,35 @@ fn defines(rt: HostRuntime) -> Result<(), Fail> {
     match parse_types(rt.alloc(), &more) {
         Ok(_) => assert!(rt; false),
         Err(fault) => assert_eq!(rt; fault.why, TextWhy::Schema(SchemaFault::TooManyParts)),
+    }
+    Ok(())
+}
+
+/// What is answered of definitions whose types may have so many parts together: `read`, or the fault.
+fn within(at: Global, text: &str, parts: u64) -> Result<String, Fail> {
+    match parse_types_within(at, text, parts) {
+        Ok(_) => Ok(String::from_str(at, "read")?),
+        Err(fault) => Ok(format!(in at; "{fault}")?),
+    }
+}
+
+/// Definitions are read if their types have no more parts than they may have; the first error counts.
+#[test]
+fn reads_within(rt: HostRuntime) -> Result<(), Fail> {
+    for (text, parts, want) in [
+        ("A ::= NULL", 1, "read"),
+        ("A ::= NULL", 0, "Parts at 0"),
+        ("A ::= NULL B ::= SEQUENCE {a A}", 3, "read"),
+        ("A ::= NULL B ::= SEQUENCE {a A}", 2, "Parts at 11"),
+        ("A ::= ENUMERATED {a, b} B ::= A", 6, "read"),
+        ("A ::= ENUMERATED {a, b} B ::= A", 5, "Parts at 24"),
+        ("A ::= NULL B ::= C", 1, "Name at 17"),
+        ("A ::= NULL B ::= NULL C ::= D", 1, "Parts at 11"),
+        ("A ::= NULL B ::= NULL,", 1, "Parts at 11"),
+        ("A ::= NULL B ::= NULL,", 2, "Syntax at 21"),
+        ("", 0, "Syntax at 0"),
+    ] {
+        assert_eq!(rt; within(rt.alloc(), text, parts)?.as_str(), want, "{parts}: {text}");
     }
     Ok(())
 }

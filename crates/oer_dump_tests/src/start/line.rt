@@ -63,7 +63,7 @@ fn value_text(alloc: Global, entry: &Entry<'_>) -> Result<String, AllocError> {
         What::Preamble(bits) => bits_text(alloc, "preamble", bits.as_slice()),
         What::Bitmap(bits) => bits_text(alloc, "bitmap", bits.as_slice()),
         What::Quantity(count) => format!(in alloc; "quantity {count}"),
-        What::Tag(tag, name) => {
+        What::Tag(tag, name) | What::UnknownTag(tag, name) => {
             let tag = tag_text(alloc, *tag)?;
             let name = name_text(alloc, *name)?;
             format!(in alloc; "tag {tag} {name}")
@@ -102,7 +102,7 @@ fn note(alloc: Global, entry: &Entry<'_>) -> Result<String, AllocError> {
     let mut note = String::new(alloc);
     match entry.what {
         What::Follows => note.push_str(" -- follows")?,
-        What::Rejected => note.push_str(" -- rejected")?,
+        What::UnknownTag(..) | What::Rejected => note.push_str(" -- rejected")?,
         _ => {}
     }
     push_canonical(alloc, &mut note, entry)?;

@@ -10,19 +10,19 @@ loop-entry-preserved c =
     let from = c.into_iter-entry-iterator.ensures.into_iter_gives in
     let all = YieldsList-from_vec {s = c.into_iter-entry-iterator.result} c.args.entries.items from.0 (from.1 ∙ c.args.entries.ok.0) in
     let at = YieldsList-turn all c.loop-entry.yielded c.loop-entry.entry-iterator c.loop-entry.yielded_by c.next.result c.next.new.self c.in-Some.entry c.in-Some.is c.next.ensures.steps in
-    subst (λ n. Gives c.args.entries.items (string_bytes c.push_object.new.text) false n) (sym (length_push c.loop-entry.yielded c.in-Some.entry))
+    subst (λ n. Gives c.args.entries.items (string_bytes c.push_line.new.text) false n) (sym (length_push c.loop-entry.yielded c.in-Some.entry))
     (next_text c.args.entries.items (length c.loop-entry.yielded) c.in-Some.entry (string_bytes c.loop-entry.text) (string_bytes c.push_str.new.self) _ c.separator.result.now c.loop-entry.is_first
-    at c.separator.ensures c.in_ok-push_str.ensures.bytes c.in_ok-push_object.ensures c.loop-entry.invariant)
+    at c.separator.ensures c.in_ok-push_str.ensures.bytes c.in_ok-push_line.ensures c.loop-entry.invariant)
 
 -- the same where the entry is let go on another way
-pub loop-entry-preserved-in_ok-push_object : goal.loop-entry-preserved-in_ok-push_object
-loop-entry-preserved-in_ok-push_object c =
+pub loop-entry-preserved-in_ok-push_line : goal.loop-entry-preserved-in_ok-push_line
+loop-entry-preserved-in_ok-push_line c =
     let from = c.into_iter-entry-iterator.ensures.into_iter_gives in
     let all = YieldsList-from_vec {s = c.into_iter-entry-iterator.result} c.args.entries.items from.0 (from.1 ∙ c.args.entries.ok.0) in
     let at = YieldsList-turn all c.loop-entry.yielded c.loop-entry.entry-iterator c.loop-entry.yielded_by c.next.result c.next.new.self c.in-Some.entry c.in-Some.is c.next.ensures.steps in
-    subst (λ n. Gives c.args.entries.items (string_bytes c.push_object.new.text) false n) (sym (length_push c.loop-entry.yielded c.in-Some.entry))
+    subst (λ n. Gives c.args.entries.items (string_bytes c.push_line.new.text) false n) (sym (length_push c.loop-entry.yielded c.in-Some.entry))
     (next_text c.args.entries.items (length c.loop-entry.yielded) c.in-Some.entry (string_bytes c.loop-entry.text) (string_bytes c.push_str.new.self) _ c.separator.result.now c.loop-entry.is_first
-    at c.separator.ensures c.in_ok-push_str.ensures.bytes c.in_ok-push_object.ensures c.loop-entry.invariant)
+    at c.separator.ensures c.in_ok-push_str.ensures.bytes c.in_ok-push_line.ensures c.loop-entry.invariant)
 
 pub returns : goal.returns
 returns c =

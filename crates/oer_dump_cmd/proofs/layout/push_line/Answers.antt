@@ -1,11 +1,8 @@
 use Rattle.oer_dump_cmd.specs.Layout.{cells_in}
-use Rattle.oer_dump_cmd.proofs.Laid.{line_made, pushed}
+use Rattle.oer_dump_cmd.proofs.Laid.{line_shown, pushed}
 use Rattle.oer_dump_cmd.proofs.layout.push_line.Goals as goal
 
 pub returns : goal.returns
 unfolding lib.Utf8.encode
-returns c =
-    let names = c.in_ok-push_names.ensures in
-    let value = c.in_ok-push_value.ensures in
-    pushed c.push.result _ _ _ _ c.push.ensures.bytes (λ h. line_made (cells_in c.args.line.now) _ _ _ _ _ _ _ _ _ names.0 value.0 c.as_str.result.now
-    c.in_ok-push_number.ensures c.in_ok-push_number-2.ensures c.in_ok-push_left.ensures (names.1, names.2, names.3) c.in_ok-push_left-2.ensures value.1 c.in_ok-push_str.ensures.bytes h)
+returns c = pushed c.push.result _ _ _ _ c.push.ensures.bytes
+    (λ h. line_shown (cells_in c.args.line.now) _ _ _ _ _ c.in_ok-cells.ensures c.as_str.ensures.value c.in_ok-push_visible.ensures h)
