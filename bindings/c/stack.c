@@ -17,10 +17,10 @@ enum { STACK = 8 << 20, FILL = 0xa5, LARGE = 1 << 20 };
 
 /* ---- a call in a thread of its own */
 
-enum call { NONE, READ, SHARE, CHECK, CHECK_WHOLE, CHECK_MANY, CANON, PART, PART_AT, TO_JSON, FROM_JSON, FREE };
+enum call { NONE, READ, READ_WITHIN, SHARE, CHECK, CHECK_WHOLE, CHECK_MANY, CANON, PART, PART_AT, TO_JSON, FROM_JSON, FREE };
 
-static const char *const names[] = { "none", "oer_types_read", "oer_types_share", "oer_check", "oer_check_whole", "oer_check_many",
-                                     "oer_canon", "oer_part", "oer_part_at", "oer_to_json", "oer_from_json", "oer_types_free" };
+static const char *const names[] = { "none", "oer_types_read", "oer_types_read_within", "oer_types_share", "oer_check", "oer_check_whole",
+                                     "oer_check_many", "oer_canon", "oer_part", "oer_part_at", "oer_to_json", "oer_from_json", "oer_types_free" };
 
 /* What the call is given; `status` is what it answers. */
 struct job {
@@ -51,6 +51,9 @@ static void *run(void *given) {
         break;
     case READ:
         job->status = oer_types_read(&job->types, job->text, job->text_length).status;
+        break;
+    case READ_WITHIN:
+        job->status = oer_types_read_within(&job->types, job->text, job->text_length, OER_NO_LIMIT).status;
         break;
     case SHARE:
         job->status = oer_types_share(&job->types, &job->other);
@@ -142,6 +145,7 @@ static void measure_all(const char *what, const char *types, const char *name, c
     job.out = out;
     job.room = sizeof out;
     measure(&job, READ, what, OER_OK);
+    measure(&job, READ_WITHIN, what, OER_OK);
     measure(&job, SHARE, what, OER_OK);
     measure(&job, CHECK, what, OER_OK);
     canonical = oer_check(&job.types, name, strlen(name), octets, length).canonical == 1;
@@ -259,6 +263,7 @@ static void measure_text(const char *what, enum call call, const char *text, uin
     job.out = out;
     job.room = sizeof out;
     measure(&job, call, what, status);
+    if (call == READ) measure(&job, READ_WITHIN, what, status);
     oer_types_free(&job.types);
 }
 

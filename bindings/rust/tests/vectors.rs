@@ -241,7 +241,7 @@ fn numbers_are_those_of_the_header() {
         let (found, again) = found.unwrap();
         assert_eq!((found.to_lowercase(), again), (spelt(name), number));
     }
-    assert_eq!(rows.len(), 53);
+    assert_eq!(rows.len(), 54);
     assert_eq!((Reason::from_number(2), TextReason::from_number(1), JsonReason::from_number(7)), (None, None, None));
     assert_eq!(table::rows("version")[0][0], oer::version().to_string());
 }
