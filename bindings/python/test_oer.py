@@ -467,6 +467,9 @@ class Header(unittest.TestCase):
             self.assertEqual(run.returncode, 1)
             self.assertIn(b"ImportError: no liboer", run.stderr)
 
+    def test_free_of_null(self) -> None:
+        oer._library.oer_types_free(None)
+
     def test_left_at_the_end(self) -> None:
         program = "import oer; types = oer.Types('A ::= NULL'); again = [types]; print(types.check('A', b''))"
         run = subprocess.run([sys.executable, "-W", "error", "-c", program], cwd=HERE, stdout=subprocess.PIPE,
