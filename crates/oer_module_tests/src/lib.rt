@@ -3,3 +3,5 @@
 
 #[cfg(test)]
 mod lexer;
+#[cfg(test)]
+mod syntax;
