@@ -1,0 +1,3 @@
+pub mod Boundaries
+pub mod ByteSteps
+pub mod Turns

@@ -1,0 +1,6 @@
+pub mod Modules
+pub mod Ranges
+pub mod State
+pub mod Tree
+pub mod Types
+pub mod Words

@@ -1,0 +1,22 @@
+//! The syntax of ASN.1 modules (X.680): from tokens to a tree.
+#![tactic(auto)]
+
+mod cursor;
+mod fault;
+mod modules;
+mod range;
+mod tree;
+mod types;
+mod word;
+
+pub use cursor::Cursor;
+pub use fault::{Fault, Sought, Why};
+pub use modules::{Header, read_modules};
+pub use range::{Pair, pairs_len, take_constraints, take_group, take_value};
+pub use tree::{
+    Assignment, Body, Element, Exports, Import, Mode, Module, Need, Symbol, Tags, TypeSyntax,
+};
+pub use types::{Form, read_type};
+pub use word::{
+    Builtin, Keyword, builtin_of, is_identifier, is_reference, is_reserved, keyword_of,
+};

@@ -1,0 +1,7 @@
+//! Tests of the reading of ASN.1 modules, through public items alone.
+#![tactic(auto)]
+
+#[cfg(test)]
+mod lexer;
+#[cfg(test)]
+mod syntax;

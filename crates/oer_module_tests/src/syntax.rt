@@ -1,0 +1,405 @@
+//! How modules are read.
+use oer_module_lexer::{Spot, lex};
+use oer_module_syntax::{
+    Assignment, Body, Cursor, Element, Exports, Fault, Import, Mode, Module, Need, Sought, Symbol,
+    Tags, TypeSyntax, Why, read_modules,
+};
+use std::alloc::Global;
+use std::test::Fail;
+
+/// A number of tokens between two signs, if there are any.
+fn draw_count(at: Global, out: &mut String, open: &str, spots: &[Spot<'_>]) -> Result<(), Fail> {
+    if !spots.is_empty() {
+        out.push_str(open)?;
+        out.push_str(&format!(in at; "{}", spots.len())?)?;
+    }
+    Ok(())
+}
+
+fn draw_need(at: Global, out: &mut String, need: Need<'_, '_>) -> Result<(), Fail> {
+    match need {
+        Need::Must => Ok(()),
+        Need::May => Ok(out.push_str("?")?),
+        Need::Default(value) => draw_count(at, out, "=", value),
+    }
+}
+
+fn draw_element(at: Global, out: &mut String, element: &Element<'_, '_>) -> Result<(), Fail> {
+    match element {
+        Element::Marker { .. } => out.push_str("...")?,
+        Element::Group { elements, .. } => {
+            out.push_str("[[")?;
+            for element in elements.iter() {
+                draw_element(at, out, element)?;
+                out.push_str(";")?;
+            }
+            out.push_str("]]")?;
+        }
+        Element::ComponentsOf { from, .. } => {
+            out.push_str("*")?;
+            draw_type(at, out, from)?;
+        }
+        Element::Component {
+            name,
+            from,
+            need,
+            ..
+        } => {
+            out.push_str(name)?;
+            out.push_str(":")?;
+            draw_type(at, out, from)?;
+            draw_need(at, out, *need)?;
+        }
+    }
+    Ok(())
+}
+
+fn mode_text(mode: Mode) -> &'static str {
+    match mode {
+        Mode::Unsaid => "]",
+        Mode::Implicit => "i]",
+        Mode::Explicit => "e]",
+    }
+}
+
+/// A type: the words, then how many tokens its items, constraints and so on have.
+fn draw_type(at: Global, out: &mut String, node: &TypeSyntax<'_, '_>) -> Result<(), Fail> {
+    match node {
+        TypeSyntax::Plain {
+            builtin,
+            items,
+            constraints,
+            ..
+        } => {
+            out.push_str(builtin.first())?;
+            draw_count(at, out, "{", items)?;
+            draw_count(at, out, "(", constraints)?;
+        }
+        TypeSyntax::Named {
+            name,
+            path,
+            parameters,
+            constraints,
+            ..
+        } => {
+            out.push_str(name)?;
+            draw_count(at, out, ".", path)?;
+            draw_count(at, out, "{", parameters)?;
+            draw_count(at, out, "(", constraints)?;
+        }
+        TypeSyntax::Tagged {
+            tag,
+            mode,
+            inner,
+            ..
+        } => {
+            draw_count(at, out, "[", tag)?;
+            out.push_str(mode_text(*mode))?;
+            draw_type(at, out, inner)?;
+        }
+        TypeSyntax::Structure {
+            builtin,
+            elements,
+            constraints,
+            ..
+        } => {
+            out.push_str(builtin.first())?;
+            out.push_str("<")?;
+            for element in elements.iter() {
+                draw_element(at, out, element)?;
+                out.push_str(",")?;
+            }
+            out.push_str(">")?;
+            draw_count(at, out, "(", constraints)?;
+        }
+        TypeSyntax::ListOf {
+            builtin,
+            sized,
+            size,
+            item,
+            ..
+        } => {
+            out.push_str(builtin.first())?;
+            out.push_str(if *sized { " SIZE" } else { "" })?;
+            draw_count(at, out, "(", size)?;
+            out.push_str(" OF ")?;
+            draw_type(at, out, item)?;
+        }
+    }
+    Ok(())
+}
+
+fn draw_assignment(
+    at: Global,
+    out: &mut String,
+    assignment: &Assignment<'_, '_>,
+) -> Result<(), Fail> {
+    out.push_str(assignment.name)?;
+    draw_count(at, out, "{", assignment.parameters)?;
+    match &assignment.body {
+        Body::Type(node) => {
+            out.push_str(" = ")?;
+            draw_type(at, out, node)?;
+        }
+        Body::Class { fields, syntax } => {
+            draw_count(at, out, " CLASS", fields)?;
+            draw_count(at, out, "+", syntax)?;
+        }
+        Body::Value { governor, value } => {
+            out.push_str(" value ")?;
+            draw_type(at, out, governor)?;
+            draw_count(at, out, " = ", value)?;
+        }
+        Body::Set { governor, set } => {
+            out.push_str(" set ")?;
+            draw_type(at, out, governor)?;
+            draw_count(at, out, " = ", set)?;
+        }
+    }
+    Ok(())
+}
+
+fn draw_symbols(out: &mut String, symbols: &[Symbol<'_>]) -> Result<(), Fail> {
+    for symbol in symbols {
+        out.push_str(symbol.name)?;
+        out.push_str(",")?;
+    }
+    Ok(())
+}
+
+fn draw_import(at: Global, out: &mut String, import: &Import<'_, '_>) -> Result<(), Fail> {
+    draw_symbols(out, &import.symbols)?;
+    out.push_str("<")?;
+    out.push_str(import.from)?;
+    draw_count(at, out, "{", import.id)
+}
+
+fn tags_text(tags: Tags) -> &'static str {
+    match tags {
+        Tags::Explicit => " E",
+        Tags::Implicit => " I",
+        Tags::Automatic => " A",
+    }
+}
+
+/// A module: its name, identifier, tags, whether it is extensible, exports, imports and assignments.
+fn draw_module(at: Global, out: &mut String, module: &Module<'_, '_>) -> Result<(), Fail> {
+    out.push_str(module.name)?;
+    draw_count(at, out, "{", module.id)?;
+    out.push_str(tags_text(module.tags))?;
+    out.push_str(if module.extensible { "+" } else { "" })?;
+    match &module.exports {
+        Exports::All => (),
+        Exports::These(symbols) => {
+            out.push_str(" > ")?;
+            draw_symbols(out, symbols)?;
+        }
+    }
+    for import in module.imports.iter() {
+        out.push_str(" < ")?;
+        draw_import(at, out, import)?;
+    }
+    for assignment in module.assignments.iter() {
+        out.push_str(" | ")?;
+        draw_assignment(at, out, assignment)?;
+    }
+    Ok(())
+}
+
+fn sought_text(sought: Sought) -> &'static str {
+    match sought {
+        Sought::Sign(_) => "sign",
+        Sought::Keyword(keyword) => keyword.text(),
+        Sought::Type => "type",
+        Sought::Value => "value",
+        Sought::Identifier => "identifier",
+        Sought::Reference => "reference",
+        Sought::Symbol => "symbol",
+        Sought::Closing => "closing",
+    }
+}
+
+fn why_text(why: Why) -> &'static str {
+    match why {
+        Why::Memory => "Memory",
+        Why::Token => "Token",
+        Why::TooDeep => "TooDeep",
+        Why::Expected(sought) => sought_text(sought),
+    }
+}
+
+fn draw_fault(at: Global, fault: Fault) -> Result<String, Fail> {
+    Ok(format!(in at; "{} {}", fault.at, why_text(fault.why))?)
+}
+
+/// The modules that a text has, drawn, or the fault.
+fn drawn(at: Global, text: &str, levels: u8) -> Result<String, Fail> {
+    let tokens = lex(at, text)?;
+    let mut cursor = Cursor {
+        spots: &tokens.spots,
+        end: tokens.end,
+        complete: tokens.complete,
+    };
+    let modules = match read_modules(at, &mut cursor, levels) {
+        Ok(modules) => modules,
+        Err(fault) => return draw_fault(at, fault),
+    };
+    let mut out = String::new(at);
+    for module in modules.iter() {
+        draw_module(at, &mut out, module)?;
+    }
+    Ok(out)
+}
+
+fn reads(at: Global, text: &str, want: &str) -> Result<(), Fail> {
+    let found = drawn(at, text, 8)?;
+    if found.as_str() == want {
+        return Ok(());
+    }
+    Err(Fail::new(found.as_str()))
+}
+
+/// What stands in a module of AUTOMATIC TAGS, read.
+fn body(at: Global, text: &str, want: &str) -> Result<(), Fail> {
+    let whole = format!(in at; "M DEFINITIONS AUTOMATIC TAGS ::= BEGIN {text} END")?;
+    let wanted = format!(in at; "M A | {want}")?;
+    reads(at, whole.as_str(), wanted.as_str())
+}
+
+#[test]
+fn headers(rt: HostRuntime) -> Result<(), Fail> {
+    for (text, want) in [
+        ("M DEFINITIONS ::= BEGIN END", "M E"),
+        (
+            "M {iso(1) a(2)} DEFINITIONS IMPLICIT TAGS EXTENSIBILITY IMPLIED ::= BEGIN END",
+            "M{10 I+",
+        ),
+        (
+            "M {a(1)} \"/a\" DEFINITIONS EXPLICIT TAGS ::= BEGIN EXPORTS ALL; END",
+            "M{6 E",
+        ),
+        ("M DEFINITIONS ::= BEGIN EXPORTS ; IMPORTS ; END", "M E > "),
+        ("M DEFINITIONS ::= BEGIN EXPORTS A, b; END", "M E > A,b,"),
+        (
+            "M DEFINITIONS ::= BEGIN IMPORTS A, b, C{} FROM N {x(1)} D FROM O; END",
+            "M E < A,b,C,<N{6 < D,<O",
+        ),
+        (
+            "M DEFINITIONS ::= BEGIN END N DEFINITIONS ::= BEGIN END",
+            "M EN E",
+        ),
+    ] {
+        reads(rt.alloc(), text, want)?;
+    }
+    Ok(())
+}
+
+#[test]
+fn types(rt: HostRuntime) -> Result<(), Fail> {
+    for (text, want) in [
+        ("A ::= BOOLEAN", "A = BOOLEAN"),
+        (
+            "A ::= INTEGER {a(1)} (0..7) (1..5, ...)",
+            "A = INTEGER{6(12",
+        ),
+        ("A ::= OCTET STRING (SIZE (1..5))", "A = OCTET(8"),
+        ("A ::= ENUMERATED {a, b(3), ...}", "A = ENUMERATED{10"),
+        ("A ::= N.T {INTEGER, {b}} (5)", "A = N.2{7(3"),
+        ("A ::= C.&Type ({S}{@id})", "A = C.2(9"),
+        ("A ::= [APPLICATION 1] IMPLICIT [0] B", "A = [4i][3]B"),
+        ("A ::= SEQUENCE OF B (0..7)", "A = SEQUENCE OF B(5"),
+        ("A ::= SET SIZE (1..MAX) OF C", "A = SET SIZE(5 OF C"),
+        (
+            "A ::= SEQUENCE (SIZE (1)) OF SET OF C",
+            "A = SEQUENCE(6 OF SET OF C",
+        ),
+        ("A ::= SEQUENCE {}", "A = SEQUENCE<>"),
+        (
+            "A ::= SEQUENCE {a B OPTIONAL, b [1] C DEFAULT x:{1, 2}, ..., [[2: c D]], ..., COMPONENTS OF E} (ALL)",
+            "A = SEQUENCE<a:B?,b:[3]C=7,...,[[c:D;]],...,*E,>(3",
+        ),
+        (
+            "A ::= CHOICE {a B, ..., [[c D, d E]]}",
+            "A = CHOICE<a:B,...,[[c:D;d:E;]],>",
+        ),
+        (
+            "A ::= SEQUENCE {a INTEGER DEFAULT -5, b B DEFAULT N.c}",
+            "A = SEQUENCE<a:INTEGER=2,b:B=3,>",
+        ),
+    ] {
+        body(rt.alloc(), text, want)?;
+    }
+    Ok(())
+}
+
+#[test]
+fn assignments(rt: HostRuntime) -> Result<(), Fail> {
+    for (text, want) in [
+        ("a INTEGER ::= 5 B ::= C", "a value INTEGER = 1 | B = C"),
+        (
+            "A B ::= {1 | 2} c D ::= {e 1}",
+            "A set B = 5 | c value D = 4",
+        ),
+        (
+            "A {B, INTEGER:c} ::= SEQUENCE {a B}",
+            "A{7 = SEQUENCE<a:B,>",
+        ),
+        ("A ::= CLASS {&id INTEGER UNIQUE, &Type}", "A CLASS7"),
+        (
+            "A ::= CLASS {&id B} WITH SYNTAX {ID &id} C ::= D",
+            "A CLASS4+4 | C = D",
+        ),
+        (
+            "a REAL ::= 1.5 b B ::= c:d:TRUE",
+            "a value REAL = 1 | b value B = 5",
+        ),
+    ] {
+        body(rt.alloc(), text, want)?;
+    }
+    Ok(())
+}
+
+#[test]
+fn faults(rt: HostRuntime) -> Result<(), Fail> {
+    for (text, want) in [
+        ("", "0 reference"),
+        ("m DEFINITIONS ::= BEGIN END", "0 reference"),
+        ("M ::= BEGIN END", "2 DEFINITIONS"),
+        ("M DEFINITIONS ::= BEGIN A ::= END", "30 type"),
+        ("M DEFINITIONS ::= BEGIN A ::= B", "31 symbol"),
+        ("M DEFINITIONS ::= BEGIN A ::= SEQUENCE {a, END", "41 type"),
+        ("M DEFINITIONS ::= BEGIN A ::= B (1, 2 END", "41 closing"),
+        ("M DEFINITIONS ::= BEGIN A ::= B _", "32 Token"),
+        ("M DEFINITIONS ::= BEGIN END _", "28 Token"),
+        ("M DEFINITIONS ::= BEGIN END ;", "28 reference"),
+        (
+            "M DEFINITIONS ::= BEGIN IMPORTS A FROM b; END",
+            "39 reference",
+        ),
+        (
+            "M DEFINITIONS ::= BEGIN A ::= CHOICE {a B OPTIONAL} END",
+            "42 sign",
+        ),
+        (
+            "M DEFINITIONS ::= BEGIN A ::= SEQUENCE {[[a B, ...]]} END",
+            "47 identifier",
+        ),
+        ("M DEFINITIONS ::= BEGIN a A ::= , END", "32 value"),
+    ] {
+        reads(rt.alloc(), text, want)?;
+    }
+    Ok(())
+}
+
+/// Types may nest to as many levels as are allowed, and no deeper.
+#[test]
+fn levels(rt: HostRuntime) -> Result<(), Fail> {
+    let text = "M DEFINITIONS ::= BEGIN A ::= SEQUENCE OF SEQUENCE OF B END";
+    if drawn(rt.alloc(), text, 3)?.as_str() != "M E | A = SEQUENCE OF SEQUENCE OF B" {
+        return Err(Fail::new(text));
+    }
+    if drawn(rt.alloc(), text, 2)?.as_str() != "54 TooDeep" {
+        return Err(Fail::new(text));
+    }
+    Ok(())
+}
