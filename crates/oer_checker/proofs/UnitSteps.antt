@@ -81,18 +81,18 @@ came_known {A} r xs n taken failed b (Some ys) (Err e) z c f m k bt le took exac
       ends = ap (λ (l : List ℕ). refused e.why l) rest ∙ sym here ∙ same_outcome (r (at xs n));
     }
 
-pub came_by : {A : Type 0} (r : Reader A) (name : GName) (xs : List ℕ) (n : ℕ) (s s' : State) (result : Result A ReadFault) → s ≡ start name (Some xs) 0 n → s'.failed ≡ 0 → TakesNoMemory result → Reads r s result s' → Came r xs n result s'.bound.taken
+pub came_by : {A : Type 0} (r : Reader A) (name : GName) (xs : List ℕ) (n : ℕ) (s s' : State) (result : Result A ReadFault) → s ≡ start name None (Some xs) 0 n → s'.failed ≡ 0 → TakesNoMemory result → Reads r s result s' → Came r xs n result s'.bound.taken
 came_by {A} r name xs n s s' result is none memory h = from result none memory (subst (λ (t : State). Reads r t result s') is h) where
-  ended_at : (result : Result A ReadFault) → Reads r (start name (Some xs) 0 n) result s' → OnOk result (s'.bound.end ≡ n)
+  ended_at : (result : Result A ReadFault) → Reads r (start name None (Some xs) 0 n) result s' → OnOk result (s'.bound.end ≡ n)
   ended_at (Ok x) k = k.kept.end
   ended_at (Err e) k = tt
 
-  from : (result : Result A ReadFault) → s'.failed ≡ 0 → TakesNoMemory result → Reads r (start name (Some xs) 0 n) result s' → Came r xs n result s'.bound.taken
+  from : (result : Result A ReadFault) → s'.failed ≡ 0 → TakesNoMemory result → Reads r (start name None (Some xs) 0 n) result s' → Came r xs n result s'.bound.taken
   from result none memory k = came_known r xs n s'.bound.taken s'.failed s'.bound s'.known result none k.count k.fault memory (ended_at result k) refl (k.within (omega arith)) k.took k.exact
 
 -- ---- a subidentifier, as how many octets it has
 
-pub sub_ok : (k : ℕ) (name : GName) (xs : List ℕ) (n : ℕ) (s s' : State) (v t m : ℕ) → s ≡ start name (Some xs) 0 n → s'.failed ≡ 0 → Reads (subidentifier k) s (Ok (v, t)) s' → t ≡ s'.bound.taken - s.bound.taken → m ≡ s'.bound.taken → ended (at xs n) (Ok m) m ≡ subidentifier_size k (at xs n)
+pub sub_ok : (k : ℕ) (name : GName) (xs : List ℕ) (n : ℕ) (s s' : State) (v t m : ℕ) → s ≡ start name None (Some xs) 0 n → s'.failed ≡ 0 → Reads (subidentifier k) s (Ok (v, t)) s' → t ≡ s'.bound.taken - s.bound.taken → m ≡ s'.bound.taken → ended (at xs n) (Ok m) m ≡ subidentifier_size k (at xs n)
 unfolding subidentifier_size
 sub_ok k name xs n s s' v t m is none h size many =
     let c = came_by (subidentifier k) name xs n s s' (Ok (v, t)) is none tt h in
@@ -102,7 +102,7 @@ sub_ok k name xs n s s' v t m is none h size many =
     ap₂ (λ (i j : ℕ). got i (at (drop j xs) (n - j))) same many
     ∙ bind_got (subidentifier k) (λ x. give x.1) (at xs n) q (v, t) (got t q) c.ends (give_got t q)
 
-pub sub_err : (k : ℕ) (name : GName) (xs : List ℕ) (n : ℕ) (s s' : State) (e : ReadFault) (m : ℕ) → s ≡ start name (Some xs) 0 n → s'.failed ≡ 0 → e.why ≢ Memory → Reads (subidentifier k) s (Err e) s' → ended {A = ℕ} (at xs n) (Err e) m ≡ subidentifier_size k (at xs n)
+pub sub_err : (k : ℕ) (name : GName) (xs : List ℕ) (n : ℕ) (s s' : State) (e : ReadFault) (m : ℕ) → s ≡ start name None (Some xs) 0 n → s'.failed ≡ 0 → e.why ≢ Memory → Reads (subidentifier k) s (Err e) s' → ended {A = ℕ} (at xs n) (Err e) m ≡ subidentifier_size k (at xs n)
 unfolding subidentifier_size
 sub_err k name xs n s s' e m is none memory h =
     let c = came_by (subidentifier k) name xs n s s' (Err e) is none memory h in

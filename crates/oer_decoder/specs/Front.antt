@@ -62,8 +62,9 @@ second_of p = p.1
 pub record ReadsAndCounts {A : Type 0} (r : Reader A) (limit : ℕ) (known : Option (List ℕ)) (failed : ℕ)
     (result : Result (A × ℕ) ReadFault) (known' : Option (List ℕ)) (failed' : ℕ) : Type 0 where
   pub name : GName
+  pub loan : Option GName
   pub bound : Span
   pub within : bound.taken ≤ limit
-  pub reads : Reads r (start name known failed limit) (seen first_of result) (record
-      { name = name; known = known'; failed = failed'; bound = bound })
+  pub reads : Reads r (start name loan known failed limit) (seen first_of result) (record
+      { name = name; loan = loan; known = known'; failed = failed'; bound = bound })
   pub count : IfOk result (λ p. second_of p ≡ bound.taken)

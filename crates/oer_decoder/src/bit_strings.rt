@@ -26,8 +26,8 @@ pub(crate) fn read_bit_string<R: Source>(
     value: &mut Value,
     w: &mut Window<R>,
 ) -> Result<(), Stop>
-    ensures { ReadsAs (read_value (bit_string_type size.now)) (state R.remaining R.failed w.old) (λ _. value_of value.new) result
-        (state R.remaining R.failed w.new) }
+    ensures { ReadsAs (read_value (bit_string_type size.now)) (state R.loan R.remaining R.failed w.old) (λ _. value_of value.new) result
+        (state R.loan R.remaining R.failed w.new) }
 {
     let bits = sized_bits(alloc, size, w)?;
     set(value, Value::Bits(bits));
@@ -36,8 +36,8 @@ pub(crate) fn read_bit_string<R: Source>(
 
 // As many bits as the one size says, or else as a length says that the size allows.
 fn sized_bits<R: Source>(alloc: Global, size: &Size, w: &mut Window<R>) -> Result<Bits, Stop>
-    ensures { ReadsAs (read_bits (fixed_size size.now) size.now) (state R.remaining R.failed w.old) same result
-        (state R.remaining R.failed w.new) }
+    ensures { ReadsAs (read_bits (fixed_size size.now) size.now) (state R.loan R.remaining R.failed w.old) same result
+        (state R.loan R.remaining R.failed w.new) }
 {
     match size.fixed() {
         Some(count) => fixed_bits(alloc, count, w),
@@ -47,8 +47,8 @@ fn sized_bits<R: Source>(alloc: Global, size: &Size, w: &mut Window<R>) -> Resul
 
 // As many bits, and any bits to the octet's end.
 fn fixed_bits<R: Source>(alloc: Global, count: u64, w: &mut Window<R>) -> Result<Bits, Stop>
-    ensures { ReadsAs (fixed_bits_at count) (state R.remaining R.failed w.old) same result
-        (state R.remaining R.failed w.new) }
+    ensures { ReadsAs (fixed_bits_at count) (state R.loan R.remaining R.failed w.old) same result
+        (state R.loan R.remaining R.failed w.new) }
 {
     let octets = octets(alloc, w, octets_needed(count))?;
     Ok(packed(octets, count))
@@ -56,8 +56,8 @@ fn fixed_bits<R: Source>(alloc: Global, count: u64, w: &mut Window<R>) -> Result
 
 // A length, the initial octet, and the bits.
 fn counted_bits<R: Source>(alloc: Global, size: Size, w: &mut Window<R>) -> Result<Bits, Stop>
-    ensures { ReadsAs (read_bits None size) (state R.remaining R.failed w.old) same result
-        (state R.remaining R.failed w.new) }
+    ensures { ReadsAs (read_bits None size) (state R.loan R.remaining R.failed w.old) same result
+        (state R.loan R.remaining R.failed w.new) }
 {
     let length = length(w)?;
     let unused = sized_octet(size, length, w)?;
@@ -68,8 +68,8 @@ fn counted_bits<R: Source>(alloc: Global, size: Size, w: &mut Window<R>) -> Resu
 // The number of unused bits in the last of `length - 1` octets (X.696, 13.3).
 fn initial_octet<R: Source>(length: u64, w: &mut Window<R>) -> Result<u8, Stop>
     ensures room { IfOk result (λ u. (1 ≤ length) × (u ≤ 7) × (u ≤ 8 * (length - 1))) }
-    ensures reads { ReadsAs (initial_octet_at length) (state R.remaining R.failed w.old) same result
-        (state R.remaining R.failed w.new) }
+    ensures reads { ReadsAs (initial_octet_at length) (state R.loan R.remaining R.failed w.old) same result
+        (state R.loan R.remaining R.failed w.new) }
 {
     if length == 0 {
         return Err(Stop {
@@ -88,8 +88,8 @@ fn initial_octet<R: Source>(length: u64, w: &mut Window<R>) -> Result<u8, Stop>
 // The number of unused bits, where the size allows as many bits as are used.
 fn sized_octet<R: Source>(size: Size, length: u64, w: &mut Window<R>) -> Result<u8, Stop>
     ensures room { IfOk result (λ u. (1 ≤ length) × (u ≤ 7) × (u ≤ 8 * (length - 1)) × (8 * (length - 1) - u < 2 ^ 64)) }
-    ensures reads { ReadsAs (sized_octet_at size length) (state R.remaining R.failed w.old) same result
-        (state R.remaining R.failed w.new) }
+    ensures reads { ReadsAs (sized_octet_at size length) (state R.loan R.remaining R.failed w.old) same result
+        (state R.loan R.remaining R.failed w.new) }
 {
     let unused = initial_octet(length, w)?;
     let count = bits_used(length, unused);
@@ -124,8 +124,8 @@ fn packed(octets: Vec<u8>, count: u64) -> Bits
 /// `Size`. A set bit past place 65,535 is rejected with `UnknownAddition`.
 pub(crate) fn addition_map<R: Source>(alloc: Global, w: &mut Window<R>) -> Result<Vec<bool>, Stop>
     ensures few { IfOk result (λ v. length v.items ≤ addition_places) }
-    ensures reads { ReadsAs addition_map_at (state R.remaining R.failed w.old) (λ v. v.items) result
-        (state R.remaining R.failed w.new) }
+    ensures reads { ReadsAs addition_map_at (state R.loan R.remaining R.failed w.old) (λ v. v.items) result
+        (state R.loan R.remaining R.failed w.new) }
 {
     let length = length(w)?;
     let unused = sized_octet(Size::any(), length, w)?;

@@ -19,8 +19,8 @@ pub(crate) fn read_booleans<R: Source>(
     count: u64,
     w: &mut Window<R>,
 ) -> Result<Vec<Value>, Stop>
-    ensures { ReadsAs (times count (read_value boolean)) (state R.remaining R.failed w.old)
-        (λ v. map value_of v.items) result (state R.remaining R.failed w.new) }
+    ensures { ReadsAs (times count (read_value boolean)) (state R.loan R.remaining R.failed w.old)
+        (λ v. map value_of v.items) result (state R.loan R.remaining R.failed w.new) }
 {
     let mut values = Vec::new(alloc);
     for i in 0..count {

@@ -1,5 +1,5 @@
 //! Reading a value from the front of a reader.
-ghost use Rattle.std.specs.Prelude.{IfOk};
+ghost use Rattle.std.specs.Prelude.{◌≡◌, IfOk};
 ghost use Rattle.oer_units.specs.Reads.{ReadsFront, TakesNoMemory, seen};
 ghost use Rattle.oer_model.specs.Fits.{Fits};
 ghost use Rattle.oer_model.specs.Reading.{read_value};
@@ -37,6 +37,8 @@ pub fn read<R: Source>(
     ensures fits { IfOk result (λ value. Fits (the_type schema.now) (value_of value)) }
     // Values without parts and texts are read without memory.
     ensures memory { NeedsNoMemory (the_type schema.now) → TakesNoMemory result }
+    // A reader that borrows what it reads from has the same loan as before.
+    ensures loan { R.loan reader.new ≡ R.loan reader.old }
     // Which refusal it is, where, and that the count of failures rises exactly at Device.
     ensures exact { ReadsFront (read_value (the_type schema.now)) limit (R.remaining reader.old) (R.failed reader.old)
         (seen value_of result) (R.remaining reader.new) (R.failed reader.new) }
@@ -63,6 +65,8 @@ pub fn read_with_length<R: Source>(
     ensures fits { IfOk result (λ read. Fits (the_type schema.now) (value_in read)) }
     // Values without parts and texts are read without memory.
     ensures memory { NeedsNoMemory (the_type schema.now) → TakesNoMemory result }
+    // A reader that borrows what it reads from has the same loan as before.
+    ensures loan { R.loan reader.new ≡ R.loan reader.old }
     // Which refusal it is, where, and that the count of failures rises exactly at Device.
     ensures exact { ReadsAndCounts (read_value (the_type schema.now)) limit (R.remaining reader.old) (R.failed reader.old)
         (seen counted_of result) (R.remaining reader.new) (R.failed reader.new) }
@@ -78,6 +82,7 @@ pub(crate) fn read_counted<R: Source>(
     limit: u64,
 ) -> Result<(Value, u64), ReadFault>
     ensures memory { NeedsNoMemory (type_of shape.now) → TakesNoMemory result }
+    ensures loan { R.loan reader.new ≡ R.loan reader.old }
     ensures reads { ReadsAndCounts (read_value (type_of shape.now)) limit (R.remaining reader.old) (R.failed reader.old)
         (seen counted_of result) (R.remaining reader.new) (R.failed reader.new) }
 {

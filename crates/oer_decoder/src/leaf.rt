@@ -25,8 +25,8 @@ pub(crate) fn read_leaf<R: Source>(
 ) -> Result<(), Stop>
     requires { HasNoParts (type_of shape.now) }
     ensures memory { NeedsNoMemory (type_of shape.now) → StopsNotForMemory result }
-    ensures reads { ReadsAs (read_value (type_of shape.now)) (state R.remaining R.failed w.old) (λ _. value_of value.new) result
-        (state R.remaining R.failed w.new) }
+    ensures reads { ReadsAs (read_value (type_of shape.now)) (state R.loan R.remaining R.failed w.old) (λ _. value_of value.new) result
+        (state R.loan R.remaining R.failed w.new) }
 {
     match shape {
         Shape::Boolean => read_boolean(value, w),

@@ -22,8 +22,8 @@ use oer_units::{
 /// A BOOLEAN (X.696, 9): every octet but `00` is TRUE.
 pub(crate) fn truth<R: Source>(w: &mut Window<R>) -> Result<bool, Stop>
     ensures memory { StopsNotForMemory result }
-    ensures reads { ReadsAs (read_value boolean) (state R.remaining R.failed w.old) truth_value result
-        (state R.remaining R.failed w.new) }
+    ensures reads { ReadsAs (read_value boolean) (state R.loan R.remaining R.failed w.old) truth_value result
+        (state R.loan R.remaining R.failed w.new) }
 {
     let octet = octet(w)?;
     Ok(octet != 0)
@@ -32,8 +32,8 @@ pub(crate) fn truth<R: Source>(w: &mut Window<R>) -> Result<bool, Stop>
 /// Reads a BOOLEAN into `value`.
 pub(crate) fn read_boolean<R: Source>(value: &mut Value, w: &mut Window<R>) -> Result<(), Stop>
     ensures memory { StopsNotForMemory result }
-    ensures reads { ReadsAs (read_value boolean) (state R.remaining R.failed w.old) (λ _. value_of value.new) result
-        (state R.remaining R.failed w.new) }
+    ensures reads { ReadsAs (read_value boolean) (state R.loan R.remaining R.failed w.old) (λ _. value_of value.new) result
+        (state R.loan R.remaining R.failed w.new) }
 {
     let is_true = truth(w)?;
     set(value, Value::Bool(is_true));
@@ -48,8 +48,8 @@ pub(crate) fn read_integer<R: Source>(
     w: &mut Window<R>,
 ) -> Result<(), Stop>
     ensures memory { StopsNotForMemory result }
-    ensures reads { ReadsAs (read_value (integer_type low high)) (state R.remaining R.failed w.old)
-        (λ _. value_of value.new) result (state R.remaining R.failed w.new) }
+    ensures reads { ReadsAs (read_value (integer_type low high)) (state R.loan R.remaining R.failed w.old)
+        (λ _. value_of value.new) result (state R.loan R.remaining R.failed w.new) }
 {
     let number = number(Form::of_bounds(low, high), w)?;
     if !is_in_range(low, high, number) {
@@ -64,8 +64,8 @@ pub(crate) fn read_integer<R: Source>(
 // A number of this form.
 fn number<R: Source>(form: Form, w: &mut Window<R>) -> Result<i128, Stop>
     ensures memory { StopsNotForMemory result }
-    ensures reads { ReadsAs (number_in (form_seen form)) (state R.remaining R.failed w.old) same result
-        (state R.remaining R.failed w.new) }
+    ensures reads { ReadsAs (number_in (form_seen form)) (state R.loan R.remaining R.failed w.old) same result
+        (state R.loan R.remaining R.failed w.new) }
 {
     match form {
         Form::UnsignedFixed(width) => {
@@ -91,7 +91,7 @@ pub(crate) fn read_enumerated<R: Source>(
 ) -> Result<(), Stop>
     ensures memory { StopsNotForMemory result }
     ensures reads { ReadsAs (read_value (enumerated_type (map named_number items.now) extensible))
-        (state R.remaining R.failed w.old) (λ _. value_of value.new) result (state R.remaining R.failed w.new) }
+        (state R.loan R.remaining R.failed w.old) (λ _. value_of value.new) result (state R.loan R.remaining R.failed w.new) }
 {
     let number = enumerated(w)?;
     if !is_known(items, extensible, number) {

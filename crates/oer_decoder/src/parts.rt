@@ -56,8 +56,8 @@ pub(crate) fn presence<'a>(need: &Need, bits: &'a [bool]) -> (bool, &'a [bool])
 /// How many elements follow (X.696, 17): a quantity that is not above what is left, and that the
 /// size allows.
 pub(crate) fn count<R: Source>(size: Size, w: &mut Window<R>) -> Result<u64, Stop>
-    ensures { ReadsAs (count_at size) (state R.remaining R.failed w.old) same result
-        (state R.remaining R.failed w.new) }
+    ensures { ReadsAs (count_at size) (state R.loan R.remaining R.failed w.old) same result
+        (state R.loan R.remaining R.failed w.new) }
 {
     let quantity = unsigned_counted(w)?;
     let count = w.allow(quantity.unsigned_abs())?;
@@ -91,8 +91,8 @@ pub(crate) fn read_unknown<R: Source>(
     w: &mut Window<R>,
 ) -> Result<Vec<Unknown>, Stop>
     requires { length bits.now ≤ addition_places }
-    ensures { ReadsAs (unknown_read known (drop known bits.now)) (state R.remaining R.failed w.old)
-        (λ v. map unknown_of v.items) result (state R.remaining R.failed w.new) }
+    ensures { ReadsAs (unknown_read known (drop known bits.now)) (state R.loan R.remaining R.failed w.old)
+        (λ v. map unknown_of v.items) result (state R.loan R.remaining R.failed w.new) }
 {
     let mut unknown = Vec::new(alloc);
     for place in known..bits.len() {
@@ -138,8 +138,8 @@ pub(crate) fn set_foreign<R: Source>(
     value: &mut Value,
     w: &mut Window<R>,
 ) -> Result<(), Stop>
-    ensures { ReadsAs (foreign_at tag) (state R.remaining R.failed w.old) (λ _. value_of value.new) result
-        (state R.remaining R.failed w.new) }
+    ensures { ReadsAs (foreign_at tag) (state R.loan R.remaining R.failed w.old) (λ _. value_of value.new) result
+        (state R.loan R.remaining R.failed w.new) }
 {
     let octets = counted_octets(alloc, w)?;
     set(value, Value::Foreign { tag, octets });

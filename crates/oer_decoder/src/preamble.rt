@@ -39,8 +39,8 @@ pub(crate) fn preamble<R: Source>(
     count: u64,
     w: &mut Window<R>,
 ) -> Result<Marks, Stop>
-    ensures { ReadsAs (preamble_at count) (state R.remaining R.failed w.old) bits_in result
-        (state R.remaining R.failed w.new) }
+    ensures { ReadsAs (preamble_at count) (state R.loan R.remaining R.failed w.old) bits_in result
+        (state R.loan R.remaining R.failed w.new) }
 {
     if count == 0 {
         return Ok(Marks::Few([false; 8], 0));
@@ -56,8 +56,8 @@ pub(crate) fn preamble<R: Source>(
 fn short_preamble<R: Source>(count: usize, w: &mut Window<R>) -> Result<Marks, Stop>
     requires some { 1 ≤ count }
     requires most { count ≤ 8 }
-    ensures { ReadsAs (preamble_at count) (state R.remaining R.failed w.old) bits_in result
-        (state R.remaining R.failed w.new) }
+    ensures { ReadsAs (preamble_at count) (state R.loan R.remaining R.failed w.old) bits_in result
+        (state R.loan R.remaining R.failed w.new) }
 {
     let mut octet = [0u8; 1];
     octets_into(w, &mut octet)?;
@@ -72,8 +72,8 @@ fn short_preamble<R: Source>(count: usize, w: &mut Window<R>) -> Result<Marks, S
 // A preamble of any number of octets.
 #[inline(always)]
 fn long_preamble<R: Source>(alloc: Global, count: u64, w: &mut Window<R>) -> Result<Marks, Stop>
-    ensures { ReadsAs (preamble_at count) (state R.remaining R.failed w.old) bits_in result
-        (state R.remaining R.failed w.new) }
+    ensures { ReadsAs (preamble_at count) (state R.loan R.remaining R.failed w.old) bits_in result
+        (state R.loan R.remaining R.failed w.new) }
 {
     let octets = octets(alloc, w, octets_needed(count))?;
     let Ok(bits) = bits_of(alloc, &octets) else {

@@ -1,5 +1,5 @@
 //! Rewriting an encoding as canonical octets.
-ghost use Rattle.std.specs.Prelude.{IfErr, IfOk};
+ghost use Rattle.std.specs.Prelude.{◌≡◌, IfErr, IfOk};
 ghost use Rattle.oer_decoder.specs.Memory.{NeedsNoMemory};
 ghost use Rattle.oer_decoder.specs.Rewriting.{IsRefused, IsRewritten, KeepsCanonical, NotForMemory, ReadsAndWrites, RewritesWhatComes};
 ghost use Rattle.oer_types.specs.Schema.{the_type};
@@ -39,6 +39,8 @@ pub fn rewrite<R: Source, W: Sink>(
         (W.contents sink.old) (W.contents sink.new) result }
     // Values without parts and texts are rewritten without memory.
     ensures memory { NeedsNoMemory (the_type schema.now) → IfErr result NotForMemory }
+    // A reader that borrows what it reads from has the same loan as before.
+    ensures loan { R.loan reader.new ≡ R.loan reader.old }
     // Which refusal it is, where, and that a count of failures rises exactly at Device.
     ensures exact { ReadsAndWrites (the_type schema.now) limit (R.remaining reader.old) (R.failed reader.old)
         (R.remaining reader.new) (R.failed reader.new) (W.contents sink.old) (W.failed sink.old) result (W.contents sink.new) (W.failed sink.new) }

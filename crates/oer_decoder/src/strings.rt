@@ -18,8 +18,8 @@ use std::alloc::{AllocError, Global};
 
 /// A length, and that many octets.
 pub(crate) fn counted_octets<R: Source>(alloc: Global, w: &mut Window<R>) -> Result<Vec<u8>, Stop>
-    ensures { ReadsAs counted_octets_at (state R.remaining R.failed w.old) (λ v. v.items) result
-        (state R.remaining R.failed w.new) }
+    ensures { ReadsAs counted_octets_at (state R.loan R.remaining R.failed w.old) (λ v. v.items) result
+        (state R.loan R.remaining R.failed w.new) }
 {
     let count = length(w)?;
     Ok(octets(alloc, w, count)?)
@@ -27,8 +27,8 @@ pub(crate) fn counted_octets<R: Source>(alloc: Global, w: &mut Window<R>) -> Res
 
 // As many octets as the one size says, or else as a length says that the size allows.
 fn sized_octets<R: Source>(alloc: Global, size: &Size, w: &mut Window<R>) -> Result<Vec<u8>, Stop>
-    ensures { ReadsAs (read_octets (fixed_size size.now) size.now) (state R.remaining R.failed w.old) (λ v. v.items) result
-        (state R.remaining R.failed w.new) }
+    ensures { ReadsAs (read_octets (fixed_size size.now) size.now) (state R.loan R.remaining R.failed w.old) (λ v. v.items) result
+        (state R.loan R.remaining R.failed w.new) }
 {
     if let Some(count) = size.fixed() {
         return Ok(octets(alloc, w, count)?);
@@ -47,8 +47,8 @@ pub(crate) fn read_octet_string<R: Source>(
     value: &mut Value,
     w: &mut Window<R>,
 ) -> Result<(), Stop>
-    ensures { ReadsAs (read_value (octet_string_type size.now)) (state R.remaining R.failed w.old) (λ _. value_of value.new) result
-        (state R.remaining R.failed w.new) }
+    ensures { ReadsAs (read_value (octet_string_type size.now)) (state R.loan R.remaining R.failed w.old) (λ _. value_of value.new) result
+        (state R.loan R.remaining R.failed w.new) }
 {
     let octets = sized_octets(alloc, size, w)?;
     set(value, Value::Octets(octets));
@@ -63,8 +63,8 @@ pub(crate) fn read_text<R: Source>(
     value: &mut Value,
     w: &mut Window<R>,
 ) -> Result<(), Stop>
-    ensures { ReadsAs (read_value (restricted_string (alphabet_of kind) size.now)) (state R.remaining R.failed w.old)
-        (λ _. value_of value.new) result (state R.remaining R.failed w.new) }
+    ensures { ReadsAs (read_value (restricted_string (alphabet_of kind) size.now)) (state R.loan R.remaining R.failed w.old)
+        (λ _. value_of value.new) result (state R.loan R.remaining R.failed w.new) }
 {
     let octets = sized_octets(alloc, size, w)?;
     if !are_characters(kind, &octets) {
@@ -88,8 +88,8 @@ pub(crate) fn read_utf8<R: Source>(
     value: &mut Value,
     w: &mut Window<R>,
 ) -> Result<(), Stop>
-    ensures { ReadsAs (read_value (utf8_string size.now)) (state R.remaining R.failed w.old) (λ _. value_of value.new) result
-        (state R.remaining R.failed w.new) }
+    ensures { ReadsAs (read_value (utf8_string size.now)) (state R.loan R.remaining R.failed w.old) (λ _. value_of value.new) result
+        (state R.loan R.remaining R.failed w.new) }
 {
     let octets = counted_octets(alloc, w)?;
     let Some(text) = decoded(octets) else {
@@ -127,8 +127,8 @@ pub(crate) fn read_object_id<R: Source>(
     value: &mut Value,
     w: &mut Window<R>,
 ) -> Result<(), Stop>
-    ensures { ReadsAs (read_value object_id_type) (state R.remaining R.failed w.old) (λ _. value_of value.new) result
-        (state R.remaining R.failed w.new) }
+    ensures { ReadsAs (read_value object_id_type) (state R.loan R.remaining R.failed w.old) (λ _. value_of value.new) result
+        (state R.loan R.remaining R.failed w.new) }
 {
     let content = length(w)?;
     if content == 0 {
@@ -149,8 +149,8 @@ fn subidentifiers<R: Source>(
     w: &mut Window<R>,
 ) -> Result<Vec<u128>, Stop>
     requires { content ≤ left_of (bound_of w.old) }
-    ensures { ReadsAs (subidentifiers_at content content) (state R.remaining R.failed w.old) (λ v. v.items) result
-        (state R.remaining R.failed w.new) }
+    ensures { ReadsAs (subidentifiers_at content content) (state R.loan R.remaining R.failed w.old) (λ v. v.items) result
+        (state R.loan R.remaining R.failed w.new) }
 {
     let mut numbers = Vec::new(alloc);
     let end = w.taken() + content;

@@ -49,8 +49,8 @@ pub(crate) fn read_shape<R: Source>(
     w: &mut Window<R>,
 ) -> Result<(), Stop>
     ensures memory { NeedsNoMemory (type_of shape.now) → StopsNotForMemory result }
-    ensures reads { ReadsAs (read_value (type_of shape.now)) (state R.remaining R.failed w.old) (λ _. value_of value.new) result
-        (state R.remaining R.failed w.new) }
+    ensures reads { ReadsAs (read_value (type_of shape.now)) (state R.loan R.remaining R.failed w.old) (λ _. value_of value.new) result
+        (state R.loan R.remaining R.failed w.new) }
 {
     match shape {
         Shape::SequenceOf { size, item } => read_items(item, alloc, *size, value, w),
@@ -74,8 +74,8 @@ fn read_extensible<R: Source>(
     w: &mut Window<R>,
 ) -> Result<(), Stop>
     requires is { IsExtensible shape.now root.now additions.now }
-    ensures { ReadsAs (read_value (type_of shape.now)) (state R.remaining R.failed w.old) (λ _. value_of value.new) result
-        (state R.remaining R.failed w.new) }
+    ensures { ReadsAs (read_value (type_of shape.now)) (state R.loan R.remaining R.failed w.old) (λ _. value_of value.new) result
+        (state R.loan R.remaining R.failed w.new) }
 {
     let start = read_root(root, alloc, w)?;
     read_rest(additions, alloc, start, value, w)
@@ -92,8 +92,8 @@ fn read_choice<R: Source>(
     w: &mut Window<R>,
 ) -> Result<(), Stop>
     requires is { IsChoice shape.now root.now additions.now }
-    ensures { ReadsAs (read_value (type_of shape.now)) (state R.remaining R.failed w.old) (λ _. value_of value.new) result
-        (state R.remaining R.failed w.new) }
+    ensures { ReadsAs (read_value (type_of shape.now)) (state R.loan R.remaining R.failed w.old) (λ _. value_of value.new) result
+        (state R.loan R.remaining R.failed w.new) }
 {
     let tag = tag(w)?;
     if let Some(alternative) = with_tag(root, tag) {
@@ -119,8 +119,8 @@ fn read_items<R: Source>(
     value: &mut Value,
     w: &mut Window<R>,
 ) -> Result<(), Stop>
-    ensures { ReadsAs (read_value (sequence_of size (type_of item.now))) (state R.remaining R.failed w.old)
-        (λ _. value_of value.new) result (state R.remaining R.failed w.new) }
+    ensures { ReadsAs (read_value (sequence_of size (type_of item.now))) (state R.loan R.remaining R.failed w.old)
+        (λ _. value_of value.new) result (state R.loan R.remaining R.failed w.new) }
 {
     let count = count(size, w)?;
     let values = read_elements(item, alloc, count, w)?;
@@ -136,8 +136,8 @@ fn read_elements<R: Source>(
     count: u64,
     w: &mut Window<R>,
 ) -> Result<Vec<Value>, Stop>
-    ensures { ReadsAs (times count (read_value (type_of item.now))) (state R.remaining R.failed w.old)
-        (λ v. map value_of v.items) result (state R.remaining R.failed w.new) }
+    ensures { ReadsAs (times count (read_value (type_of item.now))) (state R.loan R.remaining R.failed w.old)
+        (λ v. map value_of v.items) result (state R.loan R.remaining R.failed w.new) }
 {
     if let Shape::Boolean = item {
         return read_booleans(alloc, count, w);
@@ -163,8 +163,8 @@ fn read_open<R: Source>(
     value: &mut Value,
     w: &mut Window<R>,
 ) -> Result<(), Stop>
-    ensures { ReadsAs (open_type (read_value (type_of shape.now))) (state R.remaining R.failed w.old)
-        (λ _. value_of value.new) result (state R.remaining R.failed w.new) }
+    ensures { ReadsAs (open_type (read_value (type_of shape.now))) (state R.loan R.remaining R.failed w.old)
+        (λ _. value_of value.new) result (state R.loan R.remaining R.failed w.new) }
 {
     let size = length(w)?;
     let outer = w.enter(size);
@@ -182,8 +182,8 @@ fn read_fields<R: Source>(
     bits: &[bool],
     w: &mut Window<R>,
 ) -> Result<Vec<Option<Value>>, Stop>
-    ensures { ReadsAs (fields_read (fields_of fields.now) bits.now) (state R.remaining R.failed w.old)
-        (λ v. places_of v.items) result (state R.remaining R.failed w.new) }
+    ensures { ReadsAs (fields_read (fields_of fields.now) bits.now) (state R.loan R.remaining R.failed w.old)
+        (λ v. places_of v.items) result (state R.loan R.remaining R.failed w.new) }
 {
     let Ok(mut places) = Vec::with_capacity(alloc, fields.len()) else {
         return Err(Stop { why: Why::Memory });
@@ -212,8 +212,8 @@ fn read_additions<R: Source>(
     bits: &[bool],
     w: &mut Window<R>,
 ) -> Result<Vec<Option<Value>>, Stop>
-    ensures { ReadsAs (additions_read (additions_of additions.now) bits.now) (state R.remaining R.failed w.old)
-        (λ v. places_of v.items) result (state R.remaining R.failed w.new) }
+    ensures { ReadsAs (additions_read (additions_of additions.now) bits.now) (state R.loan R.remaining R.failed w.old)
+        (λ v. places_of v.items) result (state R.loan R.remaining R.failed w.new) }
 {
     let Ok(mut places) = Vec::with_capacity(alloc, additions.len()) else {
         return Err(Stop { why: Why::Memory });
@@ -243,8 +243,8 @@ fn read_sequence<R: Source>(
     value: &mut Value,
     w: &mut Window<R>,
 ) -> Result<(), Stop>
-    ensures { ReadsAs (read_value (sequence (fields_of root.now))) (state R.remaining R.failed w.old)
-        (λ _. value_of value.new) result (state R.remaining R.failed w.new) }
+    ensures { ReadsAs (read_value (sequence (fields_of root.now))) (state R.loan R.remaining R.failed w.old)
+        (λ _. value_of value.new) result (state R.loan R.remaining R.failed w.new) }
 {
     let bits = preamble(alloc, optional(root) as u64, w)?;
     let root = read_fields(root, alloc, bits.as_slice(), w)?;
@@ -262,8 +262,8 @@ fn read_sequence<R: Source>(
 /// The root of a SEQUENCE with an extension marker, after its preamble.
 #[cycle(read)]
 fn read_root<R: Source>(root: &[Field], alloc: Global, w: &mut Window<R>) -> Result<Start, Stop>
-    ensures { ReadsAs (root_at (fields_of root.now)) (state R.remaining R.failed w.old) start_of result
-        (state R.remaining R.failed w.new) }
+    ensures { ReadsAs (root_at (fields_of root.now)) (state R.loan R.remaining R.failed w.old) start_of result
+        (state R.loan R.remaining R.failed w.new) }
 {
     let bits = preamble(alloc, optional(root) as u64 + 1, w)?;
     let marks = bits.as_slice();
@@ -285,8 +285,8 @@ fn read_rest<R: Source>(
     value: &mut Value,
     w: &mut Window<R>,
 ) -> Result<(), Stop>
-    ensures { ReadsAs (rest_at (additions_of additions.now) (start_of start)) (state R.remaining R.failed w.old)
-        (λ _. value_of value.new) result (state R.remaining R.failed w.new) }
+    ensures { ReadsAs (rest_at (additions_of additions.now) (start_of start)) (state R.loan R.remaining R.failed w.old)
+        (λ _. value_of value.new) result (state R.loan R.remaining R.failed w.new) }
 {
     let added = read_extension(additions, alloc, start.is_extended, w)?;
     set(
@@ -310,7 +310,7 @@ fn read_extension<R: Source>(
     w: &mut Window<R>,
 ) -> Result<Added, Stop>
     ensures { ReadsAs (extension_read is_extended (additions_of additions.now) (additions_read (additions_of additions.now)))
-        (state R.remaining R.failed w.old) added_of result (state R.remaining R.failed w.new) }
+        (state R.loan R.remaining R.failed w.old) added_of result (state R.loan R.remaining R.failed w.new) }
 {
     if !is_extended {
         let Ok(known) = absent_places(alloc, additions) else {
@@ -336,8 +336,8 @@ fn read_later_alternative<R: Source>(
     value: &mut Value,
     w: &mut Window<R>,
 ) -> Result<(), Stop>
-    ensures { ReadsAs (later_at (later_of alternatives.now) tag) (state R.remaining R.failed w.old)
-        (λ _. value_of value.new) result (state R.remaining R.failed w.new) }
+    ensures { ReadsAs (later_at (later_of alternatives.now) tag) (state R.loan R.remaining R.failed w.old)
+        (λ _. value_of value.new) result (state R.loan R.remaining R.failed w.new) }
 {
     let Some(alternative) = with_tag(alternatives, tag) else {
         return set_foreign(alloc, tag, value, w);

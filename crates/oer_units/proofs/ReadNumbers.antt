@@ -86,7 +86,7 @@ exact_refused {A} {B} n f g (Some xs) (Some ys) b b' e h = λ d m. cases b.insid
   cases i (refused w rest) k = let p : named i w ≡ e.why = cc in let q : rest ≡ ys = cc in ap (λ (v : Why). refused v rest) p ∙ ap (λ (l : List ℕ). refused e.why l) q
 
 pub refused_as : {A B : Type 0} (n : ℕ) (f : List ℕ → A) (g : List ℕ → B) (s s' : State) (e : ReadFault) → Reads (group_as n f) s (Err e) s' → Reads (group_as n g) s (Err e) s'
-refused_as n f g s s' e p = record { reader = p.reader; kept = tt; limit = p.limit; within = p.within; count = p.count; fault = p.fault; made = tt; took = p.took; exact = exact_refused n f g s.known s'.known s.bound s'.bound e p.exact }
+refused_as n f g s s' e p = record { reader = p.reader; loan = p.loan; kept = tt; limit = p.limit; within = p.within; count = p.count; fault = p.fault; made = tt; took = p.took; exact = exact_refused n f g s.known s'.known s.bound s'.bound e p.exact }
 
 -- the octets of a group that was taken
 front_is : (n : ℕ) (xs t ys : List ℕ) → n ≤ length xs → xs ≡ t ++ ys → drop n xs ≡ ys → take n xs ≡ t
@@ -124,7 +124,7 @@ exact_as n f g v u (Some xs) (Some ys) b b' P same t h =
     rw (group_there n xs (b.end - b.taken) all.0 all.1, value, all.4) refl
 
 pub got_as : {A B : Type 0} (n : ℕ) (f : List ℕ → A) (g : List ℕ → B) (v : A) (u : B) (s s' : State) → ((w : List ℕ) → length w ≡ n → AllByRecursion (λ x. x < 256) w → f w ≡ v → g w ≡ u) → Reads (group_as n f) s (Ok v) s' → Reads (group_as n g) s (Ok u) s'
-got_as n f g v u s s' same p = record { reader = p.reader; kept = p.kept; limit = p.limit; within = p.within; count = p.count; fault = tt; made = (p.made.0, p.made.1, p.made.2, λ rest. exact_as n f g v u (Some (p.made.0 ++ rest)) (Some rest) s.bound s'.bound (λ t. Unit {0}) same (p.made.0, refl, p.made.1, tt) (p.made.3 rest)); took = p.took; exact = exact_as n f g v u s.known s'.known s.bound s'.bound _ same p.took p.exact }
+got_as n f g v u s s' same p = record { reader = p.reader; loan = p.loan; kept = p.kept; limit = p.limit; within = p.within; count = p.count; fault = tt; made = (p.made.0, p.made.1, p.made.2, λ rest. exact_as n f g v u (Some (p.made.0 ++ rest)) (Some rest) s.bound s'.bound (λ t. Unit {0}) same (p.made.0, refl, p.made.1, tt) (p.made.3 rest)); took = p.took; exact = exact_as n f g v u s.known s'.known s.bound s'.bound _ same p.took p.exact }
 
 -- ---- the size of a number, held up to a bound
 
@@ -254,7 +254,7 @@ exact_in why f test n v (Some xs) (Some ys) b b' passes h =
 
 -- the number passes the test
 pub number_in : {A : Type 0} (why : Why) (f : List ℕ → A) (test : A → Bool) (n : ℕ) (v : A) (s s' : State) → test v ≡ true → Reads (group_as n f) s (Ok v) s' → Reads (number why f test n) s (Ok v) s'
-number_in why f test n v s s' passes p = record { reader = p.reader; kept = p.kept; limit = p.limit; within = p.within; count = p.count; fault = tt; made = (p.made.0, p.made.1, p.made.2, λ rest. exact_in why f test n v (Some (p.made.0 ++ rest)) (Some rest) s.bound s'.bound passes (p.made.3 rest)); took = p.took; exact = exact_in why f test n v s.known s'.known s.bound s'.bound passes p.exact }
+number_in why f test n v s s' passes p = record { reader = p.reader; loan = p.loan; kept = p.kept; limit = p.limit; within = p.within; count = p.count; fault = tt; made = (p.made.0, p.made.1, p.made.2, λ rest. exact_in why f test n v (Some (p.made.0 ++ rest)) (Some rest) s.bound s'.bound passes (p.made.3 rest)); took = p.took; exact = exact_in why f test n v s.known s'.known s.bound s'.bound passes p.exact }
 
 exact_out : {A : Type 0} (why : Why) (f : List ℕ → A) (test : A → Bool) (n : ℕ) (e : ReadFault) (known known' : Option (List ℕ)) (b b' : Span) → named b.inside why ≡ e.why → Exactly (group_as n (λ w. test (f w))) known b (Ok false) known' b' → Exactly (number why f test n) known b (Err e) known' b'
 unfolding bind give refuse number
@@ -270,7 +270,7 @@ count_same n _ other = refl
 
 -- the number does not
 pub number_out : {A : Type 0} (why : Why) (f : List ℕ → A) (test : A → Bool) (n : ℕ) (s s' : State) (e : ReadFault) → e.why ≢ Device → named s.bound.inside why ≡ e.why → e.taken ≡ s'.bound.taken → Reads (group_as n (λ w. test (f w))) s (Ok false) s' → Reads (number why f test n) s (Err e) s'
-number_out why f test n s s' e other is taken p = record { reader = p.reader; kept = tt; limit = p.limit; within = p.within; count = p.count ∙ count_same s.failed e.why other; fault = taken; made = tt; took = p.took; exact = exact_out why f test n e s.known s'.known s.bound s'.bound is p.exact }
+number_out why f test n s s' e other is taken p = record { reader = p.reader; loan = p.loan; kept = tt; limit = p.limit; within = p.within; count = p.count ∙ count_same s.failed e.why other; fault = taken; made = tt; took = p.took; exact = exact_out why f test n e s.known s'.known s.bound s'.bound is p.exact }
 
 exact_stop : {A B : Type 0} (why : Why) (h : List ℕ → B) (f : List ℕ → A) (test : A → Bool) (n : ℕ) (s s' : State) (e : ReadFault) → Reads (group_as n (λ w. w)) s (Err e) s' → Reads (number why f test n) s (Err e) s'
 exact_stop why h f test n s s' e p =

@@ -67,11 +67,12 @@ exact_short {A} n r s (Some xs) (Some ys) b' x e k le why some h = λ d m.
 
 -- An open type as the code reads it: the window is entered, its content is read, and it is left.
 within_stop : {A : Type 0} (n : ℕ) (r : Reader A) (s s' : State) (e : ReadFault) → n ≤ s.bound.end - s.bound.taken → Reads r (entered n s) (Err e) s' → Reads (filled_by n r) s (Err e) s'
-within_stop n r s s' e le p = record { reader = p.reader; kept = tt; limit = p.limit; within = λ h. let start : s.bound.taken ≤ s.bound.taken + n = omega arith in let inner : s'.bound.taken ≤ s.bound.taken + n = p.within start in omega arith; count = p.count; fault = p.fault; made = tt; took = p.took; exact = exact_stop n r s s.known s'.known s'.bound e le p.exact }
+within_stop n r s s' e le p = record { reader = p.reader; loan = p.loan; kept = tt; limit = p.limit; within = λ h. let start : s.bound.taken ≤ s.bound.taken + n = omega arith in let inner : s'.bound.taken ≤ s.bound.taken + n = p.within start in omega arith; count = p.count; fault = p.fault; made = tt; took = p.took; exact = exact_stop n r s s.known s'.known s'.bound e le p.exact }
 
 within_got : {A : Type 0} (n : ℕ) (r : Reader A) (s s' : State) (x : A) → n ≤ s.bound.end - s.bound.taken → Reads r (entered n s) (Ok x) s' → s'.bound.taken ≡ s'.bound.end → Reads (filled_by n r) s (Ok x) (returned s.bound.end s.bound.inside s')
 within_got n r s s' x le p filled = record {
   reader = p.reader;
+  loan = p.loan;
   kept = record { end = refl; limit = p.limit; inside = refl; grows = let h = p.kept.grows in omega arith };
   limit = p.limit;
   within = λ h. let start : s.bound.taken ≤ s.bound.taken + n = omega arith in let inner : s'.bound.taken ≤ s.bound.taken + n = p.within start in omega arith;
@@ -89,6 +90,7 @@ count_window n _ h = refl
 within_short : {A : Type 0} (n : ℕ) (r : Reader A) (s s' : State) (x : A) (e : ReadFault) → n ≤ s.bound.end - s.bound.taken → Reads r (entered n s) (Ok x) s' → s'.bound.taken < s'.bound.end → e.why ≡ Window → e.taken ≡ s'.bound.taken → Reads (filled_by n r) s (Err e) s'
 within_short n r s s' x e le p less why taken = record {
   reader = p.reader;
+  loan = p.loan;
   kept = tt;
   limit = p.limit;
   within = λ h. let start : s.bound.taken ≤ s.bound.taken + n = omega arith in let inner : s'.bound.taken ≤ s.bound.taken + n = p.within start in omega arith;

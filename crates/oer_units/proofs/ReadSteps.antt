@@ -73,6 +73,7 @@ made_then m f b b' b'' x (Ok y) i p q = (
 pub Reads-then : {A B : Type 0} (m : Reader A) (f : A → Reader B) (s s' s'' : State) (x : A) (result : Result B ReadFault) → Reads m s (Ok x) s' → Reads (f x) s' result s'' → Reads (bind m f) s result s''
 Reads-then m f s s' s'' x result p q = record {
   reader = q.reader ∙ p.reader;
+  loan = q.loan ∙ p.loan;
   kept = kept_then s.bound s'.bound s''.bound result p.kept q.kept;
   limit = q.limit ∙ p.limit;
   within = λ h. let a : s'.bound.taken ≤ s.bound.end = p.within h in let e : s'.bound.end ≡ s.bound.end = p.kept.end in let b : s'.bound.taken ≤ s'.bound.end = omega arith in let d : s''.bound.taken ≤ s'.bound.end = q.within b in omega arith;
@@ -85,7 +86,7 @@ Reads-then m f s s' s'' x result p q = record {
 
 -- a step that is refused
 pub Reads-stop : {A B : Type 0} (m : Reader A) (f : A → Reader B) (s s' : State) (e : ReadFault) → Reads m s (Err e) s' → Reads (bind m f) s (Err e) s'
-Reads-stop m f s s' e p = record { reader = p.reader; kept = tt; limit = p.limit; within = p.within; count = p.count; fault = p.fault; made = tt; took = p.took; exact = Exactly-stop m f s.known s'.known s.bound s'.bound e p.exact }
+Reads-stop m f s s' e p = record { reader = p.reader; loan = p.loan; kept = tt; limit = p.limit; within = p.within; count = p.count; fault = p.fault; made = tt; took = p.took; exact = Exactly-stop m f s.known s'.known s.bound s'.bound e p.exact }
 
 Exactly-done : {A : Type 0} (x : A) (known : Option (List ℕ)) (b : Span) → Exactly (give x) known b (Ok x) known b
 unfolding give
@@ -95,6 +96,7 @@ Exactly-done x (Some xs) b = refl
 pub Reads-give : {A : Type 0} (x : A) (s : State) → Reads (give x) s (Ok x) s
 Reads-give x s = record {
   reader = refl;
+  loan = refl;
   kept = Keeps-refl s.bound;
   limit = refl;
   within = λ h. h;
@@ -121,7 +123,7 @@ made_same r r' b b' (Err e) same h = tt
 
 -- a reader that agrees with another one at the places in question
 pub Reads-same : {A : Type 0} (r r' : Reader A) (s s' : State) (result : Result A ReadFault) → ((xs : List ℕ) → r (place xs s.bound) ≡ r' (place xs s.bound)) → Reads r s result s' → Reads r' s result s'
-Reads-same r r' s s' result same h = record { reader = h.reader; kept = h.kept; limit = h.limit; within = h.within; count = h.count; fault = h.fault; made = made_same r r' s.bound s'.bound result same h.made; took = h.took; exact = exact_same r r' s.known s'.known s.bound s'.bound result same h.exact }
+Reads-same r r' s s' result same h = record { reader = h.reader; loan = h.loan; kept = h.kept; limit = h.limit; within = h.within; count = h.count; fault = h.fault; made = made_same r r' s.bound s'.bound result same h.made; took = h.took; exact = exact_same r r' s.known s'.known s.bound s'.bound result same h.exact }
 
 -- ---- refusals at a place
 
@@ -138,6 +140,7 @@ Exactly-refused A why e (Some xs) b is = λ d n. ap (λ (w : Why). refused w xs)
 pub Reads-refused : (A : Type 0) (why : Why) (e : ReadFault) (s : State) → e.why ≢ Device → named s.bound.inside why ≡ e.why → e.taken ≡ s.bound.taken → Reads {A = A} (refuse why) s (Err e) s
 Reads-refused A why e s other is taken = record {
   reader = refl;
+  loan = refl;
   kept = tt;
   limit = refl;
   within = λ h. h;
@@ -156,6 +159,7 @@ Exactly-memory r e (Some xs) b is = λ d n. absurd (n is)
 pub Reads-memory : {A : Type 0} (r : Reader A) (e : ReadFault) (s : State) → e.why ≡ Memory → e.taken ≡ s.bound.taken → Reads r s (Err e) s
 Reads-memory r e s is taken = record {
   reader = refl;
+  loan = refl;
   kept = tt;
   limit = refl;
   within = λ h. h;
@@ -170,6 +174,7 @@ Reads-memory r e s is taken = record {
 pub Reads-memory_after : {A B : Type 0} (m : Reader A) (r : Reader B) (s s' : State) (x : A) (e : ReadFault) → Reads m s (Ok x) s' → e.why ≡ Memory → e.taken ≡ s'.bound.taken → Reads r s (Err e) s'
 Reads-memory_after m r s s' x e p is taken = record {
   reader = p.reader;
+  loan = p.loan;
   kept = tt;
   limit = p.limit;
   within = p.within;

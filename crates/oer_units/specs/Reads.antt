@@ -81,10 +81,11 @@ pub record Keeps (b b' : Span) : Type 0 where
   pub inside : b'.inside ≡ b.inside
   pub grows : b.taken ≤ b'.taken
 
--- a window as contracts see it: the name of the loan, the octets that its reader has left, where they are known, its
--- count of failures, and the bound
+-- a window as contracts see it: the name of its loan, that of the loan inside its reader, if there is one, the octets that
+-- its reader has left, where they are known, its count of failures, and the bound
 pub record State : Type 0 where
   pub name : GName
+  pub loan : Option GName
   pub known : Option (List ℕ)
   pub failed : ℕ
   pub bound : Span
@@ -92,15 +93,21 @@ pub record State : Type 0 where
 abbrev pub bound_of : {R : Type 0} → Window R → Span
 bound_of w = span w.bound
 
-abbrev pub state : {R : Type 0} → (R → Option (List ℕ)) → (R → ℕ) → Window R → State
-state remaining failed w =
-    record { name = w.reader.ghost_name; known = remaining w.reader.now; failed = failed w.reader.now; bound = bound_of w }
+abbrev pub state : {R : Type 0} → (R → Option GName) → (R → Option (List ℕ)) → (R → ℕ) → Window R → State
+state loan remaining failed w = record {
+  name = w.reader.ghost_name;
+  loan = loan w.reader.now;
+  known = remaining w.reader.now;
+  failed = failed w.reader.now;
+  bound = bound_of w;
+}
 
 -- From old to new a call reads as r does, and answers result. Where it is refused inside an open type, that one's bound
 -- may still be in force.
 pub record Reads {A : Type 0} (r : Reader A) (old : State) (result : Result A ReadFault) (new : State) : Type 0 where
   -- at any reader
   pub reader : new.name ≡ old.name
+  pub loan : new.loan ≡ old.loan
   pub kept : OnOk result (Keeps old.bound new.bound)
   pub limit : new.bound.limit ≡ old.bound.limit
   pub within : old.bound.taken ≤ old.bound.end → new.bound.taken ≤ old.bound.end
@@ -130,6 +137,7 @@ was_inside outer = outer.is_inside
 abbrev pub entered : ℕ → State → State
 entered n s = record {
   name = s.name;
+  loan = s.loan;
   known = s.known;
   failed = s.failed;
   bound = record { taken = s.bound.taken; end = s.bound.taken + n; limit = s.bound.limit; inside = true };
@@ -139,20 +147,28 @@ entered n s = record {
 abbrev pub returned : ℕ → Bool → State → State
 returned end inside s = record {
   name = s.name;
+  loan = s.loan;
   known = s.known;
   failed = s.failed;
   bound = record { taken = s.bound.taken; end = end; limit = s.bound.limit; inside = inside };
 }
 
 -- a window that was just made
-abbrev pub start : GName → Option (List ℕ) → ℕ → ℕ → State
-start name known failed limit =
-    record { name = name; known = known; failed = failed; bound = record { taken = 0; end = limit; limit = limit; inside = false } }
+abbrev pub start : GName → Option GName → Option (List ℕ) → ℕ → ℕ → State
+start name loan known failed limit = record {
+  name = name;
+  loan = loan;
+  known = known;
+  failed = failed;
+  bound = record { taken = 0; end = limit; limit = limit; inside = false };
+}
 
 -- A call reads as r does from the front of a reader, under a limit.
 pub record ReadsFront {A : Type 0} (r : Reader A) (limit : ℕ) (known : Option (List ℕ)) (failed : ℕ) (result : Result A ReadFault)
     (known' : Option (List ℕ)) (failed' : ℕ) : Type 0 where
   pub name : GName
+  pub loan : Option GName
   pub bound : Span
   pub within : bound.taken ≤ limit
-  pub reads : Reads r (start name known failed limit) result (record { name = name; known = known'; failed = failed'; bound = bound })
+  pub reads : Reads r (start name loan known failed limit) result (record
+      { name = name; loan = loan; known = known'; failed = failed'; bound = bound })

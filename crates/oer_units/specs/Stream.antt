@@ -1,5 +1,7 @@
 -- What a call of a source or a sink does to its count of failures.
 use Rattle.std.specs.Prelude.{ℕ, ◌+◌, ◌-◌, ◌^◌, ◌==◌, if◌then◌else◌, min, List, [], ◌∷◌, Result, Ok, Err}
+use Rattle.std.specs.Borrow.{GName}
+use Rattle.oer_units.specs.declared.stream.Lent.{Lent}
 use Rattle.oer_units.specs.declared.stream.Metered.{Metered}
 
 -- one more, up to `u64::MAX`
@@ -28,3 +30,15 @@ inner_of m = m.inner
 -- how many calls of it failed
 abbrev pub failures_of : {T : Type 0} → Metered T → ℕ
 failures_of m = m.count
+
+-- the reader that was lent, as it stands
+abbrev pub lent_by : {R : Type 0} → Lent R → R
+lent_by l = l.reader.now
+
+-- the name of that loan
+abbrev pub loan_of : {R : Type 0} → Lent R → GName
+loan_of l = l.reader.ghost_name
+
+-- how many calls of it failed
+abbrev pub failures_of_lent : {R : Type 0} → Lent R → ℕ
+failures_of_lent l = l.count

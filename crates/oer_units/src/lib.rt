@@ -18,7 +18,7 @@ pub use reading::{
     class, enumerated, length, octet, octets, octets_into, signed_counted, signed_fixed, signed_of,
     subidentifier, tag, unsigned_counted, unsigned_fixed, unsigned_of,
 };
-pub use stream::{Metered, Sink, Source};
+pub use stream::{Lent, Metered, Sink, Source};
 pub use tagging::{Class, Tag};
 pub use width::Width;
 pub use window::{Outer, Window};

@@ -20,8 +20,8 @@ pub fn octet<R: Source>(w: &mut Window<R>) -> Result<u8, ReadFault>
     ensures bound { Keeps (bound_of w.old) (bound_of w.new) }
     ensures memory { TakesNoMemory result }
     ensures one { OnOk result ((bound_of w.new).taken ≡ (bound_of w.old).taken + 1) }
-    ensures reads { Reads octet_at (state R.remaining R.failed w.old) result
-        (state R.remaining R.failed w.new) }
+    ensures reads { Reads octet_at (state R.loan R.remaining R.failed w.old) result
+        (state R.loan R.remaining R.failed w.new) }
 {
     w.allow(1)?;
     w.next()
@@ -53,8 +53,8 @@ fn fill_from<R: Source>(w: &mut Window<R>, octets: &mut Vec<u8>, at: usize) -> R
     ensures count { OnOk result ((bound_of w.new).taken ≡ (bound_of w.old).taken + (vec_len octets.old - at)) }
     ensures len { vec_len octets.new ≡ vec_len octets.old }
     ensures front { take at octets.new.items ≡ take at octets.old.items }
-    ensures reads { Reads (group (vec_len octets.old - at)) (state R.remaining R.failed w.old)
-        (seen (λ _. drop at octets.new.items) result) (state R.remaining R.failed w.new) }
+    ensures reads { Reads (group (vec_len octets.old - at)) (state R.loan R.remaining R.failed w.old)
+        (seen (λ _. drop at octets.new.items) result) (state R.loan R.remaining R.failed w.new) }
 {
     w.fill_all(&mut octets[at..])
 }
@@ -64,8 +64,8 @@ fn fill_from<R: Source>(w: &mut Window<R>, octets: &mut Vec<u8>, at: usize) -> R
 pub fn octets<R: Source>(alloc: Global, w: &mut Window<R>, n: u64) -> Result<Vec<u8>, ReadFault>
     ensures bound { Keeps (bound_of w.old) (bound_of w.new) }
     ensures count { IfOk result (λ v. vec_len v ≡ n) }
-    ensures reads { Reads (group n) (state R.remaining R.failed w.old) (seen (λ v. v.items) result)
-        (state R.remaining R.failed w.new) }
+    ensures reads { Reads (group n) (state R.loan R.remaining R.failed w.old) (seen (λ v. v.items) result)
+        (state R.loan R.remaining R.failed w.new) }
 {
     w.allow(n as u128)?;
     let count = n as usize;
@@ -85,8 +85,8 @@ pub fn octets<R: Source>(alloc: Global, w: &mut Window<R>, n: u64) -> Result<Vec
 pub fn octets_into<R: Source>(w: &mut Window<R>, into: &mut [u8]) -> Result<(), ReadFault>
     ensures bound { Keeps (bound_of w.old) (bound_of w.new) }
     ensures memory { TakesNoMemory result }
-    ensures reads { Reads (group (length into.old)) (state R.remaining R.failed w.old)
-        (seen (λ _. into.new) result) (state R.remaining R.failed w.new) }
+    ensures reads { Reads (group (length into.old)) (state R.loan R.remaining R.failed w.old)
+        (seen (λ _. into.new) result) (state R.loan R.remaining R.failed w.new) }
 {
     w.allow(into.len() as u128)?;
     w.fill_all(into)
@@ -171,8 +171,8 @@ fn short_size_from<R: Source>(
     ensures bound { Keeps (bound_of w.old) (bound_of w.new) }
     ensures memory { TakesNoMemory result }
     ensures size { IfOk result (λ n. n + 1 ≤ (value + 1) * 256 ^ count) }
-    ensures reads { Reads (group_as count (size_after is_below value)) (state R.remaining R.failed w.old) result
-        (state R.remaining R.failed w.new) }
+    ensures reads { Reads (group_as count (size_after is_below value)) (state R.loan R.remaining R.failed w.old) result
+        (state R.loan R.remaining R.failed w.new) }
 {
     let mut buffer = [0u8; AT_ONCE];
     let octets = &mut buffer[..count];
@@ -191,8 +191,8 @@ fn size_from<R: Source>(
     ensures bound { Keeps (bound_of w.old) (bound_of w.new) }
     ensures memory { TakesNoMemory result }
     ensures size { IfOk result (λ n. n + 1 ≤ (value + 1) * 256 ^ count) }
-    ensures reads { Reads (group_as count (size_after is_below value)) (state R.remaining R.failed w.old) result
-        (state R.remaining R.failed w.new) }
+    ensures reads { Reads (group_as count (size_after is_below value)) (state R.loan R.remaining R.failed w.old) result
+        (state R.loan R.remaining R.failed w.new) }
 {
     if count <= AT_ONCE as u64 {
         return short_size_from(w, count as usize, is_below, value);
@@ -211,8 +211,8 @@ fn number<R: Source>(w: &mut Window<R>, count: u64) -> Result<u128, ReadFault>
     ensures bound { Keeps (bound_of w.old) (bound_of w.new) }
     ensures memory { TakesNoMemory result }
     ensures size { IfOk result (λ n. n < 256 ^ count) }
-    ensures reads { Reads (group_as count (size_after false 0)) (state R.remaining R.failed w.old) result
-        (state R.remaining R.failed w.new) }
+    ensures reads { Reads (group_as count (size_after false 0)) (state R.loan R.remaining R.failed w.old) result
+        (state R.loan R.remaining R.failed w.new) }
 {
     w.allow(count as u128)?;
     size_from(w, count, false, 0)
@@ -224,8 +224,8 @@ fn twos<R: Source>(w: &mut Window<R>, count: u64) -> Result<Twos, ReadFault>
     ensures bound { Keeps (bound_of w.old) (bound_of w.new) }
     ensures memory { TakesNoMemory result }
     ensures size { IfOk result (λ t. t.size + 1 ≤ 128 * 256 ^ (count - 1)) }
-    ensures reads { Reads (group_as count twos_of_octets) (state R.remaining R.failed w.old) result
-        (state R.remaining R.failed w.new) }
+    ensures reads { Reads (group_as count twos_of_octets) (state R.loan R.remaining R.failed w.old) result
+        (state R.loan R.remaining R.failed w.new) }
 {
     w.allow(count as u128)?;
     let first = w.next()?;
@@ -240,8 +240,8 @@ fn long_length<R: Source>(w: &mut Window<R>, count: u64) -> Result<u64, ReadFaul
     ensures bound { Keeps (bound_of w.old) (bound_of w.new) }
     ensures memory { TakesNoMemory result }
     ensures room { IfOk result (λ n. n ≤ left_of (bound_of w.new)) }
-    ensures reads { Reads (long_length_at count) (state R.remaining R.failed w.old) result
-        (state R.remaining R.failed w.new) }
+    ensures reads { Reads (long_length_at count) (state R.loan R.remaining R.failed w.old) result
+        (state R.loan R.remaining R.failed w.new) }
 {
     let length = number(w, count)?;
     w.allow(length)
@@ -254,8 +254,8 @@ pub fn length<R: Source>(w: &mut Window<R>) -> Result<u64, ReadFault>
     ensures bound { Keeps (bound_of w.old) (bound_of w.new) }
     ensures memory { TakesNoMemory result }
     ensures room { IfOk result (λ n. n ≤ left_of (bound_of w.new)) }
-    ensures reads { Reads counted_length (state R.remaining R.failed w.old) result
-        (state R.remaining R.failed w.new) }
+    ensures reads { Reads counted_length (state R.loan R.remaining R.failed w.old) result
+        (state R.loan R.remaining R.failed w.new) }
 {
     let first = octet(w)?;
     if first < 128 {
@@ -274,8 +274,8 @@ const MOST_FIXED: usize = 8;
 pub fn unsigned_fixed<R: Source>(w: &mut Window<R>, width: Width) -> Result<u64, ReadFault>
     ensures bound { Keeps (bound_of w.old) (bound_of w.new) }
     ensures memory { TakesNoMemory result }
-    ensures reads { Reads (unsigned_fixed_at width) (state R.remaining R.failed w.old) result
-        (state R.remaining R.failed w.new) }
+    ensures reads { Reads (unsigned_fixed_at width) (state R.loan R.remaining R.failed w.old) result
+        (state R.loan R.remaining R.failed w.new) }
 {
     let mut buffer = [0u8; MOST_FIXED];
     let octets = &mut buffer[..width.octets()];
@@ -287,8 +287,8 @@ pub fn unsigned_fixed<R: Source>(w: &mut Window<R>, width: Width) -> Result<u64,
 pub fn signed_fixed<R: Source>(w: &mut Window<R>, width: Width) -> Result<i64, ReadFault>
     ensures bound { Keeps (bound_of w.old) (bound_of w.new) }
     ensures memory { TakesNoMemory result }
-    ensures reads { Reads (signed_fixed_at width) (state R.remaining R.failed w.old) result
-        (state R.remaining R.failed w.new) }
+    ensures reads { Reads (signed_fixed_at width) (state R.loan R.remaining R.failed w.old) result
+        (state R.loan R.remaining R.failed w.new) }
 {
     let mut buffer = [0u8; MOST_FIXED];
     let octets = &mut buffer[..width.octets()];
@@ -301,8 +301,8 @@ pub fn signed_fixed<R: Source>(w: &mut Window<R>, width: Width) -> Result<i64, R
 pub fn unsigned_counted<R: Source>(w: &mut Window<R>) -> Result<i128, ReadFault>
     ensures bound { Keeps (bound_of w.old) (bound_of w.new) }
     ensures memory { TakesNoMemory result }
-    ensures reads { Reads (counted_number natural is_int128) (state R.remaining R.failed w.old) result
-        (state R.remaining R.failed w.new) }
+    ensures reads { Reads (counted_number natural is_int128) (state R.loan R.remaining R.failed w.old) result
+        (state R.loan R.remaining R.failed w.new) }
 {
     let count = length(w)?;
     if count == 0 {
@@ -322,8 +322,8 @@ pub fn unsigned_counted<R: Source>(w: &mut Window<R>) -> Result<i128, ReadFault>
 pub fn signed_counted<R: Source>(w: &mut Window<R>) -> Result<i128, ReadFault>
     ensures bound { Keeps (bound_of w.old) (bound_of w.new) }
     ensures memory { TakesNoMemory result }
-    ensures reads { Reads (counted_number signed is_int128) (state R.remaining R.failed w.old) result
-        (state R.remaining R.failed w.new) }
+    ensures reads { Reads (counted_number signed is_int128) (state R.loan R.remaining R.failed w.old) result
+        (state R.loan R.remaining R.failed w.new) }
 {
     let count = length(w)?;
     if count == 0 {
@@ -342,8 +342,8 @@ fn long_enumerated<R: Source>(w: &mut Window<R>, count: u64) -> Result<i64, Read
     requires { 1 ≤ count }
     ensures bound { Keeps (bound_of w.old) (bound_of w.new) }
     ensures memory { TakesNoMemory result }
-    ensures reads { Reads (number_read Why.EnumForm signed is_int64 count) (state R.remaining R.failed w.old) result
-        (state R.remaining R.failed w.new) }
+    ensures reads { Reads (number_read Why.EnumForm signed is_int64 count) (state R.loan R.remaining R.failed w.old) result
+        (state R.loan R.remaining R.failed w.new) }
 {
     let number = twos(w, count)?;
     if number.size <= i64::MAX as u128 {
@@ -358,8 +358,8 @@ fn long_enumerated<R: Source>(w: &mut Window<R>, count: u64) -> Result<i64, Read
 pub fn enumerated<R: Source>(w: &mut Window<R>) -> Result<i64, ReadFault>
     ensures bound { Keeps (bound_of w.old) (bound_of w.new) }
     ensures memory { TakesNoMemory result }
-    ensures reads { Reads enumerated_at (state R.remaining R.failed w.old) result
-        (state R.remaining R.failed w.new) }
+    ensures reads { Reads enumerated_at (state R.loan R.remaining R.failed w.old) result
+        (state R.loan R.remaining R.failed w.new) }
 {
     let first = octet(w)?;
     if first < 128 {
@@ -385,8 +385,8 @@ fn more_digits<R: Source>(
     ensures bound { Keeps (bound_of w.old) (bound_of w.new) }
     ensures memory { TakesNoMemory result }
     ensures fits { IfOk result (λ n. n < (most + 1) * 128) }
-    ensures reads { Reads (digits_within why ((most + 1) * 128) count high) (state R.remaining R.failed w.old)
-        (seen (λ n. (n, (bound_of w.new).taken - (bound_of w.old).taken)) result) (state R.remaining R.failed w.new) }
+    ensures reads { Reads (digits_within why ((most + 1) * 128) count high) (state R.loan R.remaining R.failed w.old)
+        (seen (λ n. (n, (bound_of w.new).taken - (bound_of w.old).taken)) result) (state R.loan R.remaining R.failed w.new) }
 {
     let mut number = high;
     for _step in 0..count {
@@ -418,8 +418,8 @@ fn base128<R: Source>(
     ensures bound { Keeps (bound_of w.old) (bound_of w.new) }
     ensures memory { TakesNoMemory result }
     ensures fits { IfOk result (λ n. n < (most + 1) * 128) }
-    ensures reads { Reads (base128_within why ((most + 1) * 128) count) (state R.remaining R.failed w.old)
-        (seen (λ n. (n, (bound_of w.new).taken - (bound_of w.old).taken)) result) (state R.remaining R.failed w.new) }
+    ensures reads { Reads (base128_within why ((most + 1) * 128) count) (state R.loan R.remaining R.failed w.old)
+        (seen (λ n. (n, (bound_of w.new).taken - (bound_of w.old).taken)) result) (state R.loan R.remaining R.failed w.new) }
 {
     let first = octet(w)?;
     if first < 128 {
@@ -440,8 +440,8 @@ pub fn subidentifier<R: Source>(w: &mut Window<R>, content: u64) -> Result<u128,
     requires room { content ≤ left_of (bound_of w.old) }
     ensures bound { Keeps (bound_of w.old) (bound_of w.new) }
     ensures memory { TakesNoMemory result }
-    ensures reads { Reads (subidentifier_at content) (state R.remaining R.failed w.old)
-        (seen (λ n. (n, (bound_of w.new).taken - (bound_of w.old).taken)) result) (state R.remaining R.failed w.new) }
+    ensures reads { Reads (subidentifier_at content) (state R.loan R.remaining R.failed w.old)
+        (seen (λ n. (n, (bound_of w.new).taken - (bound_of w.old).taken)) result) (state R.loan R.remaining R.failed w.new) }
 {
     base128(w, content, (1 << 121) - 1, Why::ObjectId)
 }
@@ -450,8 +450,8 @@ pub fn subidentifier<R: Source>(w: &mut Window<R>, content: u64) -> Result<u128,
 fn tag_number<R: Source>(w: &mut Window<R>) -> Result<u32, ReadFault>
     ensures bound { Keeps (bound_of w.old) (bound_of w.new) }
     ensures memory { TakesNoMemory result }
-    ensures reads { Reads long_number (state R.remaining R.failed w.old) result
-        (state R.remaining R.failed w.new) }
+    ensures reads { Reads long_number (state R.loan R.remaining R.failed w.old) result
+        (state R.loan R.remaining R.failed w.new) }
 {
     let number = base128(w, 6, (1 << 25) - 1, Why::TagForm)?;
     if number < 63 {
@@ -479,8 +479,8 @@ pub fn class(first: u8) -> Class
 pub fn tag<R: Source>(w: &mut Window<R>) -> Result<Tag, ReadFault>
     ensures bound { Keeps (bound_of w.old) (bound_of w.new) }
     ensures memory { TakesNoMemory result }
-    ensures reads { Reads tag_at (state R.remaining R.failed w.old) result
-        (state R.remaining R.failed w.new) }
+    ensures reads { Reads tag_at (state R.loan R.remaining R.failed w.old) result
+        (state R.loan R.remaining R.failed w.new) }
 {
     let first = octet(w)?;
     let class = class(first);

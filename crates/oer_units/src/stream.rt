@@ -1,8 +1,9 @@
 //! Where octets come from and go to, with a count of the calls that failed.
 ghost use Rattle.std.specs.Prelude.{◌≡◌, ℕ, List, Option, None, Some, length};
+ghost use Rattle.std.specs.Borrow.{GName};
 ghost use Rattle.std.specs.Io.{ReadsAtMost, WritesAtMost};
 ghost use Rattle.std.specs.Io.KnownBytes.{ReadConsumes, WriteAppends};
-ghost use Rattle.oer_units.specs.Stream.{counted_read, counted_write, inner_of, failures_of};
+ghost use Rattle.oer_units.specs.Stream.{counted_read, counted_write, inner_of, failures_of, lent_by, loan_of, failures_of_lent};
 ghost use Rattle.oer_units.specs.Writing.{Puts};
 
 use crate::fault::SinkFault;
@@ -15,6 +16,9 @@ pub trait Source {
     /// The octets that it will give from here on, where they are known.
     ghost remaining: { Self → Option (List ℕ) } = { λ _. None };
 
+    /// The name of the loan through which it reads, if it borrows what it reads from.
+    ghost loan: { Self → Option GName } = { λ _. None };
+
     /// How many calls failed, up to `u64::MAX`.
     ghost failed: { Self → ℕ };
 
@@ -23,6 +27,7 @@ pub trait Source {
     fn pull(&mut self, into: &mut [u8]) -> io::Result<usize>
         ensures bound { ReadsAtMost result into.new }
         ensures bytes { ReadConsumes (remaining self.old) (remaining self.new) result into.new }
+        ensures loan { loan self.new ≡ loan self.old }
         ensures count { failed self.new ≡ counted_read (failed self.old) result };
 
     /// How many calls failed so far, up to `u64::MAX`.
@@ -72,6 +77,45 @@ impl<T> Metered<T> {
         ensures { result ≡ inner_of self }
     {
         self.inner
+    }
+}
+
+/// A borrowed reader of `std`, whose octets it passes on unchanged, with a count of its failures. As long
+/// as it is read, the same reader stays borrowed. So what was taken is known of the reader after it.
+#[derive(Drop)]
+pub struct Lent<'r, R: Read> {
+    reader: &'r mut R,
+    count: u64,
+}
+
+impl<'r, R: Read> Lent<'r, R> {
+    /// The reader, with no failure so far.
+    pub fn new(reader: &'r mut R) -> Self
+        ensures loan { loan_of result ≡ reader.entry.ghost_name }
+        ensures reader { lent_by result ≡ reader.old }
+        ensures count { failures_of_lent result ≡ 0 }
+    {
+        Lent { reader, count: 0 }
+    }
+}
+
+impl<'r, R: Read> Source for Lent<'r, R> {
+    ghost remaining = { λ s. R.remaining (lent_by s) };
+
+    ghost loan = { λ s. Some (loan_of s) };
+
+    ghost failed = { λ s. failures_of_lent s };
+
+    fn pull(&mut self, into: &mut [u8]) -> io::Result<usize> {
+        let answer = self.reader.read(into);
+        if answer.is_err() {
+            self.count = self.count.saturating_add(1);
+        }
+        answer
+    }
+
+    fn failures(&self) -> u64 {
+        self.count
     }
 }
 

@@ -28,7 +28,8 @@ pub struct Window<'r, R: Source> {
 impl<'r, R: Source> Window<'r, R> {
     /// A window on the reader that has taken nothing, and allows `limit` octets.
     pub fn new(reader: &'r mut R, limit: u64) -> Self
-        ensures { state R.remaining R.failed result ≡ start reader.entry.ghost_name (R.remaining reader.old) (R.failed reader.old) limit }
+        ensures { state R.loan R.remaining R.failed result ≡ start reader.entry.ghost_name (R.loan reader.old) (R.remaining reader.old)
+            (R.failed reader.old) limit }
     {
         Window {
             reader,
@@ -72,8 +73,8 @@ impl<'r, R: Source> Window<'r, R> {
         ensures room { OnOk result (n ≤ left_of (bound_of self.now)) }
         ensures value { IfOk result (λ m. m ≡ n) }
         ensures memory { TakesNoMemory result }
-        ensures reads { Reads (allow_at n) (state R.remaining R.failed self.now) result
-            (state R.remaining R.failed self.now) }
+        ensures reads { Reads (allow_at n) (state R.loan R.remaining R.failed self.now) result
+            (state R.loan R.remaining R.failed self.now) }
     {
         if n <= self.left() as u128 {
             Ok(n as u64)
@@ -93,8 +94,8 @@ impl<'r, R: Source> Window<'r, R> {
         ensures memory { TakesNoMemory result }
         ensures count { IfOk result (λ n. (1 ≤ n) × (n ≤ length into.old)
             × ((bound_of self.new).taken ≡ (bound_of self.old).taken + n)) }
-        ensures reads { Fills (state R.remaining R.failed self.old) result into.new
-            (state R.remaining R.failed self.new) }
+        ensures reads { Fills (state R.loan R.remaining R.failed self.old) result into.new
+            (state R.loan R.remaining R.failed self.new) }
     {
         match self.reader.pull(into) {
             Ok(0) => Err(self.fault(Why::End)),
@@ -112,8 +113,8 @@ impl<'r, R: Source> Window<'r, R> {
         ensures bound { Keeps (bound_of self.old) (bound_of self.new) }
         ensures memory { TakesNoMemory result }
         ensures count { OnOk result ((bound_of self.new).taken ≡ (bound_of self.old).taken + length into.old) }
-        ensures reads { Reads (group (length into.old)) (state R.remaining R.failed self.old)
-            (seen (λ _. into.new) result) (state R.remaining R.failed self.new) }
+        ensures reads { Reads (group (length into.old)) (state R.loan R.remaining R.failed self.old)
+            (seen (λ _. into.new) result) (state R.loan R.remaining R.failed self.new) }
     {
         let mut at = 0;
         while at < into.len() {
@@ -128,8 +129,8 @@ impl<'r, R: Source> Window<'r, R> {
         ensures bound { Keeps (bound_of self.old) (bound_of self.new) }
         ensures memory { TakesNoMemory result }
         ensures one { OnOk result ((bound_of self.new).taken ≡ (bound_of self.old).taken + 1) }
-        ensures reads { Reads octet (state R.remaining R.failed self.old) result
-            (state R.remaining R.failed self.new) }
+        ensures reads { Reads octet (state R.loan R.remaining R.failed self.old) result
+            (state R.loan R.remaining R.failed self.new) }
     {
         let mut one = [0u8; 1];
         self.fill(&mut one)?;
@@ -141,7 +142,7 @@ impl<'r, R: Source> Window<'r, R> {
         requires { n ≤ left_of (bound_of self.old) }
         ensures end { end_of result ≡ (bound_of self.old).end }
         ensures inside { was_inside result ≡ (bound_of self.old).inside }
-        ensures entered { state R.remaining R.failed self.new ≡ entered n (state R.remaining R.failed self.old) }
+        ensures entered { state R.loan R.remaining R.failed self.new ≡ entered n (state R.loan R.remaining R.failed self.old) }
     {
         let Bound {
             taken,
@@ -164,11 +165,11 @@ impl<'r, R: Source> Window<'r, R> {
         requires later { (bound_of self.old).end ≤ end_of outer }
         requires within { end_of outer ≤ (bound_of self.old).limit }
         ensures filled { OnOk result ((bound_of self.old).taken ≡ (bound_of self.old).end) }
-        ensures ok { OnOk result (state R.remaining R.failed self.new
-            ≡ returned (end_of outer) (was_inside outer) (state R.remaining R.failed self.old)) }
+        ensures ok { OnOk result (state R.loan R.remaining R.failed self.new
+            ≡ returned (end_of outer) (was_inside outer) (state R.loan R.remaining R.failed self.old)) }
         ensures unfilled { OnErr result ((bound_of self.old).taken < (bound_of self.old).end) }
         ensures fault { IfErr result (λ e. (e.why ≡ Why.Window) × (e.taken ≡ (bound_of self.old).taken)) }
-        ensures err { OnErr result (state R.remaining R.failed self.new ≡ state R.remaining R.failed self.old) }
+        ensures err { OnErr result (state R.loan R.remaining R.failed self.new ≡ state R.loan R.remaining R.failed self.old) }
     {
         if self.left() > 0 {
             return Err(self.fault(Why::Window));

@@ -8,5 +8,5 @@ use Rattle.oer_decoder.proofs.booleans.read_booleans.Given as goal
 
 abbrev pub invariant-loop-i : goal.invariant-loop-i
 invariant-loop-i g l =
-    let now = state g.R.Source.remaining g.R.Source.failed in
+    let now = state g.R.Source.loan g.R.Source.remaining g.R.Source.failed in
     Leads (times (l.count - l.i) (read_value boolean)) (now l.w) (λ w. map value_of l.values.items ++ w) (times l.count (read_value boolean)) (now l.fn.w)

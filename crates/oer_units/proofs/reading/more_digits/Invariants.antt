@@ -5,7 +5,7 @@ use Rattle.oer_units.proofs.reading.more_digits.Given as goal
 
 abbrev pub invariant-loop-step : goal.invariant-loop-step
 invariant-loop-step g l =
-    let now = state g.R.Source.remaining g.R.Source.failed in
+    let now = state g.R.Source.loan g.R.Source.remaining g.R.Source.failed in
     record {
       bound : Keeps (bound_of l.fn.w) (bound_of l.w);
       taken : (bound_of l.w).taken ≡ (bound_of l.fn.w).taken + l._step;

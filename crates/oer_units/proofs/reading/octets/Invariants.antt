@@ -5,7 +5,7 @@ use Rattle.oer_units.proofs.reading.octets.Given as goal
 
 abbrev pub invariant-loop-octets : goal.invariant-loop-octets
 invariant-loop-octets g l =
-    let now = state g.R.Source.remaining g.R.Source.failed in
+    let now = state g.R.Source.loan g.R.Source.remaining g.R.Source.failed in
     record {
       most : vec_len l.octets ≤ l.fn.n;
       room : l.fn.n - vec_len l.octets ≤ left_of (bound_of l.w);

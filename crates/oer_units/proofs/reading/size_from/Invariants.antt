@@ -7,7 +7,7 @@ use Rattle.oer_units.proofs.reading.size_from.Given as goal
 
 abbrev pub invariant-loop-step : goal.invariant-loop-step
 invariant-loop-step g l =
-    let now = state g.R.Source.remaining g.R.Source.failed in
+    let now = state g.R.Source.loan g.R.Source.remaining g.R.Source.failed in
     record {
       room : l.count - l._step ≤ left_of (bound_of l.w);
       bound : Keeps (bound_of l.fn.w) (bound_of l.w);

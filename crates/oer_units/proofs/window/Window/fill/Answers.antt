@@ -10,6 +10,7 @@ returns-in-Ok-eq0-clause-reads g c =
     let e = c.in-Ok-eq0.ensures in
     record {
       reader = search rules;
+      loan = search rules;
       kept = tt;
       limit = search rules;
       within = λ h. h;
@@ -28,6 +29,7 @@ returns-in-Ok-clause-reads g c =
     let b' : Span = record { taken = b.taken + c.in-Ok.count; end = b.end; limit = b.limit; inside = b.inside } in
     record {
       reader = search rules;
+      loan = search rules;
       kept = search rules;
       limit = search rules;
       within = λ h. omega arith;

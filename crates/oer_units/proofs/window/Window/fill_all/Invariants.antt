@@ -5,7 +5,7 @@ use Rattle.oer_units.proofs.window.Window.fill_all.Given as goal
 
 abbrev pub invariant-loop-at : goal.invariant-loop-at
 invariant-loop-at g l =
-    let now = state g.R.Source.remaining g.R.Source.failed in
+    let now = state g.R.Source.loan g.R.Source.remaining g.R.Source.failed in
     record {
       within : l.at ≤ length l.into;
       len : length l.into ≡ length l.fn.into;
