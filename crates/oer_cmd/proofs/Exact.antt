@@ -87,7 +87,7 @@ canonical_more T limit failed failed' m n count count' known known' old new faul
 
 pub front_of : {A : Type 0} (r : Reader A) (limit failed failed' : ℕ) (known known' : Option (List ℕ)) (result : Result (A × ℕ) ReadFault)
     → ReadsAndCounts r limit known failed result known' failed' → ReadsFront r limit known failed (seen first_of result) known' failed'
-front_of r limit failed failed' known known' result h = record { name = h.name; bound = h.bound; within = h.within; reads = h.reads }
+front_of r limit failed failed' known known' result h = record { name = h.name; loan = h.loan; bound = h.bound; within = h.within; reads = h.reads }
 
 pub json_made : (T : AsnType) (limit failed failed' n : ℕ) (known known' : Option (List ℕ)) (v : AsnValue) (json : Json)
     → ReadsAndCounts (read_value T) limit known failed (Ok (v, n)) known' failed' → IsEmpty known' → view json ≡ made T v → Meets view (json_input T limit known) (Ok json)

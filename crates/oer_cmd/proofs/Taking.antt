@@ -20,7 +20,8 @@ use Rattle.oer_decoder.specs.Rewriting.{ReadsAndWrites}
 use Rattle.oer_decoder.specs.declared.fault.RewriteFault.{RewriteFault}
 use Rattle.oer_decoder.specs.declared.fault.RewriteFault.TheVariants as rewrite
 use Rattle.oer_cmd.specs.Faults.{IsOfRead, IsOfRewrite, status_of}
-use Rattle.oer_cmd.specs.Taking.{Amounts, GivesFront, GivesValue, IsGathered, IsNext, taken_by}
+use Rattle.oer_cmd.specs.Gathering.{TellsAll}
+use Rattle.oer_cmd.specs.Taking.{Amounts, GivesAll, GivesFront, GivesValue, IsGathered, IsNext, taken_by}
 use Rattle.oer_cmd.specs.declared.fault.Fault.{Fault}
 use Rattle.oer_cmd.proofs.Exact.{front_of}
 use Rattle.oer_cmd.proofs.Front.{none_left, one_read}
@@ -40,6 +41,11 @@ pub later : (most status status' : ℕ) (P : List ℕ → ℕ → Type 0) (told 
 later most status status' P None told' less h = tt
 later most status status' P (Some b) None less h = h
 later most status status' P (Some b) (Some rest) less (t, is, (few, exact)) = (t, is, (few, λ small. exact (less small)))
+
+-- nothing, where the machine failed
+pub untaken : (most status : ℕ) (P : List ℕ → ℕ → Type 0) (told : Option (List ℕ)) → (status ≤ 2 → ⊥) → GivesFront told told (Amounts most status P)
+untaken most status P None high = tt
+untaken most status P (Some b) high = ([], refl, (omega arith, λ small. absurd (high small)))
 
 -- ---- one more octet
 
@@ -185,3 +191,9 @@ more_gathered limit told told' t P h many few =
 pub some_gathered : (limit : ℕ) (told told' : Option (List ℕ)) (t : List ℕ) (P : Type 0) → Consumes told told' t → length t ≤ limit + 4096 → (P → ⊥)
     → GivesFront told told' (λ b n. (n ≤ limit + 4096) × (P → IsGathered limit b n))
 some_gathered limit told told' t P h few none = front_taken told told' t (λ b n. (n ≤ limit + 4096) × (P → IsGathered limit b n)) h (λ b rest is is'. (few, λ p. absurd (none p)))
+
+-- what was gathered, by the status of the answer
+pub gave : (limit status : ℕ) (told told' : Option (List ℕ)) (P : Type 0) → (status ≤ 2 → P) → GivesFront told told' (λ b n. (n ≤ limit + 4096) × (P → IsGathered limit b n)) → GivesAll limit status told told'
+gave limit status None told' P small h = tt
+gave limit status (Some b) None P small h = h
+gave limit status (Some b) (Some rest) P small (t, is, (few, all)) = (t, is, (few, λ s. all (small s)))

@@ -5,7 +5,7 @@ use Rattle.oer_units.specs.Reader.{Outcome, at, got, refused}
 use Rattle.oer_model.specs.AsnType.{AsnType}
 use Rattle.oer_model.specs.Parts.{Step}
 use Rattle.oer_model.specs.Reading.{read_value}
-use Rattle.oer_options.specs.Words.{Asks, oer, path_text, source_text, texts_of}
+use Rattle.oer_options.specs.Words.{Asks, Kind, canon, check, kind, make, oer, part, path_text, show, source_text, texts_of}
 use Rattle.oer_options.specs.declared.options.Options.{Options}
 use Rattle.oer_cmd.specs.Answer.{IsPathOf, expected_type}
 use Rattle.oer_cmd.specs.Expected.{Expected, value}
@@ -47,17 +47,31 @@ IsGathered limit b n = min (length b) (limit + 1) ≤ n
 abbrev pub GivesValue : AsnType → ℕ → ℕ → Option (List ℕ) → Option (List ℕ) → Type 0
 GivesValue T limit status told told' = GivesFront told told' (Amounts (limit + 1) status (IsValue T limit))
 
--- The input is untouched, unless there are a type, no octets and no JSON, and a path, where the task has one.
-abbrev pub UnlessAsked : Expected AsnType → Option Text → Expected (List Step) → Type 0 → Type 0
-UnlessAsked (value T) None (value path) untouched = ⊤
-UnlessAsked type source path untouched = untouched
+-- as many as `gather` takes: all, or more than the limit, and never more than the limit and 4,096
+abbrev pub GivesAll : ℕ → ℕ → Option (List ℕ) → Option (List ℕ) → Type 0
+GivesAll limit status told told' = GivesFront told told' (Amounts (limit + 4096) status (IsGathered limit))
+
+-- The input gave what a task takes of it for values of the type.
+abbrev pub GivesTask : Kind → AsnType → ℕ → ℕ → Option (List ℕ) → Option (List ℕ) → Type 0
+GivesTask show T limit status told told' = GivesValue T limit status told told'
+GivesTask canon T limit status told told' = GivesValue T limit status told told'
+GivesTask check T limit status told told' = GivesAll limit status told told'
+GivesTask make T limit status told told' = GivesAll limit status told told'
+GivesTask part T limit status told told' = GivesAll limit status told told'
+
+-- The input gave what is taken for the type, where there are a type, no octets and no JSON, and a path, if the task has one. Else it is
+-- untouched.
+abbrev pub GivesIfAsked : Expected AsnType → Option Text → Expected (List Step) → Type 0 → (AsnType → Type 0) → Type 0
+GivesIfAsked (value T) None (value path) untouched gives = gives T
+GivesIfAsked type source path untouched gives = untouched
 
 -- the same for these options
-abbrev pub KeepsUnasked : Options → Type 0 → Type 0
-KeepsUnasked o untouched = (path : Expected (List Step)) → IsPathOf (path_text o.task) path
-    → UnlessAsked (expected_type (texts_of o)) (source_text o.task) path untouched
+abbrev pub TakesFor : Options → Type 0 → ℕ → Option (List ℕ) → Option (List ℕ) → Type 0
+TakesFor o untouched status told told' = (path : Expected (List Step)) → IsPathOf (path_text o.task) path
+    → GivesIfAsked (expected_type (texts_of o)) (source_text o.task) path untouched (λ T. GivesTask (kind o.task) T o.limit status told told')
 
 -- The same after these words. The input is untouched, too, where they are not taken, or memory for them was refused.
-abbrev pub KeepsInput : List Text → Type 0 → ℕ → Type 0
-KeepsInput words untouched status = (untouched × (status ≤ 2 → takes oer words ≡ true → ⊥))
-    ⊎ ((o : Options) × Asks words o × KeepsUnasked o untouched)
+-- told, told': what the input had left before and after, where that is known.
+abbrev pub TakesInput : List Text → Type 0 → ℕ → Option (List ℕ) → Option (List ℕ) → Type 0
+TakesInput words untouched status told told' = (untouched × (status ≤ 2 → takes oer words ≡ true → ⊥))
+    ⊎ ((o : Options) × Asks words o × TakesFor o untouched status told told')

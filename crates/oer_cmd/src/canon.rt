@@ -19,8 +19,9 @@ use std::alloc::Global;
 
 // The next octet.
 fn octet_at_front<R: Source>(reader: &mut R) -> Result<u8, ReadFault>
-    ensures { ReadsFront octet_read 1 (R.remaining reader.old) (R.failed reader.old) result
+    ensures reads { ReadsFront octet_read 1 (R.remaining reader.old) (R.failed reader.old) result
         (R.remaining reader.new) (R.failed reader.new) }
+    ensures loan { R.loan reader.new ≡ R.loan reader.old }
 {
     let mut w = Window::new(reader, 1);
     octet(&mut w)
@@ -33,6 +34,7 @@ pub fn check_end<'a, R: Source>(reader: &mut R, taken: u64) -> Result<(), Fault<
     ensures refused { IfErr result (λ fault. Refuses fault (HasMore (R.remaining reader.old))) }
     ensures follows { IfErr result (λ fault. status_of fault ≤ 2 → fault ≡ Fault.Follows taken) }
     ensures takes { GivesFront (R.remaining reader.old) (R.remaining reader.new) (Amounts 1 (status_after result) IsNext) }
+    ensures loan { R.loan reader.new ≡ R.loan reader.old }
 {
     let fault = match octet_at_front(reader) {
         Ok(_) => return Err(Fault::Follows(taken)),
@@ -60,6 +62,7 @@ fn canonical<'a, R: Source>(
         (IfSome (R.remaining reader.old) (IsNoEncoding (the_type schema.now) limit))) }
     ensures exact { Meets octets_of (canonical_input (the_type schema.now) limit (R.remaining reader.old)) result }
     ensures takes { GivesValue (the_type schema.now) limit (status_after result) (R.remaining reader.old) (R.remaining reader.new) }
+    ensures loan { R.loan reader.new ≡ R.loan reader.old }
 {
     let mut sink = Metered::new(Vec::new(alloc));
     let taken = match rewrite(alloc, schema, reader, limit, &mut sink) {
@@ -84,6 +87,7 @@ pub fn canonical_digits<'a, R: Source>(
         (IfSome (R.remaining reader.old) (NoneFor (IsCanonLine (the_type schema.now) limit)))) }
     ensures exact { Meets string_bytes (digits_input (the_type schema.now) limit (R.remaining reader.old)) result }
     ensures takes { GivesValue (the_type schema.now) limit (status_after result) (R.remaining reader.old) (R.remaining reader.new) }
+    ensures loan { R.loan reader.new ≡ R.loan reader.old }
 {
     let octets = canonical(alloc, schema, reader, limit)?;
     match hex::encode(alloc, octets) {

@@ -7,6 +7,7 @@ ghost use Rattle.oer_cmd.specs.Faults.{Refuses, status_of};
 ghost use Rattle.oer_cmd.specs.Answer.{check_answer, checked};
 ghost use Rattle.oer_cmd.specs.Expected.{Meets};
 ghost use Rattle.oer_cmd.specs.Run.{AreCanonical, IsCheckLine, IsEncoding, IsNoFront, NoLine, OfOctets, verdict_text};
+ghost use Rattle.oer_cmd.specs.Taking.{GivesAll, status_after};
 
 use crate::fault::Fault;
 use crate::octets::{all_octets, spelt};
@@ -71,6 +72,8 @@ pub fn check_line<'a, R: Read>(
         (λ told line. OfOctets (behind hex.entry) told (IsCheckLine (the_type schema.now) limit line)))) }
     ensures exact { Meets string_bytes (check_answer (the_type schema.now) limit (behind hex.entry) (R.remaining input.old)) result }
     ensures untouched { behind hex.entry ≢ None → input.new ≡ input.old }
+    ensures takes { behind hex.entry ≡ None
+        → GivesAll limit (status_after result) (R.remaining input.old) (R.remaining input.new) }
 {
     let spelt = spelt(alloc, hex)?;
     let octets = all_octets(alloc, spelt, input, limit)?;

@@ -34,6 +34,8 @@ pub fn gather<R: Source>(alloc: Global, reader: &mut R, limit: u64) -> Result<Ve
         (λ b n. (n ≤ limit + 4096) × (TellsAll result → IsGathered limit b n)) }
     // A call failed exactly where the answer is `Device`.
     ensures count { R.failed reader.new ≡ counted_by (R.failed reader.old) result }
+    // A reader that borrows what it reads from has the same loan as before.
+    ensures loan { R.loan reader.new ≡ R.loan reader.old }
 {
     let mut octets = Vec::new(alloc);
     while octets.len() as u64 <= limit {

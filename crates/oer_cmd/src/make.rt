@@ -16,6 +16,7 @@ ghost use Rattle.oer_cmd.specs.Expected.{Meets, value as expected};
 ghost use Rattle.oer_cmd.specs.Faults.{Refuses, status_of};
 ghost use Rattle.oer_cmd.specs.Octets.{octets_of};
 ghost use Rattle.oer_cmd.specs.Run.{IsMakeLine, Makes, NoLine, NoneFor, OfText};
+ghost use Rattle.oer_cmd.specs.Taking.{GivesAll, status_after};
 
 use crate::fault::Fault;
 use crate::octets::all_octets;
@@ -101,6 +102,7 @@ fn input_line<'a, R: Read>(
     ensures refused { IfErr result (λ fault. Refuses fault (NoLine (R.remaining input.old)
         (λ told line. OfText None told (IsMakeLine (the_type schema.now) limit line)))) }
     ensures exact { Meets string_bytes (make_answer (the_type schema.now) limit None (R.remaining input.old)) result }
+    ensures takes { GivesAll limit (status_after result) (R.remaining input.old) (R.remaining input.new) }
 {
     let octets = all_octets(alloc, None, input, limit)?;
     match str::from_utf8(octets.as_slice()) {
@@ -124,6 +126,8 @@ pub fn make_line<'a, R: Read>(
         (λ told line. OfText (behind json.entry) told (IsMakeLine (the_type schema.now) limit line)))) }
     ensures exact { Meets string_bytes (make_answer (the_type schema.now) limit (behind json.entry) (R.remaining input.old)) result }
     ensures untouched { behind json.entry ≢ None → input.new ≡ input.old }
+    ensures takes { behind json.entry ≡ None
+        → GivesAll limit (status_after result) (R.remaining input.old) (R.remaining input.new) }
 {
     let Some(text) = json else {
         return input_line(alloc, schema, limit, input);

@@ -1,15 +1,17 @@
 //! The octets that a task is given.
-ghost use Rattle.std.specs.Prelude.{◌≡◌, ◌≢◌, ◌≤◌, ℕ, List, Option, None, length, option_map, IfErr, IfOk};
+ghost use Rattle.std.specs.Prelude.{◌≡◌, ◌≢◌, ◌≤◌, ◌<◌, ◌+◌, ℕ, List, Option, None, length, option_map, IfErr, IfOk, IfSome};
 ghost use Rattle.hex.specs.Hex.{decode_of};
 ghost use Rattle.oer_options.specs.Words.{behind};
 ghost use Rattle.oer_cmd.specs.Answer.{digits_octets, hex_octets, limited_octets};
 ghost use Rattle.oer_cmd.specs.Expected.{Meets};
+ghost use Rattle.oer_cmd.specs.Gathering.{TellsAll};
 ghost use Rattle.oer_cmd.specs.Octets.{AreAll, AreSpelt, IsTooLong, octets_of};
+ghost use Rattle.oer_cmd.specs.Taking.{GivesAll, GivesFront, IsGathered, status_after};
 
 use crate::fault::Fault;
 use crate::gathering::{GatherFault, gather};
 use hex::FromHexError;
-use oer_units::Metered;
+use oer_units::Lent;
 use std::alloc::Global;
 use std::io::Read;
 
@@ -42,14 +44,27 @@ pub fn spelt<'a>(alloc: Global, hex: Option<&str>) -> Result<Option<Vec<u8>>, Fa
     }
 }
 
+// What `gather` answers for the input.
+fn gather_input<R: Read>(alloc: Global, input: &mut R, limit: u64) -> Result<Vec<u8>, GatherFault>
+    ensures all { IfOk result (λ octets. IfSome (R.remaining input.old) (λ xs. xs ≡ octets.items)) }
+    ensures within { IfOk result (λ octets. length octets.items ≤ limit) }
+    ensures longer { IfErr result (λ fault. fault ≡ GatherFault.Longer
+        → IfSome (R.remaining input.old) (λ xs. limit < length xs)) }
+    ensures takes { GivesFront (R.remaining input.old) (R.remaining input.new)
+        (λ b n. (n ≤ limit + 4096) × (TellsAll result → IsGathered limit b n)) }
+{
+    gather(alloc, &mut Lent::new(input), limit)
+}
+
 // All that the input has left, within the limit.
 fn gathered<'a, R: Read>(alloc: Global, input: &mut R, limit: u64) -> Result<Vec<u8>, Fault<'a>>
     ensures exact { Meets octets_of (limited_octets limit None (R.remaining input.old)) result }
     ensures within { IfOk result (λ b. length b.items ≤ limit) }
     ensures all { IfOk result (λ b. AreAll None (R.remaining input.old) b.items) }
     ensures refused { IfErr result (IsTooLong limit None (R.remaining input.old)) }
+    ensures takes { GivesAll limit (status_after result) (R.remaining input.old) (R.remaining input.new) }
 {
-    match gather(alloc, &mut Metered::new(input), limit) {
+    match gather_input(alloc, input, limit) {
         Ok(octets) => Ok(octets),
         Err(GatherFault::Memory) => Err(Fault::Memory),
         Err(GatherFault::Device) => Err(Fault::Input),
@@ -67,6 +82,8 @@ pub fn all_octets<'a, R: Read>(
 ) -> Result<Vec<u8>, Fault<'a>>
     ensures exact { Meets octets_of (limited_octets limit (option_map octets_of spelt) (R.remaining input.old)) result }
     ensures untouched { option_map octets_of spelt ≢ None → input.new ≡ input.old }
+    ensures takes { option_map octets_of spelt ≡ None
+        → GivesAll limit (status_after result) (R.remaining input.old) (R.remaining input.new) }
     ensures within { IfOk result (λ b. length b.items ≤ limit) }
     ensures all { IfOk result (λ b. AreAll (option_map octets_of spelt) (R.remaining input.old) b.items) }
     ensures refused { IfErr result (IsTooLong limit (option_map octets_of spelt) (R.remaining input.old)) }

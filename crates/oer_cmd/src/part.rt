@@ -8,7 +8,7 @@ ghost use Rattle.oer_cmd.specs.Answer.{IsPathOf, part_answer, part_octets};
 ghost use Rattle.oer_cmd.specs.Expected.{Expected, Meets, value};
 ghost use Rattle.oer_cmd.specs.Faults.{Refuses};
 ghost use Rattle.oer_cmd.specs.Run.{HasNoPart, IsEncoding, IsPart, IsPartLine, IsPath, NoLine, OfOctets};
-ghost use Rattle.oer_cmd.specs.Taking.{UnlessAsked};
+ghost use Rattle.oer_cmd.specs.Taking.{GivesAll, GivesIfAsked, status_after};
 
 use crate::check::judged;
 use crate::fault::Fault;
@@ -78,8 +78,9 @@ pub fn part_line<'a, R: Read>(
     ensures exact { (steps : Expected (List PlainStep)) → IsPathOf (behind path.entry) steps
         → Meets string_bytes (part_answer (the_type schema.now) limit (behind hex.entry) steps (R.remaining input.old)) result }
     ensures untouched { behind hex.entry ≢ None → input.new ≡ input.old }
-    ensures unasked { (steps : Expected (List PlainStep)) → IsPathOf (behind path.entry) steps
-        → UnlessAsked (value (the_type schema.now)) (behind hex.entry) steps (input.new ≡ input.old) }
+    ensures takes { (steps : Expected (List PlainStep)) → IsPathOf (behind path.entry) steps
+        → GivesIfAsked (value (the_type schema.now)) (behind hex.entry) steps (input.new ≡ input.old)
+        (λ _. GivesAll limit (status_after result) (R.remaining input.old) (R.remaining input.new)) }
 {
     let spelt = spelt(alloc, hex)?;
     let path = path_of(alloc, path)?;

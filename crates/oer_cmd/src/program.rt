@@ -5,13 +5,13 @@ ghost use Rattle.clap.specs.Words.{kind_of, takes};
 ghost use Rattle.clap.specs.declared.error.kind.ErrorKind.TheVariants.{DisplayHelp, DisplayVersion, OutOfMemory};
 ghost use Rattle.oer_model.specs.Parts.{Step};
 ghost use Rattle.oer_types.specs.Schema.{the_type};
-ghost use Rattle.oer_options.specs.Words.{oer, path_text, source_text, texts_of};
+ghost use Rattle.oer_options.specs.Words.{kind, oer, path_text, source_text, texts_of};
 ghost use Rattle.oer_cmd.specs.Answer.{IsPathOf, answer_of, expected_answer, expected_type, task_answer};
 ghost use Rattle.oer_cmd.specs.Ending.{Ends};
 ghost use Rattle.oer_cmd.specs.Expected.{Expected, Meets, value};
 ghost use Rattle.oer_cmd.specs.Faults.{AppendsFront, Printed, Refuses, Reports, status_of};
 ghost use Rattle.oer_cmd.specs.Run.{IsLineFor, IsLineOf, NoLine, NoLineOf, NoLineAsked, Prints};
-ghost use Rattle.oer_cmd.specs.Taking.{KeepsInput, KeepsUnasked, UnlessAsked};
+ghost use Rattle.oer_cmd.specs.Taking.{GivesIfAsked, GivesTask, TakesFor, TakesInput, status_after};
 ghost use Rattle.oer_cmd.specs.Types.{texts_at};
 ghost use Rattle.oer_cmd.specs.declared.type_text.TypeText.TheVariants.{Named, One};
 
@@ -42,8 +42,9 @@ fn line_of<'a, R: Read>(
     ensures exact { (path : Expected (List Step)) → IsPathOf (path_text options.entry.task) path
         → Meets string_bytes (task_answer options.entry.task (the_type schema.now) options.entry.limit path (R.remaining input.old)) result }
     ensures untouched { source_text options.entry.task ≢ None → input.new ≡ input.old }
-    ensures unasked { (path : Expected (List Step)) → IsPathOf (path_text options.entry.task) path
-        → UnlessAsked (value (the_type schema.now)) (source_text options.entry.task) path (input.new ≡ input.old) }
+    ensures takes { (path : Expected (List Step)) → IsPathOf (path_text options.entry.task) path
+        → GivesIfAsked (value (the_type schema.now)) (source_text options.entry.task) path (input.new ≡ input.old)
+        (λ T. GivesTask (kind options.entry.task) T options.entry.limit (status_after result) (R.remaining input.old) (R.remaining input.new)) }
 {
     let limit = options.limit;
     match options.task {
@@ -69,8 +70,9 @@ fn line_of_one<'a, R: Read>(
     ensures exact { (path : Expected (List Step)) → IsPathOf (path_text options.entry.task) path
         → Meets string_bytes (answer_of (texts_at (One text.entry)) options.entry.task options.entry.limit path (R.remaining input.old)) result }
     ensures untouched { source_text options.entry.task ≢ None → input.new ≡ input.old }
-    ensures unasked { (path : Expected (List Step)) → IsPathOf (path_text options.entry.task) path
-        → UnlessAsked (expected_type (texts_at (One text.entry))) (source_text options.entry.task) path (input.new ≡ input.old) }
+    ensures takes { (path : Expected (List Step)) → IsPathOf (path_text options.entry.task) path
+        → GivesIfAsked (expected_type (texts_at (One text.entry))) (source_text options.entry.task) path (input.new ≡ input.old)
+        (λ T. GivesTask (kind options.entry.task) T options.entry.limit (status_after result) (R.remaining input.old) (R.remaining input.new)) }
 {
     let schema = one_type(alloc, text)?;
     line_of(alloc, &schema, options, input)
@@ -91,8 +93,9 @@ fn line_of_named<'a, R: Read>(
     ensures exact { (path : Expected (List Step)) → IsPathOf (path_text options.entry.task) path
         → Meets string_bytes (answer_of (texts_at (Named types.entry name.entry)) options.entry.task options.entry.limit path (R.remaining input.old)) result }
     ensures untouched { source_text options.entry.task ≢ None → input.new ≡ input.old }
-    ensures unasked { (path : Expected (List Step)) → IsPathOf (path_text options.entry.task) path
-        → UnlessAsked (expected_type (texts_at (Named types.entry name.entry))) (source_text options.entry.task) path (input.new ≡ input.old) }
+    ensures takes { (path : Expected (List Step)) → IsPathOf (path_text options.entry.task) path
+        → GivesIfAsked (expected_type (texts_at (Named types.entry name.entry))) (source_text options.entry.task) path (input.new ≡ input.old)
+        (λ T. GivesTask (kind options.entry.task) T options.entry.limit (status_after result) (R.remaining input.old) (R.remaining input.new)) }
 {
     let types = definitions(alloc, types)?;
     let schema = named_type(&types, name)?;
@@ -112,7 +115,8 @@ fn answer<'a, R: Read>(
     ensures exact { (path : Expected (List Step)) → IsPathOf (path_text options.entry.task) path
         → Meets string_bytes (expected_answer options.entry path (R.remaining input.old)) result }
     ensures untouched { source_text options.entry.task ≢ None → input.new ≡ input.old }
-    ensures unasked { KeepsUnasked options.entry (input.new ≡ input.old) }
+    ensures takes { TakesFor options.entry (input.new ≡ input.old) (status_after result)
+        (R.remaining input.old) (R.remaining input.new) }
 {
     match type_text(options)? {
         TypeText::One(text) => line_of_one(alloc, text, options, input),
@@ -231,8 +235,10 @@ pub fn run<R: Read, W: Write, E: Write>(
     // the octets say, unless memory ran out or a device failed. Input that isn't needed is untouched.
     ensures exact { Ends (map string_bytes words.now) (R.remaining input.old) (input.new ≡ input.old) result
         (W.contents output.old) (W.contents output.new) (E.contents errors.old) (E.contents errors.new) }
-    // Where an error comes before the octets, or these are given, the input is untouched.
-    ensures unasked { KeepsInput (map string_bytes words.now) (input.new ≡ input.old) result }
+    // How much of the input is taken. Where an error comes before the octets, or these are given, it is
+    // untouched.
+    ensures takes { TakesInput (map string_bytes words.now) (input.new ≡ input.old) result
+        (R.remaining input.old) (R.remaining input.new) }
 {
     let options = match parsed(alloc, words) {
         Ok(options) => options,

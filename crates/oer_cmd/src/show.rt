@@ -1,5 +1,5 @@
 //! The JSON of a value.
-ghost use Rattle.std.specs.Prelude.{IfErr, IfOk, IfSome, string_bytes};
+ghost use Rattle.std.specs.Prelude.{◌≡◌, IfErr, IfOk, IfSome, string_bytes};
 ghost use Rattle.serde_json.specs.View.{view};
 ghost use Rattle.oer_types.specs.Schema.{the_type};
 ghost use Rattle.oer_cmd.specs.Canon.{IsNoEncoding};
@@ -33,6 +33,7 @@ fn shown<'a, R: Source>(
         (IfSome (R.remaining reader.old) (IsNoEncoding (the_type schema.now) limit))) }
     ensures exact { Meets view (json_input (the_type schema.now) limit (R.remaining reader.old)) result }
     ensures takes { GivesValue (the_type schema.now) limit (status_after result) (R.remaining reader.old) (R.remaining reader.new) }
+    ensures loan { R.loan reader.new ≡ R.loan reader.old }
 {
     let (value, taken) = match read_with_length(alloc, schema, reader, limit) {
         Ok(read) => read,
@@ -58,6 +59,7 @@ pub fn json_text<'a, R: Source>(
         (IfSome (R.remaining reader.old) (NoneFor (IsShowLine (the_type schema.now) limit)))) }
     ensures exact { Meets string_bytes (text_input (the_type schema.now) limit (R.remaining reader.old)) result }
     ensures takes { GivesValue (the_type schema.now) limit (status_after result) (R.remaining reader.old) (R.remaining reader.new) }
+    ensures loan { R.loan reader.new ≡ R.loan reader.old }
 {
     let json = shown(alloc, schema, reader, limit)?;
     match json.to_string(alloc) {

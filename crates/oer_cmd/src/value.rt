@@ -14,7 +14,7 @@ use crate::fault::Fault;
 use crate::octets::decoded;
 use crate::show::json_text;
 use oer_types::Schema;
-use oer_units::{Metered, Source};
+use oer_units::{Lent, Metered, Source};
 use std::alloc::Global;
 use std::io::Read;
 
@@ -41,6 +41,7 @@ fn read_line<'a, R: Source>(
         (IfSome (R.remaining reader.old) (NoneFor (IsValueLine form (the_type schema.now) limit)))) }
     ensures exact { Meets string_bytes (value_answer form (the_type schema.now) limit None (R.remaining reader.old)) result }
     ensures takes { GivesValue (the_type schema.now) limit (status_after result) (R.remaining reader.old) (R.remaining reader.new) }
+    ensures loan { R.loan reader.new ≡ R.loan reader.old }
 {
     match form {
         Form::Octets => canonical_digits(alloc, schema, reader, limit),
@@ -67,6 +68,24 @@ fn hex_line<'a>(
     read_line(alloc, schema, form, &mut reader, limit)
 }
 
+// The line for the octets that the input has left.
+fn input_line<'a, R: Read>(
+    alloc: Global,
+    schema: &Schema,
+    form: Form,
+    input: &mut R,
+    limit: u64,
+) -> Result<String, Fault<'a>>
+    ensures line { IfOk result (λ line. IfSome (R.remaining input.old)
+        (IsValueLine form (the_type schema.now) limit (string_bytes line))) }
+    ensures refused { IfErr result (λ fault. Refuses fault
+        (IfSome (R.remaining input.old) (NoneFor (IsValueLine form (the_type schema.now) limit)))) }
+    ensures exact { Meets string_bytes (value_answer form (the_type schema.now) limit None (R.remaining input.old)) result }
+    ensures takes { GivesValue (the_type schema.now) limit (status_after result) (R.remaining input.old) (R.remaining input.new) }
+{
+    read_line(alloc, schema, form, &mut Lent::new(input), limit)
+}
+
 /// The line of `canon` or of `show` for the octets that the options or the input give.
 pub fn value_line<'a, R: Read>(
     alloc: Global,
@@ -82,9 +101,11 @@ pub fn value_line<'a, R: Read>(
         (λ told line. OfOctets (behind hex.entry) told (IsValueLine form (the_type schema.now) limit line)))) }
     ensures exact { Meets string_bytes (value_answer form (the_type schema.now) limit (behind hex.entry) (R.remaining input.old)) result }
     ensures untouched { behind hex.entry ≢ None → input.new ≡ input.old }
+    ensures takes { behind hex.entry ≡ None
+        → GivesValue (the_type schema.now) limit (status_after result) (R.remaining input.old) (R.remaining input.new) }
 {
     match hex {
         Some(digits) => hex_line(alloc, schema, form, digits, limit),
-        None => read_line(alloc, schema, form, &mut Metered::new(input), limit),
+        None => input_line(alloc, schema, form, input, limit),
     }
 }

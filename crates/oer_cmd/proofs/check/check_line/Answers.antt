@@ -9,6 +9,10 @@ use Rattle.oer_cmd.proofs.Exact.{check_all, check_longer, check_unjudged, check_
 use Rattle.oer_parts.specs.declared.encoding.Encoding.{Encoding}
 use Rattle.oer_cmd.specs.Answer.{checked}
 use Rattle.oer_cmd.proofs.Meeting.{missed_in, seen_in}
+use Rattle.std.proofs.Common.{◌+◌, arith}
+use Rattle.oer_cmd.specs.Taking.{IsGathered}
+use Rattle.oer_cmd.proofs.Asking.{none_spelt, spelt_lost}
+use Rattle.oer_cmd.proofs.Taking.{later, untaken}
 use Rattle.oer_cmd.proofs.check.check_line.Goals as goal
 
 abbrev seen : Encoding → Bool
@@ -55,3 +59,23 @@ pub returns-in_err-encoding-clause-exact : goal.returns-in_err-encoding-clause-e
 returns-in_err-encoding-clause-exact g c =
     let p = err_from_is_err_and c.from_residual-in_err-encoding.result c.from_residual-in_err-encoding.ensures.1 in
     rw (p.1, p.2) (check_all (the_type c.args.schema.now) c.args.limit (behind c.args.hex) _ c.in_ok-spelt.spelt c.in_ok-octets.octets _ c.in_ok-spelt.ensures.exact c.in_ok-octets.ensures.exact (check_unjudged (the_type c.args.schema.now) c.in_ok-octets.octets.items _ _ c.as_slice.ensures.value (missed_in seen (checked (the_type c.args.schema.now) c.as_slice.result.now) _ c.in_err-encoding.ensures.exact)))
+
+pub returns-clause-takes : goal.returns-clause-takes
+returns-clause-takes g c = λ none. later (c.args.limit + 4096) 0 _ (IsGathered c.args.limit) _ _ (λ small. omega arith)
+    (c.in_ok-octets.ensures.takes (none_spelt (behind c.args.hex) _ c.in_ok-spelt.ensures.octets none))
+
+pub returns-in_err-spelt-clause-takes : goal.returns-in_err-spelt-clause-takes
+returns-in_err-spelt-clause-takes g c =
+    let p = err_from_is_err_and c.from_residual.result c.from_residual.ensures.1 in
+    rw (p.1, p.2) (λ none. untaken (c.args.limit + 4096) _ (IsGathered c.args.limit) _ (spelt_lost (behind c.args.hex) _ c.in_err-spelt.ensures.exact none))
+
+pub returns-in_err-octets-clause-takes : goal.returns-in_err-octets-clause-takes
+returns-in_err-octets-clause-takes g c =
+    let p = err_from_is_err_and c.from_residual-in_err-octets.result c.from_residual-in_err-octets.ensures.1 in
+    rw (p.1, p.2) (λ none. c.in_err-octets.ensures.takes (none_spelt (behind c.args.hex) _ c.in_ok-spelt.ensures.octets none))
+
+pub returns-in_err-encoding-clause-takes : goal.returns-in_err-encoding-clause-takes
+returns-in_err-encoding-clause-takes g c =
+    let p = err_from_is_err_and c.from_residual-in_err-encoding.result c.from_residual-in_err-encoding.ensures.1 in
+    rw (p.1, p.2) (λ none. later (c.args.limit + 4096) 0 _ (IsGathered c.args.limit) _ _ (λ small. omega arith)
+    (c.in_ok-octets.ensures.takes (none_spelt (behind c.args.hex) _ c.in_ok-spelt.ensures.octets none)))

@@ -4,6 +4,9 @@ use Rattle.oer_types.specs.Schema.{the_type}
 use Rattle.oer_cmd.specs.Run.{Makes, NoneFor}
 use Rattle.oer_cmd.proofs.Refusals.{input_too_long, of_text_there}
 use Rattle.oer_cmd.proofs.Exact.{input_longer, input_made, input_not_utf8}
+use Rattle.std.proofs.Common.{◌+◌, arith, refl}
+use Rattle.oer_cmd.specs.Taking.{IsGathered}
+use Rattle.oer_cmd.proofs.Taking.{later}
 use Rattle.oer_cmd.proofs.make.input_line.Goals as goal
 
 pub returns-in_err-octets-clause-refused : goal.returns-in_err-octets-clause-refused
@@ -26,3 +29,14 @@ pub returns-in_err-octets-clause-exact : goal.returns-in_err-octets-clause-exact
 returns-in_err-octets-clause-exact g c =
     let p = err_from_is_err_and c.from_residual.result c.from_residual.ensures.1 in
     rw (p.1, p.2) (input_longer (the_type c.args.schema.now) c.args.limit _ _ c.in_err-octets.ensures.exact)
+
+pub returns-in-Ok-clause-takes : goal.returns-in-Ok-clause-takes
+returns-in-Ok-clause-takes g c = later (c.args.limit + 4096) 0 _ (IsGathered c.args.limit) _ _ (λ small. omega arith) (c.in_ok-octets.ensures.takes refl)
+
+pub returns-clause-takes : goal.returns-clause-takes
+returns-clause-takes g c = later (c.args.limit + 4096) 0 2 (IsGathered c.args.limit) _ _ (λ small. omega arith) (c.in_ok-octets.ensures.takes refl)
+
+pub returns-in_err-octets-clause-takes : goal.returns-in_err-octets-clause-takes
+returns-in_err-octets-clause-takes g c =
+    let p = err_from_is_err_and c.from_residual.result c.from_residual.ensures.1 in
+    rw (p.1, p.2) (c.in_err-octets.ensures.takes refl)

@@ -12,7 +12,10 @@ use Rattle.oer_cmd.proofs.Exact.{part_all, part_pathless, part_slices, part_unsp
 use Rattle.oer_cmd.proofs.Meeting.{goes, stops}
 use Rattle.std.proofs.Common.{refl}
 use Rattle.oer_cmd.specs.Expected.{value}
-use Rattle.oer_cmd.proofs.Asking.{kept, path_asked, some_spelt}
+use Rattle.oer_cmd.proofs.Asking.{kept, none_spelt, path_asked, path_lost, some_spelt, spelt_lost}
+use Rattle.std.proofs.Common.{◌+◌, arith}
+use Rattle.oer_cmd.specs.Taking.{IsGathered}
+use Rattle.oer_cmd.proofs.Taking.{later, untaken}
 use Rattle.oer_cmd.proofs.part.part_line.Goals as goal
 
 pub returns-clause-refused : goal.returns-clause-refused
@@ -55,18 +58,28 @@ returns-in_err-octets-clause-exact g c =
     let p = err_from_is_err_and c.from_residual-in_err-octets.result c.from_residual-in_err-octets.ensures.1 in
     rw (p.1, p.2) (λ steps of. part_all (the_type c.args.schema.now) c.args.limit (behind c.args.hex) steps _ c.in_ok-spelt.spelt c.in_ok-path.path _ c.in_ok-spelt.ensures.exact (c.in_ok-path.ensures.exact steps of) (stops {X = Vec ℕ Global} octets_of string_bytes _ (part_octets (the_type c.args.schema.now) (steps_of c.in_ok-path.path.items)) _ c.in_err-octets.ensures.exact))
 
-pub returns-clause-unasked : goal.returns-clause-unasked
-returns-clause-unasked g c =
-    λ steps of. path_asked (the_type c.args.schema.now) (behind c.args.hex) (behind c.args.path) steps c.in_ok-path.path _ of (c.in_ok-path.ensures.exact steps of)
+pub returns-clause-takes : goal.returns-clause-takes
+returns-clause-takes g c =
+    λ steps of. path_asked (the_type c.args.schema.now) (behind c.args.hex) (behind c.args.path) steps c.in_ok-path.path _ _ of (c.in_ok-path.ensures.exact steps of)
     (λ some. c.in_ok-octets.ensures.untouched (some_spelt (behind c.args.hex) _ c.in_ok-spelt.ensures.octets some))
+    (λ none. later (c.args.limit + 4096) 0 _ (IsGathered c.args.limit) _ _ (λ small. omega arith)
+    (c.in_ok-octets.ensures.takes (none_spelt (behind c.args.hex) _ c.in_ok-spelt.ensures.octets none)))
 
-pub returns-in_err-octets-clause-unasked : goal.returns-in_err-octets-clause-unasked
-returns-in_err-octets-clause-unasked g c =
-    λ steps of. path_asked (the_type c.args.schema.now) (behind c.args.hex) (behind c.args.path) steps c.in_ok-path.path _ of (c.in_ok-path.ensures.exact steps of)
+pub returns-in_err-octets-clause-takes : goal.returns-in_err-octets-clause-takes
+returns-in_err-octets-clause-takes g c =
+    let p = err_from_is_err_and c.from_residual-in_err-octets.result c.from_residual-in_err-octets.ensures.1 in
+    rw (p.1, p.2) (λ steps of. path_asked (the_type c.args.schema.now) (behind c.args.hex) (behind c.args.path) steps c.in_ok-path.path _ _ of (c.in_ok-path.ensures.exact steps of)
     (λ some. c.in_err-octets.ensures.untouched (some_spelt (behind c.args.hex) _ c.in_ok-spelt.ensures.octets some))
+    (λ none. c.in_err-octets.ensures.takes (none_spelt (behind c.args.hex) _ c.in_ok-spelt.ensures.octets none)))
 
-pub returns-in_err-spelt-clause-unasked : goal.returns-in_err-spelt-clause-unasked
-returns-in_err-spelt-clause-unasked g c = λ steps of. kept (value (the_type c.args.schema.now)) (behind c.args.hex) steps _ refl
+pub returns-in_err-spelt-clause-takes : goal.returns-in_err-spelt-clause-takes
+returns-in_err-spelt-clause-takes g c =
+    let p = err_from_is_err_and c.from_residual.result c.from_residual.ensures.1 in
+    rw (p.1, p.2) (λ steps of. kept (value (the_type c.args.schema.now)) (behind c.args.hex) steps _ _ refl
+    (λ U path is none its. untaken (c.args.limit + 4096) _ (IsGathered c.args.limit) _ (spelt_lost (behind c.args.hex) _ c.in_err-spelt.ensures.exact none)))
 
-pub returns-in_err-path-clause-unasked : goal.returns-in_err-path-clause-unasked
-returns-in_err-path-clause-unasked g c = λ steps of. kept (value (the_type c.args.schema.now)) (behind c.args.hex) steps _ refl
+pub returns-in_err-path-clause-takes : goal.returns-in_err-path-clause-takes
+returns-in_err-path-clause-takes g c =
+    let p = err_from_is_err_and c.from_residual-in_err-path.result c.from_residual-in_err-path.ensures.1 in
+    rw (p.1, p.2) (λ steps of. kept (value (the_type c.args.schema.now)) (behind c.args.hex) steps _ _ refl
+    (λ U path is none its. untaken (c.args.limit + 4096) _ (IsGathered c.args.limit) _ (path_lost steps path _ its (c.in_err-path.ensures.exact steps of))))

@@ -7,7 +7,7 @@ use Rattle.oer_cmd.proofs.Endings.{for_texts, lacking}
 use Rattle.std.proofs.Common.{refl}
 use Rattle.oer_options.specs.Words.{source_text}
 use Rattle.oer_cmd.specs.Answer.{expected_type}
-use Rattle.oer_cmd.proofs.Asking.{for_same, kept}
+use Rattle.oer_cmd.proofs.Asking.{for_same, kept, no_type}
 use Rattle.oer_cmd.proofs.program.answer.Goals as goal
 
 pub returns-in_err-text-clause-refused : goal.returns-in_err-text-clause-refused
@@ -32,13 +32,16 @@ returns-in-One-clause-exact g c = for_texts (texts_of c.args.options) _ c.args.o
 pub returns-in-Named-clause-exact : goal.returns-in-Named-clause-exact
 returns-in-Named-clause-exact g c = for_texts (texts_of c.args.options) _ c.args.options.task c.args.options.limit _ c.line_of_named.result (ap texts_at (sym c.in-Named.is) ∙ c.in_ok-text.ensures.named) c.line_of_named.ensures.exact
 
-pub returns-in_err-text-clause-unasked : goal.returns-in_err-text-clause-unasked
-returns-in_err-text-clause-unasked g c = λ path of. kept (expected_type (texts_of c.args.options)) (source_text c.args.options.task) path _ refl
+pub returns-in_err-text-clause-takes : goal.returns-in_err-text-clause-takes
+returns-in_err-text-clause-takes g c =
+    let p = err_from_is_err_and c.from_residual.result c.from_residual.ensures.1 in
+    rw (p.1, p.2) (λ path of. kept (expected_type (texts_of c.args.options)) (source_text c.args.options.task) path _ _ refl
+    (λ T steps is none its. absurd (no_type (expected_type (texts_of c.args.options)) T _ c.in_err-text.ensures.lacking is)))
 
-pub returns-in-One-clause-unasked : goal.returns-in-One-clause-unasked
-returns-in-One-clause-unasked g c = λ path of. for_same _ _ (source_text c.args.options.task) path _
-    (ap expected_type (ap texts_at (sym c.in-One.is) ∙ c.in_ok-text.ensures.named)) (c.line_of_one.ensures.unasked path of)
+pub returns-in-One-clause-takes : goal.returns-in-One-clause-takes
+returns-in-One-clause-takes g c = λ path of. for_same _ _ (source_text c.args.options.task) path _ _
+    (ap expected_type (ap texts_at (sym c.in-One.is) ∙ c.in_ok-text.ensures.named)) (c.line_of_one.ensures.takes path of)
 
-pub returns-in-Named-clause-unasked : goal.returns-in-Named-clause-unasked
-returns-in-Named-clause-unasked g c = λ path of. for_same _ _ (source_text c.args.options.task) path _
-    (ap expected_type (ap texts_at (sym c.in-Named.is) ∙ c.in_ok-text.ensures.named)) (c.line_of_named.ensures.unasked path of)
+pub returns-in-Named-clause-takes : goal.returns-in-Named-clause-takes
+returns-in-Named-clause-takes g c = λ path of. for_same _ _ (source_text c.args.options.task) path _ _
+    (ap expected_type (ap texts_at (sym c.in-Named.is) ∙ c.in_ok-text.ensures.named)) (c.line_of_named.ensures.takes path of)

@@ -50,25 +50,27 @@ returns-in-Part-clause-exact g c = for_task c.args.options.task _ (the_type c.ar
 pub returns-in-Part-clause-untouched : goal.returns-in-Part-clause-untouched
 returns-in-Part-clause-untouched g c = keeps_task c.args.options.task _ c.in-Part.is c.part_line.ensures.untouched
 
-pub returns-in-Show-clause-unasked : goal.returns-in-Show-clause-unasked
-returns-in-Show-clause-unasked g c =
-    by_task c.args.options.task _ (the_type c.args.schema.now) _ c.in-Show.is
-    (λ path of. as_asked (the_type c.args.schema.now) (behind c.in-Show.hex) path _ of c.value_line.ensures.untouched)
+pub returns-in-Show-clause-takes : goal.returns-in-Show-clause-takes
+returns-in-Show-clause-takes g c =
+    by_task c.args.options.task _ (the_type c.args.schema.now) c.args.options.limit _ _ _ _ c.in-Show.is
+    (λ path of. as_asked (the_type c.args.schema.now) (behind c.in-Show.hex) path _ _ of c.value_line.ensures.untouched c.value_line.ensures.takes)
 
-pub returns-in-Canon-clause-unasked : goal.returns-in-Canon-clause-unasked
-returns-in-Canon-clause-unasked g c =
-    by_task c.args.options.task _ (the_type c.args.schema.now) _ c.in-Canon.is
-    (λ path of. as_asked (the_type c.args.schema.now) (behind c.in-Canon.hex) path _ of c.value_line-in-Canon.ensures.untouched)
+pub returns-in-Canon-clause-takes : goal.returns-in-Canon-clause-takes
+returns-in-Canon-clause-takes g c =
+    by_task c.args.options.task _ (the_type c.args.schema.now) c.args.options.limit _ _ _ _ c.in-Canon.is
+    (λ path of. as_asked (the_type c.args.schema.now) (behind c.in-Canon.hex) path _ _ of c.value_line-in-Canon.ensures.untouched c.value_line-in-Canon.ensures.takes)
 
-pub returns-in-Check-clause-unasked : goal.returns-in-Check-clause-unasked
-returns-in-Check-clause-unasked g c =
-    by_task c.args.options.task _ (the_type c.args.schema.now) _ c.in-Check.is
-    (λ path of. as_asked (the_type c.args.schema.now) (behind c.in-Check.hex) path _ of c.check_line.ensures.untouched)
+pub returns-in-Check-clause-takes : goal.returns-in-Check-clause-takes
+returns-in-Check-clause-takes g c =
+    by_task c.args.options.task _ (the_type c.args.schema.now) c.args.options.limit _ _ _ _ c.in-Check.is
+    (λ path of. as_asked (the_type c.args.schema.now) (behind c.in-Check.hex) path _ _ of c.check_line.ensures.untouched c.check_line.ensures.takes)
 
-pub returns-in-Make-clause-unasked : goal.returns-in-Make-clause-unasked
-returns-in-Make-clause-unasked g c =
-    by_task c.args.options.task _ (the_type c.args.schema.now) _ c.in-Make.is
-    (λ path of. as_asked (the_type c.args.schema.now) (behind c.in-Make.json) path _ of c.make_line.ensures.untouched)
+pub returns-in-Make-clause-takes : goal.returns-in-Make-clause-takes
+returns-in-Make-clause-takes g c =
+    by_task c.args.options.task _ (the_type c.args.schema.now) c.args.options.limit _ _ _ _ c.in-Make.is
+    (λ path of. as_asked (the_type c.args.schema.now) (behind c.in-Make.json) path _ _ of c.make_line.ensures.untouched c.make_line.ensures.takes)
 
-pub returns-in-Part-clause-unasked : goal.returns-in-Part-clause-unasked
-returns-in-Part-clause-unasked g c = by_task c.args.options.task _ (the_type c.args.schema.now) _ c.in-Part.is c.part_line.ensures.unasked
+pub returns-in-Part-clause-takes : goal.returns-in-Part-clause-takes
+returns-in-Part-clause-takes g c =
+    by_task c.args.options.task _ (the_type c.args.schema.now) c.args.options.limit _ _ _ _ c.in-Part.is
+    c.part_line.ensures.takes

@@ -5,9 +5,9 @@ use Rattle.oer_cmd.proofs.Endings.{one_read, one_unread}
 use Rattle.std.proofs.Common.{refl}
 use Rattle.oer_types.specs.Schema.{the_type}
 use Rattle.oer_notation.specs.Parsing.{parse}
-use Rattle.oer_options.specs.Words.{source_text}
+use Rattle.oer_options.specs.Words.{kind, source_text}
 use Rattle.oer_cmd.specs.Answer.{parsed}
-use Rattle.oer_cmd.proofs.Asking.{kept, one_told, typed}
+use Rattle.oer_cmd.proofs.Asking.{kept, one_told, task_untaken, type_lost, typed}
 use Rattle.oer_cmd.proofs.program.line_of_one.Goals as goal
 
 pub returns-in_err-schema-clause-refused : goal.returns-in_err-schema-clause-refused
@@ -27,9 +27,12 @@ returns-in_err-schema-clause-exact g c =
     let p = err_from_is_err_and c.from_residual.result c.from_residual.ensures.1 in
     rw (p.1, p.2) (λ path of. one_unread c.args.text c.args.options.task c.args.options.limit path _ _ c.in_err-schema.ensures.exact)
 
-pub returns-clause-unasked : goal.returns-clause-unasked
-returns-clause-unasked g c = λ path of. typed the_type (parsed (parse c.args.text.now)) c.in_ok-schema.schema (source_text c.args.options.task) path _
-    (one_told (parse c.args.text.now)) c.in_ok-schema.ensures.exact (c.line_of.ensures.unasked path of)
+pub returns-clause-takes : goal.returns-clause-takes
+returns-clause-takes g c = λ path of. typed the_type (parsed (parse c.args.text.now)) c.in_ok-schema.schema (source_text c.args.options.task) path _ _
+    (one_told (parse c.args.text.now)) c.in_ok-schema.ensures.exact (c.line_of.ensures.takes path of)
 
-pub returns-in_err-schema-clause-unasked : goal.returns-in_err-schema-clause-unasked
-returns-in_err-schema-clause-unasked g c = λ path of. kept (parsed (parse c.args.text.now)) (source_text c.args.options.task) path _ refl
+pub returns-in_err-schema-clause-takes : goal.returns-in_err-schema-clause-takes
+returns-in_err-schema-clause-takes g c =
+    let p = err_from_is_err_and c.from_residual.result c.from_residual.ensures.1 in
+    rw (p.1, p.2) (λ path of. kept (parsed (parse c.args.text.now)) (source_text c.args.options.task) path _ _ refl
+    (λ T steps is none its. task_untaken (kind c.args.options.task) T c.args.options.limit _ _ (type_lost the_type (parsed (parse c.args.text.now)) T _ is c.in_err-schema.ensures.exact)))

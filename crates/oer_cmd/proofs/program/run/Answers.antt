@@ -2,6 +2,7 @@ use Rattle.std.proofs.Common.{inl, inr, arith, map, refl, string_bytes}
 use Rattle.oer_cmd.specs.Answer.{expected_answer}
 use Rattle.oer_cmd.proofs.Endings.{broken_end, does, keeps_same, printed_end, refused_end, words_end}
 use Rattle.oer_cmd.proofs.Lines.{none_answers}
+use Rattle.oer_cmd.proofs.Asking.{for_later}
 use Rattle.oer_cmd.proofs.program.run.Goals as goal
 
 pub returns-in-Err-answer-clause-refuses : goal.returns-in-Err-answer-clause-refuses
@@ -30,14 +31,22 @@ returns-in-Err-print_line-clause-exact g c = inr (inl (does (map string_bytes c.
     (c.in-Ok-answer.ensures.exact path of) c.in-Err-print_line.ensures.printed c.report-in-Err-print_line.ensures.line)
     c.in-Ok-answer.ensures.untouched))
 
-pub returns-in-Err-clause-unasked : goal.returns-in-Err-clause-unasked
-returns-in-Err-clause-unasked g c = inl (refl, λ small taken. (let three = c.refused.ensures.memory (c.in-Err.ensures.err taken) in omega (arith, small, three)))
+pub returns-in-Err-clause-takes : goal.returns-in-Err-clause-takes
+returns-in-Err-clause-takes g c = inl (refl, λ small taken. (let three = c.refused.ensures.memory (c.in-Err.ensures.err taken) in omega (arith, small, three)))
 
-pub returns-in-Err-answer-clause-unasked : goal.returns-in-Err-answer-clause-unasked
-returns-in-Err-answer-clause-unasked g c = inr (c.in-Ok.options, c.in-Ok.ensures.ok, c.in-Err-answer.ensures.unasked)
+pub returns-in-Err-answer-clause-takes : goal.returns-in-Err-answer-clause-takes
+returns-in-Err-answer-clause-takes g c = inr (
+  c.in-Ok.options,
+  c.in-Ok.ensures.ok,
+  for_later c.in-Ok.options _ _ _ _ _ (λ small. omega (arith, c.report.ensures.status small, small)) c.in-Err-answer.ensures.takes,
+)
 
-pub returns-in-Ok-print_line-clause-unasked : goal.returns-in-Ok-print_line-clause-unasked
-returns-in-Ok-print_line-clause-unasked g c = inr (c.in-Ok.options, c.in-Ok.ensures.ok, c.in-Ok-answer.ensures.unasked)
+pub returns-in-Ok-print_line-clause-takes : goal.returns-in-Ok-print_line-clause-takes
+returns-in-Ok-print_line-clause-takes g c = inr (c.in-Ok.options, c.in-Ok.ensures.ok, c.in-Ok-answer.ensures.takes)
 
-pub returns-in-Err-print_line-clause-unasked : goal.returns-in-Err-print_line-clause-unasked
-returns-in-Err-print_line-clause-unasked g c = inr (c.in-Ok.options, c.in-Ok.ensures.ok, c.in-Ok-answer.ensures.unasked)
+pub returns-in-Err-print_line-clause-takes : goal.returns-in-Err-print_line-clause-takes
+returns-in-Err-print_line-clause-takes g c = inr (
+  c.in-Ok.options,
+  c.in-Ok.ensures.ok,
+  for_later c.in-Ok.options _ 0 _ _ _ (λ small. omega arith) c.in-Ok-answer.ensures.takes,
+)
