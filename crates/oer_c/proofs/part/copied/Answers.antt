@@ -27,7 +27,7 @@ returns-in-Err-NoSuchStep c =
     let steps = c.as_slice.result.now in
     let spelt = subst (λ (ss : List Step). SpellsPath path (path_of ss)) (sym c.as_slice.ensures.value) c.in-Ok.ensures in
     let why = no_step T (type_of_encoding e) c.args.octets.now (octets_in e) e.verdict front.ensures.kind front.ensures.octets front.ensures.comes path (path_of steps) spelt
-        (λ (s : Bor (List ℕ)). s.now) c.in-Err-NoSuchStep.field-0 c.missed.result c.in-Err-NoSuchStep.field-0-is c.missed.ensures c.in-Err-NoSuchStep.ensures.told in
+    (λ (s : Bor (List ℕ)). s.now) c.in-Err-NoSuchStep.field-0 c.missed.result c.in-Err-NoSuchStep.field-0-is c.missed.ensures c.in-Err-NoSuchStep.ensures.told in
     inr (refl, why)
 
 pub returns : goal.returns
@@ -39,6 +39,6 @@ returns c =
     let steps = c.as_slice.result.now in
     let spelt = subst (λ (ss : List Step). SpellsPath path (path_of ss)) (sym c.as_slice.ensures.value) c.in-Ok.ensures in
     let why = absent T (type_of_encoding e) c.args.octets.now (octets_in e) e.verdict front.ensures.kind front.ensures.octets front.ensures.comes path (path_of steps) spelt
-        (λ (s : Bor (List ℕ)). s.now) c.in-Err-Absent.field-0 c.missed-in-Err-Absent.result c.in-Err-Absent.field-0-is c.missed-in-Err-Absent.ensures
-        c.in-Err-Absent.ensures.told in
+    (λ (s : Bor (List ℕ)). s.now) c.in-Err-Absent.field-0 c.missed-in-Err-Absent.result c.in-Err-Absent.field-0-is c.missed-in-Err-Absent.ensures
+    c.in-Err-Absent.ensures.told in
     inr (refl, why)

@@ -31,8 +31,8 @@ returns-in-Err-NoSuchStep c =
     let spelt = subst (λ (ss : List Step). SpellsPath path (path_of ss)) (sym c.as_slice.ensures.value) c.in-Ok.ensures in
     let answer = c.missed.ensures in
     let why = no_step T (type_of_encoding e) c.args.octets.now (octets_in e) e.verdict front.ensures.kind front.ensures.octets front.ensures.comes path (path_of steps) spelt
-        (octets_in_range (octets_in e)) c.in-Err-NoSuchStep.field-0 (as_written c.missed.result) c.in-Err-NoSuchStep.field-0-is (ap as_written answer)
-        c.in-Err-NoSuchStep.ensures.told in
+    (octets_in_range (octets_in e)) c.in-Err-NoSuchStep.field-0 (as_written c.missed.result) c.in-Err-NoSuchStep.field-0-is (ap as_written answer)
+    c.in-Err-NoSuchStep.ensures.told in
     inr (ap (λ (a : Located). a.at) answer, ap (λ (a : Located). a.length) answer, why)
 
 pub returns : goal.returns
@@ -45,6 +45,6 @@ returns c =
     let spelt = subst (λ (ss : List Step). SpellsPath path (path_of ss)) (sym c.as_slice.ensures.value) c.in-Ok.ensures in
     let answer = c.missed-in-Err-Absent.ensures in
     let why = absent T (type_of_encoding e) c.args.octets.now (octets_in e) e.verdict front.ensures.kind front.ensures.octets front.ensures.comes path (path_of steps) spelt
-        (octets_in_range (octets_in e)) c.in-Err-Absent.field-0 (as_written c.missed-in-Err-Absent.result) c.in-Err-Absent.field-0-is (ap as_written answer)
-        c.in-Err-Absent.ensures.told in
+    (octets_in_range (octets_in e)) c.in-Err-Absent.field-0 (as_written c.missed-in-Err-Absent.result) c.in-Err-Absent.field-0-is (ap as_written answer)
+    c.in-Err-Absent.ensures.told in
     inr (ap (λ (a : Located). a.at) answer, ap (λ (a : Located). a.length) answer, why)
