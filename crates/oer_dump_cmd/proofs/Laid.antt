@@ -1,20 +1,13 @@
 -- Lines, as they are laid out.
-use Rattle.std.proofs.Common.{◌≡◌, ◌∙◌, ℕ, ◌+◌, ◌<◌, ◌≤◌, List, [], ◌∷◌, ◌++◌, length, get_or, map, take, refl, sym, ap, subst, append_assoc}
+use Rattle.std.proofs.Common.{◌≡◌, ◌∙◌, ℕ, ◌+◌, ◌<◌, ◌≤◌, List, [], ◌∷◌, ◌++◌, length, get_or, map, take, refl, sym, ap, subst, append_assoc, arith}
 use Rattle.std.specs.Prelude.{Result, Ok, Err, OnOk, if◌then◌else◌}
 use Rattle.std.specs.Result.{is_ok}
-use Rattle.std.proofs.lemmas.List.{map-append, map_more}
+use Rattle.std.proofs.lemmas.List.{map_more, take_all}
 use Rattle.clap.specs.Words.{Text}
 use Rattle.oer_entries.specs.declared.entry.Entry.{Entry}
 use Rattle.oer_dump_cmd.specs.Layout.{HasLines, Cells, IsLine, cells_in, cells_of, spaces}
 use Rattle.oer_dump_cmd.specs.Visible.{visible}
 use Rattle.oer_dump_cmd.specs.declared.line.Line.{Line}
-
--- the cells so far, with those of one more
-pub cells_more : (es : List Entry) (i : ℕ) (e : Entry) (old new : List Line) (l : Line) → i < length es → e ≡ get_or es i e → map cells_in old ≡ map cells_of (take i es)
-    → new ≡ old ++ l ∷ [] → cells_in l ≡ cells_of e → map cells_in new ≡ map cells_of (take (i + 1) es)
-cells_more es i e old new l lt is so one own =
-    ap (map cells_in) one ∙ map-append cells_in old (l ∷ []) ∙ ap (λ (x : List Cells). x ++ cells_in l ∷ []) so ∙ ap (λ x. map cells_of (take i es) ++ x ∷ []) (own ∙ ap cells_of is)
-    ∙ sym (map_more cells_of es i e lt)
 
 flat_cell : (t a c s : Text) → ((t ++ a) ++ c) ++ s ≡ t ++ (a ++ (c ++ s))
 flat_cell t a c s = simp append_assoc
@@ -49,6 +42,17 @@ line_more [] text line new c none is e = (line, [], e ∙ ap (λ x. x ++ (visibl
 line_more (d ∷ cs) text line new c (first, rest, e0, own, more) is e =
     let end : Text = visible line ++ 10 ∷ [] in
     (first, rest ++ end, e ∙ ap (λ x. x ++ end) e0 ∙ append_assoc (visible first) (10 ∷ rest) end, own, line_more cs rest line (rest ++ end) c more is refl)
+
+-- the lines so far, with that of one more entry
+pub entry_more : (es : List Entry) (i : ℕ) (e : Entry) (text new : Text) → (i < length es) × (e ≡ get_or es i e)
+    → (cells : Text) × IsLine (cells_of e) cells × (new ≡ text ++ (visible cells ++ 10 ∷ [])) → HasLines (map cells_of (take i es)) text
+    → HasLines (map cells_of (take (i + 1) es)) new
+entry_more es i e text new (lt, is) (cells, own, so) lines =
+    subst (λ cs. HasLines cs new) (ap (λ x. map cells_of (take i es) ++ x ∷ []) (ap cells_of is) ∙ sym (map_more cells_of es i e lt))
+    (line_more (map cells_of (take i es)) text cells new (cells_of e) lines own so)
+
+pub all_lines : (es : List Entry) (i : ℕ) (text : Text) → i ≡ length es → HasLines (map cells_of (take i es)) text → HasLines (map cells_of es) text
+all_lines es i text over lines = subst (λ xs. HasLines (map cells_of xs) text) (take_all i es (omega (arith, over))) lines
 
 -- a cell at the right of its column
 pub at_right : (t0 t1 t2 t3 cell : Text) (n : ℕ) → t1 ≡ t0 ++ spaces n → t2 ≡ t1 ++ cell → t3 ≡ t2 ++ spaces 2 → (m : ℕ) × (t3 ≡ t0 ++ (spaces m ++ (cell ++ spaces 2)))

@@ -5,7 +5,7 @@ ghost use Rattle.clap.specs.Words.{Text};
 ghost use Rattle.oer_dump_cmd.specs.Layout.{HasLines, IsLine, cells_in, cells_of, spaces};
 ghost use Rattle.oer_dump_cmd.specs.Visible.{visible};
 
-use crate::line::{Line, line_of};
+use crate::line::{Line, line_of, or_dash};
 use crate::visible::push_visible;
 use oer_entries::Entry;
 use std::alloc::{AllocError, Global};
@@ -48,31 +48,31 @@ fn digits_of(number: usize) -> usize {
 }
 
 impl Widths {
-    // Wide enough for these and for the line, but for its numbers, of which the greatest are kept.
-    fn with(self, line: &Line<'_>) -> Widths {
-        let value = count_of(line.value.as_str()).saturating_add(line.note.len());
+    // Wide enough for these and for the entry, but for its value, and for its numbers, of which the greatest
+    // are kept.
+    fn with(self, entry: &Entry<'_>) -> Widths {
         Widths {
-            offset: self.offset.max(line.offset),
-            count: self.count.max(line.count),
-            path: self.path.max(line.path.len()),
-            names: self.names.max(line.names.len()),
-            kind: self.kind.max(line.kind.len()),
-            value: self.value.max(value),
+            offset: self.offset.max(entry.offset),
+            count: self.count.max(entry.octets.len()),
+            path: self.path.max(or_dash(entry.path.as_str()).len()),
+            names: self.names.max(or_dash(entry.names.as_str()).len()),
+            kind: self.kind.max(entry.kind.len()),
+            value: self.value,
         }
     }
 
-    // Wide enough for all lines.
-    fn of(lines: &[Line<'_>]) -> Widths {
+    // Wide enough for all entries, of which no value is cut.
+    fn of(entries: &[Entry<'_>]) -> Widths {
         let mut widths = Widths {
             offset: 0,
             count: 0,
             path: 0,
             names: 0,
             kind: 0,
-            value: 0,
+            value: usize::MAX,
         };
-        for line in lines {
-            widths = widths.with(line);
+        for entry in entries {
+            widths = widths.with(entry);
         }
         widths.offset = digits_of(widths.offset);
         widths.count = digits_of(widths.count);
@@ -259,33 +259,47 @@ fn push_line(
     text.push('\n')
 }
 
-// The cells of each line.
-fn lines_of<'e>(alloc: Global, entries: &'e [Entry<'_>]) -> Result<Vec<Line<'e>>, AllocError>
-    ensures { IfOk result (λ lines. map cells_in lines.items ≡ map cells_of entries.now) }
+// Appends the line of an entry.
+fn push_entry(
+    alloc: Global,
+    text: &mut String,
+    entry: &Entry<'_>,
+    widths: Widths,
+) -> Result<(), AllocError>
+    ensures { OnOk result ((cells : Text) × IsLine (cells_of entry.now) cells × (string_bytes text.new ≡ string_bytes text.old ++ (visible cells ++ 10 ∷ []))) }
 {
-    let mut lines = Vec::with_capacity(alloc, entries.len())?;
+    let line = line_of(alloc, entry)?;
+    push_line(alloc, text, &line, widths)
+}
+
+// How many characters the longest value has, with its note.
+fn value_width(alloc: Global, entries: &[Entry<'_>]) -> Result<usize, AllocError> {
+    let mut width: usize = 0;
     for entry in entries {
-        lines.push(line_of(alloc, entry)?)?;
+        let line = line_of(alloc, entry)?;
+        let value = count_of(line.value.as_str()).saturating_add(line.note.len());
+        width = width.max(value);
     }
-    Ok(lines)
+    Ok(width)
 }
 
 // How wide the columns are, where a line has so many characters at most; 0 is no bound.
-fn widths_of(lines: &[Line<'_>], width: u64) -> Widths {
-    let widths = Widths::of(lines);
+fn widths_of(alloc: Global, entries: &[Entry<'_>], width: u64) -> Result<Widths, AllocError> {
+    let mut widths = Widths::of(entries);
     if width == 0 {
-        return widths;
+        return Ok(widths);
     }
-    widths.within(width as usize)
+    widths.value = value_width(alloc, entries)?;
+    Ok(widths.within(width as usize))
 }
 
-// The text of the lines.
-fn laid_out(alloc: Global, lines: &[Line<'_>], widths: Widths) -> Result<String, AllocError>
-    ensures { IfOk result (λ text. HasLines (map cells_in lines.now) (string_bytes text)) }
+// The text of the lines. Each entry is let go once it has its line.
+fn laid_out(alloc: Global, entries: Vec<Entry<'_>>, widths: Widths) -> Result<String, AllocError>
+    ensures { IfOk result (λ text. HasLines (map cells_of entries.entry.items) (string_bytes text)) }
 {
     let mut text = String::new(alloc);
-    for line in lines {
-        push_line(alloc, &mut text, line, widths)?;
+    for entry in entries {
+        push_entry(alloc, &mut text, &entry, widths)?;
     }
     Ok(text)
 }
@@ -294,12 +308,11 @@ fn laid_out(alloc: Global, lines: &[Line<'_>], widths: Widths) -> Result<String,
 /// and its value; 0 is no bound.
 pub(crate) fn text_of(
     alloc: Global,
-    entries: &[Entry<'_>],
+    entries: Vec<Entry<'_>>,
     width: u64,
 ) -> Result<String, AllocError>
-    ensures { IfOk result (λ text. HasLines (map cells_of entries.now) (string_bytes text)) }
+    ensures { IfOk result (λ text. HasLines (map cells_of entries.entry.items) (string_bytes text)) }
 {
-    let lines = lines_of(alloc, entries)?;
-    let widths = widths_of(lines.as_slice(), width);
-    laid_out(alloc, lines.as_slice(), widths)
+    let widths = widths_of(alloc, entries.as_slice(), width)?;
+    laid_out(alloc, entries, widths)
 }

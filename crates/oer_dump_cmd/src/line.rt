@@ -26,8 +26,8 @@ pub(crate) struct Line<'e> {
     pub note: String,
 }
 
-// A text; `-` stands for the empty one.
-fn or_dash(text: &str) -> &str
+/// A text; `-` stands for the empty one.
+pub(crate) fn or_dash(text: &str) -> &str
     ensures { result.now ≡ or_dash text.now }
 {
     if text.is_empty() { "-" } else { text }

@@ -68,7 +68,7 @@ fn entries_text(alloc: Global, entries: Vec<Entry<'_>>, form: Form) -> Result<St
     ensures { IfOk result (λ text. IsTextOf form entries.entry.items (string_bytes text)) }
 {
     match form {
-        Form::Text { width } => text_of(alloc, entries.as_slice(), width),
+        Form::Text { width } => text_of(alloc, entries, width),
         Form::Json => json_of(alloc, entries),
     }
 }
