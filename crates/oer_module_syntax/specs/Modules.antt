@@ -1,6 +1,5 @@
 -- Reading modules from tokens (X.680, clauses 13 and 16): what is read and what is left, or the first fault.
 use Rattle.std.specs.Prelude.{ℕ, zero, suc, List, [], ◌∷◌, ◌++◌, length, Bool, true, false, not, Option, Some, None, Result, Ok, Err, if◌then◌else◌}
-use Rattle.oer_module_lexer.specs.Lexing.{Lexed}
 use Rattle.oer_module_lexer.specs.Token.{Token, word, text, Spot}
 use Rattle.oer_module_lexer.specs.declared.token.Sign.TheVariants.{OpenBrace, Semicolon, Assign}
 use Rattle.oer_module_syntax.specs.Ranges.{group_at, value_at}
@@ -172,10 +171,6 @@ is_last s = none_left s.left
 -- the text's end, or the fault there
 abbrev pub ended : List Module → State → Result (List Module) Fault
 ended ms s = if s.complete then Ok ms else Err (end_fault why.Token s)
-
--- before the first token
-abbrev pub start : Lexed → State
-start l = record { left = l.spots; end = l.end; complete = l.complete }
 
 -- the modules of a text, in which so many levels of types may nest, or the first fault
 unfoldable pub modules_of : ℕ → State → Result (List Module) Fault

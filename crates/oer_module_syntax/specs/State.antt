@@ -2,6 +2,7 @@
 use Rattle.std.specs.Prelude.{◌≡◌, ℕ, List, [], ◌∷◌, drop, ◌==◌, Bool, true, false, Option, Some, None, Result, Ok, Err, if◌then◌else◌}
 use Rattle.std.specs.Str.{bytes_eq}
 use Rattle.oer_module_lexer.specs.Token.{Token, word, field, number, real, bits, digits, text, sign, Spot, spots_of}
+use Rattle.oer_module_lexer.specs.declared.lexing.Tokens.{Tokens}
 use Rattle.oer_module_lexer.specs.declared.token.Sign.{Sign}
 use Rattle.oer_module_lexer.specs.declared.token.Sign.TheVariants.{OpenBrace, CloseBrace, OpenParenthesis, CloseParenthesis, OpenBracket, CloseBracket, OpenGroup, CloseGroup, Less, Greater, Comma, Semicolon, Point, Range, Ellipsis, Colon, Assign, Equals, Hyphen, At, Bar, Exclamation, Caret}
 use Rattle.oer_module_syntax.specs.Words.{keyword_text, is_identifier, is_reference}
@@ -21,6 +22,10 @@ pub record State : Type 0 where
 
 abbrev pub state_of : Cursor → State
 state_of c = record { left = spots_of c.spots.now; end = c.end; complete = c.complete }
+
+-- before the first of the tokens
+abbrev pub start : Tokens → State
+start t = record { left = spots_of t.spots.items; end = t.end; complete = t.complete }
 
 -- what is read, and what is left
 abbrev pub Read : Type 0 → Type 0

@@ -91,7 +91,7 @@ is_number _ = false
 unfoldable pub version_at : State → Read (Unit {0})
 version_at s = if is_number (first s) then skip_sign Colon (bump s) else Ok (tt, s)
 
--- the constraint before OF, behind the word SIZE if that is there (51.3)
+-- the constraint before OF, behind the word SIZE if that is there (49)
 unfoldable pub size_at : Bool → State → Read (List Spot)
 size_at sized s = if sized && not (at_sign OpenParenthesis s) then expected (sought.Sign OpenParenthesis) s else constraints_at s
 

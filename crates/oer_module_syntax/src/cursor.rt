@@ -1,11 +1,11 @@
 //! A place among the tokens.
 ghost use Rattle.std.specs.Prelude.{◌≡◌, ◌≤◌, drop, length, option_map, take, if◌then◌else◌};
 ghost use Rattle.oer_module_lexer.specs.Token.{spots_of, token_of};
-ghost use Rattle.oer_module_syntax.specs.State.{IsReading, at_keyword, at_sign, bump, end_fault, fault, first, identifier_at, past, place, reference_at, same_sign, skip_keyword, skip_sign, state_of};
+ghost use Rattle.oer_module_syntax.specs.State.{IsReading, at_keyword, at_sign, bump, end_fault, fault, first, identifier_at, past, place, reference_at, same_sign, skip_keyword, skip_sign, start, state_of};
 
 use crate::fault::{Fault, Sought, Why};
 use crate::word::{Keyword, is_identifier, is_reference};
-use oer_module_lexer::{Sign, Spot, Token};
+use oer_module_lexer::{Sign, Spot, Token, Tokens};
 
 /// The tokens that are left, the byte at which they end, and whether that is the text's end.
 #[derive(Drop)]
@@ -16,6 +16,17 @@ pub struct Cursor<'s, 't> {
 }
 
 impl<'s, 't> Cursor<'s, 't> {
+    /// Before the first of the tokens.
+    pub fn new(tokens: &'s Tokens<'t>) -> Cursor<'s, 't>
+        ensures { state_of result ≡ start tokens.now }
+    {
+        Cursor {
+            spots: &tokens.spots,
+            end: tokens.end,
+            complete: tokens.complete,
+        }
+    }
+
     /// The place of the next token.
     pub fn place(&self) -> usize
         ensures { result ≡ place (state_of self.now) }

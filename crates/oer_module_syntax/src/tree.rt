@@ -39,7 +39,7 @@ pub enum TypeSyntax<'s, 't> {
         elements: Vec<Element<'s, 't>>,
         constraints: &'s [Spot<'t>],
     },
-    /// A SEQUENCE OF or SET OF, with the constraint before OF (X.680, 26, 28 and 51.3).
+    /// A SEQUENCE OF or SET OF, with the constraint before OF (X.680, 26, 28 and 49).
     ListOf {
         at: usize,
         builtin: Builtin,

@@ -24,6 +24,7 @@ fn draw_need(at: Global, out: &mut String, need: Need<'_, '_>) -> Result<(), Fai
     }
 }
 
+#[cycle(drawing)]
 fn draw_element(at: Global, out: &mut String, element: &Element<'_, '_>) -> Result<(), Fail> {
     match element {
         Element::Marker { .. } => out.push_str("...")?,
@@ -63,6 +64,7 @@ fn mode_text(mode: Mode) -> &'static str {
 }
 
 /// A type: the words, then how many tokens its items, constraints and so on have.
+#[cycle(drawing)]
 fn draw_type(at: Global, out: &mut String, node: &TypeSyntax<'_, '_>) -> Result<(), Fail> {
     match node {
         TypeSyntax::Plain {
