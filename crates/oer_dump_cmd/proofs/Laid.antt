@@ -5,9 +5,8 @@ use Rattle.std.specs.Result.{is_ok}
 use Rattle.std.proofs.lemmas.List.{map_more, take_all}
 use Rattle.clap.specs.Words.{Text}
 use Rattle.oer_entries.specs.declared.entry.Entry.{Entry}
-use Rattle.oer_dump_cmd.specs.Layout.{HasLines, Cells, IsLine, cells_in, cells_of, spaces}
+use Rattle.oer_dump_cmd.specs.Layout.{HasLines, Cells, IsLine, cells_of, spaces}
 use Rattle.oer_dump_cmd.specs.Visible.{visible}
-use Rattle.oer_dump_cmd.specs.declared.line.Line.{Line}
 
 flat_cell : (t a c s : Text) → ((t ++ a) ++ c) ++ s ≡ t ++ (a ++ (c ++ s))
 flat_cell t a c s = simp append_assoc

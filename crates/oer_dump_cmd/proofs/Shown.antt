@@ -22,7 +22,6 @@ use Rattle.oer_cmd.specs.Octets.{AreAll, AreSpelt, octets_of}
 use Rattle.oer_cmd.specs.Run.{IsEncoding}
 use Rattle.oer_cmd.specs.Types.{SpelledBy}
 use Rattle.oer_cmd.specs.declared.fault.Fault.{Fault}
-use Rattle.oer_cmd.specs.declared.fault.Fault.TheVariants.{Memory}
 use Rattle.oer_cmd.proofs.Lines.{of_all}
 use Rattle.oer_cmd.proofs.Meeting as meeting
 use Rattle.oer_dump_cmd.specs.Showing.{AreOne, AreOneFor, Displays, IsReasonLine, Shows}

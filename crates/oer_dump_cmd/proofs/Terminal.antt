@@ -2,7 +2,6 @@
 use Rattle.std.proofs.Common.{◌≡◌, ℕ, ◌<◌, ◌^◌, Bool, true, Option, Some, inl, subst, sym, arith}
 use Rattle.std.specs.Str.Parse.{IsNumeral, digits_value, without_leading_plus}
 use Rattle.clap.specs.Words.{Text}
-use Rattle.oer_options.specs.Words.{NumberOf}
 use Rattle.oer_dump_cmd.specs.Words.{IsUsualWidth}
 
 pub number_read : (is_terminal : Bool) (columns : Option Text) (text : Text) (n : ℕ) → columns ≡ Some text

@@ -2,7 +2,6 @@
 use Rattle.std.proofs.Common.{◌≡◌, ◌∙◌, ℕ, ◌+◌, ◌<◌, ◌≤◌, List, [], ◌∷◌, ◌++◌, length, get_or, take, sym, refl, ap, ap₂, append_assoc, append-nil, add-one, arith, IsUtf8, subst, take_all, false}
 use Rattle.std.specs.Char.{encode_utf8}
 use Rattle.std.specs.Prelude.{flat_map}
-use Rattle.std.specs.Str.{chars}
 use Rattle.std.proofs.Math.Seq.{take-suc}
 use Rattle.std.proofs.lemmas.Grind.{flat_map-append}
 use Rattle.std.proofs.lemmas.Str.{chars-IsAscii, chars_past_char, chars-nil, encode_ascii}

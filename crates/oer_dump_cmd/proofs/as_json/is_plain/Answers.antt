@@ -1,4 +1,4 @@
-use Rattle.std.proofs.Common.{◌≡◌, ◌∙◌, sym, true≢false}
+use Rattle.std.proofs.Common.{◌∙◌, sym, true≢false}
 use Rattle.oer_dump_cmd.proofs.Pushed.{plain_more}
 use Rattle.oer_dump_cmd.proofs.as_json.is_plain.Goals as goal
 use Rattle.oer_dump_cmd.proofs.as_json.is_plain.Goals.{then-octet-lt32, else-octet-lt32+else-octet-eq34+else-octet-eq92}

@@ -1,4 +1,4 @@
-use Rattle.std.proofs.Common.{◌≡◌, ◌∙◌, ◌++◌, List, ℕ, ap, sym, codes, string_bytes}
+use Rattle.std.proofs.Common.{◌∙◌, ◌++◌, ap, sym, codes, string_bytes}
 use Rattle.serde_json.specs.Data.{boolean}
 use Rattle.serde_json.specs.Written.{compact_text}
 use Rattle.oer_dump_cmd.proofs.Laid.{pushed}

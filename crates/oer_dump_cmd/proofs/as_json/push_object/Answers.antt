@@ -1,4 +1,4 @@
-use Rattle.std.proofs.Common.{◌++◌, codes, decimal}
+use Rattle.std.proofs.Common.{◌++◌, codes}
 use Rattle.json.specs.Print.{quoted}
 use Rattle.oer_dump_cmd.proofs.Laid.{pushed}
 use Rattle.oer_dump_cmd.proofs.Pushed.{object_pushed, same_part}

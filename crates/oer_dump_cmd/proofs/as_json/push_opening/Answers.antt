@@ -1,4 +1,3 @@
-use Rattle.std.proofs.Common.{List, ℕ}
 use Rattle.serde_json.specs.Written.{compact_text}
 use Rattle.oer_dump_cmd.specs.Array.{octets_data}
 use Rattle.oer_dump_cmd.proofs.Pushed.{opened, same_part}

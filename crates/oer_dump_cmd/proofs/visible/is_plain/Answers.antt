@@ -1,6 +1,6 @@
-use Rattle.std.proofs.Common.{◌≡◌, ◌∙◌, sym, true≢false, subst}
+use Rattle.std.proofs.Common.{◌≡◌, subst}
 use Rattle.oer_dump_cmd.specs.Visible.{visible}
-use Rattle.oer_dump_cmd.proofs.Visibly.{plain_begun, plain_more, plain_whole}
+use Rattle.oer_dump_cmd.proofs.Visibly.{plain_whole}
 use Rattle.oer_dump_cmd.proofs.visible.is_plain.Goals as goal
 
 pub returns : goal.returns
