@@ -237,11 +237,7 @@ fn draw_fault(at: Global, fault: Fault) -> Result<String, Fail> {
 /// The modules that a text has, drawn, or the fault.
 fn drawn(at: Global, text: &str, levels: u8) -> Result<String, Fail> {
     let tokens = lex(at, text)?;
-    let mut cursor = Cursor {
-        spots: &tokens.spots,
-        end: tokens.end,
-        complete: tokens.complete,
-    };
+    let mut cursor = Cursor::new(&tokens);
     let modules = match read_modules(at, &mut cursor, levels) {
         Ok(modules) => modules,
         Err(fault) => return draw_fault(at, fault),
