@@ -1,5 +1,5 @@
 //! Reading definitions, and freeing them.
-ghost use Rattle.std.specs.Prelude.{◌≡◌, ◌≤◌, None, IfErr, IfOk};
+ghost use Rattle.std.specs.Prelude.{◌≡◌, ◌≤◌, None, Some, IfErr, IfOk};
 ghost use Rattle.std.specs.Str.{IsUtf8};
 ghost use Rattle.oer_notation.specs.Grammar.{SpellsAll};
 ghost use Rattle.oer_notation.specs.Views.{knowns};
@@ -95,6 +95,14 @@ fn read_within(alloc: Global, text: &[u8], parts: u64) -> Result<Box<Shared>, Pa
     }
 }
 
+// Gives the handle these types, in place of those that it had.
+fn keep(alloc: Global, types: &mut Handle, found: Box<Shared>)
+    ensures { types_of types.new.held.shared ≡ Some (types_in found.value) }
+{
+    let _earlier = types.take(alloc);
+    *types = Handle::of(found);
+}
+
 /// Reads the definitions of the text (NOTATION.md), one or more `Name ::= type`, in place of the
 /// types that the handle had, as if it were freed before. The status is
 ///
@@ -110,8 +118,7 @@ pub extern "C" fn oer_types_read(alloc: Global, types: &mut Handle, text: &[u8])
 {
     match read(alloc, text) {
         Ok(found) => {
-            let _earlier = types.take(alloc);
-            *types = Handle::of(found);
+            keep(alloc, types, found);
             answer(OK, 0, text.len() as u64)
         }
         Err(rejected) => rejected,
@@ -136,8 +143,7 @@ pub extern "C" fn oer_types_read_within(
 {
     match read_within(alloc, text, parts) {
         Ok(found) => {
-            let _earlier = types.take(alloc);
-            *types = Handle::of(found);
+            keep(alloc, types, found);
             answer(OK, 0, text.len() as u64)
         }
         Err(rejected) => rejected,
