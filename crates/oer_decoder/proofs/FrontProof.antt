@@ -121,7 +121,7 @@ comes T wf n failed failed' known known' result h v c rest is s le =
 
 -- the number of octets put aside
 pub front_of : {A : Type 0} (r : Reader A) (n failed failed' : ℕ) (known known' : Option (List ℕ)) (result : Result (A × ℕ) ReadFault) → ReadsAndCounts r n known failed result known' failed' → ReadsFront r n known failed (seen first_of result) known' failed'
-front_of r n failed failed' known known' result h = record { name = h.name; bound = h.bound; within = h.within; reads = h.reads }
+front_of r n failed failed' known known' result h = record { name = h.name; loan = h.loan; bound = h.bound; within = h.within; reads = h.reads }
 
 pub takes : (T : AsnType) → KeepsLimits T → (n failed failed' : ℕ) (known known' : Option (List ℕ)) (v : AsnValue) (m : ℕ) → ReadsAndCounts (read_value T) n known failed (Ok (v, m)) known' failed' → (t : List ℕ) × Consumes known known' t × (length t ≤ n) × Encodes T v t × (m ≡ length t)
 takes T wf n failed failed' known known' v m h =
