@@ -79,11 +79,11 @@ path_lost (value q) p fault is h = h
 path_lost (refusal r) p fault is h = absurd (cc)
 path_lost unknown p fault is h = absurd (cc)
 
-pub by_task : (task same : Task) (T : AsnType) (untouched : Type 0) (gives : Kind → AsnType → Type 0) → task ≡ same
-    → ((path : Expected (List Step)) → IsPathOf (path_text same) path → GivesIfAsked (value T) (source_text same) path untouched (gives (kind same)))
-    → (path : Expected (List Step)) → IsPathOf (path_text task) path → GivesIfAsked (value T) (source_text task) path untouched (gives (kind task))
-by_task task same T untouched gives is h =
-    subst (λ t. (path : Expected (List Step)) → IsPathOf (path_text t) path → GivesIfAsked (value T) (source_text t) path untouched (gives (kind t))) (sym is) h
+pub by_task : (task same : Task) (T : AsnType) (limit status : ℕ) (told told' : Option (List ℕ)) (untouched : Type 0) → task ≡ same
+    → ((path : Expected (List Step)) → IsPathOf (path_text same) path → GivesIfAsked (value T) (source_text same) path untouched (λ U. GivesTask (kind same) U limit status told told'))
+    → (path : Expected (List Step)) → IsPathOf (path_text task) path → GivesIfAsked (value T) (source_text task) path untouched (λ U. GivesTask (kind task) U limit status told told')
+by_task task same T limit status told told' untouched is h =
+    subst (λ t. (path : Expected (List Step)) → IsPathOf (path_text t) path → GivesIfAsked (value T) (source_text t) path untouched (λ U. GivesTask (kind t) U limit status told told')) (sym is) h
 
 -- ---- what a task takes
 

@@ -3,7 +3,6 @@ use Rattle.oer_cmd.proofs.Naming.{of_task}
 use Rattle.oer_cmd.proofs.Endings.{for_task, keeps_task}
 use Rattle.oer_options.specs.Words.{behind}
 use Rattle.oer_cmd.proofs.Asking.{as_asked, by_task}
-use Rattle.oer_cmd.specs.Taking.{GivesTask}
 use Rattle.oer_cmd.proofs.program.line_of.Goals as goal
 
 pub returns-in-Show-clause-refused : goal.returns-in-Show-clause-refused
@@ -62,7 +61,7 @@ returns-in-Part-clause-untouched g c = keeps_task c.args.options.task _ c.in-Par
 
 pub returns-in-Show-clause-takes : goal.returns-in-Show-clause-takes
 returns-in-Show-clause-takes g c =
-    by_task c.args.options.task _ (the_type c.args.schema.now) _ (λ k U. GivesTask k U c.args.options.limit _ _ _) c.in-Show.is
+    by_task c.args.options.task _ (the_type c.args.schema.now) c.args.options.limit _ _ _ _ c.in-Show.is
     (λ path of. as_asked (the_type c.args.schema.now) (behind c.in-Show.hex) path _ _ of c.value_line.ensures.untouched c.value_line.ensures.takes)
 
 pub returns-in-ShowAscii-clause-takes : goal.returns-in-ShowAscii-clause-takes
@@ -72,20 +71,20 @@ returns-in-ShowAscii-clause-takes g c =
 
 pub returns-in-Canon-clause-takes : goal.returns-in-Canon-clause-takes
 returns-in-Canon-clause-takes g c =
-    by_task c.args.options.task _ (the_type c.args.schema.now) _ (λ k U. GivesTask k U c.args.options.limit _ _ _) c.in-Canon.is
+    by_task c.args.options.task _ (the_type c.args.schema.now) c.args.options.limit _ _ _ _ c.in-Canon.is
     (λ path of. as_asked (the_type c.args.schema.now) (behind c.in-Canon.hex) path _ _ of c.value_line-in-Canon.ensures.untouched c.value_line-in-Canon.ensures.takes)
 
 pub returns-in-Check-clause-takes : goal.returns-in-Check-clause-takes
 returns-in-Check-clause-takes g c =
-    by_task c.args.options.task _ (the_type c.args.schema.now) _ (λ k U. GivesTask k U c.args.options.limit _ _ _) c.in-Check.is
+    by_task c.args.options.task _ (the_type c.args.schema.now) c.args.options.limit _ _ _ _ c.in-Check.is
     (λ path of. as_asked (the_type c.args.schema.now) (behind c.in-Check.hex) path _ _ of c.check_line.ensures.untouched c.check_line.ensures.takes)
 
 pub returns-in-Make-clause-takes : goal.returns-in-Make-clause-takes
 returns-in-Make-clause-takes g c =
-    by_task c.args.options.task _ (the_type c.args.schema.now) _ (λ k U. GivesTask k U c.args.options.limit _ _ _) c.in-Make.is
+    by_task c.args.options.task _ (the_type c.args.schema.now) c.args.options.limit _ _ _ _ c.in-Make.is
     (λ path of. as_asked (the_type c.args.schema.now) (behind c.in-Make.json) path _ _ of c.make_line.ensures.untouched c.make_line.ensures.takes)
 
 pub returns-in-Part-clause-takes : goal.returns-in-Part-clause-takes
 returns-in-Part-clause-takes g c =
-    by_task c.args.options.task _ (the_type c.args.schema.now) _ (λ k U. GivesTask k U c.args.options.limit _ _ _) c.in-Part.is
+    by_task c.args.options.task _ (the_type c.args.schema.now) c.args.options.limit _ _ _ _ c.in-Part.is
     c.part_line.ensures.takes

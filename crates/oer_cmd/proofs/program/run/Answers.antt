@@ -35,12 +35,18 @@ pub returns-in-Err-clause-takes : goal.returns-in-Err-clause-takes
 returns-in-Err-clause-takes g c = inl (refl, λ small taken. (let three = c.refused.ensures.memory (c.in-Err.ensures.err taken) in omega (arith, small, three)))
 
 pub returns-in-Err-answer-clause-takes : goal.returns-in-Err-answer-clause-takes
-returns-in-Err-answer-clause-takes g c = inr (c.in-Ok.options, c.in-Ok.ensures.ok,
-    for_later c.in-Ok.options _ _ _ _ _ (λ small. omega (arith, c.report.ensures.status small, small)) c.in-Err-answer.ensures.takes)
+returns-in-Err-answer-clause-takes g c = inr (
+  c.in-Ok.options,
+  c.in-Ok.ensures.ok,
+  for_later c.in-Ok.options _ _ _ _ _ (λ small. omega (arith, c.report.ensures.status small, small)) c.in-Err-answer.ensures.takes,
+)
 
 pub returns-in-Ok-print_line-clause-takes : goal.returns-in-Ok-print_line-clause-takes
 returns-in-Ok-print_line-clause-takes g c = inr (c.in-Ok.options, c.in-Ok.ensures.ok, c.in-Ok-answer.ensures.takes)
 
 pub returns-in-Err-print_line-clause-takes : goal.returns-in-Err-print_line-clause-takes
-returns-in-Err-print_line-clause-takes g c = inr (c.in-Ok.options, c.in-Ok.ensures.ok,
-    for_later c.in-Ok.options _ 0 _ _ _ (λ small. omega arith) c.in-Ok-answer.ensures.takes)
+returns-in-Err-print_line-clause-takes g c = inr (
+  c.in-Ok.options,
+  c.in-Ok.ensures.ok,
+  for_later c.in-Ok.options _ 0 _ _ _ (λ small. omega arith) c.in-Ok-answer.ensures.takes,
+)
