@@ -66,7 +66,7 @@ returns-in-Show-clause-takes g c =
 
 pub returns-in-ShowAscii-clause-takes : goal.returns-in-ShowAscii-clause-takes
 returns-in-ShowAscii-clause-takes g c =
-    by_task c.args.options.task _ (the_type c.args.schema.now) _ (λ k U. GivesTask k U c.args.options.limit _ _ _) c.in-ShowAscii.is
+    by_task c.args.options.task _ (the_type c.args.schema.now) c.args.options.limit _ _ _ _ c.in-ShowAscii.is
     (λ path of. as_asked (the_type c.args.schema.now) (behind c.in-ShowAscii.hex) path _ _ of c.value_line-in-ShowAscii.ensures.untouched c.value_line-in-ShowAscii.ensures.takes)
 
 pub returns-in-Canon-clause-takes : goal.returns-in-Canon-clause-takes

@@ -23,16 +23,16 @@ pub returns-in-Ok-clause-exact : goal.returns-in-Ok-clause-exact
 returns-in-Ok-clause-exact g c = goes string_bytes string_bytes (text_input (the_type c.args.schema.now) c.args.limit _) in_ascii c.in_ok-text.text (Ok c.in-Ok.line) c.in_ok-text.ensures.exact
     (c.in-Ok.ensures.text ∙ ap ascii_text c.as_str.ensures.value)
 
-pub returns-in-Err-clause-exact : goal.returns-in-Err-clause-exact
-returns-in-Err-clause-exact g c = fails string_bytes (text_input (the_type c.args.schema.now) c.args.limit _ >>= in_ascii) Memory (λ small. omega (arith, small))
+pub returns-clause-exact : goal.returns-clause-exact
+returns-clause-exact g c = fails string_bytes (text_input (the_type c.args.schema.now) c.args.limit _ >>= in_ascii) Memory (λ small. omega (arith, small))
 
 pub returns-in_err-text-clause-exact : goal.returns-in_err-text-clause-exact
 returns-in_err-text-clause-exact g c =
     let p = err_from_is_err_and c.from_residual.result c.from_residual.ensures.1 in
     rw (p.1, p.2) (stops string_bytes string_bytes (text_input (the_type c.args.schema.now) c.args.limit _) in_ascii _ c.in_err-text.ensures.exact)
 
-pub returns-in-Err-clause-takes : goal.returns-in-Err-clause-takes
-returns-in-Err-clause-takes g c = later (c.args.limit + 1) 0 3 (IsValue (the_type c.args.schema.now) c.args.limit) _ _ (λ small. omega arith) c.in_ok-text.ensures.takes
+pub returns-clause-takes : goal.returns-clause-takes
+returns-clause-takes g c = later (c.args.limit + 1) 0 3 (IsValue (the_type c.args.schema.now) c.args.limit) _ _ (λ small. omega arith) c.in_ok-text.ensures.takes
 
 pub returns-in_err-text-clause-takes : goal.returns-in_err-text-clause-takes
 returns-in_err-text-clause-takes g c =
