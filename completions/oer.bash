@@ -11,7 +11,8 @@ _oer() {
     return
   fi
   case ${COMP_WORDS[1]} in
-    canon | show | check) options='--type --types --name --hex --limit --help' ;;
+    show) options='--type --types --name --hex --ascii --limit --help' ;;
+    canon | check) options='--type --types --name --hex --limit --help' ;;
     part) options='--type --types --name --hex --path --limit --help' ;;
     make) options='--type --types --name --json --limit --help' ;;
     *) return ;;

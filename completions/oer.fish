@@ -35,5 +35,6 @@ complete -c oer -n "__fish_oer_takes $all without type types" -x -l types -d 'De
 complete -c oer -n "__fish_oer_takes $all without type name" -x -l name -d 'The definition that is the type'
 complete -c oer -n "__fish_oer_takes $all without limit" -x -l limit -d 'How many octets the value may take'
 complete -c oer -n '__fish_oer_takes canon show check part without hex' -x -l hex -d 'The octets'
+complete -c oer -n '__fish_oer_takes show without ascii' -l ascii -d 'Escape characters that are not ASCII'
 complete -c oer -n '__fish_oer_takes part without path' -x -l path -d 'The way to the part'
 complete -c oer -n '__fish_oer_takes make without json' -x -l json -d 'The JSON'

@@ -13,7 +13,7 @@ use Rattle.oer_notation.specs.Reading.{Known, find}
 use Rattle.oer_notation.specs.Views.{knowns}
 use Rattle.oer_notation.specs.declared.types.Types.{Types}
 use Rattle.oer_value_notation.specs.declared.fault.TextFault.{TextFault}
-use Rattle.oer_options.specs.Words.{Kind, behind, canon, check, kind, make, part, path_text, show, source_text, texts_of}
+use Rattle.oer_options.specs.Words.{Kind, behind, canon, check, kind, make, part, path_text, show, show_ascii, source_text, texts_of}
 use Rattle.oer_options.specs.declared.options.Options.{Options}
 use Rattle.oer_options.specs.declared.options.Task.{Task}
 use Rattle.oer_cmd.specs.Answer.{IsPathOf, expected_type, hex_octets, named_as, parsed}
@@ -90,6 +90,7 @@ by_task task same T limit status told told' untouched is h =
 -- nothing, where the machine failed
 pub task_untaken : (k : Kind) (T : AsnType) (limit status : ℕ) (told : Option (List ℕ)) → (status ≤ 2 → ⊥) → GivesTask k T limit status told told
 task_untaken show T limit status told high = untaken (limit + 1) status (IsValue T limit) told high
+task_untaken show_ascii T limit status told high = untaken (limit + 1) status (IsValue T limit) told high
 task_untaken canon T limit status told high = untaken (limit + 1) status (IsValue T limit) told high
 task_untaken check T limit status told high = untaken (limit + 4096) status (IsGathered limit) told high
 task_untaken make T limit status told high = untaken (limit + 4096) status (IsGathered limit) told high
@@ -98,6 +99,7 @@ task_untaken part T limit status told high = untaken (limit + 4096) status (IsGa
 -- what is left unsaid at a later status
 pub task_later : (k : Kind) (T : AsnType) (limit status status' : ℕ) (told told' : Option (List ℕ)) → (status' ≤ 2 → status ≤ 2) → GivesTask k T limit status told told' → GivesTask k T limit status' told told'
 task_later show T limit status status' told told' less h = later (limit + 1) status status' (IsValue T limit) told told' less h
+task_later show_ascii T limit status status' told told' less h = later (limit + 1) status status' (IsValue T limit) told told' less h
 task_later canon T limit status status' told told' less h = later (limit + 1) status status' (IsValue T limit) told told' less h
 task_later check T limit status status' told told' less h = later (limit + 4096) status status' (IsGathered limit) told told' less h
 task_later make T limit status status' told told' less h = later (limit + 4096) status status' (IsGathered limit) told told' less h

@@ -41,7 +41,7 @@ use Rattle.oer_json.specs.Made.{made}
 use Rattle.oer_json.specs.Take.{taken}
 use Rattle.oer_json.specs.declared.fault.JsonFault.{JsonFault}
 use Rattle.oer_options.specs.Words.{behind}
-use Rattle.oer_cmd.specs.Answer.{IsPathOf, canonical_input, check_answer, check_octets, checked, digits_octets, ended, handed, hex_octets, in_digits, in_text, input_octets, json_input, json_read, json_taken, limited_octets, make_answer, make_text, part_answer, part_octets, value_answer, value_read, value_text, whole, within_limit}
+use Rattle.oer_cmd.specs.Answer.{ascii_input, IsPathOf, canonical_input, check_answer, check_octets, checked, digits_octets, ended, handed, hex_octets, in_digits, in_text, input_octets, json_input, json_read, json_taken, limited_octets, make_answer, make_text, part_answer, part_octets, value_answer, value_read, value_text, whole, within_limit}
 use Rattle.oer_cmd.specs.Canon.{HasMore, IsEmpty}
 use Rattle.oer_cmd.specs.Expected.{Expected, Meets, refusal, stop, unknown, value, ◌>>=◌}
 use Rattle.oer_cmd.specs.Faults.{IsOfRead, IsOfRewrite, status_of}
@@ -240,11 +240,19 @@ pub octets_of_value : (f : Form) (T : AsnType) (limit : ℕ) (told : Option (Lis
 octets_of_value form.Octets T limit None result is h = h
 octets_of_value form.Octets T limit (Some b) result is h = h
 octets_of_value form.Json T limit told result is h = absurd (cc)
+octets_of_value form.Ascii T limit told result is h = absurd (cc)
 
 pub json_of_value : (f : Form) (T : AsnType) (limit : ℕ) (told : Option (List ℕ)) (result : Result (String Global) Fault) → f ≡ form.Json → Meets bytes (json_input T limit told >>= in_text) result → Meets bytes (value_answer f T limit None told) result
 json_of_value form.Json T limit None result is h = h
 json_of_value form.Json T limit (Some b) result is h = h
 json_of_value form.Octets T limit told result is h = absurd (cc)
+json_of_value form.Ascii T limit told result is h = absurd (cc)
+
+pub ascii_of_value : (f : Form) (T : AsnType) (limit : ℕ) (told : Option (List ℕ)) (result : Result (String Global) Fault) → f ≡ form.Ascii → Meets bytes (ascii_input T limit told) result → Meets bytes (value_answer f T limit None told) result
+ascii_of_value form.Ascii T limit None result is h = h
+ascii_of_value form.Ascii T limit (Some b) result is h = h
+ascii_of_value form.Octets T limit told result is h = absurd (cc)
+ascii_of_value form.Json T limit told result is h = absurd (cc)
 
 pub value_digits : (f : Form) (T : AsnType) (limit : ℕ) (digits : Text) (octets : Vec ℕ Global) (told : Option (List ℕ)) (result : Result (String Global) Fault)
     → Meets octets_of (digits_octets digits) (Ok octets) → told ≡ Some octets.items → Meets bytes (value_answer f T limit None told) result → Meets bytes (value_answer f T limit (Some digits) None) result

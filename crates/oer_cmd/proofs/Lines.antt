@@ -7,22 +7,23 @@ use Rattle.hex.specs.Hex.{encode_lower}
 use Rattle.oer_model.specs.AsnType.{AsnType}
 use Rattle.oer_model.specs.Parts.{Step, Within}
 use Rattle.oer_parts.specs.Handing.{Begins}
-use Rattle.oer_options.specs.Words.{Asks, IsTask, Kind, asked, canon, check, given, kind, make, name_of, part, path_among, show, source_option, source_text, texts_in, texts_of}
+use Rattle.oer_options.specs.Words.{Asks, HasFlags, IsTask, Kind, asked, canon, check, given, given_number, kind, make, name_of, part, path_among, show, show_ascii, source_option, source_text, texts_in, texts_of}
 use Rattle.oer_options.specs.declared.options.Options.{Options}
 use Rattle.oer_options.specs.declared.options.Task.{Task}
 use Rattle.oer_cmd.specs.Octets.{AreAll, AreSpelt}
 use Rattle.oer_cmd.specs.Run.{IsLineFor, IsLineAsked, IsEncoding, IsLine, IsLineBy, IsLineOf, IsNoFront, IsPart, MayBe, NoLine, NoLineAsked, OfOctets, OfText}
 use Rattle.oer_cmd.specs.Types.{SpelledBy}
 
-line_of_words : (words : List Text) (task : Task) (told : Option (List ℕ)) (T : AsnType) (limit : ℕ) (line : Text) → IsTask (asked words) (given words) task → IsLineOf task told T limit line → IsLine words told T limit line
+line_of_words : (words : List Text) (task : Task) (told : Option (List ℕ)) (T : AsnType) (limit : ℕ) (line : Text) → IsTask (asked words) (given words) (given_number words) task → IsLineOf task told T limit line → IsLine words told T limit line
 line_of_words words task told T limit line is h = (
   kind task,
   is.0,
+  is.3,
   subst (λ o. IsLineBy (kind task) o (path_among (kind task) (given words)) told T limit line) (sym is.1)
       (subst (λ p. IsLineBy (kind task) (source_text task) p told T limit line) (sym is.2) h),
 )
 
--- The third letters of the names of tasks differ.
+-- The third letters of the names of tasks differ, but for the two of `show`.
 abbrev by_letter : ℕ → Kind
 by_letter n = if eqb n 111 then show else if eqb n 110 then canon else if eqb n 101 then check else if eqb n 107 then make else part
 
@@ -30,21 +31,65 @@ abbrev named : Option Text → Kind
 named None = show
 named (Some t) = by_letter (get_or t 2 0)
 
-named_is : (k : Kind) → named (Some (name_of k)) ≡ k
+-- but for the flag
+abbrev flagless : Kind → Kind
+flagless show_ascii = show
+flagless k = k
+
+named_is : (k : Kind) → named (Some (name_of k)) ≡ flagless k
 named_is show = refl
+named_is show_ascii = refl
 named_is canon = refl
 named_is check = refl
 named_is make = refl
 named_is part = refl
 
-one_kind : (o : Option Text) (j k : Kind) → o ≡ Some (name_of j) → o ≡ Some (name_of k) → j ≡ k
-one_kind o j k p q = sym (named_is j) ∙ ap named (sym p ∙ q) ∙ named_is k
+one_flag : (j k : Kind) (flag : Text → Option Text) → flagless j ≡ flagless k → HasFlags j flag → HasFlags k flag → j ≡ k
+one_flag show show flag e f g = refl
+one_flag show show_ascii flag e f g = absurd (f g)
+one_flag show canon flag e f g = absurd (cc)
+one_flag show check flag e f g = absurd (cc)
+one_flag show make flag e f g = absurd (cc)
+one_flag show part flag e f g = absurd (cc)
+one_flag show_ascii show flag e f g = absurd (g f)
+one_flag show_ascii show_ascii flag e f g = refl
+one_flag show_ascii canon flag e f g = absurd (cc)
+one_flag show_ascii check flag e f g = absurd (cc)
+one_flag show_ascii make flag e f g = absurd (cc)
+one_flag show_ascii part flag e f g = absurd (cc)
+one_flag canon show flag e f g = absurd (cc)
+one_flag canon show_ascii flag e f g = absurd (cc)
+one_flag canon canon flag e f g = refl
+one_flag canon check flag e f g = absurd (cc)
+one_flag canon make flag e f g = absurd (cc)
+one_flag canon part flag e f g = absurd (cc)
+one_flag check show flag e f g = absurd (cc)
+one_flag check show_ascii flag e f g = absurd (cc)
+one_flag check canon flag e f g = absurd (cc)
+one_flag check check flag e f g = refl
+one_flag check make flag e f g = absurd (cc)
+one_flag check part flag e f g = absurd (cc)
+one_flag make show flag e f g = absurd (cc)
+one_flag make show_ascii flag e f g = absurd (cc)
+one_flag make canon flag e f g = absurd (cc)
+one_flag make check flag e f g = absurd (cc)
+one_flag make make flag e f g = refl
+one_flag make part flag e f g = absurd (cc)
+one_flag part show flag e f g = absurd (cc)
+one_flag part show_ascii flag e f g = absurd (cc)
+one_flag part canon flag e f g = absurd (cc)
+one_flag part check flag e f g = absurd (cc)
+one_flag part make flag e f g = absurd (cc)
+one_flag part part flag e f g = refl
+
+one_kind : (o : Option Text) (flag : Text → Option Text) (j k : Kind) → o ≡ Some (name_of j) → o ≡ Some (name_of k) → HasFlags j flag → HasFlags k flag → j ≡ k
+one_kind o flag j k p q f g = one_flag j k flag (sym (named_is j) ∙ ap named (sym p ∙ q) ∙ named_is k) f g
 
 -- and back
-task_line : (words : List Text) (task : Task) (told : Option (List ℕ)) (T : AsnType) (limit : ℕ) (line : Text) → IsTask (asked words) (given words) task → IsLine words told T limit line → IsLineOf task told T limit line
+task_line : (words : List Text) (task : Task) (told : Option (List ℕ)) (T : AsnType) (limit : ℕ) (line : Text) → IsTask (asked words) (given words) (given_number words) task → IsLine words told T limit line → IsLineOf task told T limit line
 task_line words task told T limit line is h =
-    let same : h.0 ≡ kind task = one_kind (asked words) h.0 (kind task) h.1 is.0 in
-    let there : IsLineBy (kind task) (given words (source_option (kind task))) (path_among (kind task) (given words)) told T limit line = subst (λ k. IsLineBy k (given words (source_option k)) (path_among k (given words)) told T limit line) same h.2 in
+    let same : h.0 ≡ kind task = one_kind (asked words) (given_number words) h.0 (kind task) h.1 is.0 h.2 is.3 in
+    let there : IsLineBy (kind task) (given words (source_option (kind task))) (path_among (kind task) (given words)) told T limit line = subst (λ k. IsLineBy k (given words (source_option k)) (path_among k (given words)) told T limit line) same h.3 in
     subst (λ p. IsLineBy (kind task) (source_text task) p told T limit line) is.2
     (subst (λ o. IsLineBy (kind task) o (path_among (kind task) (given words)) told T limit line) is.1 there)
 

@@ -109,6 +109,7 @@ no_show_line T limit (Some b) none = λ line h. none h.1.0 h.1.1 h.1.2
 pub value_within : (f : Form) (T : AsnType) (limit : ℕ) (line : Text) (b : List ℕ) → IsValueLine f T limit line b → length b ≤ limit
 value_within form.Octets T limit line b h = h.1.within
 value_within form.Json T limit line b h = h.1.2
+value_within form.Ascii T limit line b h = h.1.1.2
 
 -- the same form
 pub of_form : {X : Type 0} (r : Result X Fault) (told : Option (List ℕ)) (T : AsnType) (limit : ℕ) (f same : Form) → f ≡ same → IfErr r (λ fault. Refuses fault (IfSome told (NoneFor (IsValueLine same T limit)))) → IfErr r (λ fault. Refuses fault (IfSome told (NoneFor (IsValueLine f T limit))))

@@ -25,7 +25,8 @@ use Rattle.oer_value_notation.specs.declared.fault.TextFault.{TextFault}
 use Rattle.oer_options.specs.Words.{Texts, behind, texts_of}
 use Rattle.oer_options.specs.declared.options.Options.{Options}
 use Rattle.oer_options.specs.declared.options.Task.{Task}
-use Rattle.oer_options.specs.declared.options.Task.TheVariants.{Canon, Check, Make, Part, Show}
+use Rattle.oer_options.specs.declared.options.Task.TheVariants.{Canon, Check, Make, Part, Show, ShowAscii}
+use Rattle.oer_cmd.specs.Ascii.{ascii_text}
 use Rattle.oer_cmd.specs.Expected.{Expected, refusal, stop, unknown, value, ◌>>=◌}
 use Rattle.oer_cmd.specs.Run.{IsPath, verdict_text}
 use Rattle.oer_cmd.specs.Types.{lack_in}
@@ -103,12 +104,18 @@ in_digits c = value (encode_lower c)
 abbrev pub in_text : Data → Expected Text
 in_text j = value (compact_text j)
 
+abbrev pub in_ascii : Text → Expected Text
+in_ascii text = value (ascii_text text)
+
 -- the lines of these
 abbrev pub digits_input : AsnType → ℕ → Option (List ℕ) → Expected Text
 digits_input T limit told = canonical_input T limit told >>= in_digits
 
 abbrev pub text_input : AsnType → ℕ → Option (List ℕ) → Expected Text
 text_input T limit told = json_input T limit told >>= in_text
+
+abbrev pub ascii_input : AsnType → ℕ → Option (List ℕ) → Expected Text
+ascii_input T limit told = text_input T limit told >>= in_ascii
 
 abbrev pub check_octets : AsnType → List ℕ → Expected Text
 check_octets T b = checked T b >>= λ canonical. value (verdict_text canonical (length b))
@@ -142,6 +149,7 @@ make_text T text = json_read (if is_utf8 text then read text else None) >>= λ j
 abbrev pub value_text : Form → AsnType → ℕ → List ℕ → Expected Text
 value_text form.Octets T limit b = canonical_of T limit b >>= in_digits
 value_text form.Json T limit b = json_of T limit b >>= in_text
+value_text form.Ascii T limit b = json_of T limit b >>= in_text >>= in_ascii
 
 abbrev pub value_answer : Form → AsnType → ℕ → Option Text → Option (List ℕ) → Expected Text
 value_answer f T limit hex told = given_octets hex told >>= value_text f T limit
@@ -158,6 +166,7 @@ make_answer T limit json told = given_text json told >>= within_limit limit >>= 
 
 abbrev pub task_answer : Task → AsnType → ℕ → Expected (List Step) → Option (List ℕ) → Expected Text
 task_answer (Show hex) T limit path told = value_answer form.Json T limit (behind hex) told
+task_answer (ShowAscii hex) T limit path told = value_answer form.Ascii T limit (behind hex) told
 task_answer (Canon hex) T limit path told = value_answer form.Octets T limit (behind hex) told
 task_answer (Check hex) T limit path told = check_answer T limit (behind hex) told
 task_answer (Make json) T limit path told = make_answer T limit (behind json) told

@@ -16,8 +16,9 @@ use Rattle.oer_model.specs.Strict.{IsCanonical}
 use Rattle.oer_parts.specs.Path.{SpellsPath}
 use Rattle.oer_json.specs.Denotes.{IsJsonOf}
 use Rattle.oer_json.specs.Made.{made}
-use Rattle.oer_options.specs.Words.{Kind, NumberOf, Texts, asked, canon, check, given, given_number, kind, make, name_of, part, path_among, path_text, show, source_option, source_text, texts_in}
+use Rattle.oer_options.specs.Words.{HasFlags, Kind, NumberOf, Texts, asked, canon, check, given, given_number, kind, make, name_of, part, path_among, path_text, show, show_ascii, source_option, source_text, texts_in}
 use Rattle.oer_options.specs.declared.options.Task.{Task}
+use Rattle.oer_cmd.specs.Ascii.{ascii_text}
 use Rattle.oer_cmd.specs.Canon.{MakesCanonical}
 use Rattle.oer_cmd.specs.Types.{SpelledBy}
 use Rattle.oer_cmd.specs.declared.value.Form.{Form}
@@ -40,10 +41,15 @@ IsShown T limit j b = (v : AsnValue) × Encodes T v b × (length b ≤ limit) ×
 abbrev pub IsShowLine : AsnType → ℕ → Text → List ℕ → Type 0
 IsShowLine T limit line b = (j : Data) × IsShown T limit j b × (line ≡ compact_text j)
 
+-- the same in ASCII
+abbrev pub IsAsciiLine : AsnType → ℕ → Text → List ℕ → Type 0
+IsAsciiLine T limit line b = (text : Text) × IsShowLine T limit text b × (line ≡ ascii_text text)
+
 -- the line of the value that octets b encode, in this form
 abbrev pub IsValueLine : Form → AsnType → ℕ → Text → List ℕ → Type 0
 IsValueLine form.Octets T limit line b = IsCanonLine T limit line b
 IsValueLine form.Json T limit line b = IsShowLine T limit line b
+IsValueLine form.Ascii T limit line b = IsAsciiLine T limit line b
 
 -- b is all of one encoding
 abbrev pub IsEncoding : AsnType → List ℕ → Type 0
@@ -100,6 +106,7 @@ IsPartLine T limit text line b = IsEncoding T b × (length b ≤ limit) × ((pat
 -- the line of a kind of task, with this text of octets or of JSON and this one of a path, where the input had these octets left
 abbrev pub IsLineBy : Kind → Option Text → Option Text → Option (List ℕ) → AsnType → ℕ → Text → Type 0
 IsLineBy show source path told T limit line = OfOctets source told (IsShowLine T limit line)
+IsLineBy show_ascii source path told T limit line = OfOctets source told (IsAsciiLine T limit line)
 IsLineBy canon source path told T limit line = OfOctets source told (IsCanonLine T limit line)
 IsLineBy check source path told T limit line = OfOctets source told (IsCheckLine T limit line)
 IsLineBy make source path told T limit line = OfText source told (IsMakeLine T limit line)
@@ -133,7 +140,7 @@ pub record IsLineFor (texts : Texts) (task : Task) (limit : ℕ) (told : Option 
 
 -- the line of the task that the words ask for, by their options
 abbrev pub IsLine : List Text → Option (List ℕ) → AsnType → ℕ → Text → Type 0
-IsLine words told T limit line = (k : Kind) × (asked words ≡ Some (name_of k))
+IsLine words told T limit line = (k : Kind) × (asked words ≡ Some (name_of k)) × HasFlags k (given_number words)
     × IsLineBy k (given words (source_option k)) (path_among k (given words)) told T limit line
 
 -- the line that the words ask for, where the input had these octets left

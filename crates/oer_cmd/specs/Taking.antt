@@ -5,7 +5,7 @@ use Rattle.oer_units.specs.Reader.{Outcome, at, got, refused}
 use Rattle.oer_model.specs.AsnType.{AsnType}
 use Rattle.oer_model.specs.Parts.{Step}
 use Rattle.oer_model.specs.Reading.{read_value}
-use Rattle.oer_options.specs.Words.{Asks, Kind, canon, check, kind, make, oer, part, path_text, show, source_text, texts_of}
+use Rattle.oer_options.specs.Words.{Asks, Kind, canon, check, kind, make, oer, part, path_text, show, show_ascii, source_text, texts_of}
 use Rattle.oer_options.specs.declared.options.Options.{Options}
 use Rattle.oer_cmd.specs.Answer.{IsPathOf, expected_type}
 use Rattle.oer_cmd.specs.Expected.{Expected, value}
@@ -54,6 +54,7 @@ GivesAll limit status told told' = GivesFront told told' (Amounts (limit + 4096)
 -- The input gave what a task takes of it for values of the type.
 abbrev pub GivesTask : Kind → AsnType → ℕ → ℕ → Option (List ℕ) → Option (List ℕ) → Type 0
 GivesTask show T limit status told told' = GivesValue T limit status told told'
+GivesTask show_ascii T limit status told told' = GivesValue T limit status told told'
 GivesTask canon T limit status told told' = GivesValue T limit status told told'
 GivesTask check T limit status told told' = GivesAll limit status told told'
 GivesTask make T limit status told told' = GivesAll limit status told told'

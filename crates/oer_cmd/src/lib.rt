@@ -1,6 +1,7 @@
 //! Values and their octets at the command line: what the program `oer` does with its arguments.
 #![tactic(auto)]
 
+mod ascii;
 mod canon;
 mod check;
 mod fault;

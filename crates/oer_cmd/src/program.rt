@@ -49,6 +49,7 @@ fn line_of<'a, R: Read>(
     let limit = options.limit;
     match options.task {
         Task::Show { hex } => value_line(alloc, schema, Form::Json, hex, limit, input),
+        Task::ShowAscii { hex } => value_line(alloc, schema, Form::Ascii, hex, limit, input),
         Task::Canon { hex } => value_line(alloc, schema, Form::Octets, hex, limit, input),
         Task::Check { hex } => check_line(alloc, schema, hex, limit, input),
         Task::Make { json } => make_line(alloc, schema, json, limit, input),

@@ -4,11 +4,12 @@ ghost use Rattle.serde_json.specs.View.{view};
 ghost use Rattle.oer_types.specs.Schema.{the_type};
 ghost use Rattle.oer_cmd.specs.Canon.{IsNoEncoding};
 ghost use Rattle.oer_cmd.specs.Faults.{Refuses};
-ghost use Rattle.oer_cmd.specs.Answer.{json_input, text_input};
+ghost use Rattle.oer_cmd.specs.Answer.{ascii_input, json_input, text_input};
 ghost use Rattle.oer_cmd.specs.Expected.{Meets};
-ghost use Rattle.oer_cmd.specs.Run.{IsShowLine, IsShown, NoneFor};
+ghost use Rattle.oer_cmd.specs.Run.{IsAsciiLine, IsShowLine, IsShown, NoneFor};
 ghost use Rattle.oer_cmd.specs.Taking.{GivesValue, status_after};
 
+use crate::ascii::in_ascii;
 use crate::canon::check_end;
 use crate::fault::Fault;
 use oer_decoder::read_with_length;
@@ -63,6 +64,28 @@ pub fn json_text<'a, R: Source>(
 {
     let json = shown(alloc, schema, reader, limit)?;
     match json.to_string(alloc) {
+        Ok(line) => Ok(line),
+        Err(_) => Err(Fault::Memory),
+    }
+}
+
+/// That text in ASCII. Refused as `json_text` is.
+pub fn ascii_line<'a, R: Source>(
+    alloc: Global,
+    schema: &Schema,
+    reader: &mut R,
+    limit: u64,
+) -> Result<String, Fault<'a>>
+    ensures line { IfOk result (λ line. IfSome (R.remaining reader.old)
+        (IsAsciiLine (the_type schema.now) limit (string_bytes line))) }
+    ensures refused { IfErr result (λ fault. Refuses fault
+        (IfSome (R.remaining reader.old) (NoneFor (IsAsciiLine (the_type schema.now) limit)))) }
+    ensures exact { Meets string_bytes (ascii_input (the_type schema.now) limit (R.remaining reader.old)) result }
+    ensures takes { GivesValue (the_type schema.now) limit (status_after result) (R.remaining reader.old) (R.remaining reader.new) }
+    ensures loan { R.loan reader.new ≡ R.loan reader.old }
+{
+    let text = json_text(alloc, schema, reader, limit)?;
+    match in_ascii(alloc, text.as_str()) {
         Ok(line) => Ok(line),
         Err(_) => Err(Fault::Memory),
     }

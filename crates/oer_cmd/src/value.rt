@@ -12,7 +12,7 @@ ghost use Rattle.oer_cmd.specs.Taking.{GivesValue, status_after};
 use crate::canon::canonical_digits;
 use crate::fault::Fault;
 use crate::octets::decoded;
-use crate::show::json_text;
+use crate::show::{ascii_line, json_text};
 use oer_types::Schema;
 use oer_units::{Lent, Metered, Source};
 use std::alloc::Global;
@@ -25,6 +25,8 @@ pub enum Form {
     Octets,
     /// As its JSON.
     Json,
+    /// As its JSON, in ASCII.
+    Ascii,
 }
 
 // The line for the octets that the reader has left.
@@ -46,6 +48,7 @@ fn read_line<'a, R: Source>(
     match form {
         Form::Octets => canonical_digits(alloc, schema, reader, limit),
         Form::Json => json_text(alloc, schema, reader, limit),
+        Form::Ascii => ascii_line(alloc, schema, reader, limit),
     }
 }
 

@@ -8,7 +8,7 @@ use std::test::Fail;
 const TASKS: &[(&str, &str)] = &[
     (
         "show",
-        "--type <TYPE> | --types <TEXT> | --name <NAME> | --limit <N> | --hex <DIGITS>",
+        "--type <TYPE> | --types <TEXT> | --name <NAME> | --limit <N> | --hex <DIGITS> | --ascii",
     ),
     (
         "canon",

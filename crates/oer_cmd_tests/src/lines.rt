@@ -43,6 +43,16 @@ const RUNS: &str = r#"0 | ff | canon | --type | BOOLEAN | --hex | 01
 2 | oer: hex refused | canon | --type=BOOLEAN | --hex=0
 0 | "07070707070707" | show | --type=OCTET STRING (SIZE(7))
 0 | [7,7] | show | --types=A ::= INTEGER (0..255) B ::= SEQUENCE OF A | --name=B | --hex=01020707
+0 | "é}" | show | --type=UTF8String | --hex=03c3a97d
+0 | "\u00e9}" | show | --type=UTF8String | --ascii | --hex=03c3a97d
+0 | "\u007f\u0080" | show | --type=UTF8String | --ascii | --hex=037fc280
+0 | "\u009b2JA" | show | --ascii | --type=UTF8String | --hex=05c29b324a41
+0 | "\u202e\uffff" | show | --type=UTF8String | --ascii | --hex=06e280aeefbfbf
+0 | "\ud800\udc00" | show | --type=UTF8String | --ascii | --hex=04f0908080
+0 | "\udbff\udfff" | show | --type=UTF8String | --ascii | --hex=04f48fbfbf
+0 | "\"\\\n" | show | --type=UTF8String | --ascii | --hex=03225c0a
+0 | {"a":true} | show | --ascii | --type=SEQUENCE {a BOOLEAN} | --hex=ff
+1 | oer: octets follow the value at 1 | show | --ascii | --type=BOOLEAN
 1 | oer: octets follow the value at 1 | show | --type=BOOLEAN | --hex=0102
 1 | oer: octets follow the value at 2 | show | --type=INTEGER (0..65535) | --limit=2
 2 | oer: one of --type and --types | show | --hex=0
@@ -74,6 +84,8 @@ const RUNS: &str = r#"0 | ff | canon | --type | BOOLEAN | --hex | 01
 2 | oer: hex refused | part | --type=BOOLEAN | --hex=0
 2 | oer: path refused | part | --type=BOOLEAN | --hex=01 | --path=c01
 0 | 01fb | make | --types=A ::= INTEGER | --name=A | --limit=2 | --json=-5
+0 | 04f0908080 | make | --type=UTF8String | --json="\ud800\udc00"
+0 | 05c29b324a41 | make | --type=UTF8String | --json="\u009b2JA"
 1 | oer: input longer than 6 | make | --type=INTEGER | --limit=6
 1 | oer: input longer than 1 | make | --type=INTEGER | --limit=1 | --json=five
 1 | oer: input longer than 1 | make | --type=INTEGER (0..255) | --json=10 | --limit=1
@@ -97,6 +109,8 @@ canon | --type=BOOLEAN | --limit=18446744073709551616
 canon | --type=BOOLEAN | --type=NULL
 canon | --type=BOOLEAN | --path=c0
 make | --type=BOOLEAN | --hex=01
+canon | --type=BOOLEAN | --ascii
+show | --type=BOOLEAN | --ascii=true
 canon | BOOLEAN";
 
 // That a run does what the row says.

@@ -1,12 +1,13 @@
 -- What the words of the command line ask for.
-use Rattle.std.specs.Prelude.{◌≡◌, ℕ, List, [], ◌∷◌, Option, None, Some, false, true, codes, option_map, option_and_then}
+use Rattle.std.specs.Prelude.{◌≡◌, ◌≢◌, ⊤, ℕ, List, [], ◌∷◌, Option, None, Some, false, true, codes, option_map, option_and_then}
 use Rattle.std.specs.Borrow.{Bor}
 use Rattle.std.specs.Str.Parse.{IsNumeral, digits_value, without_leading_plus}
 use Rattle.oer_options.specs.declared.options.Options.{Options}
 use Rattle.oer_options.specs.declared.options.Task.{Task}
-use Rattle.oer_options.specs.declared.options.Task.TheVariants.{Canon, Check, Make, Part, Show}
+use Rattle.oer_options.specs.declared.options.Task.TheVariants.{Canon, Check, Make, Part, Show, ShowAscii}
 use Rattle.clap.specs.Words.{App, Rule, Text, first_of, new_app, new_rule, one_of, subcommand_of, with_rule, with_subcommand}
 use Rattle.clap.specs.Simple.{app_of, on_top}
+use Rattle.clap.specs.declared.builder.action.ArgAction.TheVariants.{SetTrue}
 use Rattle.clap.specs.declared.builder.command.Command.{Command}
 use Rattle.clap.specs.declared.builder.command.Command.TheViews.{out-Command}
 use Rattle.clap.specs.declared.builder.value_parser.ValueParser.TheVariants as vp
@@ -34,6 +35,13 @@ task_app name = with_rule (with_rule (with_rule (with_rule (new_app name)
 abbrev pub hex_app : Text → App
 hex_app name = with_rule (task_app name) (option_rule (codes "hex"))
 
+-- the flag for a line in ASCII
+abbrev pub ascii_rule : Rule
+ascii_rule = record (new_rule (codes "ascii")) { long = Some (codes "ascii"); action = Some SetTrue }
+
+abbrev pub show_app : App
+show_app = with_rule (hex_app (codes "show")) ascii_rule
+
 abbrev pub make_app : App
 make_app = with_rule (task_app (codes "make")) (option_rule (codes "json"))
 
@@ -44,7 +52,7 @@ part_app = with_rule (hex_app (codes "part")) (option_rule (codes "path"))
 abbrev pub oer : App
 oer = with_subcommand (with_subcommand (with_subcommand (with_subcommand (with_subcommand
     (on_top (λ s. record s { has_version = true; subcommand_required = true }) (new_app (codes "oer")))
-    (hex_app (codes "show")).top) (hex_app (codes "canon")).top) (hex_app (codes "check")).top) make_app.top) part_app.top
+    show_app.top) (hex_app (codes "canon")).top) (hex_app (codes "check")).top) make_app.top) part_app.top
 
 -- the task that the words name
 abbrev pub asked : List Text → Option Text
@@ -54,7 +62,7 @@ asked words = option_map (λ p. p.0) (subcommand_of oer words)
 abbrev pub given : List Text → Text → Option Text
 given words id = option_and_then (λ p. first_of id p.1) (subcommand_of oer words)
 
--- the same as a number is read from it
+-- the same as a number or a flag is read from it
 abbrev pub given_number : List Text → Text → Option Text
 given_number words id = option_and_then (λ p. one_of id p.1) (subcommand_of oer words)
 
@@ -70,6 +78,8 @@ behind = option_map (λ s. s.now)
 -- what a task is, but for its texts
 pub data Kind : Type 0 where
   show : Kind
+  -- in ASCII
+  show_ascii : Kind
   canon : Kind
   check : Kind
   make : Kind
@@ -77,6 +87,7 @@ pub data Kind : Type 0 where
 
 abbrev pub kind : Task → Kind
 kind (Show hex) = show
+kind (ShowAscii hex) = show_ascii
 kind (Canon hex) = canon
 kind (Check hex) = check
 kind (Make json) = make
@@ -85,6 +96,7 @@ kind (Part hex path) = part
 -- the subcommand
 abbrev pub name_of : Kind → Text
 name_of show = codes "show"
+name_of show_ascii = codes "show"
 name_of canon = codes "canon"
 name_of check = codes "check"
 name_of make = codes "make"
@@ -93,6 +105,7 @@ name_of part = codes "part"
 -- the option whose text is octets or JSON
 abbrev pub source_option : Kind → Text
 source_option show = codes "hex"
+source_option show_ascii = codes "hex"
 source_option canon = codes "hex"
 source_option check = codes "hex"
 source_option make = codes "json"
@@ -101,6 +114,7 @@ source_option part = codes "hex"
 -- the text of a path, among these values of options
 abbrev pub path_among : Kind → (Text → Option Text) → Option Text
 path_among show value = None
+path_among show_ascii value = None
 path_among canon value = None
 path_among check value = None
 path_among make value = None
@@ -109,6 +123,7 @@ path_among part value = value (codes "path")
 -- the text of octets or of JSON that the task has
 abbrev pub source_text : Task → Option Text
 source_text (Show hex) = behind hex
+source_text (ShowAscii hex) = behind hex
 source_text (Canon hex) = behind hex
 source_text (Check hex) = behind hex
 source_text (Make json) = behind json
@@ -119,14 +134,20 @@ abbrev pub path_text : Task → Option Text
 path_text (Part hex text) = behind text
 path_text _ = None
 
--- the task of that name, with the values of the options that not all tasks have
-abbrev pub IsTask : Option Text → (Text → Option Text) → Task → Type 0
-IsTask name value task = (name ≡ Some (name_of (kind task))) × (value (source_option (kind task)) ≡ source_text task)
-    × (path_among (kind task) value ≡ path_text task)
+-- The values of flags are those of the kind: `--ascii` is given, or not.
+abbrev pub HasFlags : Kind → (Text → Option Text) → Type 0
+HasFlags show flag = flag (codes "ascii") ≢ Some (codes "true")
+HasFlags show_ascii flag = flag (codes "ascii") ≡ Some (codes "true")
+HasFlags _ flag = ⊤
+
+-- the task of that name, with the values of the options that not all tasks have, and of flags
+abbrev pub IsTask : Option Text → (Text → Option Text) → (Text → Option Text) → Task → Type 0
+IsTask name value flag task = (name ≡ Some (name_of (kind task))) × (value (source_option (kind task)) ≡ source_text task)
+    × (path_among (kind task) value ≡ path_text task) × HasFlags (kind task) flag
 
 -- the options are those of the words
 pub record Asks (words : List Text) (o : Options) : Type 0 where
-  pub task : IsTask (asked words) (given words) o.task
+  pub task : IsTask (asked words) (given words) (given_number words) o.task
   pub type_text : given words (codes "type") ≡ behind o.type_text
   pub types : given words (codes "types") ≡ behind o.types
   pub name : given words (codes "name") ≡ behind o.name

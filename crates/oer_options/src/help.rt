@@ -71,6 +71,7 @@ pub const SHOW: Help = help!(
     "Print the JSON of a value",
     "The octets have to be one encoding of the value, and nothing more. The JSON has
 no white space, and the keys of an object stand in the order of their bytes.
+Characters that are no ASCII stand as they are, unless --ascii is given.
 
 Examples:
   $ oer show --type \"SEQUENCE {a BOOLEAN, b NULL OPTIONAL}\" --hex 80ff
@@ -158,3 +159,5 @@ the octets are those of standard input, raw";
 pub const JSON: &str = "The JSON. Without it the JSON is what standard input has";
 
 pub const PATH: &str = "The way to the part, as c0.i2.v";
+
+pub const ASCII: &str = "Escape DEL and all characters above it, as JSON does";

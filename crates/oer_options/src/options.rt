@@ -1,11 +1,11 @@
 //! What the arguments of the program ask for.
-ghost use Rattle.std.specs.Prelude.{◌≡◌, List, Option, Some, None, false, true, IfOk, IfErr, IfSome, map, option_map, string_bytes};
-ghost use Rattle.clap.specs.Words.{HasKind, fault_of, first_value, found_of, kind_of, new_app, rule_of, takes};
+ghost use Rattle.std.specs.Prelude.{◌≡◌, ◌≢◌, codes, List, Option, Some, None, false, true, IfOk, IfErr, IfSome, map, option_map, string_bytes};
+ghost use Rattle.clap.specs.Words.{HasKind, fault_of, first_value, found_of, kind_of, new_app, one_text, rule_of, takes};
 ghost use Rattle.clap.specs.declared.error.kind.ErrorKind.TheVariants.{OutOfMemory};
-ghost use Rattle.oer_options.specs.Words.{Asks, HasShape, IsTask, hex_app, limit_rule, make_app, oer, option_rule, part_app, task_app};
+ghost use Rattle.oer_options.specs.Words.{Asks, HasShape, IsTask, ascii_rule, hex_app, limit_rule, make_app, oer, option_rule, part_app, show_app, task_app};
 
 use crate::help::{self, Help};
-use clap::{Arg, ArgMatches, Command, Error};
+use clap::{Arg, ArgAction, ArgMatches, Command, Error};
 use std::alloc::{AllocError, Global};
 
 /// What the arguments ask for, and the options that not all tasks have. `hex` are octets in
@@ -14,6 +14,10 @@ use std::alloc::{AllocError, Global};
 pub enum Task<'a> {
     /// The JSON of a value.
     Show {
+        hex: Option<&'a str>,
+    },
+    /// The same in ASCII, with all other characters escaped.
+    ShowAscii {
         hex: Option<&'a str>,
     },
     /// The canonical octets of a value.
@@ -73,6 +77,17 @@ fn limit_option<'a>(alloc: Global) -> Arg<'a>
         .default_value(DEFAULT_LIMIT)
 }
 
+/// The flag for a line in ASCII.
+fn ascii_option<'a>(alloc: Global) -> Arg<'a>
+    ensures rule { rule_of result ≡ ascii_rule }
+    ensures local { result.global ≡ false }
+{
+    Arg::new(alloc, "ascii")
+        .long("ascii")
+        .action(ArgAction::SetTrue)
+        .help(help::ASCII)
+}
+
 /// A command with its help.
 fn with_help<'a>(alloc: Global, name: &'a str, help: Help) -> Command<'a>
     ensures { HasShape (new_app name.entry.now) result }
@@ -101,6 +116,13 @@ fn hex_command<'a>(alloc: Global, name: &'a str, help: Help) -> Result<Command<'
     task_command(alloc, name, help)?.arg(option(alloc, "hex", "DIGITS", help::HEX))
 }
 
+/// The subcommand of the task that prints JSON.
+fn show_command<'a>(alloc: Global) -> Result<Command<'a>, AllocError>
+    ensures { IfOk result (HasShape show_app) }
+{
+    hex_command(alloc, "show", help::SHOW)?.arg(ascii_option(alloc))
+}
+
 /// The subcommand of the task on JSON.
 fn make_command<'a>(alloc: Global) -> Result<Command<'a>, AllocError>
     ensures { IfOk result (HasShape make_app) }
@@ -122,21 +144,31 @@ fn command<'a>(alloc: Global) -> Result<Command<'a>, AllocError>
     with_help(alloc, "oer", help::OER)
         .version(help::VERSION)
         .subcommand_required(true)
-        .subcommand(hex_command(alloc, "show", help::SHOW)?)?
+        .subcommand(show_command(alloc)?)?
         .subcommand(hex_command(alloc, "canon", help::CANON)?)?
         .subcommand(hex_command(alloc, "check", help::CHECK)?)?
         .subcommand(make_command(alloc)?)?
         .subcommand(part_command(alloc)?)
 }
 
+/// Whether the flag for a line in ASCII is given.
+fn is_ascii(found: &ArgMatches<'_>) -> bool
+    ensures given { result ≡ true → one_text (found_of found.now) (codes "ascii") ≡ Some (codes "true") }
+    ensures missing { result ≡ false → one_text (found_of found.now) (codes "ascii") ≢ Some (codes "true") }
+{
+    found.get_one::<bool>("ascii").unwrap_or(false)
+}
+
 /// The task of that name, with the options that not all tasks have.
 fn task_of<'a>(name: &str, found: &ArgMatches<'a>) -> Option<Task<'a>>
-    ensures { IfSome result (IsTask (Some name.now) (first_value (found_of found.now))) }
+    ensures { IfSome result (IsTask (Some name.now) (first_value (found_of found.now)) (one_text (found_of found.now))) }
 {
     if name == "show" {
-        return Some(Task::Show {
-            hex: found.get_str("hex"),
-        });
+        let hex = found.get_str("hex");
+        if is_ascii(found) {
+            return Some(Task::ShowAscii { hex });
+        }
+        return Some(Task::Show { hex });
     }
     if name == "canon" {
         return Some(Task::Canon {

@@ -8,6 +8,9 @@ use Rattle.oer_cmd.proofs.program.line_of.Goals as goal
 pub returns-in-Show-clause-refused : goal.returns-in-Show-clause-refused
 returns-in-Show-clause-refused g c = of_task c.value_line.result _ (the_type c.args.schema.now) c.args.options.limit c.args.options.task _ c.in-Show.is c.value_line.ensures.refused
 
+pub returns-in-ShowAscii-clause-refused : goal.returns-in-ShowAscii-clause-refused
+returns-in-ShowAscii-clause-refused g c = of_task c.value_line-in-ShowAscii.result _ (the_type c.args.schema.now) c.args.options.limit c.args.options.task _ c.in-ShowAscii.is c.value_line-in-ShowAscii.ensures.refused
+
 pub returns-in-Canon-clause-refused : goal.returns-in-Canon-clause-refused
 returns-in-Canon-clause-refused g c = of_task c.value_line-in-Canon.result _ (the_type c.args.schema.now) c.args.options.limit c.args.options.task _ c.in-Canon.is c.value_line-in-Canon.ensures.refused
 
@@ -23,8 +26,14 @@ returns-in-Part-clause-refused g c = of_task c.part_line.result _ (the_type c.ar
 pub returns-in-Show-clause-exact : goal.returns-in-Show-clause-exact
 returns-in-Show-clause-exact g c = for_task c.args.options.task _ (the_type c.args.schema.now) c.args.options.limit _ c.value_line.result c.in-Show.is (λ path of. c.value_line.ensures.exact)
 
+pub returns-in-ShowAscii-clause-exact : goal.returns-in-ShowAscii-clause-exact
+returns-in-ShowAscii-clause-exact g c = for_task c.args.options.task _ (the_type c.args.schema.now) c.args.options.limit _ c.value_line-in-ShowAscii.result c.in-ShowAscii.is (λ path of. c.value_line-in-ShowAscii.ensures.exact)
+
 pub returns-in-Show-clause-untouched : goal.returns-in-Show-clause-untouched
 returns-in-Show-clause-untouched g c = keeps_task c.args.options.task _ c.in-Show.is c.value_line.ensures.untouched
+
+pub returns-in-ShowAscii-clause-untouched : goal.returns-in-ShowAscii-clause-untouched
+returns-in-ShowAscii-clause-untouched g c = keeps_task c.args.options.task _ c.in-ShowAscii.is c.value_line-in-ShowAscii.ensures.untouched
 
 pub returns-in-Canon-clause-exact : goal.returns-in-Canon-clause-exact
 returns-in-Canon-clause-exact g c = for_task c.args.options.task _ (the_type c.args.schema.now) c.args.options.limit _ c.value_line-in-Canon.result c.in-Canon.is (λ path of. c.value_line-in-Canon.ensures.exact)
@@ -54,6 +63,11 @@ pub returns-in-Show-clause-takes : goal.returns-in-Show-clause-takes
 returns-in-Show-clause-takes g c =
     by_task c.args.options.task _ (the_type c.args.schema.now) c.args.options.limit _ _ _ _ c.in-Show.is
     (λ path of. as_asked (the_type c.args.schema.now) (behind c.in-Show.hex) path _ _ of c.value_line.ensures.untouched c.value_line.ensures.takes)
+
+pub returns-in-ShowAscii-clause-takes : goal.returns-in-ShowAscii-clause-takes
+returns-in-ShowAscii-clause-takes g c =
+    by_task c.args.options.task _ (the_type c.args.schema.now) c.args.options.limit _ _ _ _ c.in-ShowAscii.is
+    (λ path of. as_asked (the_type c.args.schema.now) (behind c.in-ShowAscii.hex) path _ _ of c.value_line-in-ShowAscii.ensures.untouched c.value_line-in-ShowAscii.ensures.takes)
 
 pub returns-in-Canon-clause-takes : goal.returns-in-Canon-clause-takes
 returns-in-Canon-clause-takes g c =
