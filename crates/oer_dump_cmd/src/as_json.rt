@@ -235,11 +235,14 @@ fn push_object(alloc: Global, text: &mut String, entry: &Entry<'_>) -> Result<()
     text.push_str("}")
 }
 
+// How many octets most objects have at most.
+const USUAL_OBJECT: usize = 256;
+
 // Appends the object of an entry as it is printed.
 fn push_line(alloc: Global, text: &mut String, entry: &Entry<'_>) -> Result<(), AllocError>
     ensures { OnOk result (string_bytes text.new ≡ string_bytes text.old ++ visible (compact_text (object_of entry.now))) }
 {
-    let mut object = String::new(alloc);
+    let mut object = String::with_capacity(alloc, USUAL_OBJECT)?;
     push_object(alloc, &mut object, entry)?;
     push_visible(text, object.as_str())
 }

@@ -236,11 +236,14 @@ fn push_cells(
     text.push_str(line.note.as_str())
 }
 
+// How many octets the cells of most lines have at most.
+const USUAL_CELLS: usize = 128;
+
 // The cells of the line.
 fn cells_text(alloc: Global, line: &Line<'_>, widths: Widths) -> Result<String, AllocError>
     ensures { IfOk result (λ text. IsLine (cells_in line.now) (string_bytes text)) }
 {
-    let mut text = String::new(alloc);
+    let mut text = String::with_capacity(alloc, USUAL_CELLS)?;
     push_cells(alloc, &mut text, line, widths)?;
     Ok(text)
 }

@@ -4,7 +4,7 @@ ghost use Rattle.oer_dump_cmd.specs.Layout.{cells_in, cells_of, or_dash};
 
 use crate::as_json::push_json;
 use crate::tag::tag_text;
-use crate::visible::push_visible;
+use crate::visible::visible_text;
 use oer_entries::{Entry, NamedBit, What, name_text};
 use std::alloc::{AllocError, Global};
 
@@ -75,9 +75,7 @@ fn value_text(alloc: Global, entry: &Entry<'_>) -> Result<String, AllocError> {
         What::Value(value) => {
             let mut json = String::new(alloc);
             push_json(alloc, &mut json, value)?;
-            let mut text = String::new(alloc);
-            push_visible(&mut text, json.as_str())?;
-            Ok(text)
+            visible_text(alloc, json)
         }
         What::Unknown | What::Follows | What::Rejected => quoted_digits(alloc, entry.octets),
     }

@@ -1,9 +1,9 @@
 //! Text as it is printed: characters that a terminal would take for more than a sign are spelt out.
-ghost use Rattle.std.specs.Prelude.{◌≡◌, ◌<◌, ◌∷◌, [], ◌++◌, OnOk, string_bytes, true};
+ghost use Rattle.std.specs.Prelude.{◌≡◌, ◌<◌, ◌∷◌, [], ◌++◌, IfOk, OnOk, string_bytes, true};
 ghost use Rattle.std.specs.Char.{digit_char};
 ghost use Rattle.oer_dump_cmd.specs.Visible.{is_among, is_hidden, spelt_out, visible, visible_character};
 
-use std::alloc::AllocError;
+use std::alloc::{AllocError, Global};
 
 // Whether a number is one of those from the first to the last.
 fn is_among(first: u32, last: u32, number: u32) -> bool
@@ -81,6 +81,18 @@ fn is_plain(text: &str) -> bool
         }
     }
     is_plain
+}
+
+/// A text, of which each character that is hidden is spelt out.
+pub(crate) fn visible_text(alloc: Global, text: String) -> Result<String, AllocError>
+    ensures { IfOk result (λ made. string_bytes made ≡ visible (string_bytes text)) }
+{
+    if is_plain(text.as_str()) {
+        return Ok(text);
+    }
+    let mut made = String::new(alloc);
+    push_each(&mut made, text.as_str())?;
+    Ok(made)
 }
 
 /// Appends a text, of which each character that is hidden is spelt out.
