@@ -155,7 +155,11 @@ fn reads_within(rt: HostRuntime) -> Result<(), Fail> {
         ("A ::= NULL B ::= NULL,", 2, "Syntax at 21"),
         ("", 0, "Syntax at 0"),
     ] {
-        assert_eq!(rt; within(rt.alloc(), text, parts)?.as_str(), want, "{parts}: {text}");
+        assert_eq!(rt;
+            within(rt.alloc(), text, parts)?.as_str(),
+            want,
+            "{parts}: {text}"
+        );
     }
     Ok(())
 }
