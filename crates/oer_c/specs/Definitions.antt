@@ -5,7 +5,8 @@ use Rattle.oer_notation.specs.Grammar.{AreWellFormed, SpellsAll}
 use Rattle.oer_notation.specs.Parsing.{parse_all}
 use Rattle.oer_notation.specs.Reading.{Known}
 use Rattle.oer_notation.specs.Views.{knowns}
-use Rattle.oer_notation.specs.Within.{parts_of}
+use Rattle.oer_notation.specs.Within.{parse_within, parts_of}
+use Rattle.oer_notation.specs.declared.within.WithinFault.TheVariants.{Parts}
 use Rattle.oer_value_notation.specs.declared.fault.TextFault.{TextFault}
 use Rattle.oer_value_notation.specs.declared.fault.TextWhy.TheVariants.{Memory}
 use Rattle.oer_notation.specs.declared.types.Types.{Types}
@@ -36,11 +37,12 @@ abbrev pub IsRead : List ℕ → Option Types → Option Types → Parsed → Ty
 IsRead text old new p = ((t : Types) × (new ≡ Some t) × SpellsAll (knowns t) text × (p ≡ answer 0 0 (length text)))
     ⊎ ((new ≡ old) × IsRejected text p)
 
--- The text is rejected, however many parts its types may have; or they have more parts together, with the definition that begins at
--- the place.
+-- The text is rejected, however many parts its types may have; or they have more parts together, and the definition with which they do,
+-- the first such fault from the left, begins at the place.
 abbrev pub IsRejectedWithin : ℕ → List ℕ → Parsed → Type 0
 IsRejectedWithin most text p = IsRejected text p
-    ⊎ ((place : ℕ) × (p ≡ answer 1 20 place) × ((definitions : List Known) → parse_all text ≡ Ok definitions → most < parts_of definitions))
+    ⊎ ((place : ℕ) × (p ≡ answer 1 20 place) × (parse_within most text ≡ Err (Parts place))
+    × ((definitions : List Known) → parse_all text ≡ Ok definitions → most < parts_of definitions))
 
 -- There are types that the text spells, of no more parts together; or the text is rejected, and there are those from before.
 abbrev pub IsReadWithin : ℕ → List ℕ → Option Types → Option Types → Parsed → Type 0
