@@ -22,6 +22,10 @@ lib/liboer.a: include/oer.h $(sources)
 
 quick:
 	@tools/quick
+# The line of the toolchain that proved programs and library.
+lib/toolchain: bin/oer lib/liboer.a
+	@rt version > $@.new && mv $@.new $@
+
 
 test:
 	@tools/costs tools/gate
@@ -38,7 +42,7 @@ test_lib: lib/liboer.a
 bench:
 	@bench/report
 
-install: bin/oer lib/liboer.a
+install: lib/toolchain
 	@rm -rf out/layout
 	@tools/layout out/layout
 	@PREFIX="$(PREFIX)" DESTDIR="$(DESTDIR)" tools/install out/layout
@@ -46,7 +50,7 @@ install: bin/oer lib/liboer.a
 uninstall:
 	@PREFIX="$(PREFIX)" DESTDIR="$(DESTDIR)" tools/uninstall
 
-dist: bin/oer lib/liboer.a
+dist: lib/toolchain
 	@tools/dist
 
 clean:
