@@ -1,7 +1,8 @@
 """Builds the wheel and the source archive of the module oer, as PEP 517 has it.
 
 It needs nothing but Python, so that `pip install .` works offline, where setuptools without the package
-wheel doesn't. What it writes of the module stands in pyproject.toml.
+wheel doesn't. What it writes of the module stands in pyproject.toml. In a wheel the module is a package of
+one file, since only a package can say that it has type hints (py.typed).
 """
 
 import base64
@@ -15,6 +16,8 @@ from typing import Any, Dict, List, Optional
 
 _HERE = os.path.dirname(os.path.abspath(__file__))
 _SOURCES = ["pyproject.toml", "backend.py", "oer.py"]
+_PLATFORM = "manylinux_2_34_x86_64"  # what the library needs: docs/INSTALL.md
+_NOTICES = ["LICENSE", "NOTICE", "THIRD-PARTY.md", "proved"]
 
 
 def _read(name: str) -> bytes:
@@ -40,7 +43,23 @@ def _metadata() -> bytes:
         f"Name: {_project('name')}\n"
         f"Version: {_project('version')}\n"
         f"Summary: {_project('description')}\n"
+        f"License: {_project('license')}\n"
         f"Requires-Python: {_project('requires-python')}\n"
+    ).encode("utf-8")
+
+
+def _library(prefix: str, info: str) -> Dict[str, bytes]:
+    """The library that is installed under the prefix, and the notices on it, as the wheel has them."""
+    files = {"oer/liboer.so": os.path.join(prefix, "lib", f"liboer.so.{_project('version')}")}
+    for name in _NOTICES:
+        files[f"{info}/{name}"] = os.path.join(prefix, "share", "doc", "oer", name)
+    return {name: _read(os.path.abspath(path)) for name, path in files.items()}
+
+
+def _tags(pure: bool, platform: str) -> bytes:
+    """The file WHEEL."""
+    return (
+        f"Wheel-Version: 1.0\nGenerator: oer\nRoot-Is-Purelib: {str(pure).lower()}\nTag: py3-none-{platform}\n"
     ).encode("utf-8")
 
 
@@ -60,15 +79,24 @@ def get_requires_for_build_wheel(config_settings: Optional[Dict[str, Any]] = Non
 
 def build_wheel(wheel_directory: str, config_settings: Optional[Dict[str, Any]] = None,
                 metadata_directory: Optional[str] = None) -> str:
-    """Writes the wheel into the folder. Returns the name of its file."""
+    """Writes the wheel into the folder. Returns the name of its file.
+
+    Where the settings have a `prefix`, the wheel is for this platform alone: it has the library that is
+    installed under that folder, and needs no other.
+    """
     info = f"{_stem()}.dist-info"
+    prefix = (config_settings or {}).get("prefix")
+    platform = _PLATFORM if prefix else "any"
     files = {
-        "oer.py": _read("oer.py"),
+        "oer/__init__.py": _read("oer.py"),
+        "oer/py.typed": b"",
         f"{info}/METADATA": _metadata(),
-        f"{info}/WHEEL": b"Wheel-Version: 1.0\nGenerator: oer\nRoot-Is-Purelib: true\nTag: py3-none-any\n",
+        f"{info}/WHEEL": _tags(not prefix, platform),
     }
+    if prefix:
+        files.update(_library(prefix, info))
     files[f"{info}/RECORD"] = _record(files, f"{info}/RECORD")
-    name = f"{_stem()}-py3-none-any.whl"
+    name = f"{_stem()}-py3-none-{platform}.whl"
     with zipfile.ZipFile(os.path.join(wheel_directory, name), "w", zipfile.ZIP_DEFLATED) as wheel:
         for path, data in files.items():
             entry = zipfile.ZipInfo(path)

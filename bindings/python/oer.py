@@ -12,8 +12,8 @@ UTF-8 as bytes. Lengths and places are numbers of octets. The notation of defini
 that of paths in COMMAND.md, and the JSON in JSON.md.
 
 The library is the file that the variable OER_LIB of the environment names, or liboer.so in the folder
-that OER_LIB_DIR names, or the one that the system finds. Where there is none, or one of another version,
-to import this module raises ImportError.
+that OER_LIB_DIR names, or the one beside this module, as a wheel may have it, or the one that the system
+finds. Where there is none, or one of another version, to import this module raises ImportError.
 
 Of a subclass of str, bytes or int what counts is its text, its octets or its number, and not what its own
 methods say.
@@ -325,6 +325,9 @@ def _file() -> str:
     folder = os.environ.get("OER_LIB_DIR")
     if folder:
         return os.path.join(folder, "liboer.so")
+    beside = os.path.join(os.path.dirname(os.path.abspath(__file__)), "liboer.so")
+    if os.path.exists(beside):
+        return beside
     return ctypes.util.find_library("oer") or "liboer.so.0"
 
 
@@ -514,7 +517,7 @@ class Types:
         below 0.
         """
         named, given = _text(name), _octets(octets)
-        wanted = [_message(message) for message in messages]
+        wanted = [_Message(*_message(message)) for message in messages]
         places = (_Message * len(wanted))(*wanted)
         answers = (_Checked * len(wanted))()
         status = self._call(
