@@ -6,9 +6,11 @@
 # make bench: the instructions and the memory of our codec and of a plain one, side by side, and how they grow (docs/PERFORMANCE.md)
 # make install PREFIX=.. DESTDIR=..: programs, library, manual, completions, documents and examples, under PREFIX; make uninstall: takes them away
 # make dist: the archive of a release, in out/
+# make deb, make wheel: Debian packages, and a wheel for Python with the library in it, in out/
+# make test_packages: tries these, the crate for Rust, and what CMake reads
 PREFIX ?= /usr/local
 
-.PHONY: all quick test bench documents lib test_lib install uninstall dist clean
+.PHONY: all quick test bench documents lib test_lib install uninstall dist deb wheel test_packages clean
 
 all: bin/oer
 
@@ -20,12 +22,12 @@ bin/oer: $(sources)
 lib/liboer.a: include/oer.h $(sources)
 	@tools/lib
 
-quick:
-	@tools/quick
 # The line of the toolchain that proved programs and library.
 lib/toolchain: bin/oer lib/liboer.a
 	@rt version > $@.new && mv $@.new $@
 
+quick:
+	@tools/quick
 
 test:
 	@tools/costs tools/gate
@@ -52,6 +54,15 @@ uninstall:
 
 dist: lib/toolchain
 	@tools/dist
+
+deb: lib/toolchain
+	@tools/deb
+
+wheel: lib/toolchain
+	@tools/wheel
+
+test_packages: lib/toolchain
+	@tools/test_packages
 
 clean:
 	rm -rf bin lib out crates/*/out
