@@ -12,7 +12,7 @@ PREFIX ?= /usr/local
 
 .PHONY: all quick test bench documents lib test_lib install uninstall dist deb wheel test_packages clean
 
-all: bin/oer
+all: bin/toolchain
 
 sources := crates.txt $(shell find crates -name out -prune -o -type f \( -name '*.rt' -o -name '*.antt' \) -print)
 
@@ -22,9 +22,11 @@ bin/oer: $(sources)
 lib/liboer.a: include/oer.h $(sources)
 	@tools/lib
 
-# The line of the toolchain that proved programs and library.
-lib/toolchain: bin/oer lib/liboer.a
-	@rt version > $@.new && mv $@.new $@
+# The line of the toolchain that proved what is beside it.
+bin/toolchain: bin/oer
+lib/toolchain: lib/liboer.a
+bin/toolchain lib/toolchain:
+	@rt version > $@ || { rm $@; exit 1; }
 
 quick:
 	@tools/quick
@@ -35,7 +37,7 @@ test:
 documents: bin/oer
 	@examples/check
 
-lib: lib/liboer.a
+lib: lib/toolchain
 
 test_lib: lib/liboer.a
 	@tools/test_lib
@@ -44,7 +46,7 @@ test_lib: lib/liboer.a
 bench:
 	@bench/report
 
-install: lib/toolchain
+install: bin/toolchain lib/toolchain
 	@rm -rf out/layout
 	@tools/layout out/layout
 	@PREFIX="$(PREFIX)" DESTDIR="$(DESTDIR)" tools/install out/layout
@@ -52,16 +54,16 @@ install: lib/toolchain
 uninstall:
 	@PREFIX="$(PREFIX)" DESTDIR="$(DESTDIR)" tools/uninstall
 
-dist: lib/toolchain
+dist: bin/toolchain lib/toolchain
 	@tools/dist
 
-deb: lib/toolchain
+deb: bin/toolchain lib/toolchain
 	@tools/deb
 
-wheel: lib/toolchain
+wheel: bin/toolchain lib/toolchain
 	@tools/wheel
 
-test_packages: lib/toolchain
+test_packages: bin/toolchain lib/toolchain
 	@tools/test_packages
 
 clean:
