@@ -40,8 +40,9 @@ pub for_texts : (texts same : Texts) (task : Task) (limit : ℕ) (told : Option 
 for_texts texts same task limit told result is h = subst
     (λ t. (path : Expected (List Step)) → IsPathOf (path_text task) path → Meets bytes (given_answer t task limit path told) result) is h
 
-pub line_for : (texts same : Texts) (task : Task) (limit : ℕ) (told : Option (List ℕ)) (result : Result (String Global) Fault) → same ≡ texts
-    → IfOk result (λ line. IsLineGiven same task limit told (string_bytes line)) → IfOk result (λ line. IsLineGiven texts task limit told (string_bytes line))
+pub line_for : (texts same : Texts) (task : Task) (limit : ℕ) (told : Option (List ℕ)) (result : Result (String Global) Fault)
+    → same ≡ texts → IfOk result (λ line. IsLineGiven same task limit told (string_bytes line))
+    → IfOk result (λ line. IsLineGiven texts task limit told (string_bytes line))
 line_for texts same task limit told result is h = subst (λ t. IfOk result (λ line. IsLineGiven t task limit told (string_bytes line))) is h
 
 pub keeps_task : {A : Type 0} (task same : Task) → task ≡ same → (source_text same ≢ None → A) → source_text task ≢ None → A

@@ -44,11 +44,13 @@ may_be None = ([], tt)
 may_be (Some xs) = (xs, refl)
 
 -- Where no type is named there is no answer,
-pub unnamed : (texts : Texts) (task : Task) (limit : ℕ) (told : Option (List ℕ)) → NamesNone texts → NoLine told (IsLineFor (SpelledBy texts) task limit)
+pub unnamed : (texts : Texts) (task : Task) (limit : ℕ) (told : Option (List ℕ)) → NamesNone texts
+    → NoLine told (IsLineFor (SpelledBy texts) task limit)
 unnamed texts task limit told none = λ line h. let some = may_be told in let a = h some.0 some.1 in none a.type a.spelled
 
 -- and where the one that is named has no line.
-pub unanswered : (texts : Texts) (T : AsnType) (task : Task) (limit : ℕ) (told : Option (List ℕ)) → ((U : AsnType) → SpelledBy texts U → U ≡ T) → NoLineOf task told T limit → NoLine told (IsLineFor (SpelledBy texts) task limit)
+pub unanswered : (texts : Texts) (T : AsnType) (task : Task) (limit : ℕ) (told : Option (List ℕ))
+    → ((U : AsnType) → SpelledBy texts U → U ≡ T) → NoLineOf task told T limit → NoLine told (IsLineFor (SpelledBy texts) task limit)
 unanswered texts T task limit told only none = λ line h. none line (λ b may. let a = h b may in subst (λ U. IsLineOf task (Some b) U limit line) (only a.type a.spelled) a.line_is)
 
 -- the same task, and the same texts

@@ -29,9 +29,11 @@ use Rattle.oer_cmd.proofs.Meeting.{bytes, goes, refusing, stops}
 -- ---- the text
 
 -- It is UTF-8.
-pub text_made : (octets : Vec ℕ Global) (text : String Global) → string_bytes text ≡ octets.items → Meets bytes (types_text octets.items) (Ok text)
+pub text_made : (octets : Vec ℕ Global) (text : String Global) → string_bytes text ≡ octets.items
+    → Meets bytes (types_text octets.items) (Ok text)
 text_made octets text same = subst (λ (l : List ℕ). Meets bytes (types_text l) (Ok text)) same
-    (subst (λ b. Meets bytes (if b then value (string_bytes text) else stop («Type» (record { at = utf8_valid_len (string_bytes text); why = Token }))) (Ok text))
+    (subst (λ b. Meets bytes (if b then value (string_bytes text)
+    else stop («Type» (record { at = utf8_valid_len (string_bytes text); why = Token }))) (Ok text))
     (sym (is_utf8-from_IsUtf8 (string_bytes text) (IsUtf8-string_bytes text))) refl)
 
 no_text : (b : Bool) → (b ≡ true → ⊥) → b ≡ false
@@ -97,7 +99,8 @@ not_lost None b fault some few utf8 h = absurd (some refl)
 not_lost (Some t) b fault some few utf8 h =
     let is : types_input (Some t) (Some b) ≡ value b =
     ap (λ (c : Bool). (if c then value b else stop (Longer most)) >>= types_text) (le-leb (length b) most few)
-    ∙ ap (λ (c : Bool). if c then value b else stop («Type» (record { at = utf8_valid_len b; why = Token }))) (is_utf8-from_IsUtf8 b utf8) in
+    ∙ ap (λ (c : Bool). if c then value b else stop («Type» (record { at = utf8_valid_len b; why = Token })))
+    (is_utf8-from_IsUtf8 b utf8) in
     subst (λ m. Meets {X = String Global} bytes m (Err fault)) is h
 
 -- This octet is in no text.
@@ -194,9 +197,11 @@ read_none types name body text task limit told mid mark same read none = λ line
     record {
       type = a.type;
       spelled = subst (λ (l : List ℕ). SpelledBy (among l name) a.type) (sym same) is.1.2;
-      line_is = line_by (kind task) (source_text task) (path_text task) (Some (string_bytes text)) (Some b) a.type limit line is.0 a.line_is;
+      line_is = line_by (kind task) (source_text task) (path_text task) (Some (string_bytes text)) (Some b) a.type limit line is.0
+          a.line_is;
     }) where
-      by : (told : Option (List ℕ)) → IfSome told (λ b. (length b ≤ most) × IsUtf8 b × (string_bytes text ≡ b)) → MayBe told (string_bytes text)
+      by : (told : Option (List ℕ)) → IfSome told (λ b. (length b ≤ most) × IsUtf8 b × (string_bytes text ≡ b))
+          → MayBe told (string_bytes text)
       by None was = tt
       by (Some b) was = was.2
 
@@ -217,23 +222,30 @@ pub read_answer : (types name body : Text) (text : String Global) (task : Task) 
     → Meets bytes (given_answer (among types name) task limit path told) result
 read_answer types name body text task limit path told mid result mark same read made =
     let some = (was_read (source_text task) told text read).0 in
-    let moved = ap (λ (l : List ℕ). answer_of (among l name) task limit path mid) same ∙ answer_kept (among (string_bytes text) name) task limit path mid told some in
-    subst (λ (b : Bool). Meets bytes ((if b then (types_input (source_text task) told >>= λ text. value (among text name)) else value (among types name))
+    let moved = ap (λ (l : List ℕ). answer_of (among l name) task limit path mid) same
+    ∙ answer_kept (among (string_bytes text) name) task limit path mid told some in
+    subst (λ (b : Bool). Meets bytes ((if b then (types_input (source_text task) told >>= λ text. value (among text name))
+    else value (among types name))
     >>= λ texts. answer_of texts task limit path told) result) (sym mark)
-    (goes (λ (s : String Global). among (string_bytes s) name) bytes (types_input (source_text task) told >>= λ text. value (among text name))
+    (goes (λ (s : String Global). among (string_bytes s) name) bytes
+    (types_input (source_text task) told >>= λ text. value (among text name))
     (λ texts. answer_of texts task limit path told) text result
-    (goes bytes (λ (s : String Global). among (string_bytes s) name) (types_input (source_text task) told) (λ text. value (among text name)) text (Ok text) read refl)
+    (goes bytes (λ (s : String Global). among (string_bytes s) name) (types_input (source_text task) told) (λ text. value (among text name))
+    text (Ok text) read refl)
     (subst (λ m. Meets bytes m result) moved made))
 
 pub lost_answer : (types name : Text) (task : Task) (limit : ℕ) (path : Expected (List Step)) (told : Option (List ℕ)) (fault : Fault)
     → bytes_eq types (codes "-") ≡ true → Meets {X = String Global} bytes (types_input (source_text task) told) (Err fault)
     → Meets {X = String Global} bytes (given_answer (among types name) task limit path told) (Err fault)
 lost_answer types name task limit path told fault mark lost =
-    subst (λ (b : Bool). Meets {X = String Global} bytes ((if b then (types_input (source_text task) told >>= λ text. value (among text name)) else value (among types name))
+    subst (λ (b : Bool). Meets {X = String Global} bytes ((if b
+    then (types_input (source_text task) told >>= λ text. value (among text name)) else value (among types name))
     >>= λ texts. answer_of texts task limit path told) (Err fault)) (sym mark)
-    (stops (λ (s : String Global). among (string_bytes s) name) bytes (types_input (source_text task) told >>= λ text. value (among text name))
+    (stops (λ (s : String Global). among (string_bytes s) name) bytes
+    (types_input (source_text task) told >>= λ text. value (among text name))
     (λ texts. answer_of texts task limit path told) fault
-    (stops bytes (λ (s : String Global). among (string_bytes s) name) (types_input (source_text task) told) (λ text. value (among text name)) fault lost))
+    (stops bytes (λ (s : String Global). among (string_bytes s) name) (types_input (source_text task) told) (λ text. value (among text name))
+    fault lost))
 
 -- ---- texts that are not read
 

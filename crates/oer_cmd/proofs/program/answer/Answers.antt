@@ -17,13 +17,15 @@ use Rattle.oer_cmd.proofs.program.answer.Goals as goal
 pub returns-in_err-text-clause-refused : goal.returns-in_err-text-clause-refused
 returns-in_err-text-clause-refused g c =
     let p = err_from_is_err_and c.from_residual.result c.from_residual.ensures.1 in
-    rw (p.1, p.2) (λ small. own_none (texts_of c.args.options) _ _ _ c.in_err-text.ensures.unread (unnamed (texts_of c.args.options) _ _ _ c.in_err-text.ensures.named.1))
+    rw (p.1, p.2) (λ small. own_none (texts_of c.args.options) _ _ _ c.in_err-text.ensures.unread
+    (unnamed (texts_of c.args.options) _ _ _ c.in_err-text.ensures.named.1))
 
 pub returns-in-One-clause-refused : goal.returns-in-One-clause-refused
 returns-in-One-clause-refused g c = of_texts c.line_of_one.result _ c.args.options.task c.args.options.limit (texts_of c.args.options) _ (ap texts_at (sym c.in-One.is) ∙ c.in_ok-text.ensures.named) c.line_of_one.ensures.refused
 
 pub returns-in-Named-clause-refused : goal.returns-in-Named-clause-refused
-returns-in-Named-clause-refused g c = of_texts c.line_of_types.result _ c.args.options.task c.args.options.limit (texts_of c.args.options) _ (ap texts_at (sym c.in-Named.is) ∙ c.in_ok-text.ensures.named) c.line_of_types.ensures.refused
+returns-in-Named-clause-refused g c = of_texts c.line_of_types.result _ c.args.options.task c.args.options.limit
+    (texts_of c.args.options) _ (ap texts_at (sym c.in-Named.is) ∙ c.in_ok-text.ensures.named) c.line_of_types.ensures.refused
 
 pub returns-in_err-text-clause-exact : goal.returns-in_err-text-clause-exact
 returns-in_err-text-clause-exact g c =
@@ -34,7 +36,8 @@ pub returns-in-One-clause-exact : goal.returns-in-One-clause-exact
 returns-in-One-clause-exact g c = for_texts (texts_of c.args.options) _ c.args.options.task c.args.options.limit _ c.line_of_one.result (ap texts_at (sym c.in-One.is) ∙ c.in_ok-text.ensures.named) c.line_of_one.ensures.exact
 
 pub returns-in-Named-clause-exact : goal.returns-in-Named-clause-exact
-returns-in-Named-clause-exact g c = for_texts (texts_of c.args.options) _ c.args.options.task c.args.options.limit _ c.line_of_types.result (ap texts_at (sym c.in-Named.is) ∙ c.in_ok-text.ensures.named) c.line_of_types.ensures.exact
+returns-in-Named-clause-exact g c = for_texts (texts_of c.args.options) _ c.args.options.task c.args.options.limit _
+    c.line_of_types.result (ap texts_at (sym c.in-Named.is) ∙ c.in_ok-text.ensures.named) c.line_of_types.ensures.exact
 
 pub returns-in_err-text-clause-takes : goal.returns-in_err-text-clause-takes
 returns-in_err-text-clause-takes g c =

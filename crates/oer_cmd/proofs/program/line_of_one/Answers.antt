@@ -19,7 +19,8 @@ returns-in_err-schema-clause-refused g c =
 
 pub returns-clause-refused : goal.returns-clause-refused
 returns-clause-refused g c =
-    IfErr-weaker c.line_of.result _ _ (λ fault none small. unanswered (texts_at (One c.args.text)) _ _ _ _ c.in_ok-schema.ensures.spells.1 (none small)) c.line_of.ensures.refused
+    IfErr-weaker c.line_of.result _ _ (λ fault none small. unanswered (texts_at (One c.args.text)) _ _ _ _
+    c.in_ok-schema.ensures.spells.1 (none small)) c.line_of.ensures.refused
 
 pub returns-clause-exact : goal.returns-clause-exact
 returns-clause-exact g c = λ path of. one_read c.args.text c.args.options.task c.args.options.limit path _ c.in_ok-schema.schema c.line_of.result c.in_ok-schema.ensures.exact (c.line_of.ensures.exact path of)

@@ -13,8 +13,8 @@ use Rattle.oer_cmd.proofs.program.line_of_types.Goals as goal
 pub returns-then-ne-clause-refused : goal.returns-then-ne-clause-refused
 returns-then-ne-clause-refused g c =
     let own : bytes_eq c.args.types.now (codes "-") ≡ false = grind (arith, common_steps) in
-    IfErr-weaker c.line_of_named.result _ _ (λ fault none small. own_none (texts_at (Named c.args.types c.args.name)) _ _ _ own (none small))
-    c.line_of_named.ensures.refused
+    IfErr-weaker c.line_of_named.result _ _
+    (λ fault none small. own_none (texts_at (Named c.args.types c.args.name)) _ _ _ own (none small)) c.line_of_named.ensures.refused
 
 pub returns-in_err-text-clause-refused : goal.returns-in_err-text-clause-refused
 returns-in_err-text-clause-refused g c =
@@ -35,14 +35,15 @@ returns-in_err-text-clause-exact g c =
 pub returns-clause-refused : goal.returns-clause-refused
 returns-clause-refused g c =
     let mark : bytes_eq c.args.types.now (codes "-") ≡ true = grind (arith, common_steps) in
-    IfErr-weaker c.line_of_named-2.result _ _ (λ fault none small. read_none c.args.types.now c.args.name.now _ c.in_ok-text.text c.args.options.task
-    c.args.options.limit _ _ mark c.as_str.ensures.value
-    (subst (λ s. Meets bytes (types_input s (g.R.Read.remaining c.args.input.now)) (Ok c.in_ok-text.text)) c.source.ensures c.in_ok-text.ensures.exact)
-    (none small)) c.line_of_named-2.ensures.refused
+    let read = subst (λ s. Meets bytes (types_input s (g.R.Read.remaining c.args.input.now)) (Ok c.in_ok-text.text))
+    c.source.ensures c.in_ok-text.ensures.exact in
+    IfErr-weaker c.line_of_named-2.result _ _ (λ fault none small. read_none c.args.types.now c.args.name.now _ c.in_ok-text.text
+    c.args.options.task c.args.options.limit _ _ mark c.as_str.ensures.value read (none small)) c.line_of_named-2.ensures.refused
 
 pub returns-clause-exact : goal.returns-clause-exact
 returns-clause-exact g c =
     let mark : bytes_eq c.args.types.now (codes "-") ≡ true = grind (arith, common_steps) in
-    λ path of. read_answer c.args.types.now c.args.name.now _ c.in_ok-text.text c.args.options.task c.args.options.limit path _ _ c.line_of_named-2.result mark c.as_str.ensures.value
-    (subst (λ s. Meets bytes (types_input s (g.R.Read.remaining c.args.input.now)) (Ok c.in_ok-text.text)) c.source.ensures c.in_ok-text.ensures.exact)
-    (c.line_of_named-2.ensures.exact path of)
+    let read = subst (λ s. Meets bytes (types_input s (g.R.Read.remaining c.args.input.now)) (Ok c.in_ok-text.text))
+    c.source.ensures c.in_ok-text.ensures.exact in
+    λ path of. read_answer c.args.types.now c.args.name.now _ c.in_ok-text.text c.args.options.task c.args.options.limit path _ _
+    c.line_of_named-2.result mark c.as_str.ensures.value read (c.line_of_named-2.ensures.exact path of)
