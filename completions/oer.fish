@@ -31,7 +31,7 @@ complete -c oer -l help -d 'Print a help text'
 # Of --type and of --types with --name a line takes only one.
 set -l all canon show check part make
 complete -c oer -n "__fish_oer_takes $all without type types name" -x -l type -d 'The type of the value'
-complete -c oer -n "__fish_oer_takes $all without type types" -x -l types -d 'Definitions, with --name'
+complete -c oer -n "__fish_oer_takes $all without type types" -x -l types -d 'Definitions, with --name; - reads standard input'
 complete -c oer -n "__fish_oer_takes $all without type name" -x -l name -d 'The definition that is the type'
 complete -c oer -n "__fish_oer_takes $all without limit" -x -l limit -d 'How many octets the value may take'
 complete -c oer -n '__fish_oer_takes canon show check part without hex' -x -l hex -d 'The octets'

@@ -13,16 +13,19 @@ use Rattle.oer_notation.specs.Reading.{Known, find}
 use Rattle.oer_notation.specs.Views.{knowns}
 use Rattle.oer_notation.specs.declared.types.Types.{Types}
 use Rattle.oer_value_notation.specs.declared.fault.TextFault.{TextFault}
-use Rattle.oer_options.specs.Words.{Kind, behind, canon, check, kind, make, part, path_text, show, show_ascii, source_text, texts_of}
+use Rattle.oer_options.specs.Words.{Kind, Texts, behind, canon, check, kind, make, part, path_text, show, show_ascii, source_text, texts_of}
 use Rattle.oer_options.specs.declared.options.Options.{Options}
 use Rattle.oer_options.specs.declared.options.Task.{Task}
 use Rattle.oer_cmd.specs.Answer.{IsPathOf, expected_type, hex_octets, named_as, parsed}
 use Rattle.oer_cmd.specs.Expected.{Expected, Meets, refusal, stop, unknown, value, ◌>>=◌}
 use Rattle.oer_cmd.specs.Faults.{status_of}
 use Rattle.oer_cmd.specs.Octets.{AreSpelt, octets_of}
-use Rattle.oer_cmd.specs.Taking.{GivesAll, GivesIfAsked, GivesTask, IsGathered, IsValue, TakesFor}
+use Rattle.oer_cmd.specs.Taking.{GivesIfAsked, GivesTask, GivesTypes, IsGathered, IsValue, TakesBy, TakesFor}
+use Rattle.oer_cmd.specs.Types.{reads_types}
+use Rattle.oer_checker.specs.Check.{most}
 use Rattle.oer_cmd.specs.declared.fault.Fault.{Fault}
 use Rattle.oer_cmd.proofs.Taking.{later, untaken}
+use Rattle.oer_cmd.proofs.Choices.{either}
 
 -- An input that is untouched. Where it is asked, that is what is taken of it.
 pub kept : (type : Expected AsnType) (source : Option Text) (path : Expected (List Step)) (untouched : Type 0) (gives : AsnType → Type 0) → untouched
@@ -114,10 +117,17 @@ asked_later (value T) None (value p) untouched gives gives' to h = to T h
 asked_later (value T) None (refusal r) untouched gives gives' to h = h
 asked_later (value T) None unknown untouched gives gives' to h = h
 
+types_later : (source : Option Text) (untouched : Type 0) (status status' : ℕ) (told told' : Option (List ℕ)) → (status' ≤ 2 → status ≤ 2)
+    → GivesTypes source untouched status told told' → GivesTypes source untouched status' told told'
+types_later None untouched status status' told told' less h = h
+types_later (Some text) untouched status status' told told' less h = later (most + 4096) status status' (IsGathered most) told told' less h
+
 pub for_later : (o : Options) (untouched : Type 0) (status status' : ℕ) (told told' : Option (List ℕ)) → (status' ≤ 2 → status ≤ 2) → TakesFor o untouched status told told' → TakesFor o untouched status' told told'
-for_later o untouched status status' told told' less h = λ path of. asked_later (expected_type (texts_of o)) (source_text o.task) path untouched
+for_later o untouched status status' told told' less h = either (reads_types (texts_of o))
+    (types_later (source_text o.task) untouched status status' told told' less)
+    (λ own path of. asked_later (expected_type (texts_of o)) (source_text o.task) path untouched
     (λ T. GivesTask (kind o.task) T o.limit status told told') (λ T. GivesTask (kind o.task) T o.limit status' told told')
-    (λ T. task_later (kind o.task) T o.limit status status' told told' less) (h path of)
+    (λ T. task_later (kind o.task) T o.limit status status' told told' less) (own path of)) h
 
 -- ---- the type
 
@@ -166,7 +176,7 @@ name_lost (Ok ks) name T types fault is seen h =
     type_lost {X = Bor Schema} (λ s. the_type s.now) (named_as name (find (knowns types) name)) T fault (ap (λ (l : List Known). named_as name (find l name)) seen ∙ is) h
 name_lost (Err e) name T types fault is seen h = absurd seen
 
--- the same type, by another name
-pub for_same : (same e : Expected AsnType) (source : Option Text) (path : Expected (List Step)) (untouched : Type 0) (gives : AsnType → Type 0) → same ≡ e
-    → GivesIfAsked same source path untouched gives → GivesIfAsked e source path untouched gives
-for_same same e source path untouched gives is h = subst (λ t. GivesIfAsked t source path untouched gives) is h
+-- the same texts, by another name
+pub for_same : (same texts : Texts) (task : Task) (limit status : ℕ) (told told' : Option (List ℕ)) (untouched : Type 0) → same ≡ texts
+    → TakesBy same task limit untouched status told told' → TakesBy texts task limit untouched status told told'
+for_same same texts task limit status told told' untouched is h = subst (λ t. TakesBy t task limit untouched status told told') is h

@@ -1,6 +1,6 @@
 -- How the program ends, from what its steps answer.
 use Rattle.std.proofs.Common.{Result, ◌≡◌, ◌≢◌, ◌∙◌, ℕ, ◌≤◌, List, [], ◌∷◌, ◌++◌, true, false, Option, Some, None, Ok, Err, String, Global, refl, sym, ap, subst, arith, string_bytes, ◌⊎◌, inl, inr}
-use Rattle.std.specs.Prelude.{is_some}
+use Rattle.std.specs.Prelude.{Bool, IfOk, if◌then◌else◌}
 use Rattle.std.specs.Borrow.{Bor}
 use Rattle.std.specs.Io.KnownBytes.{Appends, Keeps}
 use Rattle.clap.specs.Words.{HasKind, IsAmong, Kinds, Text, fault_of, kind_of, takes}
@@ -15,15 +15,17 @@ use Rattle.oer_notation.specs.Parsing.{parse, parse_all}
 use Rattle.oer_notation.specs.Reading.{Known, find}
 use Rattle.oer_notation.specs.Views.{knowns}
 use Rattle.oer_notation.specs.declared.types.Types.{Types}
-use Rattle.oer_options.specs.Words.{Asks, Texts, behind, oer, path_text, source_text, texts_of}
+use Rattle.oer_options.specs.Words.{Asks, Texts, oer, path_text, source_text, texts_of}
 use Rattle.oer_options.specs.declared.options.Options.{Options}
 use Rattle.oer_options.specs.declared.options.Task.{Task}
-use Rattle.oer_cmd.specs.Answer.{IsPathOf, answer_of, expected_answer, expected_type, named_as, parsed, task_answer, type_among}
+use Rattle.oer_cmd.specs.Answer.{IsPathOf, answer_of, expected_answer, expected_type, given_answer, named_as, parsed, task_answer, types_input}
 use Rattle.oer_cmd.specs.Ending.{Delivers, Breaks, Does, HoldsFront, IsMachineLine, IsNotTaken, IsUnstarted, MayPrint, Streams, refusal_line}
 use Rattle.oer_cmd.specs.Expected.{Expected, Meets, refusal, stop, unknown, value, ◌>>=◌}
 use Rattle.oer_cmd.specs.Faults.{AppendsFront, Printed, Reports, error_line, status_of}
+use Rattle.oer_cmd.specs.Run.{IsLineGiven}
+use Rattle.oer_cmd.specs.Types.{reads_types}
 use Rattle.oer_cmd.specs.declared.fault.Fault.{Fault}
-use Rattle.oer_cmd.specs.declared.fault.Fault.TheVariants.{Absent, Follows, Hex, Input, Json, Longer, Memory, NoName, NoSuchStep, NotJson, NoTypes, OneType, Output, Path, Read, «Type», Unnamed}
+use Rattle.oer_cmd.specs.declared.fault.Fault.TheVariants.{Absent, Follows, Hex, Input, Json, Longer, Memory, NoName, NoSource, NoSuchStep, NotJson, NoTypes, OneType, Output, Path, Read, «Type», Unnamed}
 use Rattle.oer_cmd.proofs.Meeting.{bytes, goes, stops}
 
 -- ---- the type, and then the task
@@ -33,8 +35,15 @@ pub for_task : (task same : Task) (T : AsnType) (limit : ℕ) (told : Option (Li
 for_task task same T limit told result is h = subst (λ t. (path : Expected (List Step)) → IsPathOf (path_text t) path → Meets bytes (task_answer t T limit path told) result) (sym is) h
 
 pub for_texts : (texts same : Texts) (task : Task) (limit : ℕ) (told : Option (List ℕ)) (result : Result (String Global) Fault) → same ≡ texts
-    → ((path : Expected (List Step)) → IsPathOf (path_text task) path → Meets bytes (answer_of same task limit path told) result) → (path : Expected (List Step)) → IsPathOf (path_text task) path → Meets bytes (answer_of texts task limit path told) result
-for_texts texts same task limit told result is h = subst (λ t. (path : Expected (List Step)) → IsPathOf (path_text task) path → Meets bytes (answer_of t task limit path told) result) is h
+    → ((path : Expected (List Step)) → IsPathOf (path_text task) path → Meets bytes (given_answer same task limit path told) result)
+    → (path : Expected (List Step)) → IsPathOf (path_text task) path → Meets bytes (given_answer texts task limit path told) result
+for_texts texts same task limit told result is h = subst
+    (λ t. (path : Expected (List Step)) → IsPathOf (path_text task) path → Meets bytes (given_answer t task limit path told) result) is h
+
+pub line_for : (texts same : Texts) (task : Task) (limit : ℕ) (told : Option (List ℕ)) (result : Result (String Global) Fault)
+    → same ≡ texts → IfOk result (λ line. IsLineGiven same task limit told (string_bytes line))
+    → IfOk result (λ line. IsLineGiven texts task limit told (string_bytes line))
+line_for texts same task limit told result is h = subst (λ t. IfOk result (λ line. IsLineGiven t task limit told (string_bytes line))) is h
 
 pub keeps_task : {A : Type 0} (task same : Task) → task ≡ same → (source_text same ≢ None → A) → source_text task ≢ None → A
 keeps_task task same is h some = h (λ none. some (ap source_text is ∙ none))
@@ -70,27 +79,19 @@ named_read types name task limit path told ts schema result h of made =
 
 -- ---- the texts of a type
 
-pub both_texts : (one types name : Option (Bor Text)) (text : Bor Text) → one ≡ Some text → is_some types ≡ true → type_among (behind one) (behind types) (behind name) ≡ stop OneType
-both_texts one None name text is some = absurd cc
-both_texts one (Some ts) name text is some = ap (λ o. type_among (behind o) (behind (Some ts)) (behind name)) is
+-- the answer for texts of which none is read from the input
+pub unread : (t : Texts) (task : Task) (limit : ℕ) (path : Expected (List Step)) (told : Option (List ℕ))
+    (result : Result (String Global) Fault) → reads_types t ≡ false → Meets bytes (answer_of t task limit path told) result
+    → Meets bytes (given_answer t task limit path told) result
+unread t task limit path told result own h = subst (λ (b : Bool). Meets bytes ((if b
+    then (types_input (source_text task) told >>= λ text. value (record t { types = Some text }))
+    else value t) >>= λ texts. answer_of texts task limit path told) result) (sym own) h
 
-pub name_too : (one types name : Option (Bor Text)) (text : Bor Text) → one ≡ Some text → is_some types ≡ false → is_some name ≡ true → type_among (behind one) (behind types) (behind name) ≡ stop NoTypes
-name_too one None None text is no_types some = absurd cc
-name_too one None (Some n) text is no_types some = ap (λ o. type_among (behind o) None (behind (Some n))) is
-name_too one (Some ts) name text is no_types some = absurd cc
-
-pub no_text : (one types name : Option (Bor Text)) → ((text : Bor Text) → one ≡ Some text → ⊥) → ((text : Bor Text) → types ≡ Some text → ⊥) → type_among (behind one) (behind types) (behind name) ≡ stop OneType
-no_text None None name one types = refl
-no_text None (Some ts) name one types = absurd (types ts refl)
-no_text (Some t) ts name one types = absurd (one t refl)
-
-pub no_name : (one types name : Option (Bor Text)) (text : Bor Text) → ((text : Bor Text) → one ≡ Some text → ⊥) → types ≡ Some text → ((text : Bor Text) → name ≡ Some text → ⊥) → type_among (behind one) (behind types) (behind name) ≡ stop NoName
-no_name None types None text one is name = ap (λ o. type_among None (behind o) None) is
-no_name None types (Some n) text one is name = absurd (name n refl)
-no_name (Some t) types name text one is name2 = absurd (one t refl)
-
-pub lacking : (o : Options) (path : Expected (List Step)) (told : Option (List ℕ)) (fault : Fault) → expected_type (texts_of o) ≡ stop fault → Meets {X = String Global} bytes (expected_answer o path told) (Err fault)
-lacking o path told fault is = subst (λ (t : Expected AsnType). Meets {X = String Global} bytes (t >>= λ T. task_answer o.task T o.limit path told) (Err fault)) (sym is) (λ small. refl)
+pub lacking : (o : Options) (path : Expected (List Step)) (told : Option (List ℕ)) (fault : Fault) → reads_types (texts_of o) ≡ false
+    → expected_type (texts_of o) ≡ stop fault → Meets {X = String Global} bytes (expected_answer o path told) (Err fault)
+lacking o path told fault own is = unread (texts_of o) o.task o.limit path told (Err fault) own
+    (subst (λ (t : Expected AsnType). Meets {X = String Global} bytes (t >>= λ T. task_answer o.task T o.limit path told) (Err fault))
+    (sym is) (λ small. refl))
 
 -- ---- the end
 
@@ -104,6 +105,7 @@ by_status Absent = inl (omega arith)
 by_status OneType = inl (omega arith)
 by_status NoName = inl (omega arith)
 by_status NoTypes = inl (omega arith)
+by_status NoSource = inl (omega arith)
 by_status («Type» e) = inl (omega arith)
 by_status (Unnamed name) = inl (omega arith)
 by_status Hex = inl (omega arith)
@@ -181,7 +183,7 @@ not_taken words untouched e status s among passes memory kept shows alone two qu
 
 pub does : (words : List Text) (told : Option (List ℕ)) (untouched : Type 0) (status : ℕ) (s : Streams) (o : Options) → Asks words o
     → ((path : Expected (List Step)) → IsPathOf (path_text o.task) path → Delivers (expected_answer o path told) status s ⊎ Breaks (expected_answer o path told) status s)
-    → (source_text o.task ≢ None → untouched) → Does words told untouched status s
+    → (source_text o.task ≢ None → reads_types (texts_of o) ≡ false → untouched) → Does words told untouched status s
 does words told untouched status s o asks answers keeps = record { options = o; asks = asks; answers = answers; keeps = keeps }
 
 pub keeps_same : (known : Option (List ℕ)) → Keeps known known

@@ -11,14 +11,16 @@ use Rattle.oer_options.specs.Words.{Asks, HasFlags, IsTask, Kind, asked, canon, 
 use Rattle.oer_options.specs.declared.options.Options.{Options}
 use Rattle.oer_options.specs.declared.options.Task.{Task}
 use Rattle.oer_cmd.specs.Octets.{AreAll, AreSpelt}
-use Rattle.oer_cmd.specs.Run.{IsLineFor, IsLineAsked, IsEncoding, IsLine, IsLineBy, IsLineOf, IsNoFront, IsPart, MayBe, NoLine, NoLineAsked, OfOctets, OfText}
-use Rattle.oer_cmd.specs.Types.{SpelledBy}
+use Rattle.oer_cmd.specs.Run.{IsLineGiven, IsLineAsked, IsEncoding, IsLine, IsLineBy, IsLineOf, IsNoFront, IsPart, MayBe, NoLine, NoLineAsked, OfOctets, OfText}
+use Rattle.oer_cmd.specs.Types.{SpelledWith}
 
-line_of_words : (words : List Text) (task : Task) (told : Option (List ℕ)) (T : AsnType) (limit : ℕ) (line : Text) → IsTask (asked words) (given words) (given_number words) task → IsLineOf task told T limit line → IsLine words told T limit line
-line_of_words words task told T limit line is h = (
+line_of_words : (words : List Text) (task : Task) (told : Option (List ℕ)) (T : AsnType) (limit : ℕ) (line : Text)
+    → IsTask (asked words) (given words) (given_number words) task → SpelledWith (texts_in words) (source_text task) told T → IsLineOf task told T limit line → IsLine words told T limit line
+line_of_words words task told T limit line is named h = (
   kind task,
   is.0,
   is.3,
+  subst (λ o. SpelledWith (texts_in words) o told T) (sym is.1) named,
   subst (λ o. IsLineBy (kind task) o (path_among (kind task) (given words)) told T limit line) (sym is.1)
       (subst (λ p. IsLineBy (kind task) (source_text task) p told T limit line) (sym is.2) h),
 )
@@ -86,25 +88,32 @@ one_kind : (o : Option Text) (flag : Text → Option Text) (j k : Kind) → o �
 one_kind o flag j k p q f g = one_flag j k flag (sym (named_is j) ∙ ap named (sym p ∙ q) ∙ named_is k) f g
 
 -- and back
-task_line : (words : List Text) (task : Task) (told : Option (List ℕ)) (T : AsnType) (limit : ℕ) (line : Text) → IsTask (asked words) (given words) (given_number words) task → IsLine words told T limit line → IsLineOf task told T limit line
+task_line : (words : List Text) (task : Task) (told : Option (List ℕ)) (T : AsnType) (limit : ℕ) (line : Text)
+    → IsTask (asked words) (given words) (given_number words) task → IsLine words told T limit line
+    → SpelledWith (texts_in words) (source_text task) told T × IsLineOf task told T limit line
 task_line words task told T limit line is h =
     let same : h.0 ≡ kind task = one_kind (asked words) (given_number words) h.0 (kind task) h.1 is.0 h.2 is.3 in
-    let there : IsLineBy (kind task) (given words (source_option (kind task))) (path_among (kind task) (given words)) told T limit line = subst (λ k. IsLineBy k (given words (source_option k)) (path_among k (given words)) told T limit line) same h.3 in
-    subst (λ p. IsLineBy (kind task) (source_text task) p told T limit line) is.2
-    (subst (λ o. IsLineBy (kind task) o (path_among (kind task) (given words)) told T limit line) is.1 there)
+    let there : IsLineBy (kind task) (given words (source_option (kind task))) (path_among (kind task) (given words)) told T limit line =
+    subst (λ k. IsLineBy k (given words (source_option k)) (path_among k (given words)) told T limit line) same h.4 in (
+      subst (λ o. SpelledWith (texts_in words) o told T) is.1
+          (subst (λ k. SpelledWith (texts_in words) (given words (source_option k)) told T) same h.3),
+      subst (λ p. IsLineBy (kind task) (source_text task) p told T limit line) is.2
+          (subst (λ o. IsLineBy (kind task) o (path_among (kind task) (given words)) told T limit line) is.1 there),
+    )
 
 texts_are : (words : List Text) (o : Options) → Asks words o → texts_of o ≡ texts_in words
 texts_are words o asks = rw (← asks.type_text, ← asks.types, ← asks.name) refl
 
-pub answers_words : (words : List Text) (o : Options) (told : Option (List ℕ)) (line : Text) → Asks words o → IsLineFor (texts_of o) o.task o.limit told line → IsLineAsked words told line
+pub answers_words : (words : List Text) (o : Options) (told : Option (List ℕ)) (line : Text) → Asks words o
+    → IsLineGiven (texts_of o) o.task o.limit told line → IsLineAsked words told line
 answers_words words o told line asks h = record {
   limit = o.limit;
   limit_text = asks.limit.0;
   limit_is = asks.limit.1;
   number = asks.limit.2;
   type = h.type;
-  spelled = subst (λ t. SpelledBy t h.type) (texts_are words o asks) h.spelled;
-  line_is = line_of_words words o.task told h.type o.limit line asks.task h.line_is;
+  line_is = line_of_words words o.task told h.type o.limit line asks.task
+      (subst (λ t. SpelledWith t (source_text o.task) told h.type) (texts_are words o asks) h.spelled) h.line_is;
 }
 
 same_limit : (words : List Text) (o : Options) (told : Option (List ℕ)) (line : Text) → Asks words o → (h : IsLineAsked words told line) → h.limit ≡ o.limit
@@ -112,15 +121,20 @@ same_limit words o told line asks h =
     let texts : h.limit_text ≡ asks.limit.0 = (let both = sym h.limit_is ∙ asks.limit.1 in cc) in
     h.number.value ∙ ap (λ t. digits_value 10 (without_leading_plus t)) texts ∙ sym asks.limit.2.value
 
-answers_options : (words : List Text) (o : Options) (told : Option (List ℕ)) (line : Text) → Asks words o → IsLineAsked words told line → IsLineFor (texts_of o) o.task o.limit told line
-answers_options words o told line asks h = record {
-  type = h.type;
-  spelled = subst (λ t. SpelledBy t h.type) (sym (texts_are words o asks)) h.spelled;
-  line_is = task_line words o.task told h.type o.limit line asks.task (subst (λ n. IsLine words told h.type n line) (same_limit words o told line asks h) h.line_is);
-}
+answers_options : (words : List Text) (o : Options) (told : Option (List ℕ)) (line : Text) → Asks words o → IsLineAsked words told line
+    → IsLineGiven (texts_of o) o.task o.limit told line
+answers_options words o told line asks h =
+    let is = task_line words o.task told h.type o.limit line asks.task
+    (subst (λ n. IsLine words told h.type n line) (same_limit words o told line asks h) h.line_is) in
+    record {
+      type = h.type;
+      spelled = subst (λ t. SpelledWith t (source_text o.task) told h.type) (sym (texts_are words o asks)) is.0;
+      line_is = is.1;
+    }
 
 -- Where the options have no line, the words have none.
-pub none_answers : (words : List Text) (o : Options) (known told : Option (List ℕ)) → Asks words o → NoLine known (IsLineFor (texts_of o) o.task o.limit) → known ≡ told → NoLineAsked words told
+pub none_answers : (words : List Text) (o : Options) (known told : Option (List ℕ)) → Asks words o
+    → NoLine known (IsLineGiven (texts_of o) o.task o.limit) → known ≡ told → NoLineAsked words told
 none_answers words o known told asks none same = λ line h. none line (λ b may. answers_options words o (Some b) line asks (h b (subst (λ k. MayBe k b) same may)))
 
 -- what holds of all the octets holds of those that the words give

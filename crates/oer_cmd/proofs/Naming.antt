@@ -10,7 +10,7 @@ use Rattle.oer_notation.specs.Reading.{Known}
 use Rattle.oer_options.specs.Words.{Texts}
 use Rattle.oer_options.specs.declared.options.Task.{Task}
 use Rattle.oer_cmd.specs.Faults.{Refuses}
-use Rattle.oer_cmd.specs.Run.{IsLineFor, IsLineOf, MayBe, NoLine, NoLineOf}
+use Rattle.oer_cmd.specs.Run.{IsLineFor, IsLineGiven, IsLineOf, MayBe, NoLine, NoLineOf}
 use Rattle.oer_cmd.specs.Types.{AreDefinedIn, Defines, IsOnly, IsTypeIn, NamesNone, SpelledBy}
 use Rattle.oer_cmd.specs.declared.fault.Fault.{Fault}
 
@@ -44,16 +44,20 @@ may_be None = ([], tt)
 may_be (Some xs) = (xs, refl)
 
 -- Where no type is named there is no answer,
-pub unnamed : (texts : Texts) (task : Task) (limit : ℕ) (told : Option (List ℕ)) → NamesNone texts → NoLine told (IsLineFor texts task limit)
+pub unnamed : (texts : Texts) (task : Task) (limit : ℕ) (told : Option (List ℕ)) → NamesNone texts
+    → NoLine told (IsLineFor (SpelledBy texts) task limit)
 unnamed texts task limit told none = λ line h. let some = may_be told in let a = h some.0 some.1 in none a.type a.spelled
 
 -- and where the one that is named has no line.
-pub unanswered : (texts : Texts) (T : AsnType) (task : Task) (limit : ℕ) (told : Option (List ℕ)) → ((U : AsnType) → SpelledBy texts U → U ≡ T) → NoLineOf task told T limit → NoLine told (IsLineFor texts task limit)
+pub unanswered : (texts : Texts) (T : AsnType) (task : Task) (limit : ℕ) (told : Option (List ℕ))
+    → ((U : AsnType) → SpelledBy texts U → U ≡ T) → NoLineOf task told T limit → NoLine told (IsLineFor (SpelledBy texts) task limit)
 unanswered texts T task limit told only none = λ line h. none line (λ b may. let a = h b may in subst (λ U. IsLineOf task (Some b) U limit line) (only a.type a.spelled) a.line_is)
 
 -- the same task, and the same texts
 pub of_task : {X : Type 0} (r : Result X Fault) (told : Option (List ℕ)) (T : AsnType) (limit : ℕ) (task same : Task) → task ≡ same → IfErr r (λ fault. Refuses fault (NoLineOf same told T limit)) → IfErr r (λ fault. Refuses fault (NoLineOf task told T limit))
 of_task r told T limit task same e h = subst (λ t. IfErr r (λ fault. Refuses fault (NoLineOf t told T limit))) (sym e) h
 
-pub of_texts : {X : Type 0} (r : Result X Fault) (told : Option (List ℕ)) (task : Task) (limit : ℕ) (texts same : Texts) → same ≡ texts → IfErr r (λ fault. Refuses fault (NoLine told (IsLineFor same task limit))) → IfErr r (λ fault. Refuses fault (NoLine told (IsLineFor texts task limit)))
-of_texts r told task limit texts same e h = subst (λ t. IfErr r (λ fault. Refuses fault (NoLine told (IsLineFor t task limit)))) e h
+pub of_texts : {X : Type 0} (r : Result X Fault) (told : Option (List ℕ)) (task : Task) (limit : ℕ) (texts same : Texts) → same ≡ texts
+    → IfErr r (λ fault. Refuses fault (NoLine told (IsLineGiven same task limit)))
+    → IfErr r (λ fault. Refuses fault (NoLine told (IsLineGiven texts task limit)))
+of_texts r told task limit texts same e h = subst (λ t. IfErr r (λ fault. Refuses fault (NoLine told (IsLineGiven t task limit)))) e h

@@ -1,11 +1,10 @@
 -- How much of the input is taken, step by step.
-use Rattle.std.proofs.Common.{Result, ◌≡◌, ◌≢◌, ◌∙◌, ℕ, suc, false, ◌+◌, ◌-◌, ◌<◌, ◌≤◌, List, [], ◌∷◌, ◌++◌, length, take, Option, Some, None, Ok, Err, refl, sym, ap, subst, arith, append_assoc}
-use Rattle.std.proofs.Common.{length-append, inl, inr, ◌⊎◌}
+use Rattle.std.proofs.Common.{Result, ◌≡◌, ◌∙◌, ℕ, suc, false, ◌+◌, ◌-◌, ◌<◌, ◌≤◌, List, [], ◌∷◌, ◌++◌, length, Option, Some, None, Ok, Err, refl, sym, ap, subst, arith, append_assoc}
+use Rattle.std.proofs.Common.{length-append}
 use Rattle.std.proofs.Math.Nat.{min-eq_left, min-le_left, min-le_right}
-use Rattle.std.proofs.KnownBytes.{Consumes-kept, Consumes-trans}
+use Rattle.std.proofs.KnownBytes.{Consumes-trans}
 use Rattle.std.specs.Prelude.{min}
-use Rattle.std.specs.Io.KnownBytes.{Consumes, IsAtEnd, Keeps}
-use Rattle.clap.specs.Words.{Text}
+use Rattle.std.specs.Io.KnownBytes.{Consumes, IsAtEnd}
 use Rattle.oer_units.specs.Reader.{Outcome, at, got, refused}
 use Rattle.oer_units.specs.Reading.{octet}
 use Rattle.oer_units.specs.Reads.{ReadsFront, Span, place, renamed}
@@ -20,7 +19,6 @@ use Rattle.oer_decoder.specs.Rewriting.{ReadsAndWrites}
 use Rattle.oer_decoder.specs.declared.fault.RewriteFault.{RewriteFault}
 use Rattle.oer_decoder.specs.declared.fault.RewriteFault.TheVariants as rewrite
 use Rattle.oer_cmd.specs.Faults.{IsOfRead, IsOfRewrite, status_of}
-use Rattle.oer_cmd.specs.Gathering.{TellsAll}
 use Rattle.oer_cmd.specs.Taking.{Amounts, GivesAll, GivesFront, GivesValue, IsGathered, IsNext, taken_by}
 use Rattle.oer_cmd.specs.declared.fault.Fault.{Fault}
 use Rattle.oer_cmd.proofs.Exact.{front_of}

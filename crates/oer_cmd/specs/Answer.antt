@@ -1,6 +1,7 @@
 -- The answer of the program as plain functions say it: a line, or a status and a text.
 use Rattle.std.specs.Prelude.{◌≡◌, ℕ, ◌-◌, List, [], ◌∷◌, ◌++◌, length, leb, Bool, Option, Some, None, Result, Ok, Err, codes, if◌then◌else◌}
 use Rattle.std.specs.Str.{is_utf8}
+use Rattle.std.specs.Str.Lossy.{utf8_valid_len}
 use Rattle.hex.specs.Hex.{decode_of, encode_lower}
 use Rattle.hex.specs.declared.error.FromHexError.{FromHexError}
 use Rattle.clap.specs.Words.{Text}
@@ -22,15 +23,16 @@ use Rattle.oer_json.specs.declared.fault.JsonFault.{JsonFault}
 use Rattle.oer_notation.specs.Parsing.{parse, parse_all}
 use Rattle.oer_notation.specs.Reading.{find}
 use Rattle.oer_value_notation.specs.declared.fault.TextFault.{TextFault}
-use Rattle.oer_options.specs.Words.{Texts, behind, texts_of}
+use Rattle.oer_value_notation.specs.declared.fault.TextWhy.TheVariants.{Token}
+use Rattle.oer_options.specs.Words.{Texts, behind, source_text, texts_of}
 use Rattle.oer_options.specs.declared.options.Options.{Options}
 use Rattle.oer_options.specs.declared.options.Task.{Task}
 use Rattle.oer_options.specs.declared.options.Task.TheVariants.{Canon, Check, Make, Part, Show, ShowAscii}
 use Rattle.oer_cmd.specs.Ascii.{ascii_text}
 use Rattle.oer_cmd.specs.Expected.{Expected, refusal, stop, unknown, value, ◌>>=◌}
 use Rattle.oer_cmd.specs.Run.{IsPath, verdict_text}
-use Rattle.oer_cmd.specs.Types.{lack_in}
-use Rattle.oer_cmd.specs.declared.fault.Fault.TheVariants.{Absent, Follows, Hex, Json, Longer, NoSuchStep, NotJson, Path, Read, «Type»}
+use Rattle.oer_cmd.specs.Types.{lack_in, reads_types}
+use Rattle.oer_cmd.specs.declared.fault.Fault.TheVariants.{Absent, Follows, Hex, Json, Longer, NoSource, NoSuchStep, NotJson, Path, Read, «Type»}
 use Rattle.oer_cmd.specs.declared.value.Form.{Form}
 use Rattle.oer_cmd.specs.declared.value.Form.TheVariants as form
 
@@ -201,6 +203,24 @@ expected_type t = type_among t.one t.types t.name
 abbrev pub answer_of : Texts → Task → ℕ → Expected (List Step) → Option (List ℕ) → Expected Text
 answer_of texts task limit path told = expected_type texts >>= λ T. task_answer task T limit path told
 
+-- The text that octets are. Where they are not UTF-8, no token begins after their longest front that is.
+abbrev pub types_text : List ℕ → Expected Text
+types_text b = if is_utf8 b then value b else stop («Type» (record { at = utf8_valid_len b; why = Token }))
+
+-- the text of definitions that is read from the input: all that it had left, where the octets or the JSON are given
+abbrev pub types_input : Option Text → Option (List ℕ) → Expected Text
+types_input None told = stop NoSource
+types_input (Some source) told = limited_octets most None told >>= types_text
+
+-- the texts of a type, the text of the definitions read from the input where `--types` is `-`
+abbrev pub texts_read : Texts → Option Text → Option (List ℕ) → Expected Texts
+texts_read t source told =
+    if reads_types t then (types_input source told >>= λ text. value (record t { types = Some text })) else value t
+
+-- the answer for these texts of a type, this task, and what the input had left
+abbrev pub given_answer : Texts → Task → ℕ → Expected (List Step) → Option (List ℕ) → Expected Text
+given_answer t task limit path told = texts_read t (source_text task) told >>= λ texts. answer_of texts task limit path told
+
 -- the answer to the options
 abbrev pub expected_answer : Options → Expected (List Step) → Option (List ℕ) → Expected Text
-expected_answer o path told = answer_of (texts_of o) o.task o.limit path told
+expected_answer o path told = given_answer (texts_of o) o.task o.limit path told

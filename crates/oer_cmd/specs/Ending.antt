@@ -1,14 +1,15 @@
 -- How the program ends: its status, and what stands on its output and its errors.
-use Rattle.std.specs.Prelude.{◌≡◌, ◌≢◌, ◌≤◌, ◌⊎◌, ℕ, List, [], ◌∷◌, ◌++◌, Option, None, true, codes, ⊤}
+use Rattle.std.specs.Prelude.{◌≡◌, ◌≢◌, ◌≤◌, ◌⊎◌, ℕ, List, [], ◌∷◌, ◌++◌, Option, None, false, true, codes, ⊤}
 use Rattle.std.specs.Io.KnownBytes.{Appends, Keeps}
 use Rattle.clap.specs.Words.{IsAmong, Text, fault_of, takes}
 use Rattle.clap.specs.declared.error.kind.ErrorKind.TheVariants.{DisplayHelp, DisplayVersion}
 use Rattle.oer_model.specs.Parts.{Step}
-use Rattle.oer_options.specs.Words.{Asks, oer, path_text, source_text}
+use Rattle.oer_options.specs.Words.{Asks, oer, path_text, source_text, texts_of}
 use Rattle.oer_options.specs.declared.options.Options.{Options}
 use Rattle.oer_cmd.specs.Answer.{IsPathOf, expected_answer}
 use Rattle.oer_cmd.specs.Expected.{Expected, refusal, unknown, value}
 use Rattle.oer_cmd.specs.Faults.{AppendsFront, error_line}
+use Rattle.oer_cmd.specs.Types.{reads_types}
 use Rattle.oer_cmd.specs.declared.fault.Fault.TheVariants.{Input, Memory, Output}
 
 -- what the output and the errors hold before and after, where it is known
@@ -55,13 +56,13 @@ IsUnstarted untouched status s =
     (status ≡ 3) × untouched × Keeps s.output s.output' × AppendsFront s.errors s.errors' (error_line Memory)
 
 -- The words ask for these options, and their answer is given, or the machine failed. Where they have the octets or the JSON, the input is
--- untouched.
+-- untouched, unless the text of the definitions is read from it.
 pub record Does (words : List Text) (told : Option (List ℕ)) (untouched : Type 0) (status : ℕ) (s : Streams) : Type 0 where
   pub options : Options
   pub asks : Asks words options
   pub answers : (path : Expected (List Step)) → IsPathOf (path_text options.task) path
       → Delivers (expected_answer options path told) status s ⊎ Breaks (expected_answer options path told) status s
-  pub keeps : source_text options.task ≢ None → untouched
+  pub keeps : source_text options.task ≢ None → reads_types (texts_of options) ≡ false → untouched
 
 -- The words ask for help, or for the version.
 abbrev pub AsksForHelp : List Text → Type 0

@@ -14,7 +14,7 @@ use Rattle.oer_decoder.specs.declared.fault.RewriteFault.TheVariants as rewrite
 use Rattle.oer_value_notation.specs.Faults.{text_why_name}
 use Rattle.oer_json.specs.Faults.{json_fault_name}
 use Rattle.oer_cmd.specs.declared.fault.Fault.{Fault}
-use Rattle.oer_cmd.specs.declared.fault.Fault.TheVariants.{Read, Follows, Longer, NoSuchStep, Absent, OneType, NoName, NoTypes, «Type», Unnamed, Hex, Path, NotJson, Json, Input, Output, Memory}
+use Rattle.oer_cmd.specs.declared.fault.Fault.TheVariants.{Read, Follows, Longer, NoSuchStep, Absent, OneType, NoName, NoTypes, NoSource, «Type», Unnamed, Hex, Path, NotJson, Json, Input, Output, Memory}
 
 -- the notation was refused
 pub record IsOfText (e : TextFault) (fault : Fault) : Type 0 where
@@ -44,6 +44,7 @@ status_of Absent = 1
 status_of OneType = 2
 status_of NoName = 2
 status_of NoTypes = 2
+status_of NoSource = 2
 status_of («Type» e) = 2
 status_of (Unnamed name) = 2
 status_of Hex = 2
@@ -68,6 +69,7 @@ text_of Absent = codes "Absent"
 text_of OneType = codes "one of --type and --types"
 text_of NoName = codes "--types needs --name"
 text_of NoTypes = codes "--name needs --types"
+text_of NoSource = codes "--types=- needs --hex or --json"
 text_of («Type» e) = codes "type: " ++ text_why_name e.why ++ codes " at " ++ decimal e.at
 text_of (Unnamed name) = codes "no type " ++ name.now
 text_of Hex = codes "hex refused"

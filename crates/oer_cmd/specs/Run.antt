@@ -20,7 +20,7 @@ use Rattle.oer_options.specs.Words.{HasFlags, Kind, NumberOf, Texts, asked, cano
 use Rattle.oer_options.specs.declared.options.Task.{Task}
 use Rattle.oer_cmd.specs.Ascii.{ascii_text}
 use Rattle.oer_cmd.specs.Canon.{MakesCanonical}
-use Rattle.oer_cmd.specs.Types.{SpelledBy}
+use Rattle.oer_cmd.specs.Types.{SpelledWith}
 use Rattle.oer_cmd.specs.declared.value.Form.{Form}
 use Rattle.oer_cmd.specs.declared.value.Form.TheVariants as form
 
@@ -132,15 +132,20 @@ NoLine told P = (line : Text) → ((b : List ℕ) → MayBe told b → P (Some b
 abbrev pub NoLineOf : Task → Option (List ℕ) → AsnType → ℕ → Type 0
 NoLineOf task told T limit = NoLine told (λ known. IsLineOf task known T limit)
 
--- the line is that of the task for the type that the texts name
-pub record IsLineFor (texts : Texts) (task : Task) (limit : ℕ) (told : Option (List ℕ)) (line : Text) : Type 0 where
+-- the line is that of the task for a type of which P holds
+pub record IsLineFor (P : AsnType → Type 0) (task : Task) (limit : ℕ) (told : Option (List ℕ)) (line : Text) : Type 0 where
   pub type : AsnType
-  pub spelled : SpelledBy texts type
+  pub spelled : P type
   pub line_is : IsLineOf task told type limit line
 
--- the line of the task that the words ask for, by their options
+-- the line is that of the task for the type that the texts name, with what the input had left
+abbrev pub IsLineGiven : Texts → Task → ℕ → Option (List ℕ) → Text → Type 0
+IsLineGiven texts task limit told line = IsLineFor (SpelledWith texts (source_text task) told) task limit told line
+
+-- the line of the task that the words ask for, by their options, for the type that they name
 abbrev pub IsLine : List Text → Option (List ℕ) → AsnType → ℕ → Text → Type 0
 IsLine words told T limit line = (k : Kind) × (asked words ≡ Some (name_of k)) × HasFlags k (given_number words)
+    × SpelledWith (texts_in words) (given words (source_option k)) told T
     × IsLineBy k (given words (source_option k)) (path_among k (given words)) told T limit line
 
 -- the line that the words ask for, where the input had these octets left
@@ -150,7 +155,6 @@ pub record IsLineAsked (words : List Text) (told : Option (List ℕ)) (line : Te
   pub limit_is : given_number words (codes "limit") ≡ Some limit_text
   pub number : NumberOf limit_text limit
   pub type : AsnType
-  pub spelled : SpelledBy (texts_in words) type
   pub line_is : IsLine words told type limit line
 
 -- no line is what the words ask for, whatever the input had left

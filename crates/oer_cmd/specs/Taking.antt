@@ -1,15 +1,18 @@
 -- How much of an input is taken, and when it is untouched.
-use Rattle.std.specs.Prelude.{◌≡◌, ◌≤◌, ◌⊎◌, ℕ, ◌+◌, ◌-◌, min, List, ◌++◌, length, Option, Some, None, Result, Ok, Err, true, ⊤}
+use Rattle.std.specs.Prelude.{◌≡◌, ◌≤◌, ◌⊎◌, ℕ, ◌+◌, ◌-◌, min, MatchBool, List, ◌++◌, length, Option, Some, None, Result, Ok, Err, true, ⊤}
 use Rattle.clap.specs.Words.{Text, takes}
 use Rattle.oer_units.specs.Reader.{Outcome, at, got, refused}
 use Rattle.oer_model.specs.AsnType.{AsnType}
 use Rattle.oer_model.specs.Parts.{Step}
 use Rattle.oer_model.specs.Reading.{read_value}
-use Rattle.oer_options.specs.Words.{Asks, Kind, canon, check, kind, make, oer, part, path_text, show, show_ascii, source_text, texts_of}
+use Rattle.oer_options.specs.Words.{Asks, Kind, Texts, canon, check, kind, make, oer, part, path_text, show, show_ascii, source_text, texts_of}
 use Rattle.oer_options.specs.declared.options.Options.{Options}
+use Rattle.oer_options.specs.declared.options.Task.{Task}
+use Rattle.oer_checker.specs.Check.{most}
 use Rattle.oer_cmd.specs.Answer.{IsPathOf, expected_type}
 use Rattle.oer_cmd.specs.Expected.{Expected, value}
 use Rattle.oer_cmd.specs.Faults.{status_of}
+use Rattle.oer_cmd.specs.Types.{reads_types}
 use Rattle.oer_cmd.specs.declared.fault.Fault.{Fault}
 
 -- the status of the program after this answer
@@ -66,10 +69,21 @@ abbrev pub GivesIfAsked : Expected AsnType → Option Text → Expected (List St
 GivesIfAsked (value T) None (value path) untouched gives = gives T
 GivesIfAsked type source path untouched gives = untouched
 
+-- The input gave all that it had to the text of definitions, where there are octets or JSON. Else it is untouched.
+abbrev pub GivesTypes : Option Text → Type 0 → ℕ → Option (List ℕ) → Option (List ℕ) → Type 0
+GivesTypes None untouched status told told' = untouched
+GivesTypes (Some source) untouched status told told' = GivesAll most status told told'
+
+-- what is taken for these texts of a type, and this task
+abbrev pub TakesBy : Texts → Task → ℕ → Type 0 → ℕ → Option (List ℕ) → Option (List ℕ) → Type 0
+TakesBy t task limit untouched status told told' = MatchBool (reads_types t)
+    (GivesTypes (source_text task) untouched status told told')
+    ((path : Expected (List Step)) → IsPathOf (path_text task) path
+    → GivesIfAsked (expected_type t) (source_text task) path untouched (λ T. GivesTask (kind task) T limit status told told'))
+
 -- the same for these options
 abbrev pub TakesFor : Options → Type 0 → ℕ → Option (List ℕ) → Option (List ℕ) → Type 0
-TakesFor o untouched status told told' = (path : Expected (List Step)) → IsPathOf (path_text o.task) path
-    → GivesIfAsked (expected_type (texts_of o)) (source_text o.task) path untouched (λ T. GivesTask (kind o.task) T o.limit status told told')
+TakesFor o untouched status told told' = TakesBy (texts_of o) o.task o.limit untouched status told told'
 
 -- The same after these words. The input is untouched, too, where they are not taken, or memory for them was refused.
 -- told, told': what the input had left before and after, where that is known.

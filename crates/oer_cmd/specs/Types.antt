@@ -1,7 +1,9 @@
 -- The type that the options name.
-use Rattle.std.specs.Prelude.{◌≡◌, ◌≢◌, List, Option, Some, None}
+use Rattle.std.specs.Prelude.{◌≡◌, ◌≢◌, ◌≤◌, ℕ, length, Bool, false, List, Option, Some, None, IfSome, MatchBool, codes}
+use Rattle.std.specs.Str.{IsUtf8, bytes_eq}
 use Rattle.clap.specs.Words.{Text}
 use Rattle.oer_model.specs.AsnType.{AsnType}
+use Rattle.oer_checker.specs.Check.{most}
 use Rattle.oer_model.specs.WellFormed.{IsWellFormed}
 use Rattle.oer_notation.specs.Grammar.{AreWellFormed, IsDefined, Spells, SpellsAll}
 use Rattle.oer_notation.specs.Reading.{Known}
@@ -35,6 +37,21 @@ IsNamed one types name T = ⊥
 -- the type is the well-formed one that the text of `--type` spells, or that the Name of `--name` has among the definitions of `--types`
 abbrev pub SpelledBy : Texts → AsnType → Type 0
 SpelledBy t T = IsNamed t.one t.types t.name T
+
+-- The text of the definitions is read from the input: `--types` is `-`, `--name` is given, and `--type` is not.
+abbrev pub are_read : Option Text → Option Text → Option Text → Bool
+are_read None (Some text) (Some name) = bytes_eq text (codes "-")
+are_read one types name = false
+
+abbrev pub reads_types : Texts → Bool
+reads_types t = are_read t.one t.types t.name
+
+-- The type is the one that the texts name. Where the text of the definitions is read from the input, it is all that this had left, where
+-- that is known, and fewer than 2^64 octets, and the octets or the JSON are given.
+abbrev pub SpelledWith : Texts → Option Text → Option (List ℕ) → AsnType → Type 0
+SpelledWith t source told T = MatchBool (reads_types t)
+    ((source ≢ None) × IfSome told (λ b. (length b ≤ most) × IsUtf8 b × SpelledBy (record t { types = Some b }) T))
+    (SpelledBy t T)
 
 -- no texts of these options name a type
 abbrev pub NamesNone : Texts → Type 0

@@ -31,6 +31,8 @@ pub enum Fault<'a> {
     NoName,
     /// `--name` without `--types`.
     NoTypes,
+    /// `--types=-` without `--hex` and `--json`.
+    NoSource,
     /// The text of the type, or of the definitions, is rejected.
     Type(TextFault),
     /// No definition has this Name.
@@ -94,7 +96,7 @@ impl<'a> Fault<'a> {
         match self {
             Fault::Read(_) | Fault::Follows(_) | Fault::Longer(_) => 1,
             Fault::NoSuchStep | Fault::Absent => 1,
-            Fault::OneType | Fault::NoName | Fault::NoTypes => 2,
+            Fault::OneType | Fault::NoName | Fault::NoTypes | Fault::NoSource => 2,
             Fault::Type(_) | Fault::Unnamed(_) | Fault::Hex => 2,
             Fault::Path | Fault::NotJson | Fault::Json(_) => 2,
             Fault::Input | Fault::Output | Fault::Memory => 3,
@@ -115,6 +117,7 @@ impl fmt::Display for Fault<'_> {
             Fault::OneType => f.write_str("one of --type and --types"),
             Fault::NoName => f.write_str("--types needs --name"),
             Fault::NoTypes => f.write_str("--name needs --types"),
+            Fault::NoSource => f.write_str("--types=- needs --hex or --json"),
             Fault::Type(fault) => write!(f, "type: {} at {}", fault.why.name(), fault.at),
             Fault::Unnamed(name) => write!(f, "no type {name}"),
             Fault::Hex => f.write_str("hex refused"),

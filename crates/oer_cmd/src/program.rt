@@ -1,25 +1,25 @@
 //! The command.
-ghost use Rattle.std.specs.Prelude.{◌≡◌, ◌≢◌, ◌≤◌, ◌⊎◌, List, None, true, map, IfErr, IfOk, string_bytes};
+ghost use Rattle.std.specs.Prelude.{◌≡◌, ◌≢◌, ◌≤◌, ◌⊎◌, List, None, false, true, map, IfErr, IfOk, string_bytes};
 ghost use Rattle.std.specs.Io.KnownBytes.{Appends, Keeps};
 ghost use Rattle.clap.specs.Words.{kind_of, takes};
 ghost use Rattle.clap.specs.declared.error.kind.ErrorKind.TheVariants.{DisplayHelp, DisplayVersion, OutOfMemory};
 ghost use Rattle.oer_model.specs.Parts.{Step};
 ghost use Rattle.oer_types.specs.Schema.{the_type};
 ghost use Rattle.oer_options.specs.Words.{kind, oer, path_text, source_text, texts_of};
-ghost use Rattle.oer_cmd.specs.Answer.{IsPathOf, answer_of, expected_answer, expected_type, task_answer};
+ghost use Rattle.oer_cmd.specs.Answer.{IsPathOf, answer_of, expected_answer, expected_type, given_answer, task_answer};
 ghost use Rattle.oer_cmd.specs.Ending.{Ends};
 ghost use Rattle.oer_cmd.specs.Expected.{Expected, Meets, value};
 ghost use Rattle.oer_cmd.specs.Faults.{AppendsFront, Printed, Refuses, Reports, status_of};
-ghost use Rattle.oer_cmd.specs.Run.{IsLineFor, IsLineOf, NoLine, NoLineOf, NoLineAsked, Prints};
-ghost use Rattle.oer_cmd.specs.Taking.{GivesIfAsked, GivesTask, TakesFor, TakesInput, status_after};
-ghost use Rattle.oer_cmd.specs.Types.{texts_at};
+ghost use Rattle.oer_cmd.specs.Run.{IsLineFor, IsLineGiven, IsLineOf, NoLine, NoLineOf, NoLineAsked, Prints};
+ghost use Rattle.oer_cmd.specs.Taking.{GivesIfAsked, GivesTask, TakesBy, TakesFor, TakesInput, status_after};
+ghost use Rattle.oer_cmd.specs.Types.{SpelledBy, reads_types, texts_at};
 ghost use Rattle.oer_cmd.specs.declared.type_text.TypeText.TheVariants.{Named, One};
 
 use crate::check::check_line;
 use crate::fault::{Fault, error_line};
 use crate::make::make_line;
 use crate::part::part_line;
-use crate::type_text::{TypeText, definitions, named_type, one_type, type_text};
+use crate::type_text::{TypeText, definitions, named_type, one_type, type_text, types_on_input};
 use crate::value::{Form, value_line};
 use clap::error::ErrorKind;
 use oer_options::{Options, Task, parsed};
@@ -64,10 +64,10 @@ fn line_of_one<'a, R: Read>(
     options: Options<'a>,
     input: &mut R,
 ) -> Result<String, Fault<'a>>
-    ensures line { IfOk result (λ line. IsLineFor (texts_at (One text.entry)) options.entry.task
+    ensures line { IfOk result (λ line. IsLineFor (SpelledBy (texts_at (One text.entry))) options.entry.task
         options.entry.limit (R.remaining input.old) (string_bytes line)) }
     ensures refused { IfErr result (λ fault. Refuses fault (NoLine (R.remaining input.old)
-        (IsLineFor (texts_at (One text.entry)) options.entry.task options.entry.limit))) }
+        (IsLineFor (SpelledBy (texts_at (One text.entry))) options.entry.task options.entry.limit))) }
     ensures exact { (path : Expected (List Step)) → IsPathOf (path_text options.entry.task) path
         → Meets string_bytes (answer_of (texts_at (One text.entry)) options.entry.task options.entry.limit path (R.remaining input.old)) result }
     ensures untouched { source_text options.entry.task ≢ None → input.new ≡ input.old }
@@ -82,15 +82,15 @@ fn line_of_one<'a, R: Read>(
 // The line for the type that the Name has among the definitions that the text spells.
 fn line_of_named<'a, R: Read>(
     alloc: Global,
-    types: &'a str,
+    types: &str,
     name: &'a str,
     options: Options<'a>,
     input: &mut R,
 ) -> Result<String, Fault<'a>>
-    ensures line { IfOk result (λ line. IsLineFor (texts_at (Named types.entry name.entry)) options.entry.task
+    ensures line { IfOk result (λ line. IsLineFor (SpelledBy (texts_at (Named types.entry name.entry))) options.entry.task
         options.entry.limit (R.remaining input.old) (string_bytes line)) }
     ensures refused { IfErr result (λ fault. Refuses fault (NoLine (R.remaining input.old)
-        (IsLineFor (texts_at (Named types.entry name.entry)) options.entry.task options.entry.limit))) }
+        (IsLineFor (SpelledBy (texts_at (Named types.entry name.entry))) options.entry.task options.entry.limit))) }
     ensures exact { (path : Expected (List Step)) → IsPathOf (path_text options.entry.task) path
         → Meets string_bytes (answer_of (texts_at (Named types.entry name.entry)) options.entry.task options.entry.limit path (R.remaining input.old)) result }
     ensures untouched { source_text options.entry.task ≢ None → input.new ≡ input.old }
@@ -103,25 +103,53 @@ fn line_of_named<'a, R: Read>(
     line_of(alloc, schema, options, input)
 }
 
+// The line for the type that the Name has among the definitions of `--types`, of which `-` says that the
+// input has them.
+fn line_of_types<'a, R: Read>(
+    alloc: Global,
+    types: &'a str,
+    name: &'a str,
+    options: Options<'a>,
+    input: &mut R,
+) -> Result<String, Fault<'a>>
+    ensures line { IfOk result (λ line. IsLineGiven (texts_at (Named types.entry name.entry)) options.entry.task
+        options.entry.limit (R.remaining input.old) (string_bytes line)) }
+    ensures refused { IfErr result (λ fault. Refuses fault (NoLine (R.remaining input.old)
+        (IsLineGiven (texts_at (Named types.entry name.entry)) options.entry.task options.entry.limit))) }
+    ensures exact { (path : Expected (List Step)) → IsPathOf (path_text options.entry.task) path
+        → Meets string_bytes (given_answer (texts_at (Named types.entry name.entry)) options.entry.task options.entry.limit path (R.remaining input.old)) result }
+    ensures untouched { source_text options.entry.task ≢ None → reads_types (texts_at (Named types.entry name.entry)) ≡ false
+        → input.new ≡ input.old }
+    ensures takes { TakesBy (texts_at (Named types.entry name.entry)) options.entry.task options.entry.limit
+        (input.new ≡ input.old) (status_after result) (R.remaining input.old) (R.remaining input.new) }
+{
+    if types != "-" {
+        return line_of_named(alloc, types, name, options, input);
+    }
+    let text = types_on_input(alloc, options.task.source(), input)?;
+    line_of_named(alloc, text.as_str(), name, options, input)
+}
+
 // The line that the options ask for.
 fn answer<'a, R: Read>(
     alloc: Global,
     options: Options<'a>,
     input: &mut R,
 ) -> Result<String, Fault<'a>>
-    ensures line { IfOk result (λ line. IsLineFor (texts_of options.entry) options.entry.task
+    ensures line { IfOk result (λ line. IsLineGiven (texts_of options.entry) options.entry.task
         options.entry.limit (R.remaining input.old) (string_bytes line)) }
     ensures refused { IfErr result (λ fault. Refuses fault (NoLine (R.remaining input.old)
-        (IsLineFor (texts_of options.entry) options.entry.task options.entry.limit))) }
+        (IsLineGiven (texts_of options.entry) options.entry.task options.entry.limit))) }
     ensures exact { (path : Expected (List Step)) → IsPathOf (path_text options.entry.task) path
         → Meets string_bytes (expected_answer options.entry path (R.remaining input.old)) result }
-    ensures untouched { source_text options.entry.task ≢ None → input.new ≡ input.old }
+    ensures untouched { source_text options.entry.task ≢ None → reads_types (texts_of options.entry) ≡ false
+        → input.new ≡ input.old }
     ensures takes { TakesFor options.entry (input.new ≡ input.old) (status_after result)
         (R.remaining input.old) (R.remaining input.new) }
 {
     match type_text(options)? {
         TypeText::One(text) => line_of_one(alloc, text, options, input),
-        TypeText::Named { types, name } => line_of_named(alloc, types, name, options, input),
+        TypeText::Named { types, name } => line_of_types(alloc, types, name, options, input),
     }
 }
 

@@ -24,7 +24,9 @@ const FAULTS: &str = "1 | oer: End at 0 | canon | --type=BOOLEAN | --hex=
 3 | oer: input failed | show | --type=BOOLEAN
 3 | oer: input failed | check | --type=BOOLEAN
 3 | oer: input failed | part | --type=BOOLEAN
-3 | oer: input failed | make | --type=BOOLEAN";
+3 | oer: input failed | make | --type=BOOLEAN
+3 | oer: input failed | show | --types=- | --name=A | --hex=01
+3 | oer: input failed | make | --types=- | --name=A | --json=true";
 
 /// How a call may stop.
 const STOPS: [Stop; 3] = [Stop::Fails, Stop::IsInterrupted, Stop::Ends];

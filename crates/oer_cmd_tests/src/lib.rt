@@ -20,4 +20,6 @@ mod shared;
 #[cfg(test)]
 mod taken;
 #[cfg(test)]
+mod types_input;
+#[cfg(test)]
 mod vectors;

@@ -30,6 +30,21 @@ const RUNS: &str = r#"0 | ff | canon | --type | BOOLEAN | --hex | 01
 2 | oer: --types needs --name | canon | --types=$ | --hex=0
 2 | oer: --name needs --types | canon | --type=BOOLEAN | --name=A | --hex=01
 2 | oer: --name needs --types | canon | --type=$ | --name=A | --hex=0
+2 | oer: one of --type and --types | canon | --types=- | --type=$ | --hex=01
+2 | oer: one of --type and --types | canon | --types=- | --type=BOOLEAN | --name=A
+2 | oer: --types needs --name | canon | --types=- | --limit=1
+2 | oer: --types needs --name | canon | --types=- | --hex=01
+2 | oer: --types=- needs --hex or --json | canon | --types=- | --name=A
+2 | oer: --types=- needs --hex or --json | show | --types=- | --name=A | --ascii
+2 | oer: --types=- needs --hex or --json | show | --types=- | --name=A
+2 | oer: --types=- needs --hex or --json | check | --types=- | --name=A
+2 | oer: --types=- needs --hex or --json | part | --types=- | --name=A | --path=q
+2 | oer: --types=- needs --hex or --json | make | --types=- | --name=A
+2 | oer: type: Token at 0 | canon | --types=- | --name=A | --hex=0
+2 | oer: type: Token at 0 | canon | --type=- | --hex=01
+2 | oer: --name needs --types | canon | --type=- | --name=A | --hex=01
+2 | oer: type: Token at 1 | canon | --types= - | --name=A | --hex=01
+2 | oer: type: Syntax at 2 | canon | --types=-- | --name=A | --hex=01
 2 | oer: no type B | canon | --types=A ::= BOOLEAN | --name=B | --hex=0
 2 | oer: no type a b | canon | --types=A ::= BOOLEAN | --name=a b | --hex=01
 2 | oer: no type  | canon | --types=A ::= BOOLEAN | --name= | --hex=01

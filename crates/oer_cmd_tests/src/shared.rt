@@ -64,12 +64,13 @@ pub fn is_well(words: &str, well: bool) -> Result<(), Fail> {
 }
 
 /// That a run with these words on this input ends with the status and writes the line. Where the
-/// octets or the JSON stand among the words, the input isn't asked for any.
+/// octets or the JSON stand among the words, the input isn't asked for any, unless it has the types.
 pub fn expect(alloc: Global, words: &str, input: &[u8], want: (u8, &str)) -> Result<(), Fail> {
     let mut on = Devices::new(alloc, input);
     let ended = ran(alloc, words, &mut on)?;
     let is_given = words.contains(" | --hex") || words.contains(" | --json");
-    if has_said(&on, ended, want) && !(is_given && on.input.calls.count > 0) {
+    let is_unasked = is_given && !words.contains(" | --types=- | ");
+    if has_said(&on, ended, want) && !(is_unasked && on.input.calls.count > 0) {
         return Ok(());
     }
     let (status, line) = want;

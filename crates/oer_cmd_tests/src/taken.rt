@@ -25,6 +25,14 @@ const RUNS: &str = r#"2 | ff | 0 | ff | canon | --type=BOOLEAN
 0 | 0102 | 2 | oer: no type B | canon | --types=A ::= BOOLEAN | --name=B
 0 | 0102 | 2 | oer: hex refused | canon | --type=BOOLEAN | --hex=0
 0 | 0102 | 0 | ff | canon | --type=BOOLEAN | --hex=01
+11 | 41203a3a3d204e554c4c | 0 |  | canon | --types=- | --name=A | --hex=
+11 | 41203a3a3d204e554c4c | 2 | oer: no type B | canon | --types=- | --name=B | --hex=
+11 | 41203a3a3d204e554c4c | 2 | oer: hex refused | canon | --types=- | --name=A | --hex=0
+2 | ff | 2 | oer: type: Token at 0 | canon | --types=- | --name=A | --hex=
+1 | - | 2 | oer: type: Syntax at 0 | canon | --types=- | --name=A | --hex=
+0 | 41203a3a3d204e554c4c | 2 | oer: --types=- needs --hex or --json | canon | --types=- | --name=A
+0 | 41203a3a3d204e554c4c | 2 | oer: --types needs --name | canon | --types=- | --hex=
+0 | 41203a3a3d204e554c4c | 2 | oer: one of --type and --types | canon | --types=- | --type=NULL | --hex=
 2 | 07 | 0 | 7 | show | --type=INTEGER (0..255)
 2 | 010203 | 1 | oer: octets follow the value at 1 | show | --type=BOOLEAN
 3 | 0361 | 1 | oer: End at 2 | show | --type=OCTET STRING
@@ -32,11 +40,13 @@ const RUNS: &str = r#"2 | ff | 0 | ff | canon | --type=BOOLEAN
 0 | 0102 | 2 | oer: type: BoundOrder at 0 | show | --type=INTEGER (5..4)
 0 | 0102 | 2 | oer: no type B | show | --types=A ::= BOOLEAN | --name=B
 0 | 0102 | 2 | oer: hex refused | show | --type=BOOLEAN | --hex=0
+11 | 41203a3a3d204e554c4c | 0 | null | show | --types=- | --name=A | --hex=
 2 | ff | 0 | canonical 1 | check | --type=BOOLEAN
 2 | ff | 0 | canonical 1 | check | --type=BOOLEAN | --limit=1
 4 | 010203 | 1 | oer: octets follow the value at 1 | check | --type=BOOLEAN
 4 | 800102 | 1 | oer: LengthForm at 1 | check | --type=OCTET STRING
 2 | 010203 | 1 | oer: input longer than 1 | check | --type=BOOLEAN | --limit=1
+11 | 41203a3a3d204e554c4c | 1 | oer: input longer than 1 | check | --types=- | --name=A | --hex=0102 | --limit=1
 0 | 0102 | 2 | oer: type: BoundOrder at 0 | check | --type=INTEGER (5..4)
 0 | 0102 | 2 | oer: no type B | check | --types=A ::= BOOLEAN | --name=B
 0 | 0102 | 2 | oer: hex refused | check | --type=BOOLEAN | --hex=0
@@ -46,6 +56,7 @@ const RUNS: &str = r#"2 | ff | 0 | ff | canon | --type=BOOLEAN
 2 | 00 | 1 | oer: Absent | part | --path=c0 | --type=SEQUENCE {a NULL OPTIONAL}
 4 | 800102 | 1 | oer: LengthForm at 1 | part | --type=OCTET STRING
 2 | 010203 | 1 | oer: input longer than 1 | part | --type=BOOLEAN | --limit=1
+11 | 41203a3a3d204e554c4c | 2 | oer: path refused | part | --types=- | --name=A | --path=q | --hex=
 0 | 0102 | 2 | oer: type: BoundOrder at 0 | part | --path=q | --type=INTEGER (5..4)
 0 | 0102 | 2 | oer: hex refused | part | --path=q | --type=BOOLEAN | --hex=0
 0 | 0102 | 2 | oer: path refused | part | --path=q | --type=BOOLEAN
@@ -56,6 +67,7 @@ const RUNS: &str = r#"2 | ff | 0 | ff | canon | --type=BOOLEAN
 4 | 22ff22 | 2 | oer: json: not JSON | make | --type=UTF8String
 1 | - | 2 | oer: json: not JSON | make | --type=BOOLEAN
 4 | 74727565 | 1 | oer: input longer than 3 | make | --type=BOOLEAN | --limit=3
+11 | 41203a3a3d204e554c4c | 0 |  | make | --types=- | --name=A | --json=null
 0 | 74727565 | 2 | oer: type: BoundOrder at 0 | make | --type=INTEGER (5..4)
 0 | 74727565 | 2 | oer: no type B | make | --types=A ::= BOOLEAN | --name=B
 0 | 74727565 | 2 | oer: json: not JSON | make | --type=BOOLEAN | --json=five"#;

@@ -55,14 +55,17 @@ pub const OER: Help = help!(
     "Read, write and check values in the ASN.1 Octet Encoding Rules (OER)",
     "\"oer COMMAND --help\" has the options of a command. Each command is about one
 value. Its type is given by --type, or by --types with --name. The program opens
-no files: --types=\"$(cat FILE)\" hands it the text of one. An argument to an
-option that begins with - is given with =, as in --json=-5.
+no files: --types=\"$(cat FILE)\" hands it the text of one, and so does --types=-
+from standard input, if --hex or --json is given. An argument to an option that
+begins with - is given with =, as in --json=-5.
 
 Examples:
   $ oer canon --type \"SEQUENCE OF BOOLEAN\" --hex 0200020107
   0102ffff
   $ oer show --types \"A ::= SEQUENCE OF BOOLEAN\" --name A --hex 0102ff00
   [true,false]
+  $ echo \"A ::= BOOLEAN\" | oer canon --types=- --name A --hex 01
+  ff
 "
 );
 
@@ -147,6 +150,9 @@ Examples:
 pub const TYPE: &str = "The type of the value, in the notation of docs/NOTATION.md";
 
 pub const TYPES: &str = "Definitions in that notation, each \"Name ::= type\"";
+
+pub const TYPES_OR_INPUT: &str = "Definitions in that notation, each \"Name ::= type\";
+- is the text on standard input, with --hex or --json";
 
 pub const NAME: &str = "The name of the type of the value, among those of --types";
 

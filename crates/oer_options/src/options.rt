@@ -2,7 +2,7 @@
 ghost use Rattle.std.specs.Prelude.{◌≡◌, ◌≢◌, codes, List, Option, Some, None, false, true, IfOk, IfErr, IfSome, map, option_map, string_bytes};
 ghost use Rattle.clap.specs.Words.{HasKind, fault_of, first_value, found_of, kind_of, new_app, one_text, rule_of, takes};
 ghost use Rattle.clap.specs.declared.error.kind.ErrorKind.TheVariants.{OutOfMemory};
-ghost use Rattle.oer_options.specs.Words.{Asks, HasShape, IsTask, ascii_rule, hex_app, limit_rule, make_app, oer, option_rule, part_app, show_app, task_app};
+ghost use Rattle.oer_options.specs.Words.{Asks, HasShape, IsTask, ascii_rule, behind, hex_app, limit_rule, make_app, oer, option_rule, part_app, show_app, source_text, task_app};
 
 use crate::help::{self, Help};
 use clap::{Arg, ArgAction, ArgMatches, Command, Error};
@@ -39,13 +39,26 @@ pub enum Task<'a> {
     },
 }
 
+impl<'a> Task<'a> {
+    /// The text of the octets or of the JSON, if it is given.
+    pub fn source(self) -> Option<&'a str>
+        ensures { behind result ≡ source_text self.entry }
+    {
+        match self {
+            Task::Show { hex } | Task::ShowAscii { hex } | Task::Canon { hex } => hex,
+            Task::Check { hex } | Task::Part { hex, .. } => hex,
+            Task::Make { json } => json,
+        }
+    }
+}
+
 /// What the arguments ask for, and with which options.
 #[derive(Clone, Copy)]
 pub struct Options<'a> {
     pub task: Task<'a>,
     /// The text of one type.
     pub type_text: Option<&'a str>,
-    /// The text of definitions.
+    /// The text of definitions, or `-` where it stands on the input.
     pub types: Option<&'a str>,
     /// The Name of a type among the definitions.
     pub name: Option<&'a str>,
@@ -104,7 +117,7 @@ fn task_command<'a>(alloc: Global, name: &'a str, help: Help) -> Result<Command<
 {
     with_help(alloc, name, help)
         .arg(option(alloc, "type", "TYPE", help::TYPE))?
-        .arg(option(alloc, "types", "TEXT", help::TYPES))?
+        .arg(option(alloc, "types", "TEXT", help::TYPES_OR_INPUT))?
         .arg(option(alloc, "name", "NAME", help::NAME))?
         .arg(limit_option(alloc))
 }

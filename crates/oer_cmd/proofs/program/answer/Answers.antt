@@ -7,41 +7,61 @@ use Rattle.oer_cmd.proofs.Endings.{for_texts, lacking}
 use Rattle.std.proofs.Common.{refl}
 use Rattle.oer_options.specs.Words.{source_text}
 use Rattle.oer_cmd.specs.Answer.{expected_type}
+use Rattle.oer_cmd.specs.Types.{reads_types}
 use Rattle.oer_cmd.proofs.Asking.{for_same, kept, no_type}
+use Rattle.oer_cmd.proofs.Choices.{failing}
+use Rattle.oer_cmd.proofs.Endings.{line_for}
+use Rattle.oer_cmd.proofs.TypesInput.{own_none}
 use Rattle.oer_cmd.proofs.program.answer.Goals as goal
 
 pub returns-in_err-text-clause-refused : goal.returns-in_err-text-clause-refused
 returns-in_err-text-clause-refused g c =
     let p = err_from_is_err_and c.from_residual.result c.from_residual.ensures.1 in
-    rw (p.1, p.2) (λ small. unnamed (texts_of c.args.options) _ _ _ c.in_err-text.ensures.named.1)
+    rw (p.1, p.2) (λ small. own_none (texts_of c.args.options) _ _ _ c.in_err-text.ensures.unread
+    (unnamed (texts_of c.args.options) _ _ _ c.in_err-text.ensures.named.1))
 
 pub returns-in-One-clause-refused : goal.returns-in-One-clause-refused
 returns-in-One-clause-refused g c = of_texts c.line_of_one.result _ c.args.options.task c.args.options.limit (texts_of c.args.options) _ (ap texts_at (sym c.in-One.is) ∙ c.in_ok-text.ensures.named) c.line_of_one.ensures.refused
 
 pub returns-in-Named-clause-refused : goal.returns-in-Named-clause-refused
-returns-in-Named-clause-refused g c = of_texts c.line_of_named.result _ c.args.options.task c.args.options.limit (texts_of c.args.options) _ (ap texts_at (sym c.in-Named.is) ∙ c.in_ok-text.ensures.named) c.line_of_named.ensures.refused
+returns-in-Named-clause-refused g c = of_texts c.line_of_types.result _ c.args.options.task c.args.options.limit
+    (texts_of c.args.options) _ (ap texts_at (sym c.in-Named.is) ∙ c.in_ok-text.ensures.named) c.line_of_types.ensures.refused
 
 pub returns-in_err-text-clause-exact : goal.returns-in_err-text-clause-exact
 returns-in_err-text-clause-exact g c =
     let p = err_from_is_err_and c.from_residual.result c.from_residual.ensures.1 in
-    rw (p.1, p.2) (λ path of. lacking c.args.options path _ _ c.in_err-text.ensures.lacking)
+    rw (p.1, p.2) (λ path of. lacking c.args.options path _ _ c.in_err-text.ensures.unread c.in_err-text.ensures.lacking)
 
 pub returns-in-One-clause-exact : goal.returns-in-One-clause-exact
 returns-in-One-clause-exact g c = for_texts (texts_of c.args.options) _ c.args.options.task c.args.options.limit _ c.line_of_one.result (ap texts_at (sym c.in-One.is) ∙ c.in_ok-text.ensures.named) c.line_of_one.ensures.exact
 
 pub returns-in-Named-clause-exact : goal.returns-in-Named-clause-exact
-returns-in-Named-clause-exact g c = for_texts (texts_of c.args.options) _ c.args.options.task c.args.options.limit _ c.line_of_named.result (ap texts_at (sym c.in-Named.is) ∙ c.in_ok-text.ensures.named) c.line_of_named.ensures.exact
+returns-in-Named-clause-exact g c = for_texts (texts_of c.args.options) _ c.args.options.task c.args.options.limit _
+    c.line_of_types.result (ap texts_at (sym c.in-Named.is) ∙ c.in_ok-text.ensures.named) c.line_of_types.ensures.exact
 
 pub returns-in_err-text-clause-takes : goal.returns-in_err-text-clause-takes
 returns-in_err-text-clause-takes g c =
     let p = err_from_is_err_and c.from_residual.result c.from_residual.ensures.1 in
-    rw (p.1, p.2) (λ path of. kept (expected_type (texts_of c.args.options)) (source_text c.args.options.task) path _ _ refl
-    (λ T steps is none its. absurd (no_type (expected_type (texts_of c.args.options)) T _ c.in_err-text.ensures.lacking is)))
+    rw (p.1, p.2) (failing (reads_types (texts_of c.args.options)) _ _ c.in_err-text.ensures.unread
+    (λ path of. kept (expected_type (texts_of c.args.options)) (source_text c.args.options.task) path _ _ refl
+    (λ T steps is none its. absurd (no_type (expected_type (texts_of c.args.options)) T _ c.in_err-text.ensures.lacking is))))
 
 pub returns-in-One-clause-takes : goal.returns-in-One-clause-takes
-returns-in-One-clause-takes g c = λ path of. for_same _ _ (source_text c.args.options.task) path _ _
-    (ap expected_type (ap texts_at (sym c.in-One.is) ∙ c.in_ok-text.ensures.named)) (c.line_of_one.ensures.takes path of)
+returns-in-One-clause-takes g c = for_same _ _ c.args.options.task c.args.options.limit _ _ _ _
+    (ap texts_at (sym c.in-One.is) ∙ c.in_ok-text.ensures.named) c.line_of_one.ensures.takes
 
 pub returns-in-Named-clause-takes : goal.returns-in-Named-clause-takes
-returns-in-Named-clause-takes g c = λ path of. for_same _ _ (source_text c.args.options.task) path _ _
-    (ap expected_type (ap texts_at (sym c.in-Named.is) ∙ c.in_ok-text.ensures.named)) (c.line_of_named.ensures.takes path of)
+returns-in-Named-clause-takes g c = for_same _ _ c.args.options.task c.args.options.limit _ _ _ _
+    (ap texts_at (sym c.in-Named.is) ∙ c.in_ok-text.ensures.named) c.line_of_types.ensures.takes
+
+pub returns-in-One-clause-line : goal.returns-in-One-clause-line
+returns-in-One-clause-line g c = line_for _ _ c.args.options.task c.args.options.limit _ c.line_of_one.result
+    (ap texts_at (sym c.in-One.is) ∙ c.in_ok-text.ensures.named) c.line_of_one.ensures.line
+
+pub returns-in-Named-clause-line : goal.returns-in-Named-clause-line
+returns-in-Named-clause-line g c = line_for _ _ c.args.options.task c.args.options.limit _ c.line_of_types.result
+    (ap texts_at (sym c.in-Named.is) ∙ c.in_ok-text.ensures.named) c.line_of_types.ensures.line
+
+pub returns-in-Named-clause-untouched : goal.returns-in-Named-clause-untouched
+returns-in-Named-clause-untouched g c = λ some own. c.line_of_types.ensures.untouched some
+    (ap reads_types (ap texts_at (sym c.in-Named.is) ∙ c.in_ok-text.ensures.named) ∙ own)

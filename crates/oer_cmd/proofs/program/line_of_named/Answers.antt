@@ -10,6 +10,8 @@ use Rattle.oer_notation.specs.Views.{knowns}
 use Rattle.oer_options.specs.Words.{kind, source_text}
 use Rattle.oer_cmd.specs.Answer.{named_as, parsed}
 use Rattle.oer_cmd.specs.Expected.{◌>>=◌}
+use Rattle.oer_cmd.specs.Types.{texts_at}
+use Rattle.oer_cmd.specs.declared.type_text.TypeText.TheVariants.{Named}
 use Rattle.oer_cmd.proofs.Asking.{all_told, kept, name_lost, task_untaken, typed, types_lost}
 use Rattle.oer_cmd.proofs.Meeting.{goes}
 use Rattle.oer_cmd.proofs.program.line_of_named.Goals as goal
@@ -17,16 +19,19 @@ use Rattle.oer_cmd.proofs.program.line_of_named.Goals as goal
 pub returns-in_err-types-clause-refused : goal.returns-in_err-types-clause-refused
 returns-in_err-types-clause-refused g c =
     let p = err_from_is_err_and c.from_residual.result c.from_residual.ensures.1 in
-    rw (p.1, p.2) (λ small. unnamed _ _ _ _ (λ T h. c.in_err-types.ensures.refused (not_memory _ small) h.0 h.1))
+    rw (p.1, p.2) (λ small. unnamed (texts_at (Named c.args.types c.args.name)) _ _ _
+    (λ T h. c.in_err-types.ensures.refused (not_memory _ small) h.0 h.1))
 
 pub returns-in_err-schema-clause-refused : goal.returns-in_err-schema-clause-refused
 returns-in_err-schema-clause-refused g c =
     let p = err_from_is_err_and c.from_residual-in_err-schema.result c.from_residual-in_err-schema.ensures.1 in
-    rw (p.1, p.2) (λ small. unnamed _ _ _ _ (new_name _ _ _ c.in_ok-types.ensures.spells c.in_err-schema.ensures.defined.1))
+    rw (p.1, p.2) (λ small. unnamed (texts_at (Named c.args.types c.args.name)) _ _ _
+    (new_name _ _ _ c.in_ok-types.ensures.spells c.in_err-schema.ensures.defined.1))
 
 pub returns-clause-refused : goal.returns-clause-refused
 returns-clause-refused g c =
-    IfErr-weaker c.line_of.result _ _ (λ fault none small. unanswered _ _ _ _ _ (only_named _ _ _ _ c.in_ok-types.ensures.spells c.in_ok-schema.ensures.defined) (none small)) c.line_of.ensures.refused
+    IfErr-weaker c.line_of.result _ _ (λ fault none small. unanswered (texts_at (Named c.args.types c.args.name)) _ _ _ _
+    (only_named _ _ _ _ c.in_ok-types.ensures.spells c.in_ok-schema.ensures.defined) (none small)) c.line_of.ensures.refused
 
 pub returns-clause-exact : goal.returns-clause-exact
 returns-clause-exact g c = λ path of. named_read c.args.types c.args.name c.args.options.task c.args.options.limit path _ c.in_ok-types.types c.in_ok-schema.schema c.line_of.result c.in_ok-types.ensures.exact c.in_ok-schema.ensures.exact (c.line_of.ensures.exact path of)

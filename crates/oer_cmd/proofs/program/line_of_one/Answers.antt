@@ -7,17 +7,20 @@ use Rattle.oer_types.specs.Schema.{the_type}
 use Rattle.oer_notation.specs.Parsing.{parse}
 use Rattle.oer_options.specs.Words.{kind, source_text}
 use Rattle.oer_cmd.specs.Answer.{parsed}
+use Rattle.oer_cmd.specs.Types.{texts_at}
+use Rattle.oer_cmd.specs.declared.type_text.TypeText.TheVariants.{One}
 use Rattle.oer_cmd.proofs.Asking.{kept, one_told, task_untaken, type_lost, typed}
 use Rattle.oer_cmd.proofs.program.line_of_one.Goals as goal
 
 pub returns-in_err-schema-clause-refused : goal.returns-in_err-schema-clause-refused
 returns-in_err-schema-clause-refused g c =
     let p = err_from_is_err_and c.from_residual.result c.from_residual.ensures.1 in
-    rw (p.1, p.2) (λ small. unnamed _ _ _ _ (c.in_err-schema.ensures.refused (not_memory _ small)))
+    rw (p.1, p.2) (λ small. unnamed (texts_at (One c.args.text)) _ _ _ (c.in_err-schema.ensures.refused (not_memory _ small)))
 
 pub returns-clause-refused : goal.returns-clause-refused
 returns-clause-refused g c =
-    IfErr-weaker c.line_of.result _ _ (λ fault none small. unanswered _ _ _ _ _ c.in_ok-schema.ensures.spells.1 (none small)) c.line_of.ensures.refused
+    IfErr-weaker c.line_of.result _ _ (λ fault none small. unanswered (texts_at (One c.args.text)) _ _ _ _
+    c.in_ok-schema.ensures.spells.1 (none small)) c.line_of.ensures.refused
 
 pub returns-clause-exact : goal.returns-clause-exact
 returns-clause-exact g c = λ path of. one_read c.args.text c.args.options.task c.args.options.limit path _ c.in_ok-schema.schema c.line_of.result c.in_ok-schema.ensures.exact (c.line_of.ensures.exact path of)

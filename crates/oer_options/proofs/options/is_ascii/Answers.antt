@@ -1,4 +1,4 @@
-use Rattle.std.proofs.Common.{ap, sym, ◌∙◌}
+use Rattle.std.proofs.Common.{sym, ◌∙◌}
 use Rattle.oer_options.proofs.Asked.{flag_given, flag_missing}
 use Rattle.oer_options.proofs.options.is_ascii.Goals as goal
 

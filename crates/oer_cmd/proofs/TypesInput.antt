@@ -1,0 +1,277 @@
+-- The text of definitions that is read from the input, and what is made of it.
+use Rattle.std.proofs.Common.{Result, ◌≡◌, ◌≢◌, ◌∙◌, ℕ, ◌≤◌, List, [], ◌∷◌, length, true, false, Bool, Option, Some, None, Ok, Err, String, Vec, Global, refl, sym, ap, subst, string_bytes, true≢false}
+use Rattle.std.proofs.lemmas.Bool.{le-leb, leb-true}
+use Rattle.std.proofs.lemmas.Str.{IsUtf8-string_bytes, is_utf8-from_IsUtf8, IsUtf8-from_is_utf8}
+use Rattle.std.specs.Prelude.{IfSome, is_none, leb, codes, if◌then◌else◌}
+use Rattle.std.specs.Borrow.{Bor}
+use Rattle.std.specs.Str.{IsUtf8, bytes_eq, chars, is_utf8}
+use Rattle.std.specs.Str.Lossy.{utf8_valid_len}
+use Rattle.clap.specs.Words.{Text}
+use Rattle.oer_checker.specs.Check.{most}
+use Rattle.oer_model.specs.AsnType.{AsnType}
+use Rattle.oer_model.specs.Parts.{Step}
+use Rattle.oer_value_notation.specs.declared.fault.TextWhy.TheVariants.{Token}
+use Rattle.oer_options.specs.Words.{Kind, Texts, behind, canon, check, kind, make, part, path_text, show, show_ascii, source_text}
+use Rattle.oer_options.specs.declared.options.Task.{Task}
+use Rattle.oer_options.specs.declared.options.Task.TheVariants.{Canon, Check, Make, Part, Show, ShowAscii}
+use Rattle.oer_cmd.specs.Answer.{answer_of, check_octets, digits_octets, expected_type, given_answer, limited_octets, part_octets, task_answer, types_input, types_text}
+use Rattle.oer_cmd.specs.Expected.{Expected, Meets, refusal, stop, unknown, value, ◌>>=◌}
+use Rattle.oer_cmd.specs.Faults.{status_of}
+use Rattle.oer_cmd.specs.Octets.{octets_of}
+use Rattle.oer_cmd.specs.Run.{IsLineBy, IsLineFor, IsLineGiven, MayBe, NoLine}
+use Rattle.oer_cmd.specs.Taking.{GivesAll, GivesTypes}
+use Rattle.oer_cmd.specs.Types.{SpelledBy, reads_types}
+use Rattle.oer_cmd.specs.declared.fault.Fault.{Fault}
+use Rattle.oer_cmd.specs.declared.fault.Fault.TheVariants.{Longer, NoSource, «Type»}
+use Rattle.oer_cmd.proofs.Choices.{failed, failing, passed, passing}
+use Rattle.oer_cmd.proofs.Meeting.{bytes, goes, refusing, stops}
+
+-- ---- the text
+
+-- It is UTF-8.
+pub text_made : (octets : Vec ℕ Global) (text : String Global) → string_bytes text ≡ octets.items
+    → Meets bytes (types_text octets.items) (Ok text)
+text_made octets text same = subst (λ (l : List ℕ). Meets bytes (types_text l) (Ok text)) same
+    (subst (λ b. Meets bytes (if b then value (string_bytes text)
+    else stop («Type» (record { at = utf8_valid_len (string_bytes text); why = Token }))) (Ok text))
+    (sym (is_utf8-from_IsUtf8 (string_bytes text) (IsUtf8-string_bytes text))) refl)
+
+no_text : (b : Bool) → (b ≡ true → ⊥) → b ≡ false
+no_text true none = absurd (none refl)
+no_text false none = refl
+
+-- It is not.
+pub text_refused : (octets : List ℕ) (n : ℕ) → n ≡ utf8_valid_len octets → (IsUtf8 octets → ⊥)
+    → Meets {X = String Global} bytes (types_text octets) (Err («Type» (record { at = n; why = Token })))
+text_refused octets n place none = refusing bytes (types_text octets) («Type» (record { at = n; why = Token })) (λ small.
+    ap (λ (b : Bool). if b then value octets else stop («Type» (record { at = utf8_valid_len octets; why = Token })))
+    (no_text (is_utf8 octets) (λ is. none (IsUtf8-from_is_utf8 octets is)))
+    ∙ ap (λ (k : ℕ). stop («Type» (record { at = k; why = Token }))) (sym place))
+
+-- ---- the input
+
+pub none_behind : (source : Option (Bor Text)) → is_none source ≡ true → behind source ≡ None
+none_behind None is = refl
+none_behind (Some t) is = absurd (cc)
+
+pub some_behind : (source : Option (Bor Text)) → is_none source ≡ false → behind source ≢ None
+some_behind None is = absurd (cc)
+some_behind (Some t) is = λ none. let no : Some t.now ≡ None = none in cc
+
+pub no_source : (source : Option (Bor Text)) (told : Option (List ℕ)) → is_none source ≡ true
+    → Meets {X = String Global} bytes (types_input (behind source) told) (Err NoSource)
+no_source None told is = λ small. refl
+no_source (Some t) told is = absurd (cc)
+
+pub input_made : (source : Option (Bor Text)) (told : Option (List ℕ)) (octets : Vec ℕ Global) (result : Result (String Global) Fault)
+    → is_none source ≡ false → Meets octets_of (limited_octets most None told) (Ok octets) → Meets bytes (types_text octets.items) result
+    → Meets bytes (types_input (behind source) told) result
+input_made None told octets result is h made = absurd (cc)
+input_made (Some t) told octets result is h made = goes octets_of bytes (limited_octets most None told) types_text octets result h made
+
+pub input_lost : (source : Option (Bor Text)) (told : Option (List ℕ)) (fault : Fault) → is_none source ≡ false
+    → Meets {X = Vec ℕ Global} octets_of (limited_octets most None told) (Err fault)
+    → Meets {X = String Global} bytes (types_input (behind source) told) (Err fault)
+input_lost None told fault is h = absurd (cc)
+input_lost (Some t) told fault is h = stops {X = Vec ℕ Global} octets_of bytes (limited_octets most None told) types_text fault h
+
+-- A text was read: there are octets or JSON, and it is what the input had left.
+pub was_read : (source : Option Text) (told : Option (List ℕ)) (text : String Global) → Meets bytes (types_input source told) (Ok text)
+    → (source ≢ None) × IfSome told (λ b. (length b ≤ most) × IsUtf8 b × (string_bytes text ≡ b))
+was_read None told text h = absurd h
+was_read (Some t) None text h = (λ none. let no : Some t ≡ None = none in cc, tt)
+was_read (Some t) (Some b) text h = (λ none. let no : Some t ≡ None = none in cc, by (leb (length b) most) refl h) where
+  all : (utf8 : Bool) → length b ≤ most → is_utf8 b ≡ utf8
+      → Meets bytes (if utf8 then value b else stop («Type» (record { at = utf8_valid_len b; why = Token }))) (Ok text)
+      → (length b ≤ most) × IsUtf8 b × (string_bytes text ≡ b)
+  all true few is h = (few, IsUtf8-from_is_utf8 b is, h)
+  all false few is h = absurd h
+
+  by : (few : Bool) → leb (length b) most ≡ few → Meets bytes ((if few then value b else stop (Longer most)) >>= types_text) (Ok text)
+      → (length b ≤ most) × IsUtf8 b × (string_bytes text ≡ b)
+  by true few h = all (is_utf8 b) (leb-true (length b) most few) refl h
+  by false few h = absurd h
+
+-- A text that is there is read, unless the machine fails.
+not_lost : (source : Option Text) (b : List ℕ) (fault : Fault) → source ≢ None → length b ≤ most → IsUtf8 b
+    → Meets {X = String Global} bytes (types_input source (Some b)) (Err fault) → status_of fault ≤ 2 → ⊥
+not_lost None b fault some few utf8 h = absurd (some refl)
+not_lost (Some t) b fault some few utf8 h =
+    let is : types_input (Some t) (Some b) ≡ value b =
+    ap (λ (c : Bool). (if c then value b else stop (Longer most)) >>= types_text) (le-leb (length b) most few)
+    ∙ ap (λ (c : Bool). if c then value b else stop («Type» (record { at = utf8_valid_len b; why = Token })))
+    (is_utf8-from_IsUtf8 b utf8) in
+    subst (λ m. Meets {X = String Global} bytes m (Err fault)) is h
+
+-- This octet is in no text.
+lone : is_utf8 (255 ∷ []) ≡ false
+unfolding is_utf8 chars
+lone = refl
+
+no_octet : IsUtf8 (255 ∷ []) → ⊥
+no_octet utf8 = true≢false (sym (is_utf8-from_IsUtf8 (255 ∷ []) utf8) ∙ lone)
+
+-- ---- a task whose octets or JSON are given
+
+line_by : (k : Kind) (source path : Option Text) (told told' : Option (List ℕ)) (T : AsnType) (limit : ℕ) (line : Text) → source ≢ None
+    → IsLineBy k source path told T limit line → IsLineBy k source path told' T limit line
+line_by k None path told told' T limit line some h = absurd (some refl)
+line_by show (Some t) path told told' T limit line some h = h
+line_by show_ascii (Some t) path told told' T limit line some h = h
+line_by canon (Some t) path told told' T limit line some h = h
+line_by check (Some t) path told told' T limit line some h = h
+line_by make (Some t) path told told' T limit line some h = h
+line_by part (Some t) path told told' T limit line some h = h
+
+in_hand : {A : Type 0} (m : Expected (List ℕ)) (f g : Option (List ℕ) → Expected A) → ((b : List ℕ) → f (Some b) ≡ g (Some b))
+    → (m >>= (λ b. value (Some b)) >>= f) ≡ (m >>= (λ b. value (Some b)) >>= g)
+in_hand unknown f g h = refl
+in_hand (refusal r) f g h = refl
+in_hand (value b) f g h = h b
+
+task_kept : (task : Task) (T : AsnType) (limit : ℕ) (path : Expected (List Step)) (told told' : Option (List ℕ)) → source_text task ≢ None
+    → task_answer task T limit path told ≡ task_answer task T limit path told'
+task_kept (Show None) T limit path told told' some = absurd (some refl)
+task_kept (Show (Some h)) T limit path told told' some = refl
+task_kept (ShowAscii None) T limit path told told' some = absurd (some refl)
+task_kept (ShowAscii (Some h)) T limit path told told' some = refl
+task_kept (Canon None) T limit path told told' some = absurd (some refl)
+task_kept (Canon (Some h)) T limit path told told' some = refl
+task_kept (Check None) T limit path told told' some = absurd (some refl)
+task_kept (Check (Some h)) T limit path told told' some = in_hand (digits_octets h.now)
+    (λ spelt. limited_octets limit spelt told >>= check_octets T) (λ spelt. limited_octets limit spelt told' >>= check_octets T) (λ b. refl)
+task_kept (Make None) T limit path told told' some = absurd (some refl)
+task_kept (Make (Some h)) T limit path told told' some = refl
+task_kept (Part None text) T limit path told told' some = absurd (some refl)
+task_kept (Part (Some h) text) T limit path told told' some = in_hand (digits_octets h.now)
+    (λ spelt. path >>= λ steps. limited_octets limit spelt told >>= part_octets T steps)
+    (λ spelt. path >>= λ steps. limited_octets limit spelt told' >>= part_octets T steps) (λ b. refl)
+
+after : {A B : Type 0} (m : Expected A) (f g : A → Expected B) → ((x : A) → f x ≡ g x) → (m >>= f) ≡ (m >>= g)
+after unknown f g h = refl
+after (refusal r) f g h = refl
+after (value x) f g h = h x
+
+answer_kept : (t : Texts) (task : Task) (limit : ℕ) (path : Expected (List Step)) (told told' : Option (List ℕ)) → source_text task ≢ None
+    → answer_of t task limit path told ≡ answer_of t task limit path told'
+answer_kept t task limit path told told' some = after (expected_type t) (λ T. task_answer task T limit path told)
+    (λ T. task_answer task T limit path told') (λ T. task_kept task T limit path told told' some)
+
+-- ---- the line by definitions that are read
+
+abbrev among : Text → Text → Texts
+among types name = record { one = None; types = Some types; name = Some name }
+
+pub read_line : (types name : Text) (text : String Global) (task : Task) (limit : ℕ) (told mid : Option (List ℕ)) (line : Text)
+    → bytes_eq types (codes "-") ≡ true → Meets bytes (types_input (source_text task) told) (Ok text)
+    → IsLineFor (SpelledBy (among (string_bytes text) name)) task limit mid line → IsLineGiven (among types name) task limit told line
+read_line types name text task limit told mid line mark read h =
+    let was = was_read (source_text task) told text read in
+    record {
+      type = h.type;
+      spelled = passing (bytes_eq types (codes "-"))
+          ((source_text task ≢ None) × IfSome told (λ b. (length b ≤ most) × IsUtf8 b × SpelledBy (among b name) h.type))
+          (SpelledBy (among types name) h.type) mark (was.0, by told was.1);
+      line_is = line_by (kind task) (source_text task) (path_text task) mid told h.type limit line was.0 h.line_is;
+    } where
+      by : (told : Option (List ℕ)) → IfSome told (λ b. (length b ≤ most) × IsUtf8 b × (string_bytes text ≡ b))
+          → IfSome told (λ b. (length b ≤ most) × IsUtf8 b × SpelledBy (among b name) h.type)
+      by None was = tt
+      by (Some b) was = (was.0, was.1, subst (λ (l : List ℕ). SpelledBy (among l name) h.type) was.2 h.spelled)
+
+-- what is meant by the definitions where the input had these octets
+names : (types name : Text) (task : Task) (limit : ℕ) (b : List ℕ) (line : Text) → bytes_eq types (codes "-") ≡ true
+    → (h : IsLineGiven (among types name) task limit (Some b) line)
+    → (source_text task ≢ None) × ((length b ≤ most) × IsUtf8 b × SpelledBy (among b name) h.type)
+names types name task limit b line mark h = passed (bytes_eq types (codes "-"))
+    ((source_text task ≢ None) × ((length b ≤ most) × IsUtf8 b × SpelledBy (among b name) h.type))
+    (SpelledBy (among types name) h.type) mark h.spelled
+
+-- They have no line.
+pub read_none : (types name body : Text) (text : String Global) (task : Task) (limit : ℕ) (told mid : Option (List ℕ))
+    → bytes_eq types (codes "-") ≡ true → body ≡ string_bytes text → Meets bytes (types_input (source_text task) told) (Ok text)
+    → NoLine mid (IsLineFor (SpelledBy (among body name)) task limit) → NoLine told (IsLineGiven (among types name) task limit)
+read_none types name body text task limit told mid mark same read none = λ line h. none line (λ b may.
+    let a = h (string_bytes text) (by told (was_read (source_text task) told text read).1) in
+    let is = names types name task limit (string_bytes text) line mark a in
+    record {
+      type = a.type;
+      spelled = subst (λ (l : List ℕ). SpelledBy (among l name) a.type) (sym same) is.1.2;
+      line_is = line_by (kind task) (source_text task) (path_text task) (Some (string_bytes text)) (Some b) a.type limit line is.0
+          a.line_is;
+    }) where
+      by : (told : Option (List ℕ)) → IfSome told (λ b. (length b ≤ most) × IsUtf8 b × (string_bytes text ≡ b))
+          → MayBe told (string_bytes text)
+      by None was = tt
+      by (Some b) was = was.2
+
+-- They aren't read.
+pub lost_none : (types name : Text) (task : Task) (limit : ℕ) (told : Option (List ℕ)) (fault : Fault) → bytes_eq types (codes "-") ≡ true
+    → Meets {X = String Global} bytes (types_input (source_text task) told) (Err fault) → status_of fault ≤ 2
+    → NoLine told (IsLineGiven (among types name) task limit)
+lost_none types name task limit None fault mark lost small = λ line h.
+    let is = names types name task limit (255 ∷ []) line mark (h (255 ∷ []) tt) in no_octet is.1.1
+lost_none types name task limit (Some b) fault mark lost small = λ line h.
+    let is = names types name task limit b line mark (h b refl) in not_lost (source_text task) b fault is.0 is.1.0 is.1.1 lost small
+
+-- ---- what is expected of them
+
+pub read_answer : (types name body : Text) (text : String Global) (task : Task) (limit : ℕ) (path : Expected (List Step))
+    (told mid : Option (List ℕ)) (result : Result (String Global) Fault) → bytes_eq types (codes "-") ≡ true → body ≡ string_bytes text
+    → Meets bytes (types_input (source_text task) told) (Ok text) → Meets bytes (answer_of (among body name) task limit path mid) result
+    → Meets bytes (given_answer (among types name) task limit path told) result
+read_answer types name body text task limit path told mid result mark same read made =
+    let some = (was_read (source_text task) told text read).0 in
+    let moved = ap (λ (l : List ℕ). answer_of (among l name) task limit path mid) same
+    ∙ answer_kept (among (string_bytes text) name) task limit path mid told some in
+    subst (λ (b : Bool). Meets bytes ((if b then (types_input (source_text task) told >>= λ text. value (among text name))
+    else value (among types name))
+    >>= λ texts. answer_of texts task limit path told) result) (sym mark)
+    (goes (λ (s : String Global). among (string_bytes s) name) bytes
+    (types_input (source_text task) told >>= λ text. value (among text name))
+    (λ texts. answer_of texts task limit path told) text result
+    (goes bytes (λ (s : String Global). among (string_bytes s) name) (types_input (source_text task) told) (λ text. value (among text name))
+    text (Ok text) read refl)
+    (subst (λ m. Meets bytes m result) moved made))
+
+pub lost_answer : (types name : Text) (task : Task) (limit : ℕ) (path : Expected (List Step)) (told : Option (List ℕ)) (fault : Fault)
+    → bytes_eq types (codes "-") ≡ true → Meets {X = String Global} bytes (types_input (source_text task) told) (Err fault)
+    → Meets {X = String Global} bytes (given_answer (among types name) task limit path told) (Err fault)
+lost_answer types name task limit path told fault mark lost =
+    subst (λ (b : Bool). Meets {X = String Global} bytes ((if b
+    then (types_input (source_text task) told >>= λ text. value (among text name)) else value (among types name))
+    >>= λ texts. answer_of texts task limit path told) (Err fault)) (sym mark)
+    (stops (λ (s : String Global). among (string_bytes s) name) bytes
+    (types_input (source_text task) told >>= λ text. value (among text name))
+    (λ texts. answer_of texts task limit path told) fault
+    (stops bytes (λ (s : String Global). among (string_bytes s) name) (types_input (source_text task) told) (λ text. value (among text name))
+    fault lost))
+
+-- ---- texts that are not read
+
+pub own_line : (t : Texts) (task : Task) (limit : ℕ) (told : Option (List ℕ)) (line : Text) → reads_types t ≡ false
+    → IsLineFor (SpelledBy t) task limit told line → IsLineGiven t task limit told line
+own_line t task limit told line own h = record {
+  type = h.type;
+  spelled = failing (reads_types t)
+      ((source_text task ≢ None) × IfSome told (λ b. (length b ≤ most) × IsUtf8 b × SpelledBy (record t { types = Some b }) h.type))
+      (SpelledBy t h.type) own h.spelled;
+  line_is = h.line_is;
+}
+
+pub own_none : (t : Texts) (task : Task) (limit : ℕ) (told : Option (List ℕ)) → reads_types t ≡ false
+    → NoLine told (IsLineFor (SpelledBy t) task limit) → NoLine told (IsLineGiven t task limit)
+own_none t task limit told own none = λ line h. none line (λ b may. let a = h b may in record {
+  type = a.type;
+  spelled = failed (reads_types t)
+      ((source_text task ≢ None) × ((length b ≤ most) × IsUtf8 b × SpelledBy (record t { types = Some b }) a.type))
+      (SpelledBy t a.type) own a.spelled;
+  line_is = a.line_is;
+})
+
+-- ---- what is taken
+
+pub types_given : (source : Option Text) (untouched : Type 0) (status : ℕ) (told told' : Option (List ℕ)) → (source ≡ None → untouched)
+    → (source ≢ None → GivesAll most status told told') → GivesTypes source untouched status told told'
+types_given None untouched status told told' same gives = same refl
+types_given (Some t) untouched status told told' same gives = gives (λ none. let no : Some t ≡ None = none in cc)
