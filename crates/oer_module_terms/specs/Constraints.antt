@@ -1,7 +1,8 @@
 -- Reading constraints from tokens (X.680, 49 to 51; X.682, 8 to 11): what is read and what is left, or the first fault.
 use Rattle.std.specs.Prelude.{ℕ, zero, suc, List, Bool, not, ◌&&◌, ◌||◌, Option, Some, None, Ok, Err, if◌then◌else◌}
 use Rattle.oer_module_lexer.specs.Token.{Spot}
-use Rattle.oer_module_lexer.specs.declared.token.Sign.TheVariants.{OpenBrace, OpenParenthesis, CloseParenthesis, Comma, Ellipsis, Less, Range, Bar, Caret}
+use Rattle.oer_module_lexer.specs.declared.token.Sign.TheVariants.{OpenBrace, OpenParenthesis, CloseParenthesis, Comma, Ellipsis, Less}
+use Rattle.oer_module_lexer.specs.declared.token.Sign.TheVariants.{Range, Bar, Caret}
 use Rattle.oer_module_syntax.specs.Modules.{all_of}
 use Rattle.oer_module_syntax.specs.Ranges.{front_of, value_at as value_tokens_at}
 use Rattle.oer_module_syntax.specs.State.{State, Read, ◌>>=◌, fault, place, bump, at_sign, at_keyword, skip_sign, skip_keyword}
@@ -11,7 +12,8 @@ use Rattle.oer_module_syntax.specs.declared.word.Keyword.{Keyword}
 use Rattle.oer_module_syntax.specs.declared.word.Keyword.TheVariants as kw
 use Rattle.oer_module_terms.specs.Looks.{series, past_sign, at_type, taken_at, exception_at}
 use Rattle.oer_module_terms.specs.Parameters.{span_len}
-use Rattle.oer_module_terms.specs.Trees.{Value, Constraint, subtype, general, Extension, closed, opened, extended, Elements, union, intersection, except, all_except, value, range, size, alphabet, type, narrowing, sets_from}
+use Rattle.oer_module_terms.specs.Trees.{Value, Constraint, subtype, general, Extension, closed, opened, extended, Elements, union}
+use Rattle.oer_module_terms.specs.Trees.{intersection, except, all_except, value, range, size, alphabet, type, narrowing, sets_from}
 use Rattle.oer_module_terms.specs.Values.{value_at}
 use Rattle.oer_module_terms.specs.declared.constraint.Mark.{Mark}
 use Rattle.oer_module_terms.specs.declared.constraint.Mark.TheVariants as mark
@@ -84,10 +86,14 @@ abbrev pub at_mark : Mark → State → Bool
 at_mark mark.Union s = at_sign Bar s || at_keyword kw.Union s
 at_mark mark.Intersection s = at_sign Caret s || at_keyword kw.Intersection s
 
+-- one or more, joined by a mark
+abbrev pub joined : Mark → (State → Read Elements) → State → Read (List Elements)
+joined m one s = series (λ r. not (at_mark m r)) one (λ r. one (bump r)) s
+
 -- sets and constraints, where a set within these is read so
 module _ (levels : ℕ) (set : State → Read Elements) where
   -- behind the comma after a root (50.1)
-  abbrev pub marked_at : State → Read Extension
+  unfoldable pub marked_at : State → Read Extension
   marked_at s = if at_sign Comma s then (set (bump s) >>= λ x. Ok (extended x.0, x.1)) else Ok (opened, s)
 
   unfoldable pub extension_at : State → Read Extension
@@ -101,7 +107,7 @@ module _ (levels : ℕ) (set : State → Read Elements) where
     exception ← exception_at extension.1
     Ok (subtype at root.0 extension.0 exception.0, exception.1)
 
-  abbrev pub specified_by : ℕ → Option General → State → Read Constraint
+  unfoldable pub specified_by : ℕ → Option General → State → Read Constraint
   specified_by at (Some k) s = general_at at k s
   specified_by at None s = subtype_at at s
 
@@ -131,18 +137,16 @@ module _ (levels : ℕ) (set : State → Read Elements) where
       element_at s >>= λ e. if at_keyword kw.Except e.1 then (element_at (bump e.1) >>= λ x. Ok (except e.0 x.0, x.1)) else Ok e
 
   -- joined by `^` (50.1)
-  abbrev pub intersection_at : State → Read Elements
-  intersection_at s =
-      series (λ r. not (at_mark mark.Intersection r)) excluding_at (λ r. excluding_at (bump r)) s >>= λ es. Ok (intersection (sets_from es.0), es.1)
+  unfoldable pub intersection_at : State → Read Elements
+  intersection_at s = joined mark.Intersection excluding_at s >>= λ es. Ok (intersection (sets_from es.0), es.1)
 
   -- what stands between the marks
-  abbrev pub between_at : Mark → State → Read Elements
+  unfoldable pub between_at : Mark → State → Read Elements
   between_at mark.Union s = intersection_at s
   between_at mark.Intersection s = excluding_at s
 
-  -- one or more, joined by a mark
-  abbrev pub joined_at : Mark → State → Read (List Elements)
-  joined_at m s = series (λ r. not (at_mark m r)) (between_at m) (λ r. between_at m (bump r)) s
+  unfoldable pub joined_at : Mark → State → Read (List Elements)
+  joined_at m s = joined m (between_at m) s
 
   -- behind ALL (50.1)
   unfoldable pub everything_but_at : State → Read Elements

@@ -1,15 +1,18 @@
 -- Reading a value from tokens (X.680, 17.7 and the notation of each type): what is read and what is left, or the first fault.
 use Rattle.std.specs.Prelude.{ℕ, zero, suc, List, [], Bool, true, false, ◌&&◌, ◌||◌, Option, Some, None, Ok, Err, codes, if◌then◌else◌}
 use Rattle.std.specs.Str.{bytes_eq}
-use Rattle.oer_module_lexer.specs.Token.{Token, word, number as a_number, real as a_real, bits as some_bits, digits as some_digits, text as a_text}
-use Rattle.oer_module_lexer.specs.declared.token.Sign.TheVariants.{OpenBrace, CloseBrace, OpenParenthesis, CloseParenthesis, Comma, Colon, Hyphen}
+use Rattle.oer_module_lexer.specs.Token.{Token, word, number as a_number, real as a_real, bits as some_bits, digits as some_digits}
+use Rattle.oer_module_lexer.specs.Token.{text as a_text}
+use Rattle.oer_module_lexer.specs.declared.token.Sign.TheVariants.{OpenBrace, CloseBrace, OpenParenthesis, CloseParenthesis, Comma, Colon}
+use Rattle.oer_module_lexer.specs.declared.token.Sign.TheVariants.{Hyphen}
 use Rattle.oer_module_syntax.specs.Ranges.{pairs_len, front_of}
 use Rattle.oer_module_syntax.specs.State.{State, Read, ◌>>=◌, first, fault, expected, place, bump, at_sign, skip_sign, identifier_at}
 use Rattle.oer_module_syntax.specs.declared.fault.Sought.TheVariants as sought
 use Rattle.oer_module_syntax.specs.declared.fault.Why.TheVariants as why
 use Rattle.oer_module_syntax.specs.declared.range.Pair.TheVariants.{Step}
 use Rattle.oer_module_terms.specs.Looks.{series, no_comma, at_numbered, names_value}
-use Rattle.oer_module_terms.specs.Trees.{Amount, number, named, Atom, amount, real, fixed, bits, digits, text, Value, atom, numbered, choice, braces, Parts, parts_from, members_from}
+use Rattle.oer_module_terms.specs.Trees.{Amount, number, named, Atom, amount, real, fixed, bits, digits, text, Value, atom, numbered}
+use Rattle.oer_module_terms.specs.Trees.{choice, braces, Parts, parts_from, members_from}
 use Rattle.oer_module_terms.specs.declared.tree.Fixed.{Fixed}
 use Rattle.oer_module_terms.specs.declared.tree.Fixed.TheVariants as words
 
@@ -99,27 +102,30 @@ member_ends s = at_sign Comma s || at_sign CloseBrace s
 
 -- values where a value is read so
 module _ (value : State → Read Value) where
-  abbrev pub part_at : State → Read Value
+  unfoldable pub part_at : State → Read Value
   part_at s = if at_numbered s then numbered_at s else value s
 
   -- what stands between commas
-  abbrev pub member_at : State → Read Parts
+  unfoldable pub member_at : State → Read Parts
   member_at s = series member_ends part_at part_at s >>= λ ps. Ok (parts_from ps.0, ps.1)
 
   abbrev pub later_member_at : State → Read Parts
   later_member_at s = member_at (bump s)
 
+  unfoldable pub some_members_at : State → Read (List Parts)
+  some_members_at s = series no_comma member_at later_member_at s
+
   -- behind the opening brace
   unfoldable pub braces_at : ℕ → State → Read Value
   braces_at at s =
       if at_sign CloseBrace s then Ok (braces at (members_from []), bump s)
-      else (series no_comma member_at later_member_at s >>= λ ms. skip_sign CloseBrace ms.1 >>= λ r. Ok (braces at (members_from ms.0), r.1))
+      else (some_members_at s >>= λ ms. skip_sign CloseBrace ms.1 >>= λ r. Ok (braces at (members_from ms.0), r.1))
 
   -- a word, a colon and a value (29; X.681, 14)
   unfoldable pub choice_at : List ℕ → State → Read Value
   choice_at w s = value (bump (bump s)) >>= λ v. Ok (choice (place s) w v.0, v.1)
 
-  abbrev pub unbraced_by : Option (List ℕ) → State → Read Value
+  unfoldable pub unbraced_by : Option (List ℕ) → State → Read Value
   unbraced_by (Some w) s = choice_at w s
   unbraced_by None s = atom_at s
 

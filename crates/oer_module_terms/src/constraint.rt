@@ -232,6 +232,7 @@ fn read_all_except<'s, 't>(
 
 /// One or more, joined by a mark.
 #[cycle(reading)]
+#[tactic(auto, unfolding(crate::specs::Constraints::joined_at))]
 fn read_joined<'s, 't>(
     alloc: Global,
     cursor: &mut Cursor<'s, 't>,
@@ -271,7 +272,7 @@ fn read_more<'s, 't>(
 
 /// What stands between marks.
 #[cycle(reading)]
-#[tactic(auto, using(crate::proofs::Views::sets))]
+#[tactic(auto, unfolding(crate::specs::Constraints::between_at, crate::specs::Constraints::intersection_at, crate::specs::Constraints::joined_at), using(crate::proofs::Views::sets))]
 fn read_between<'s, 't>(
     alloc: Global,
     cursor: &mut Cursor<'s, 't>,
@@ -377,6 +378,7 @@ pub fn read_constraint<'s, 't>(
 
 /// What stands in the parentheses of a constraint.
 #[cycle(reading)]
+#[tactic(auto, unfolding(crate::specs::Constraints::specified_by))]
 fn read_specified<'s, 't>(
     alloc: Global,
     cursor: &mut Cursor<'s, 't>,
@@ -415,7 +417,7 @@ fn read_subtype<'s, 't>(
 
 /// What follows the root.
 #[cycle(reading)]
-#[tactic(auto, unfolding(crate::specs::Constraints::extension_at), using(crate::proofs::Views::sets))]
+#[tactic(auto, unfolding(crate::specs::Constraints::extension_at, crate::specs::Constraints::marked_at), using(crate::proofs::Views::sets))]
 fn read_extension<'s, 't>(
     alloc: Global,
     cursor: &mut Cursor<'s, 't>,

@@ -4,7 +4,7 @@ ghost use Rattle.oer_module_lexer.specs.Token.{spots_of, token_of};
 ghost use Rattle.oer_module_syntax.specs.Modules.{many};
 ghost use Rattle.oer_module_syntax.specs.Ranges.{front_of};
 ghost use Rattle.oer_module_syntax.specs.State.{IsReading, bump, state_of};
-ghost use Rattle.oer_module_terms.specs.Looks.{no_comma, series};
+ghost use Rattle.oer_module_terms.specs.Looks.{no_comma};
 ghost use Rattle.oer_module_terms.specs.Parameters.{ends_span, is_end, parameter_at, parameters_at, span_len};
 
 use oer_module_lexer::{Sign, Spot, Token};

@@ -3,9 +3,9 @@ ghost use Rattle.std.specs.Prelude.{◌≡◌, suc, length, map};
 ghost use Rattle.std.specs.Option.{option_map};
 ghost use Rattle.oer_module_syntax.specs.Modules.{many};
 ghost use Rattle.oer_module_syntax.specs.State.{IsReading, fault, first, state_of};
-ghost use Rattle.oer_module_terms.specs.Looks.{no_comma, series};
+ghost use Rattle.oer_module_terms.specs.Looks.{no_comma};
 ghost use Rattle.oer_module_terms.specs.Trees.{amount_of, atom_of, member_of, value_of};
-ghost use Rattle.oer_module_terms.specs.Values.{alternative_by, amount_at, atom_at, atom_by, braces_at, choice_at, enclosed_at, fixed_of, later_member_at, member_at, member_ends, minus_by, named_at, negative_by, numbered_at, part_at, single_at, value_at, worded_at};
+ghost use Rattle.oer_module_terms.specs.Values.{alternative_by, amount_at, atom_at, atom_by, braces_at, choice_at, enclosed_at, fixed_of, later_member_at, member_at, member_ends, minus_by, named_at, negative_by, numbered_at, part_at, single_at, some_members_at, value_at, worded_at};
 
 use crate::look::{after, is_at_numbered, names_value, take_path};
 use crate::tree::{Amount, Atom, Fixed, Member, Value};
@@ -204,7 +204,7 @@ fn alternative<'t>(cursor: &Cursor<'_, 't>) -> Option<&'t str>
 /// The first fault from the left: `TooDeep` where a level is one too many, `Expected` at a token that can't go on, and
 /// `Memory`. Where the tokens end before the value does, the fault is that of their end.
 #[cycle(reading)]
-#[tactic(auto, unfolding(crate::specs::Values::value_at, crate::specs::Values::any_value_at))]
+#[tactic(auto, unfolding(crate::specs::Values::value_at, crate::specs::Values::any_value_at, crate::specs::Values::unbraced_by))]
 pub fn read_value<'s, 't>(
     alloc: Global,
     cursor: &mut Cursor<'s, 't>,
@@ -271,12 +271,13 @@ fn read_braces<'s, 't>(
 
 /// One or more, joined by commas.
 #[cycle(reading)]
+#[tactic(auto, unfolding(crate::specs::Values::some_members_at))]
 fn read_members<'s, 't>(
     alloc: Global,
     cursor: &mut Cursor<'s, 't>,
     levels: u8,
 ) -> Result<Vec<Member<'s, 't>>, Fault>
-    ensures { IsReading (λ v. (map member_of v.items, state_of cursor.new)) result (series no_comma (member_at (value_at levels)) (later_member_at (value_at levels)) (state_of cursor.old)) }
+    ensures { IsReading (λ v. (map member_of v.items, state_of cursor.new)) result (some_members_at (value_at levels) (state_of cursor.old)) }
 {
     let mut found = Vec::new(alloc);
     let first = read_member(alloc, cursor, levels)?;
@@ -308,7 +309,7 @@ fn read_more_members<'s, 't>(
 
 /// The parts up to a comma or the closing brace.
 #[cycle(reading)]
-#[tactic(auto, using(crate::proofs::Views::views))]
+#[tactic(auto, unfolding(crate::specs::Values::member_at), using(crate::proofs::Views::views))]
 fn read_member<'s, 't>(
     alloc: Global,
     cursor: &mut Cursor<'s, 't>,
@@ -351,6 +352,7 @@ fn read_more_parts<'s, 't>(
 
 /// A value, or a name and its number.
 #[cycle(reading)]
+#[tactic(auto, unfolding(crate::specs::Values::part_at))]
 fn read_part<'s, 't>(
     alloc: Global,
     cursor: &mut Cursor<'s, 't>,

@@ -1,13 +1,13 @@
-use Rattle.std.proofs.Common.{◌≡◌, ℕ, ◌+◌, ◌*◌, ◌-◌, suc, length, map, not}
-use Rattle.oer_module_syntax.specs.Modules.{many}
+use Rattle.std.proofs.Common.{ℕ, ◌+◌, ◌*◌, map, not}
 use Rattle.oer_module_syntax.specs.State.{state_of, bump}
+use Rattle.oer_module_terms.proofs.Series.{SoFar}
 use Rattle.oer_module_terms.specs.Constraints.{at_mark, between_at, set_at}
 use Rattle.oer_module_terms.specs.Trees.{elements_of}
 use Rattle.oer_module_terms.specs.declared.constraint.Mark.{Mark}
 use Rattle.oer_module_terms.specs.declared.constraint.Mark.TheVariants.{Union, Intersection}
 use Rattle.oer_module_terms.proofs.constraint.+reading.Given as goal
 
--- where a union is read, before and after where an intersection is
+-- A union holds intersections.
 abbrev within : Mark → ℕ
 within Union = 4
 within Intersection = 0
@@ -51,5 +51,6 @@ decreases-read_extension l = 30 * l.levels + 7
 -- those found and those of what is left are all of them
 abbrev pub invariant-read_more-more : goal.invariant-read_more-more
 invariant-read_more-more l =
-    many (λ s. not (at_mark l.mark s)) (λ s. between_at l.levels (set_at l.levels) l.mark (bump s)) (suc (length (state_of l.fn.cursor).left)) (map elements_of l.fn.found.items) (state_of l.fn.cursor)
-    ≡ many (λ s. not (at_mark l.mark s)) (λ s. between_at l.levels (set_at l.levels) l.mark (bump s)) (suc (length (state_of l.fn.cursor).left) - l.turn) (map elements_of l.found.items) (state_of l.cursor)
+    SoFar (λ s. not (at_mark l.mark s)) (λ s. between_at l.levels (set_at l.levels) l.mark (bump s))
+    l.fn.cursor.spots.now (map elements_of l.fn.found.items) (state_of l.fn.cursor)
+    l.turn (map elements_of l.found.items) (state_of l.cursor)

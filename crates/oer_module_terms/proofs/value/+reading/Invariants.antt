@@ -1,6 +1,6 @@
-use Rattle.std.proofs.Common.{◌≡◌, ◌+◌, ◌*◌, ◌-◌, suc, length, map}
-use Rattle.oer_module_syntax.specs.Modules.{many}
+use Rattle.std.proofs.Common.{◌+◌, ◌*◌, map}
 use Rattle.oer_module_syntax.specs.State.{state_of}
+use Rattle.oer_module_terms.proofs.Series.{SoFar}
 use Rattle.oer_module_terms.specs.Looks.{no_comma}
 use Rattle.oer_module_terms.specs.Trees.{member_of, value_of}
 use Rattle.oer_module_terms.specs.Values.{value_at, part_at, later_member_at, member_ends}
@@ -33,11 +33,12 @@ decreases-read_part l = 20 * l.levels + 5
 -- those found and those of what is left are all of them
 abbrev pub invariant-read_more_members-more : goal.invariant-read_more_members-more
 invariant-read_more_members-more l =
-    many no_comma (later_member_at (value_at l.levels)) (suc (length (state_of l.fn.cursor).left)) (map member_of l.fn.found.items) (state_of l.fn.cursor)
-    ≡ many no_comma (later_member_at (value_at l.levels)) (suc (length (state_of l.fn.cursor).left) - l.turn) (map member_of l.found.items) (state_of l.cursor)
+    SoFar no_comma (later_member_at (value_at l.levels))
+    l.fn.cursor.spots.now (map member_of l.fn.found.items) (state_of l.fn.cursor)
+    l.turn (map member_of l.found.items) (state_of l.cursor)
 
--- those found and those of what is left are all of them
 abbrev pub invariant-read_more_parts-more : goal.invariant-read_more_parts-more
 invariant-read_more_parts-more l =
-    many member_ends (part_at (value_at l.levels)) (suc (length (state_of l.fn.cursor).left)) (map value_of l.fn.found.items) (state_of l.fn.cursor)
-    ≡ many member_ends (part_at (value_at l.levels)) (suc (length (state_of l.fn.cursor).left) - l.turn) (map value_of l.found.items) (state_of l.cursor)
+    SoFar member_ends (part_at (value_at l.levels))
+    l.fn.cursor.spots.now (map value_of l.fn.found.items) (state_of l.fn.cursor)
+    l.turn (map value_of l.found.items) (state_of l.cursor)
