@@ -43,8 +43,8 @@ fn starts_sign(spots: &[Spot<'_>], sign: Sign) -> bool
     }
 }
 
-/// How many are open after this token, where so many were open before it.
-fn nesting(depth: usize, token: Token<'_>) -> usize
+/// How many braces, parentheses and brackets are open after this token, where so many were open before it.
+pub fn nesting(depth: usize, token: Token<'_>) -> usize
     requires { depth ≤ 9223372036854775808 }
     ensures { result ≡ nesting depth (token_of token.entry) }
 {

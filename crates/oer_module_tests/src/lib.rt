@@ -5,3 +5,5 @@
 mod lexer;
 #[cfg(test)]
 mod syntax;
+#[cfg(test)]
+mod terms;
