@@ -1,10 +1,10 @@
 //! Encodings of values: what they are rewritten as, however they come, and cut at every octet.
-use crate::shared::{SlowReader, Want, comes, each, is_well, takes_slowly};
-use crate::values::{Case, case_of, each_case, each_encoding, is_written};
+use crate::shared::{SlowReader, Want, comes, takes_slowly};
+use crate::values::{Case, each_case, each_encoding};
 use oer_reader::{RewriteFault, check, read, read_with_length};
 use oer_types::Schema;
 use oer_units::{Metered, ReadFault, Why};
-use oer_vectors::{LAST_PLACE, Row, TAKEN_JSON, row_of};
+use oer_vectors::LAST_PLACE;
 use std::alloc::Global;
 use std::test::Fail;
 
@@ -97,26 +97,4 @@ fn need_all_octets(rt: HostRuntime) -> Result<(), Fail> {
 #[test]
 fn last_place_needs_all_octets(rt: HostRuntime) -> Result<(), Fail> {
     each_encoding(rt.alloc(), LAST_PLACE, &needs_all)
-}
-
-// ---- values by other JSON
-
-// That the value of the row of `TAKEN_JSON` is written in its canonical octets, which are rewritten as
-// they are, and all needed.
-fn is_taken(at: Global, row: &str) -> Result<(), Fail> {
-    let columns = row_of(row);
-    let written = Row {
-        first: columns.first,
-        second: columns.second,
-        third: columns.rest,
-        rest: "=",
-    };
-    let case = case_of(at, written, "=")?;
-    let is_right = is_written(at, &case)? && is_rewritten(at, &case)? && needs_all(at, &case)?;
-    is_well(row, is_right)
-}
-
-#[test]
-fn values_of_json(rt: HostRuntime) -> Result<(), Fail> {
-    each(rt.alloc(), TAKEN_JSON, is_taken)
 }

@@ -1,4 +1,5 @@
-//! Tests of units, types and values, and of reading, writing and checking them, through public items alone.
+//! Tests of units, types and values, of reading, writing and checking them, of the notation and of JSON, through public
+//! items alone. What can be called from C is tested by `tools/test_vectors`.
 #![tactic(auto)]
 
 #[cfg(test)]
@@ -9,6 +10,14 @@ mod drawing;
 mod encodings;
 #[cfg(test)]
 mod helpers;
+#[cfg(test)]
+mod json;
+#[cfg(test)]
+mod lexer;
+#[cfg(test)]
+mod literals;
+#[cfg(test)]
+mod printing;
 #[cfg(test)]
 mod refusals;
 #[cfg(test)]

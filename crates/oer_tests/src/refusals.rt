@@ -1,7 +1,7 @@
 //! Octets that are refused: why, and at which octet.
 use crate::encodings::are_needed;
 use crate::shared::{Want, comes, each, is_wanted, is_well, octets, schema_of};
-use oer_reader::{RewriteFault, check, read};
+use oer_reader::{RewriteFault, read};
 use oer_types::Schema;
 use oer_units::{Metered, Why};
 use oer_vectors::{PAST_LAST_PLACE, REFUSED, expanded, row_of};
@@ -40,14 +40,6 @@ fn stops(
     is_well(row, are_needed(at, schema, octets, taken, want.asked))
 }
 
-// That checking them finds the same.
-fn is_found(at: Global, row: &str, schema: &Schema, octets: &[u8], why: &str) -> Result<(), Fail> {
-    match check(schema, octets) {
-        Ok(_) => Err(Fail::new(row)),
-        Err(fault) => is_wanted(row, format!(in at; "{fault}")?.as_str(), why),
-    }
-}
-
 // That the octets of the row are refused so, under its limit or under any.
 fn is_refused(at: Global, row: &str) -> Result<(), Fail> {
     let whole = expanded(at, row)?;
@@ -58,7 +50,7 @@ fn is_refused(at: Global, row: &str) -> Result<(), Fail> {
         for limit in ANY_LIMIT {
             stops(at, row, &schema, &octets, columns.third, limit)?;
         }
-        return is_found(at, row, &schema, &octets, columns.third);
+        return Ok(());
     }
     let limit = columns.rest.parse::<u64>()?;
     stops(at, row, &schema, &octets, columns.third, limit)

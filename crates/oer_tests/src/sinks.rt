@@ -5,13 +5,13 @@ use crate::values::{Case, each_case};
 use oer_reader::{RewriteFault, rewrite};
 use oer_types::fits;
 use oer_units::{Metered, Sink};
-use oer_writer::{WriteFault, write};
+use oer_writer::{WriteFault, length, write};
 use std::alloc::Global;
 use std::io;
 use std::io::{Error, ErrorKind};
 use std::test::Fail;
 
-// Whether the write stops where the sink does, after so many calls.
+// Whether the write stops where the sink does, after so many calls. The number of the octets is told before.
 fn stops_at(case: &Case, calls: usize, fails: bool) -> bool {
     if !fits(&case.schema, &case.value) {
         return false;
@@ -24,8 +24,11 @@ fn stops_at(case: &Case, calls: usize, fails: bool) -> bool {
     };
     let front = &case.canonical[..calls.min(case.canonical.len())];
     let mut sink = Metered::new(SlowWriter::new(calls, fails));
+    let told = length(&case.schema, &case.value);
     let done = write(&case.schema, &case.value, &mut sink);
-    (done, sink.failures()) == want && sink.into_inner().taken() == front
+    told == Some(case.canonical.len() as u64)
+        && (done, sink.failures()) == want
+        && sink.into_inner().taken() == front
 }
 
 // Whether the rewriting of the octets stops where the sink does, after so many calls. The octets, and

@@ -3,7 +3,7 @@ use crate::drawing::{drawn, drawn_value};
 use crate::shared::{NESTED, each, is_wanted, is_well, octets, schema_of, value_of};
 use crate::values::{Case, each_case};
 use oer_reader::read;
-use oer_text::{parse_type, parse_types};
+use oer_text::parse_type;
 use oer_types::{
     Addition, Alphabet, Alt, Bits, Field, Item, Need, Schema, Shape, Size, Unknown, Value,
     are_characters, contains_tag, filled, find_alternative, fits, has_any_fault_here, is_same_tag,
@@ -361,55 +361,6 @@ fn stands_for(at: Global, row: &str) -> Result<(), Fail> {
 #[test]
 fn texts_stand_for_shapes(rt: HostRuntime) -> Result<(), Fail> {
     each(rt.alloc(), SHAPES, stands_for)
-}
-
-/// The words that are no Names.
-const RESERVED: &str = "BOOLEAN
-INTEGER
-ENUMERATED
-NULL
-OCTET
-BIT
-STRING
-OBJECT
-IDENTIFIER
-IA5String
-VisibleString
-NumericString
-PrintableString
-UTF8String
-SEQUENCE
-OF
-CHOICE
-OPTIONAL
-DEFAULT
-SIZE
-MIN
-MAX
-TRUE
-FALSE
-UNIVERSAL
-APPLICATION
-PRIVATE
-REAL
-SET";
-
-// That no definition has the word as its Name, and that one has the word with a letter more.
-fn is_reserved(at: Global, word: &str) -> Result<(), Fail> {
-    let definition = format!(in at; "{word} ::= NULL")?;
-    match parse_types(at, definition.as_str()) {
-        Ok(_) => is_wanted(word, "a Name", "Syntax at 0")?,
-        Err(fault) => is_wanted(word, format!(in at; "{fault}")?.as_str(), "Syntax at 0")?,
-    }
-    let longer = format!(in at; "{word}s")?;
-    let definition = format!(in at; "{longer} ::= NULL")?;
-    let types = parse_types(at, definition.as_str())?;
-    is_well(word, types.get(longer.as_str()).is_some())
-}
-
-#[test]
-fn words_that_are_no_names(rt: HostRuntime) -> Result<(), Fail> {
-    each(rt.alloc(), RESERVED, is_reserved)
 }
 
 // ---- bits

@@ -2,11 +2,10 @@
 use crate::drawing::drawn_value;
 use crate::shared::{each, is_wanted, is_well, octets, schema_of, value_of};
 use oer_reader::read;
-use oer_types::{Schema, Value, fits, same_filled};
+use oer_types::{Schema, Value, fits};
 use oer_units::Metered;
-use oer_vectors::{KINDS, LAST_PLACE, NESTED_VALUES, Row, VALUES, expanded, row_of};
+use oer_vectors::{KINDS, NESTED_VALUES, Row, VALUES, expanded, row_of};
 use oer_writer::parts::equals;
-use oer_writer::{length, write};
 use std::alloc::Global;
 use std::test::Fail;
 
@@ -69,25 +68,6 @@ pub fn each_case<F: Fn(Global, &Case) -> Result<bool, Fail>>(
     Ok(())
 }
 
-/// Whether the value is written in its canonical octets, and their number is told.
-pub fn is_written(at: Global, case: &Case) -> Result<bool, Fail> {
-    if !fits(&case.schema, &case.value) {
-        return Ok(false);
-    }
-    let count = case.canonical.len() as u64;
-    let told = length(&case.schema, &case.value);
-    let mut sink = Metered::new(Vec::new(at));
-    let done = write(&case.schema, &case.value, &mut sink);
-    let is_same = sink.into_inner() == case.canonical;
-    Ok(is_same && done == Ok(count) && told == Some(count))
-}
-
-#[test]
-fn are_written_in_canonical_octets(rt: HostRuntime) -> Result<(), Fail> {
-    each_encoding(rt.alloc(), LAST_PLACE, &is_written)?;
-    each_case(rt.alloc(), is_written)
-}
-
 // Whether the value fits, and the octets are told to be its canonical ones.
 fn is_equal(case: &Case, octets: &[u8]) -> bool {
     fits(&case.schema, &case.value) && equals(case.schema.shape(), &case.value, octets)
@@ -122,24 +102,6 @@ fn is_told(at: Global, case: &Case) -> Result<bool, Fail> {
 #[test]
 fn are_told_from_other_octets(rt: HostRuntime) -> Result<(), Fail> {
     each_case(rt.alloc(), is_told)
-}
-
-// Whether the encoding is read as just the value, no default filled in and none dropped, and what
-// follows it is left.
-fn is_read(at: Global, case: &Case) -> Result<bool, Fail> {
-    let mut reader = Metered::new(case.followed.as_slice());
-    let Ok(came) = read(at, &case.schema, &mut reader, u64::MAX) else {
-        return Ok(false);
-    };
-    let is_same = same_filled(&case.schema, &case.value, &came);
-    let is_left = reader.into_inner() == [0x62].as_slice();
-    let (came, value) = (drawn_value(at, &came)?, drawn_value(at, &case.value)?);
-    Ok(is_same && is_left && came == value)
-}
-
-#[test]
-fn are_read_from_each_encoding(rt: HostRuntime) -> Result<(), Fail> {
-    each_case(rt.alloc(), is_read)
 }
 
 /// A type, octets, and the value that is read from them, no default filled in and none dropped.

@@ -15,6 +15,6 @@ mod types;
 
 pub use crate::json::{REFUSED_JSON, TAKEN_JSON};
 pub use crate::octets::{KINDS, LAST_PLACE, NESTED_VALUES, PAST_LAST_PLACE, REFUSED, VALUES};
-pub use crate::parts::PARTS;
+pub use crate::parts::{PARTS, RANGES};
 pub use crate::rows::{Row, expanded, row_of};
-pub use crate::types::{REFUSED_DEFINITIONS, REFUSED_TYPES};
+pub use crate::types::{REFUSED_DEFINITIONS, REFUSED_TYPES, RESERVED, WITHIN};

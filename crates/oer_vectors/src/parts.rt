@@ -33,3 +33,23 @@ CHOICE {a NULL, ..., b OCTET STRING} | 85020102 | v | 0102
 CHOICE {a NULL, ..., b OCTET STRING} | 85020102 | v.v | NoSuchStep
 CHOICE {a NULL, ..., b OCTET STRING} | 85020102 | v.c0 | NoSuchStep
 OCTET STRING | 0361 | c0 | End at 2";
+
+/// A type; octets; a path, of which `-` is the empty one; from which octet to which the part stands, or the
+/// error.
+pub const RANGES: &str = "SEQUENCE OF BOOLEAN | 0103ffffff | - | 0..5
+SEQUENCE OF BOOLEAN | 0103ffffff | i0 | 2..3
+SEQUENCE OF BOOLEAN | 0103ffffff | i2 | 4..5
+SEQUENCE OF BOOLEAN | 0200020107 | i1 | 4..5
+SEQUENCE OF BOOLEAN | 0103ffffff | i3 | NoSuchStep
+SEQUENCE OF SEQUENCE OF BOOLEAN | 01020101ff0102ffff | i1 | 5..9
+SEQUENCE OF SEQUENCE OF BOOLEAN | 01020101ff0102ffff | i1.i0 | 7..8
+SEQUENCE {a BOOLEAN, b INTEGER (0..255) DEFAULT 7, c NULL OPTIONAL, ...} | 60ff08 | c1 | 2..3
+SEQUENCE {a BOOLEAN, b INTEGER (0..255) DEFAULT 7, c NULL OPTIONAL, ...} | 20ff | c2 | 2..2
+SEQUENCE {a BOOLEAN, b INTEGER (0..255) DEFAULT 7, c NULL OPTIONAL, ...} | 20ff | c1 | Absent
+SEQUENCE {a BOOLEAN, ..., x INTEGER (0..255), y BOOLEAN} | 80ff0206800109 | a0 | 6..7
+SEQUENCE {a BOOLEAN, ..., x INTEGER (0..255), y BOOLEAN} | 80ff0206c001090109 | a1 | 8..9
+SEQUENCE {a BOOLEAN, ..., x INTEGER (0..255), y BOOLEAN} | 80ff020430010900 | a3 | 8..8
+SEQUENCE {a BOOLEAN, ..., x INTEGER (0..255), y BOOLEAN} | 80ff | c0 | End at 2
+CHOICE {a NULL, ..., b OCTET STRING} | 80 | v | 1..1
+CHOICE {a NULL, ..., b OCTET STRING} | 8103026162 | v | 2..5
+CHOICE {a NULL, ..., b OCTET STRING} | 85026162 | v | 2..4";

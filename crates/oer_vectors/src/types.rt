@@ -95,3 +95,54 @@ BOOLEAN | Syntax at 0
 A ::= OCTET STRING (SIZE(2..1)) | SizeOrder at 6
 A ::= NULL  A ::= NULL | Repeated at 12
 A ::= NULL  B ::= SEQUENCE OF A | EmptyElement at 18"#;
+
+/// Definitions; how many parts their types may have together; the last Name that they define, or why they
+/// aren't read, and the place.
+pub const WITHIN: &str = r#"A ::= NULL | 1 | A
+A ::= NULL | 0 | Parts at 0
+A ::= NULL B ::= SEQUENCE {a A} | 3 | B
+A ::= NULL B ::= SEQUENCE {a A} | 2 | Parts at 11
+A ::= ENUMERATED {a, b} B ::= A | 6 | B
+A ::= ENUMERATED {a, b} B ::= A | 5 | Parts at 24
+A ::= NULL B ::= C | 1 | Name at 17
+A ::= NULL B ::= NULL C ::= D | 1 | Parts at 11
+A ::= NULL B ::= NULL, | 1 | Parts at 11
+A ::= NULL B ::= NULL, | 2 | Syntax at 21
+ | 0 | Syntax at 0
+A ::= CHOICE {a NULL, b BOOLEAN}  B ::= SEQUENCE OF A | 18446744073709551615 | B
+A ::= ~SEQUENCE OF *31~BOOLEAN | 18446744073709551615 | A
+A ::= ~SEQUENCE OF *32~BOOLEAN | 18446744073709551615 | TooDeep at 390
+A ::= ~SEQUENCE OF *10000~BOOLEAN | 18446744073709551615 | TooDeep at 390
+A ::= SEQUENCE {a BOOLEAN, b BOOLEAN} B ::= SEQUENCE {a A, b A} C ::= SEQUENCE {a B, b B} D ::= SEQUENCE {a C, b C} E ::= SEQUENCE {a D, b D} F ::= SEQUENCE {a E, b E} G ::= SEQUENCE {a F, b F} H ::= SEQUENCE {a G, b G} I ::= SEQUENCE {a H, b H} J ::= SEQUENCE {a I, b I} K ::= SEQUENCE {a J, b J} | 18446744073709551615 | K
+A ::= SEQUENCE {a BOOLEAN, b BOOLEAN} B ::= SEQUENCE {a A, b A} C ::= SEQUENCE {a B, b B} D ::= SEQUENCE {a C, b C} E ::= SEQUENCE {a D, b D} F ::= SEQUENCE {a E, b E} G ::= SEQUENCE {a F, b F} H ::= SEQUENCE {a G, b G} I ::= SEQUENCE {a H, b H} J ::= SEQUENCE {a I, b I} K ::= SEQUENCE {a J, b J} L ::= SEQUENCE {a K, b K} | 18446744073709551615 | TooManyParts at 321"#;
+
+/// The words that are no Names.
+pub const RESERVED: &str = "BOOLEAN
+INTEGER
+ENUMERATED
+NULL
+OCTET
+BIT
+STRING
+OBJECT
+IDENTIFIER
+IA5String
+VisibleString
+NumericString
+PrintableString
+UTF8String
+SEQUENCE
+OF
+CHOICE
+OPTIONAL
+DEFAULT
+SIZE
+MIN
+MAX
+TRUE
+FALSE
+UNIVERSAL
+APPLICATION
+PRIVATE
+REAL
+SET";

@@ -1,4 +1,5 @@
 //! How numbers, bits and items are spelled in text.
+use crate::shared::{each, is_wanted, is_well};
 use oer_literals::{
     arc_of, bits_of_digits, integer_of, item_number_of, items_of, name_of, number_named, place_of,
     push_bits, size_of, tag_number_of,
@@ -75,43 +76,39 @@ fn readers_of(at: Global, text: &str) -> Result<String, Fail> {
     Ok(taken)
 }
 
-#[test]
-fn numerals(rt: HostRuntime) -> Result<(), Fail> {
-    for row in NUMERALS.lines() {
-        let (text, want) = row.split_once(" | ").ok_or("a numeral")?;
-        if readers_of(rt.alloc(), text)?.as_str() != want {
-            return Err(Fail::new(row));
-        }
-    }
-    Ok(())
+fn is_read(at: Global, row: &str) -> Result<(), Fail> {
+    let (text, want) = row.split_once(" | ").ok_or("a numeral")?;
+    is_wanted(row, readers_of(at, text)?.as_str(), want)
 }
 
-/// Digits are bits, the first of them the first, and the bits are spelled by the same digits.
+#[test]
+fn numerals(rt: HostRuntime) -> Result<(), Fail> {
+    each(rt.alloc(), NUMERALS, is_read)
+}
+
+/// Digits are bits, the first of them the first; none are no bits.
+const DIGITS: &str = "
+1
+0
+10110
+00000001
+111111110
+0101010101010101";
+
+// That the bits of the digits are spelled by the same digits.
+fn are_spelled(at: Global, digits: &str) -> Result<(), Fail> {
+    let bits = bits_of_digits(at, digits.as_bytes())?;
+    let mut text = String::new(at);
+    push_bits(&mut text, &bits)?;
+    is_well(digits, bits.count() == digits.len() as u64)?;
+    is_wanted(digits, text.as_str(), digits)
+}
+
 #[test]
 fn digits_of_bits(rt: HostRuntime) -> Result<(), Fail> {
-    let at = rt.alloc();
-    for digits in [
-        "",
-        "1",
-        "0",
-        "10110",
-        "00000001",
-        "111111110",
-        "0101010101010101",
-    ] {
-        let bits = bits_of_digits(at, digits.as_bytes())?;
-        let mut text = String::new(at);
-        push_bits(&mut text, &bits)?;
-        if bits.count() != digits.len() as u64 || text.as_str() != digits {
-            return Err(Fail::new(digits));
-        }
-    }
-    let bits = bits_of_digits(at, b"101")?;
-    if bits.octets() == [0xa0].as_slice() {
-        Ok(())
-    } else {
-        Err(Fail::new("101"))
-    }
+    each(rt.alloc(), DIGITS, are_spelled)?;
+    let bits = bits_of_digits(rt.alloc(), b"101")?;
+    is_well("101", bits.octets() == [0xa0].as_slice())
 }
 
 #[test]
@@ -122,9 +119,5 @@ fn items_by_name_and_number(rt: HostRuntime) -> Result<(), Fail> {
     let named = number_named(items, "b") == Some(-5) && number_named(items, "c").is_none();
     let numbered = name_of(items, 3) == Some("a") && name_of(items, 4).is_none();
     let none = items_of(parse_type(at, "NULL")?.shape()).is_empty();
-    if named && numbered && none {
-        Ok(())
-    } else {
-        Err(Fail::new("items"))
-    }
+    is_well("items", named && numbered && none)
 }
