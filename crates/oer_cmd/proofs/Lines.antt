@@ -15,7 +15,8 @@ use Rattle.oer_cmd.specs.Run.{IsLineGiven, IsLineAsked, IsEncoding, IsLine, IsLi
 use Rattle.oer_cmd.specs.Types.{SpelledWith}
 
 line_of_words : (words : List Text) (task : Task) (told : Option (List ℕ)) (T : AsnType) (limit : ℕ) (line : Text)
-    → IsTask (asked words) (given words) (given_number words) task → SpelledWith (texts_in words) (source_text task) told T → IsLineOf task told T limit line → IsLine words told T limit line
+    → IsTask (asked words) (given words) (given_number words) task → SpelledWith (texts_in words) (source_text task) told T
+    → IsLineOf task told T limit line → IsLine words told T limit line
 line_of_words words task told T limit line is named h = (
   kind task,
   is.0,

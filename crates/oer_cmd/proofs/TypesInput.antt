@@ -244,8 +244,8 @@ lost_answer types name task limit path told fault mark lost =
     (stops (λ (s : String Global). among (string_bytes s) name) bytes
     (types_input (source_text task) told >>= λ text. value (among text name))
     (λ texts. answer_of texts task limit path told) fault
-    (stops bytes (λ (s : String Global). among (string_bytes s) name) (types_input (source_text task) told) (λ text. value (among text name))
-    fault lost))
+    (stops bytes (λ (s : String Global). among (string_bytes s) name) (types_input (source_text task) told)
+    (λ text. value (among text name)) fault lost))
 
 -- ---- texts that are not read
 
