@@ -143,17 +143,15 @@ fn has_no_notation(rt: HostRuntime) -> Result<(), Fail> {
     is_well("an item that is listed", !is_silent(at, listed)?)
 }
 
-// A definition in which an earlier Name stands, and a copy of its shape, print alike.
+// A definition in which an earlier Name stands.
 #[test]
 fn prints_definitions(rt: HostRuntime) -> Result<(), Fail> {
     let at = rt.alloc();
-    let text = "A ::= CHOICE {a NULL, b BOOLEAN}  B ::= SEQUENCE OF A";
-    let want = "SEQUENCE OF CHOICE {a [0] NULL, b [1] BOOLEAN}";
-    let types = parse_types(at, text)?;
-    let schema = types.get("B").ok_or("B")?;
-    is_wanted("B", print_type(at, schema)?.as_str(), want)?;
-    match Schema::new(schema.shape().clone_in(at)?) {
-        Ok(copied) => is_wanted("a copy", print_type(at, &copied)?.as_str(), want),
-        Err((fault, _)) => Err(Fail::new(fault)),
-    }
+    let types = parse_types(at, "A ::= CHOICE {a NULL, b BOOLEAN}  B ::= SEQUENCE OF A")?;
+    let b = print_type(at, types.get("B").ok_or("B")?)?;
+    is_wanted(
+        "B",
+        b.as_str(),
+        "SEQUENCE OF CHOICE {a [0] NULL, b [1] BOOLEAN}",
+    )
 }

@@ -10,8 +10,7 @@ use oer_units::{
 use std::alloc::Global;
 use std::test::Fail;
 
-/// A unit, a number, its octets and how many they are said to be, which isn't said of those of fixed
-/// size.
+/// A unit, a number, its octets and how many they are said to be.
 const NUMBERS: &str = "length 127: 7f 1
 length 128: 8180 2
 length 65536: 83010000 4
@@ -33,13 +32,7 @@ context 62: be 1
 context 63: bf3f 2
 context 200: bf8148 3
 context 4294967295: bf8fffffff7f 6
-private 63: ff3f 2
-one octet 255: ff 0
-two octets 255: 00ff 0
-four octets 255: 000000ff 0
-eight octets 255: 00000000000000ff 0
-one octet -128: 80 0
-two octets -129: ff7f 0";
+private 63: ff3f 2";
 
 type Held = Metered<Vec<u8>>;
 
@@ -81,26 +74,12 @@ fn put_other(unit: &str, number: &str, w: &mut Held) -> Result<u64, Fail> {
             put_subidentifier(n, w)?;
             return Ok(subidentifier_len(n));
         }
-        _ => return put_fixed(unit, number, w),
+        _ => return Err(Fail::new("no such unit")),
     };
     let number = number.parse::<u32>()?;
     let tag = Tag { class, number };
     put_tag(tag, w)?;
     Ok(tag_len(tag))
-}
-
-// The same of numbers of fixed size, which have no such function.
-fn put_fixed(unit: &str, number: &str, w: &mut Held) -> Result<u64, Fail> {
-    match (unit, number) {
-        ("one octet", "255") => put_unsigned_fixed(255, Width::One, w)?,
-        ("two octets", "255") => put_unsigned_fixed(255, Width::Two, w)?,
-        ("four octets", "255") => put_unsigned_fixed(255, Width::Four, w)?,
-        ("eight octets", "255") => put_unsigned_fixed(255, Width::Eight, w)?,
-        ("one octet", "-128") => put_signed_fixed(-128, Width::One, w)?,
-        ("two octets", "-129") => put_signed_fixed(-129, Width::Two, w)?,
-        _ => return Err(Fail::new("no such unit")),
-    }
-    Ok(0)
 }
 
 // The octets of the row's number, and how many they are.
@@ -119,6 +98,24 @@ fn least_octets(rt: HostRuntime) -> Result<(), Fail> {
         is_wanted(row, appended(rt.alloc(), spelt)?.as_str(), want)?;
     }
     Ok(())
+}
+
+// The octets of 255 by each unsigned width, and those of -128 and -129 by the least signed one.
+fn fixed(at: Global) -> Result<String, Fail> {
+    let mut sink = Metered::new(Vec::new(at));
+    put_unsigned_fixed(255, Width::One, &mut sink)?;
+    put_unsigned_fixed(255, Width::Two, &mut sink)?;
+    put_unsigned_fixed(255, Width::Four, &mut sink)?;
+    put_unsigned_fixed(255, Width::Eight, &mut sink)?;
+    put_signed_fixed(-128, Width::One, &mut sink)?;
+    put_signed_fixed(-129, Width::Two, &mut sink)?;
+    Ok(hex::encode(at, sink.into_inner().as_slice())?)
+}
+
+#[test]
+fn octets_of_fixed_size(rt: HostRuntime) -> Result<(), Fail> {
+    let want = "ff00ff000000ff00000000000000ff80ff7f";
+    is_wanted("fixed size", fixed(rt.alloc())?.as_str(), want)
 }
 
 // What a sink holds that takes one octet a call, how many of its calls failed, and the answer.
