@@ -1,0 +1,133 @@
+//! Entries of octets: their rows, with names and values.
+ghost use Rattle.std.specs.Prelude.{◌≡◌, IfOk, OnOk};
+ghost use Rattle.oer_types.specs.Schema.{the_type};
+ghost use Rattle.oer_rows.specs.Listing.{rows_of};
+ghost use Rattle.oer_rows.specs.Rows.{line_in};
+ghost use Rattle.oer_entries.specs.Entries.{AreTakenFor, TakesAtMostOne, TakesOne, spot_of};
+
+use crate::entry::{Entry, Place, What};
+use crate::meaning::{Meaning, meaning_of};
+use crate::taker::TakeEntry;
+use crate::trail::{Part, Way, octets_from};
+use oer_reader::Verdict;
+use oer_rows::{RowRef, Stopped, TakeRow, each_row};
+use oer_types::Schema;
+use oer_units::ReadFault;
+use std::alloc::Global;
+
+// The entry of octets of the part.
+fn entry<'e>(part: Part<'e>, offset: usize, octets: &'e [u8], meaning: Meaning<'e>) -> Entry<'e>
+    ensures { spot_of result ≡ (offset, octets.entry.now) }
+{
+    Entry {
+        offset,
+        octets,
+        path: part.path,
+        names: part.names,
+        kind: part.kind,
+        what: meaning.what,
+        canonical: meaning.canonical,
+        is_default: meaning.is_default,
+    }
+}
+
+// Has an entry of octets of the part taken, if there are any.
+fn take_some<E: TakeEntry>(
+    taker: &mut E,
+    part: Part<'_>,
+    offset: usize,
+    octets: &[u8],
+    what: What<'_>,
+) -> Result<(), Stopped>
+    ensures { OnOk result (TakesAtMostOne E.takes taker.old taker.new) }
+{
+    if octets.is_empty() {
+        return Ok(());
+    }
+    taker.take(&entry(part, offset, octets, Meaning::plain(what)))
+}
+
+/// Makes an entry of each row that it takes.
+#[derive(Drop)]
+struct Making<'a, E: TakeEntry + Drop> {
+    alloc: Global,
+    way: Way<'a>,
+    taker: E,
+}
+
+impl<E: TakeEntry + Drop> Making<'_, E> {
+    // Goes to the part of the row, and has the entry of its octets taken.
+    fn enter(&mut self, row: RowRef<'_>) -> Result<(), Stopped>
+        ensures { OnOk result (TakesOne E.takes self.old.taker (line_in row.entry) self.new.taker) }
+    {
+        self.way.go_to(self.alloc, row.path)?;
+        let meaning = meaning_of(self.alloc, &self.way, row)?;
+        let entry = entry(self.way.part(), row.offset, row.octets, meaning);
+        self.taker.take(&entry)
+    }
+
+    // Has an entry taken of octets that show a rejection, and says of which part they are.
+    fn reject(&mut self, fault: ReadFault) -> Result<Place, Stopped>
+        ensures { IfOk result (λ _. TakesAtMostOne E.takes self.old.taker self.new.taker) }
+    {
+        let begin = self.way.end;
+        let shown = self.way.reject(self.alloc, fault.taken)?;
+        let part = self.way.part();
+        take_some(&mut self.taker, part, begin, shown, What::Rejected)?;
+        Ok(self.way.place(self.alloc)?)
+    }
+
+    // Has an entry taken of the octets after the value, if there are any.
+    fn follow(&mut self, end: usize) -> Result<(), Stopped>
+        ensures { OnOk result (TakesAtMostOne E.takes self.old.taker self.new.taker) }
+    {
+        let rest = octets_from(self.way.octets, end);
+        take_some(&mut self.taker, Part::AFTER, end, rest, What::Follows)
+    }
+
+    // Has an entry taken of the octets behind the rows. Returns the part that was being read when the octets
+    // were rejected, if they were.
+    fn finish(&mut self, verdict: Result<Verdict, ReadFault>) -> Result<Option<Place>, Stopped>
+        ensures { IfOk result (λ _. TakesAtMostOne E.takes self.old.taker self.new.taker) }
+    {
+        match verdict {
+            Ok(verdict) => {
+                self.follow(verdict.octets)?;
+                Ok(None)
+            }
+            Err(fault) => Ok(Some(self.reject(fault)?)),
+        }
+    }
+}
+
+impl<E: TakeEntry + Drop> TakeRow for Making<'_, E> {
+    ghost takes = { λ s l t. TakesOne E.takes s.taker l t.taker };
+
+    fn take(&mut self, row: RowRef<'_>) -> Result<(), Stopped> {
+        self.enter(row)?;
+        self.way.note(row);
+        Ok(())
+    }
+}
+
+/// Hands over what each of the octets is: an entry for each row, in the order of the octets, and behind
+/// these one of octets that follow the value or that show a rejection, if there are any. Nothing is kept of
+/// them. It returns what took them, and the part that was being read when the octets were rejected, if they
+/// were. It fails if an allocation fails, or if an entry isn't taken; some entries may be taken then.
+pub fn each_entry<E: TakeEntry + Drop>(
+    alloc: Global,
+    schema: &Schema,
+    octets: &[u8],
+    taker: E,
+) -> Result<(E, Option<Place>), Stopped>
+    ensures { IfOk result (λ done. AreTakenFor E.takes (rows_of (the_type schema.now) octets.now) taker done.0) }
+{
+    let mut making = Making {
+        alloc,
+        way: Way::whole(alloc, schema.shape(), octets)?,
+        taker,
+    };
+    let verdict = each_row(alloc, schema, octets, &mut making)?;
+    let place = making.finish(verdict)?;
+    Ok((making.taker, place))
+}
