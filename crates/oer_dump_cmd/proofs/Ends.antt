@@ -1,6 +1,6 @@
 -- How the program ends, from what its steps answer.
-use Rattle.std.proofs.Common.{◌≡◌, ◌≢◌, ◌∙◌, ℕ, ◌≤◌, List, [], ◌∷◌, ◌++◌, Bool, true, Option, Some, None, Ok, Err, String, Global, refl, sym, ap, subst, arith, string_bytes, ◌⊎◌, inl, inr, codes, append-nil}
-use Rattle.std.specs.Io.KnownBytes.{Keeps}
+use Rattle.std.proofs.Common.{◌≡◌, ◌≢◌, ◌∙◌, ℕ, ◌≤◌, List, [], ◌∷◌, ◌++◌, Bool, true, Option, Some, None, Ok, Err, refl, sym, ap, subst, arith, string_bytes, ◌⊎◌, inl, inr, codes, append-nil}
+use Rattle.std.specs.Io.KnownBytes.{Appends, Keeps}
 use Rattle.clap.specs.Words.{HasKind, IsAmong, Kinds, Text, fault_of, kind_of, takes}
 use Rattle.clap.specs.declared.error.Error.{Error}
 use Rattle.clap.specs.declared.error.kind.ErrorKind.{ErrorKind}
@@ -12,13 +12,12 @@ use Rattle.oer_cmd.specs.Faults.{Reports, error_line, status_of, text_of}
 use Rattle.oer_cmd.specs.declared.fault.Fault.{Fault}
 use Rattle.oer_cmd.specs.declared.fault.Fault.TheVariants.{Memory, Output}
 use Rattle.oer_cmd.proofs.Endings.{by_status, moved}
-use Rattle.oer_dump_cmd.specs.Ending.{Accepts, Answers, Breaks, Ends, IsNotTaken, Outputs, Prints, Tells, streams}
-use Rattle.oer_dump_cmd.specs.Showing.{AreOneFor, Displays, IsReasonLine, Shows, judged_as, octets_as}
+use Rattle.oer_dump_cmd.specs.Ending.{Accepts, Answers, Breaks, Ends, IsNotTaken, Outputs, Tells}
+use Rattle.oer_dump_cmd.specs.Showing.{AreOneFor, Displays, IsReasonLine, Rejection, Shows, judged_as, octets_as}
 use Rattle.oer_dump_cmd.specs.Words.{Asks, given, oer_dump, texts_asked, texts_given}
 use Rattle.oer_model.specs.AsnType.{AsnType}
 use Rattle.oer_dump_cmd.specs.declared.options.Form.{Form}
 use Rattle.oer_dump_cmd.specs.declared.options.Options.{Options}
-use Rattle.oer_dump_cmd.specs.declared.program.Page.{Page}
 
 -- The line of a machine that fails is told.
 pub breaks : (fault : Fault) (status : ℕ) (s : Streams) → status ≡ 3 → IsMachineLine (error_line fault) → Reports fault status s.errors s.errors' → Breaks status s
@@ -39,25 +38,27 @@ refused_end expected fault status s shown (line, inl (same, is), front) = by exp
   by (value y) shown (inl small) = absurd (shown small)
   by (refusal r) shown (inl small) = inl (same ∙ ap (λ (x : Refusal). x.status) (shown small), (line, subst (λ (x : Refusal). IsReasonLine x.text line) (shown small) (alone (text_of fault) line is), front))
 
+-- What is printed is some text.
+some_text : (f : Form) (m : Expected (AsnType × List ℕ)) (rejection : Rejection) (o o' : Option (List ℕ)) → Displays f m (Ok rejection) o o'
+    → (text : Text) × Appends o o' text
+some_text f unknown rejection o o' h = h
+some_text f (value p) rejection o o' h = (h.0, h.2)
+some_text f (refusal r) rejection o o' h = absurd h
+
 -- The page is printed.
-pub printed_end : (expected : Expected Bool) (page : Page) (status : ℕ) (s : Streams) → Shows expected (Ok page) → Prints page status s → Answers expected status s ⊎ Breaks status s
-printed_end expected page status s shown (inr broken) = inr broken
-printed_end unknown page status s shown (inl printed) = inl tt
-printed_end (value c) page status s shown (inl (appends, tells)) =
+pub printed_end : (f : Form) (m : Expected (AsnType × List ℕ)) (expected : Expected Bool) (rejection : Rejection) (status : ℕ) (s : Streams) → Shows expected (Ok rejection)
+    → Displays f m (Ok rejection) s.output s.output' → Tells rejection status s.errors s.errors' → Answers expected status s
+printed_end f m unknown rejection status s shown printed tells = tt
+printed_end f m (value c) rejection status s shown printed tells =
     let told : Tells None status s.errors s.errors' = subst (λ r. Tells r status s.errors s.errors') shown tells in
-    inl (told.0, (string_bytes page.text, appends), told.1)
-printed_end (refusal r) page status s shown (inl (appends, tells)) = by page.rejection shown tells where
-  by : (o : Option (String Global)) → Rattle.oer_dump_cmd.specs.Showing.IsRejection r o → Tells o status s.errors s.errors' → Answers (refusal r) status s ⊎ Breaks status s
-  by None shown tells = absurd shown
-  by (Some line) shown tells = inl (tells.0 ∙ sym shown.0, (string_bytes line, shown.1, tells.1))
+    (told.0, some_text f m rejection s.output s.output' printed, told.1)
+printed_end f m (refusal r) (Some line) status s shown printed tells = (tells.0 ∙ sym shown.0, (string_bytes line, shown.1, tells.1))
+printed_end f m (refusal r) None status s shown printed tells = absurd shown
 
 -- On status 0 nothing is rejected.
-pub unrejected : (page : Page) (status : ℕ) (s : Streams) → Prints page status s → status ≡ 0 → page.rejection ≡ None
-unrejected page status s (inr broken) zero = absurd (omega (arith, zero, broken.0))
-unrejected page status s (inl (appends, tells)) zero = by page.rejection tells where
-  by : (o : Option (String Global)) → Tells o status s.errors s.errors' → o ≡ None
-  by None tells = refl
-  by (Some line) tells = absurd (omega (arith, zero, tells.0))
+pub unrejected : (rejection : Rejection) (status : ℕ) (errors errors' : Option (List ℕ)) → Tells rejection status errors errors' → status ≡ 0 → rejection ≡ None
+unrejected None status errors errors' tells zero = refl
+unrejected (Some line) status errors errors' tells zero = absurd (omega (arith, zero, tells.0))
 
 pub accepts : (words : List Text) (told : Option (List ℕ)) (o : Options) → Asks words o → AreOneFor (texts_asked o) (behind o.hex) o.limit told → Accepts words told
 accepts words told o asks h =
@@ -94,23 +95,30 @@ not_taken words untouched e status s kind passes memory shows alone two quiet fa
   by three (inl h) = (three, (breaks Memory 3 s refl (inr (inr refl)) h).1)
   by three (inr h) = (three, (breaks Output 3 s refl (inr (inl refl)) h).1)
 
-kept : (held : Option (List ℕ)) → Keeps held held
-kept None = tt
-kept (Some xs) = refl
+pub kept : (before after : Option (List ℕ)) → after ≡ before → Keeps before after
+kept None after is = tt
+kept (Some xs) None is = absurd (cc)
+kept (Some xs) (Some ys) is = cc
+
+-- With status 2 nothing is on the output.
+pub quiet : (fault : Fault) (status : ℕ) (o o' : Option (List ℕ)) → (status ≤ 2 → status ≡ status_of fault) → (status_of fault ≤ 2 → o' ≡ o)
+    → status ≡ 2 → Keeps o o'
+quiet fault status o o' same silent two =
+    let small : status ≤ 2 = omega (arith, two) in
+    kept o o' (silent (omega (arith, small, same small)))
 
 -- The page is on the output.
-pub displayed : (f : Form) (m : Expected (AsnType × List ℕ)) (page : Page) (status : ℕ) (s : Streams) → Displays f m (Ok page) → Prints page status s → status ≤ 2 → Outputs f m s
-displayed f unknown page status s shown prints small = tt
-displayed f (value p) page status s shown (inl (appends, tells)) small = (string_bytes page.text, shown, appends)
-displayed f (value p) page status s shown (inr broken) small = absurd (omega (arith, small, broken.0))
-displayed f (refusal r) page status s shown prints small = absurd shown
+pub displayed : (f : Form) (m : Expected (AsnType × List ℕ)) (rejection : Rejection) (s : Streams) → Displays f m (Ok rejection) s.output s.output' → Outputs f m s
+displayed f unknown rejection s h = tt
+displayed f (value p) rejection s h = h
+displayed f (refusal r) rejection s h = absurd h
 
 -- There is no page.
-pub undisplayed : (f : Form) (m : Expected (AsnType × List ℕ)) (fault : Fault) (status : ℕ) (held errors errors' : Option (List ℕ)) → Displays f m (Err fault) → (status ≤ 2 → status ≡ status_of fault)
-    → status ≤ 2 → Outputs f m (streams held held errors errors')
-undisplayed f unknown fault status held errors errors' shown same small = tt
-undisplayed f (value p) fault status held errors errors' shown same small = absurd (shown (omega (arith, small, same small)))
-undisplayed f (refusal r) fault status held errors errors' shown same small = kept held
+pub undisplayed : (f : Form) (m : Expected (AsnType × List ℕ)) (fault : Fault) (status : ℕ) (s : Streams) → Displays f m (Err fault) s.output s.output'
+    → (status ≤ 2 → status ≡ status_of fault) → (status_of fault ≤ 2 → s.output' ≡ s.output) → status ≤ 2 → Outputs f m s
+undisplayed f unknown fault status s shown same silent small = tt
+undisplayed f (value p) fault status s shown same silent small = absurd (shown (omega (arith, small, same small)))
+undisplayed f (refusal r) fault status s shown same silent small = kept s.output s.output' (silent (omega (arith, small, same small)))
 
 pub does : (words : List Text) (told : Option (List ℕ)) (untouched : Type 0) (status : ℕ) (s : Streams) (o : Options) → Asks words o
     → Answers (judged_as o told) status s ⊎ Breaks status s → (status ≤ 2 → Outputs o.form (octets_as o told) s) → (behind o.hex ≢ None → untouched) → Ends words told untouched status s

@@ -36,23 +36,6 @@ pub line_shown : (cs : Cells) (t0 t1 t2 shown cells : Text) → IsLine cs cells 
 line_shown cs t0 t1 t2 shown cells is so one two =
     (cells, is, two ∙ ap (λ x. x ++ 10 ∷ []) one ∙ append_assoc t0 (visible shown) (10 ∷ []) ∙ ap (λ s. t0 ++ (visible s ++ 10 ∷ [])) so)
 
-pub line_more : (cs : List Cells) (text line new : Text) (c : Cells) → HasLines cs text → IsLine c line → new ≡ text ++ (visible line ++ 10 ∷ []) → HasLines (cs ++ c ∷ []) new
-line_more [] text line new c none is e = (line, [], e ∙ ap (λ x. x ++ (visible line ++ 10 ∷ [])) none, is, refl)
-line_more (d ∷ cs) text line new c (first, rest, e0, own, more) is e =
-    let end : Text = visible line ++ 10 ∷ [] in
-    (first, rest ++ end, e ∙ ap (λ x. x ++ end) e0 ∙ append_assoc (visible first) (10 ∷ rest) end, own, line_more cs rest line (rest ++ end) c more is refl)
-
--- the lines so far, with that of one more entry
-pub entry_more : (es : List Entry) (i : ℕ) (e : Entry) (text new : Text) → (i < length es) × (e ≡ get_or es i e)
-    → (cells : Text) × IsLine (cells_of e) cells × (new ≡ text ++ (visible cells ++ 10 ∷ [])) → HasLines (map cells_of (take i es)) text
-    → HasLines (map cells_of (take (i + 1) es)) new
-entry_more es i e text new (lt, is) (cells, own, so) lines =
-    subst (λ cs. HasLines cs new) (ap (λ x. map cells_of (take i es) ++ x ∷ []) (ap cells_of is) ∙ sym (map_more cells_of es i e lt))
-    (line_more (map cells_of (take i es)) text cells new (cells_of e) lines own so)
-
-pub all_lines : (es : List Entry) (i : ℕ) (text : Text) → i ≡ length es → HasLines (map cells_of (take i es)) text → HasLines (map cells_of es) text
-all_lines es i text over lines = subst (λ xs. HasLines (map cells_of xs) text) (take_all i es (omega (arith, over))) lines
-
 -- a cell at the right of its column
 pub at_right : (t0 t1 t2 t3 cell : Text) (n : ℕ) → t1 ≡ t0 ++ spaces n → t2 ≡ t1 ++ cell → t3 ≡ t2 ++ spaces 2 → (m : ℕ) × (t3 ≡ t0 ++ (spaces m ++ (cell ++ spaces 2)))
 at_right t0 t1 t2 t3 cell n one two three = (n, three ∙ ap (λ x. x ++ spaces 2) (two ∙ ap (λ x. x ++ cell) one) ∙ flat_cell t0 (spaces n) cell (spaces 2))

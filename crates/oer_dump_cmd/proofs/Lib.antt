@@ -1,5 +1,5 @@
 pub mod Asked
-pub mod Objects
+pub mod Printed
 pub mod Pushed
 pub mod Laid
 pub mod Terminal

@@ -120,10 +120,10 @@ all_pushed t0 t1 t2 t3 t4 t5 t6 t7 t8 t9 t10 t11 t12 t13 a b c d e f g h i j k l
     rw (e13, e12, e11, e10, e9, e8, e7, e6, e5, e4, e3, e2, e1) (simp append_assoc)
 
 pub object_pushed : (e : Entry) (t0 t1 t2 t3 t4 t5 t6 t7 t8 t9 t10 t11 t12 t13 : Text) → t1 ≡ t0 ++ opening e.canonical → t2 ≡ t1 ++ (codes "\"count\":" ++ decimal (length e.octets.now))
-    → t3 ≡ t2 ++ (codes ",\"default\":" ++ compact_text (json.boolean e.is_default)) → t4 ≡ t3 ++ (codes ",\"kind\":" ++ quoted e.kind.now) → t5 ≡ t4 ++ (codes ",\"names\":" ++ quoted (string_bytes e.names))
+    → t3 ≡ t2 ++ (codes ",\"default\":" ++ compact_text (json.boolean e.is_default)) → t4 ≡ t3 ++ (codes ",\"kind\":" ++ quoted e.kind.now) → t5 ≡ t4 ++ (codes ",\"names\":" ++ quoted e.names.now)
     → t6 ≡ t5 ++ codes ",\"octets\":" → t7 ≡ t6 ++ compact_text (octets_data e.octets.now) → t8 ≡ t7 ++ (codes ",\"offset\":" ++ decimal e.offset)
-    → t9 ≡ t8 ++ (codes ",\"path\":" ++ quoted (string_bytes e.path)) → t10 ≡ t9 ++ (codes ",\"role\":" ++ quoted (role_text e.what)) → t11 ≡ t10 ++ codes ",\"value\":"
+    → t9 ≡ t8 ++ (codes ",\"path\":" ++ quoted e.path.now) → t10 ≡ t9 ++ (codes ",\"role\":" ++ quoted (role_text e.what)) → t11 ≡ t10 ++ codes ",\"value\":"
     → t12 ≡ t11 ++ compact_text (value_data e.what) → t13 ≡ t12 ++ codes "}" → t13 ≡ t0 ++ compact_text (object_of e)
 object_pushed e t0 t1 t2 t3 t4 t5 t6 t7 t8 t9 t10 t11 t12 t13 e1 e2 e3 e4 e5 e6 e7 e8 e9 e10 e11 e12 e13 =
     all_pushed t0 t1 t2 t3 t4 t5 t6 t7 t8 t9 t10 t11 t12 t13 _ _ _ _ _ _ _ _ _ _ _ _ _ e1 e2 e3 e4 e5 e6 e7 e8 e9 e10 e11 e12 e13
-    ∙ ap (λ x. t0 ++ x) (sym (object_spelt e.canonical (length e.octets.now) e.is_default e.kind.now (string_bytes e.names) e.octets.now e.offset (string_bytes e.path) (role_text e.what) (value_data e.what)))
+    ∙ ap (λ x. t0 ++ x) (sym (object_spelt e.canonical (length e.octets.now) e.is_default e.kind.now e.names.now e.octets.now e.offset e.path.now (role_text e.what) (value_data e.what)))

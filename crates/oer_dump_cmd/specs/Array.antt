@@ -80,10 +80,10 @@ object_of e = json.object (with_canonical e.canonical
     (member (codes "count") (json.number (unsigned (length e.octets.now)))
     (member (codes "default") (json.boolean e.is_default)
     (member (codes "kind") (json.string e.kind.now)
-    (member (codes "names") (json.string (string_bytes e.names))
+    (member (codes "names") (json.string e.names.now)
     (member (codes "octets") (octets_data e.octets.now)
     (member (codes "offset") (json.number (unsigned e.offset))
-    (member (codes "path") (json.string (string_bytes e.path))
+    (member (codes "path") (json.string e.path.now)
     (member (codes "role") (json.string (role_text e.what))
     (member (codes "value") (value_data e.what) no_members))))))))))
 

@@ -1,6 +1,5 @@
 -- How the program ends: its status, and what stands on its output and its errors.
-use Rattle.std.specs.Prelude.{◌≡◌, ◌≢◌, ◌≤◌, ◌⊎◌, ℕ, List, Bool, Option, None, Some, String, string_bytes, true, codes, ⊤}
-use Rattle.std.specs.Global.{Global}
+use Rattle.std.specs.Prelude.{◌≡◌, ◌≢◌, ◌≤◌, ◌⊎◌, ℕ, List, Bool, Option, None, Some, string_bytes, true, codes, ⊤}
 use Rattle.std.specs.Io.KnownBytes.{Appends, Keeps}
 use Rattle.clap.specs.Words.{IsAmong, Text, fault_of, takes}
 use Rattle.clap.specs.declared.error.kind.ErrorKind.TheVariants.{DisplayHelp, DisplayVersion}
@@ -8,12 +7,11 @@ use Rattle.oer_options.specs.Words.{NumberOf, behind}
 use Rattle.oer_cmd.specs.Ending.{IsMachineLine, Streams}
 use Rattle.oer_cmd.specs.Expected.{Expected, refusal, unknown, value}
 use Rattle.oer_cmd.specs.Faults.{AppendsFront}
-use Rattle.oer_dump_cmd.specs.Showing.{AreOneFor, IsPage, IsReasonLine, judged_as, octets_as}
+use Rattle.oer_dump_cmd.specs.Showing.{AreOneFor, IsReasonLine, PrintsPage, Rejection, judged_as, octets_as}
 use Rattle.oer_dump_cmd.specs.Words.{Asks, given, given_number, oer_dump, texts_given}
 use Rattle.oer_model.specs.AsnType.{AsnType}
 use Rattle.oer_dump_cmd.specs.declared.options.Form.{Form}
 use Rattle.oer_dump_cmd.specs.declared.options.Options.{Options}
-use Rattle.oer_dump_cmd.specs.declared.program.Page.{Page}
 
 -- Something is on the output, and nothing on the errors, if the octets are one encoding; else the errors have the line of the reason,
 -- or a front of it, where they fail.
@@ -27,19 +25,14 @@ abbrev pub Breaks : ℕ → Streams → Type 0
 Breaks status s = (status ≡ 3) × ((line : Text) × IsMachineLine line × AppendsFront s.errors s.errors' line)
 
 -- The errors have the line of the rejection, if there is one, or a front of it, where they fail.
-abbrev pub Tells : Option (String Global) → ℕ → Option (List ℕ) → Option (List ℕ) → Type 0
+abbrev pub Tells : Rejection → ℕ → Option (List ℕ) → Option (List ℕ) → Type 0
 Tells None status errors errors' = (status ≡ 0) × Keeps errors errors'
 Tells (Some line) status errors errors' = (status ≡ 1) × AppendsFront errors errors' (string_bytes line)
-
--- The output has the text of the page; or the machine failed.
-abbrev pub Prints : Page → ℕ → Streams → Type 0
-Prints page status s =
-    (Appends s.output s.output' (string_bytes page.text) × Tells page.rejection status s.errors s.errors') ⊎ Breaks status s
 
 -- The output has the page of the octets by the type; and nothing, where there are no such octets or no type.
 abbrev pub Outputs : Form → Expected (AsnType × List ℕ) → Streams → Type 0
 Outputs f unknown s = ⊤
-Outputs f (value p) s = (text : Text) × IsPage f p.0 p.1 text × Appends s.output s.output' text
+Outputs f (value p) s = PrintsPage f p.0 p.1 s.output s.output'
 Outputs f (refusal r) s = Keeps s.output s.output'
 
 -- The words ask for these options, and their answer is given, or the machine failed. Where they have the octets, the input is untouched.

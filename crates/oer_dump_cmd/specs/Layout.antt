@@ -19,7 +19,7 @@ or_dash [] = codes "-"
 or_dash (x ∷ xs) = x ∷ xs
 
 abbrev pub cells_of : Entry → Cells
-cells_of e = record { offset = decimal e.offset; count = decimal (length e.octets.now); path = or_dash (string_bytes e.path); kind = e.kind.now }
+cells_of e = record { offset = decimal e.offset; count = decimal (length e.octets.now); path = or_dash e.path.now; kind = e.kind.now }
 
 -- those of a line of the program
 abbrev pub cells_in : Line → Cells

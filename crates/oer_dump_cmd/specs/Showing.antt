@@ -1,6 +1,7 @@
 -- What is shown of octets.
 use Rattle.std.specs.Prelude.{◌≡◌, ◌≤◌, ℕ, List, [], ◌∷◌, ◌++◌, length, map, Bool, Option, Some, None, Result, Ok, Err, String, codes, string_bytes, ⊤}
 use Rattle.std.specs.Global.{Global}
+use Rattle.std.specs.Io.KnownBytes.{Appends}
 use Rattle.clap.specs.Words.{Text}
 use Rattle.oer_model.specs.AsnType.{AsnType}
 use Rattle.oer_options.specs.Words.{Texts, behind}
@@ -19,7 +20,6 @@ use Rattle.oer_dump_cmd.specs.Words.{texts_asked}
 use Rattle.oer_dump_cmd.specs.declared.options.Form.{Form}
 use Rattle.oer_dump_cmd.specs.declared.options.Form.TheVariants as form
 use Rattle.oer_dump_cmd.specs.declared.options.Options.{Options}
-use Rattle.oer_dump_cmd.specs.declared.program.Page.{Page}
 
 -- what `oer check` judges of the octets: whether they are canonical, or why they are rejected
 abbrev pub judged_octets : Option Text → ℕ → Option (List ℕ) → AsnType → Expected Bool
@@ -42,13 +42,17 @@ abbrev pub IsRejection : Refusal → Option (String Global) → Type 0
 IsRejection r None = ⊥
 IsRejection r (Some line) = (r.status ≡ 1) × IsReasonLine r.text (string_bytes line)
 
--- What is printed has a rejection just where one is expected, and it is that one; or there is nothing to print, for the reason
--- that is expected, or since memory ran out or a device failed.
-abbrev pub Shows : Expected Bool → Result Page Fault → Type 0
+-- the line on the errors, if the octets are rejected
+abbrev pub Rejection : Type 0
+Rejection = Option (String Global)
+
+-- There is a rejection just where one is expected, and it is that one; or printing failed, for the reason that is expected, or since
+-- memory ran out or a device failed.
+abbrev pub Shows : Expected Bool → Result Rejection Fault → Type 0
 Shows unknown result = ⊤
-Shows (value canonical) (Ok page) = page.rejection ≡ None
+Shows (value canonical) (Ok rejection) = rejection ≡ None
 Shows (value canonical) (Err fault) = status_of fault ≤ 2 → ⊥
-Shows (refusal r) (Ok page) = IsRejection r page.rejection
+Shows (refusal r) (Ok rejection) = IsRejection r rejection
 Shows (refusal r) (Err fault) = status_of fault ≤ 2 → refusal_of fault ≡ r
 
 -- The octets of `--hex`, and without it all that the input had left, are one encoding of the type, within the limit.
@@ -80,10 +84,15 @@ octets_for texts hex limit told = expected_type texts >>= octets_at hex limit to
 abbrev pub octets_as : Options → Option (List ℕ) → Expected (AsnType × List ℕ)
 octets_as o told = octets_for (texts_asked o) (behind o.hex) o.limit told
 
--- Where there are a type and octets, there is their page; else there is none, or memory ran out or a device failed.
-abbrev pub Displays : Form → Expected (AsnType × List ℕ) → Result Page Fault → Type 0
-Displays f unknown result = ⊤
-Displays f (value p) (Ok page) = IsPage f p.0 p.1 (string_bytes page.text)
-Displays f (value p) (Err fault) = status_of fault ≤ 2 → ⊥
-Displays f (refusal r) (Ok page) = ⊥
-Displays f (refusal r) (Err fault) = ⊤
+-- The page of the octets is on the output.
+abbrev pub PrintsPage : Form → AsnType → List ℕ → Option (List ℕ) → Option (List ℕ) → Type 0
+PrintsPage f T b output output' = (text : Text) × IsPage f T b text × Appends output output' text
+
+-- Where there are a type and octets, their page is printed, unless memory ran out or a device failed; else nothing is.
+abbrev pub Displays : Form → Expected (AsnType × List ℕ) → Result Rejection Fault → Option (List ℕ) → Option (List ℕ) → Type 0
+Displays f unknown (Ok rejection) output output' = (text : Text) × Appends output output' text
+Displays f unknown (Err fault) output output' = ⊤
+Displays f (value p) (Ok rejection) output output' = PrintsPage f p.0 p.1 output output'
+Displays f (value p) (Err fault) output output' = status_of fault ≤ 2 → ⊥
+Displays f (refusal r) (Ok rejection) output output' = ⊥
+Displays f (refusal r) (Err fault) output output' = ⊤

@@ -1,6 +1,6 @@
 //! Entries as JSON: an array of an object for each. The text is made at once, with the members in the
 //! order of their keys.
-ghost use Rattle.std.specs.Prelude.{◌≡◌, ◌++◌, IfOk, OnOk, codes, string_bytes, true};
+ghost use Rattle.std.specs.Prelude.{◌≡◌, ◌++◌, IfOk, OnOk, codes, false, string_bytes, true};
 ghost use Rattle.std.specs.Fmt.{decimal};
 ghost use Rattle.json.specs.Print.{escape, quoted};
 ghost use Rattle.serde_json.specs.Data.{boolean};
@@ -8,15 +8,24 @@ ghost use Rattle.serde_json.specs.View.{view};
 ghost use Rattle.serde_json.specs.Written.{comma_if, compact_text};
 ghost use Rattle.oer_entries.specs.Names.{text_of};
 ghost use Rattle.oer_dump_cmd.specs.Visible.{visible};
-ghost use Rattle.oer_dump_cmd.specs.Array.{array_text, bit_data, bits_data, object_of, octets_data, opening, role_text, separator, tag_data, value_data};
+ghost use Rattle.oer_types.specs.Schema.{the_type};
+ghost use Rattle.oer_dump_cmd.specs.Printing.{PrintsObject, PrintsObjects};
+ghost use Rattle.oer_dump_cmd.specs.Showing.{PrintsPage};
+ghost use Rattle.oer_dump_cmd.specs.declared.options.Form.TheVariants as form;
+ghost use Rattle.oer_dump_cmd.specs.Array.{bit_data, bits_data, object_of, octets_data, opening, role_text, separator, tag_data, value_data};
 
+use crate::outgoing::{Outgoing, block_text, write_last};
 use crate::tag::tag_text;
 use crate::visible::push_visible;
-use oer_entries::{Entry, Name, NamedBit, PlainJson, What, name_text};
+use oer_entries::{
+    Entry, Name, NamedBit, Place, PlainJson, Stopped, TakeEntry, What, each_entry, name_text,
+};
+use oer_types::Schema;
 use oer_units::Tag;
 use serde_json::Value as Json;
 use std::alloc::{AllocError, Global};
-use std::fmt::Write;
+use std::fmt::Write as _;
+use std::io::Write;
 
 // Whether a string has the text as it is. No other character than these is spelt otherwise there.
 fn is_plain(text: &str) -> bool
@@ -224,11 +233,11 @@ fn push_object(alloc: Global, text: &mut String, entry: &Entry<'_>) -> Result<()
     push_number(text, "\"count\":", entry.octets.len())?;
     push_default(text, entry.is_default)?;
     push_text(alloc, text, ",\"kind\":", entry.kind)?;
-    push_text(alloc, text, ",\"names\":", entry.names.as_str())?;
+    push_text(alloc, text, ",\"names\":", entry.names)?;
     text.push_str(",\"octets\":")?;
     push_octets(alloc, text, entry.octets)?;
     push_number(text, ",\"offset\":", entry.offset)?;
-    push_text(alloc, text, ",\"path\":", entry.path.as_str())?;
+    push_text(alloc, text, ",\"path\":", entry.path)?;
     push_text(alloc, text, ",\"role\":", role(&entry.what))?;
     text.push_str(",\"value\":")?;
     push_value(alloc, text, &entry.what)?;
@@ -254,17 +263,58 @@ fn separator(is_first: bool) -> &'static str
     if is_first { "" } else { ",\n" }
 }
 
-/// The array of the entries, with a line for each object.
-pub(crate) fn json_of(alloc: Global, entries: Vec<Entry<'_>>) -> Result<String, AllocError>
-    ensures { IfOk result (λ text. string_bytes text ≡ array_text entries.entry.items) }
-{
-    let mut text = String::from_str(alloc, "[")?;
-    let mut is_first = true;
-    for entry in entries {
-        text.push_str(separator(is_first))?;
-        push_line(alloc, &mut text, &entry)?;
-        is_first = false;
+/// Prints an object for each entry that it takes.
+#[derive(Drop)]
+struct Objects<'o, W: Write> {
+    alloc: Global,
+    is_first: bool,
+    out: Outgoing<'o, W>,
+}
+
+impl<W: Write> TakeEntry for Objects<'_, W> {
+    ghost takes = { λ s e t. (t.is_first ≡ false) × PrintsObject W.contents s.is_first s.out e t.out };
+
+    fn take(&mut self, entry: &Entry<'_>) -> Result<(), Stopped> {
+        self.out.text.push_str(separator(self.is_first))?;
+        push_line(self.alloc, &mut self.out.text, entry)?;
+        self.is_first = false;
+        self.out.send_block()
     }
-    text.push_str("]\n")?;
-    Ok(text)
+}
+
+// Prints an object for each entry of octets.
+fn print_each<'o, W: Write>(
+    alloc: Global,
+    schema: &Schema,
+    octets: &[u8],
+    objects: Objects<'o, W>,
+) -> Result<(Objects<'o, W>, Option<Place>), Stopped>
+    ensures loan { IfOk result (λ done. done.0.out.output.ghost_name ≡ objects.entry.out.output.ghost_name) }
+    ensures printed { IfOk result (λ done. PrintsObjects W.contents objects.entry.is_first (the_type schema.now) octets.now
+        objects.entry.out done.0.out) }
+{
+    each_entry(alloc, schema, octets, objects)
+}
+
+/// Prints the array of the entries of octets, with a line for each object. Returns the part that was being
+/// read when the octets were rejected, if they were. It fails if an allocation fails, or if the output does.
+pub(crate) fn print_array<W: Write>(
+    alloc: Global,
+    schema: &Schema,
+    octets: &[u8],
+    output: &mut W,
+) -> Result<Option<Place>, Stopped>
+    ensures { IfOk result (λ _. PrintsPage form.Json (the_type schema.now) octets.now (W.contents output.old) (W.contents output.new)) }
+{
+    let text = block_text(alloc, "[")?;
+    let objects = Objects {
+        alloc,
+        is_first: true,
+        out: Outgoing::new(text, output),
+    };
+    let (objects, place) = print_each(alloc, schema, octets, objects)?;
+    let Objects { out, .. } = objects;
+    let Outgoing { text, output } = out;
+    write_last(text, "]\n", output)?;
+    Ok(place)
 }

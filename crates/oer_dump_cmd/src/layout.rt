@@ -1,15 +1,22 @@
 //! Entries as text: a line for each, in columns.
-ghost use Rattle.std.specs.Prelude.{◌≡◌, ◌<◌, ◌≤◌, [], ◌∷◌, ◌++◌, ℕ, IfOk, OnOk, map, string_bytes};
+ghost use Rattle.std.specs.Prelude.{◌≡◌, ◌<◌, ◌≤◌, [], ◌∷◌, ◌++◌, ℕ, IfOk, OnOk, string_bytes};
 ghost use Rattle.std.specs.Fmt.{decimal};
 ghost use Rattle.clap.specs.Words.{Text};
-ghost use Rattle.oer_dump_cmd.specs.Layout.{HasLines, IsLine, cells_in, cells_of, spaces};
+ghost use Rattle.oer_types.specs.Schema.{the_type};
+ghost use Rattle.oer_dump_cmd.specs.Layout.{IsLine, cells_in, cells_of, spaces};
+ghost use Rattle.oer_dump_cmd.specs.Printing.{PrintsLine, PrintsLines};
+ghost use Rattle.oer_dump_cmd.specs.Showing.{PrintsPage};
+ghost use Rattle.oer_dump_cmd.specs.declared.options.Form.TheVariants as form;
 ghost use Rattle.oer_dump_cmd.specs.Visible.{visible};
 
-use crate::line::{Line, line_of, or_dash};
+use crate::line::{Line, line_of};
+use crate::outgoing::{Outgoing, block_text, write_last};
 use crate::visible::push_visible;
-use oer_entries::Entry;
+use oer_entries::{Entry, Extents, Place, Stopped, TakeEntry, each_entry, extents_of};
+use oer_types::Schema;
 use std::alloc::{AllocError, Global};
-use std::fmt::Write;
+use std::fmt::Write as _;
+use std::io::Write;
 
 /// How many characters names and a value have at least, however narrow the line is.
 const LEAST: usize = 12;
@@ -48,35 +55,17 @@ fn digits_of(number: usize) -> usize {
 }
 
 impl Widths {
-    // Wide enough for these and for the entry, but for its value, and for its numbers, of which the greatest
-    // are kept.
-    fn with(self, entry: &Entry<'_>) -> Widths {
+    // Wide enough for the entries that have these extents, of which no value is cut. For an empty text there
+    // is a dash.
+    fn of(extents: Extents) -> Widths {
         Widths {
-            offset: self.offset.max(entry.offset),
-            count: self.count.max(entry.octets.len()),
-            path: self.path.max(or_dash(entry.path.as_str()).len()),
-            names: self.names.max(or_dash(entry.names.as_str()).len()),
-            kind: self.kind.max(entry.kind.len()),
-            value: self.value,
-        }
-    }
-
-    // Wide enough for all entries, of which no value is cut.
-    fn of(entries: &[Entry<'_>]) -> Widths {
-        let mut widths = Widths {
-            offset: 0,
-            count: 0,
-            path: 0,
-            names: 0,
-            kind: 0,
+            offset: digits_of(extents.offset),
+            count: digits_of(extents.count),
+            path: extents.path.max(1),
+            names: extents.names.max(1),
+            kind: extents.kind,
             value: usize::MAX,
-        };
-        for entry in entries {
-            widths = widths.with(entry);
         }
-        widths.offset = digits_of(widths.offset);
-        widths.count = digits_of(widths.count);
-        widths
     }
 
     // How many characters the columns have that are never cut, with the gaps.
@@ -275,47 +264,87 @@ fn push_entry(
     push_line(alloc, text, &line, widths)
 }
 
-// How many characters the longest value has, with its note.
-fn value_width(alloc: Global, entries: &[Entry<'_>]) -> Result<usize, AllocError> {
-    let mut width: usize = 0;
-    for entry in entries {
-        let line = line_of(alloc, entry)?;
+/// Measures the value of each entry that it takes, with its note.
+#[derive(Drop)]
+struct Longest {
+    alloc: Global,
+    value: usize,
+}
+
+impl TakeEntry for Longest {
+    ghost takes = { λ s e t. Unit {0} };
+
+    fn take(&mut self, entry: &Entry<'_>) -> Result<(), Stopped> {
+        let line = line_of(self.alloc, entry)?;
         let value = count_of(line.value.as_str()).saturating_add(line.note.len());
-        width = width.max(value);
+        self.value = self.value.max(value);
+        Ok(())
     }
-    Ok(width)
 }
 
 // How wide the columns are, where a line has so many characters at most; 0 is no bound.
-fn widths_of(alloc: Global, entries: &[Entry<'_>], width: u64) -> Result<Widths, AllocError> {
-    let mut widths = Widths::of(entries);
+fn widths_of(alloc: Global, schema: &Schema, octets: &[u8], width: u64) -> Result<Widths, Stopped> {
+    let mut widths = Widths::of(extents_of(alloc, schema, octets)?);
     if width == 0 {
         return Ok(widths);
     }
-    widths.value = value_width(alloc, entries)?;
+    let (longest, _) = each_entry(alloc, schema, octets, Longest { alloc, value: 0 })?;
+    widths.value = longest.value;
     Ok(widths.within(width as usize))
 }
 
-// The text of the lines. Each entry is let go once it has its line.
-fn laid_out(alloc: Global, entries: Vec<Entry<'_>>, widths: Widths) -> Result<String, AllocError>
-    ensures { IfOk result (λ text. HasLines (map cells_of entries.entry.items) (string_bytes text)) }
-{
-    let mut text = String::new(alloc);
-    for entry in entries {
-        push_entry(alloc, &mut text, &entry, widths)?;
-    }
-    Ok(text)
+/// Prints a line for each entry that it takes.
+#[derive(Drop)]
+struct Lines<'o, W: Write> {
+    alloc: Global,
+    widths: Widths,
+    out: Outgoing<'o, W>,
 }
 
-/// The lines of the entries. A line has so many characters at most, if that leaves room for its names
-/// and its value; 0 is no bound.
-pub(crate) fn text_of(
+impl<W: Write> TakeEntry for Lines<'_, W> {
+    ghost takes = { λ s e t. PrintsLine W.contents s.out e t.out };
+
+    fn take(&mut self, entry: &Entry<'_>) -> Result<(), Stopped> {
+        push_entry(self.alloc, &mut self.out.text, entry, self.widths)?;
+        self.out.send_block()
+    }
+}
+
+// Prints a line for each entry of octets.
+fn print_each<'o, W: Write>(
     alloc: Global,
-    entries: Vec<Entry<'_>>,
-    width: u64,
-) -> Result<String, AllocError>
-    ensures { IfOk result (λ text. HasLines (map cells_of entries.entry.items) (string_bytes text)) }
+    schema: &Schema,
+    octets: &[u8],
+    lines: Lines<'o, W>,
+) -> Result<(Lines<'o, W>, Option<Place>), Stopped>
+    ensures loan { IfOk result (λ done. done.0.out.output.ghost_name ≡ lines.entry.out.output.ghost_name) }
+    ensures printed { IfOk result (λ done. PrintsLines W.contents (the_type schema.now) octets.now lines.entry.out done.0.out) }
 {
-    let widths = widths_of(alloc, entries.as_slice(), width)?;
-    laid_out(alloc, entries, widths)
+    each_entry(alloc, schema, octets, lines)
+}
+
+/// Prints the lines of the entries of octets. A line has so many characters at most, if that leaves room for
+/// its names and its value; 0 is no bound. Returns the part that was being read when the octets were
+/// rejected, if they were. It fails if an allocation fails, or if the output does.
+pub(crate) fn print_lines<W: Write>(
+    alloc: Global,
+    schema: &Schema,
+    octets: &[u8],
+    width: u64,
+    output: &mut W,
+) -> Result<Option<Place>, Stopped>
+    ensures { IfOk result (λ _. PrintsPage (form.Text width) (the_type schema.now) octets.now (W.contents output.old) (W.contents output.new)) }
+{
+    let widths = widths_of(alloc, schema, octets, width)?;
+    let text = block_text(alloc, "")?;
+    let lines = Lines {
+        alloc,
+        widths,
+        out: Outgoing::new(text, output),
+    };
+    let (lines, place) = print_each(alloc, schema, octets, lines)?;
+    let Lines { out, .. } = lines;
+    let Outgoing { text, output } = out;
+    write_last(text, "", output)?;
+    Ok(place)
 }

@@ -7,6 +7,7 @@ mod help;
 mod layout;
 mod line;
 mod options;
+mod outgoing;
 mod program;
 mod tag;
 mod visible;

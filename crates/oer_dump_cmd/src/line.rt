@@ -123,12 +123,12 @@ fn note(alloc: Global, entry: &Entry<'_>) -> Result<String, AllocError> {
 pub(crate) fn line_of<'e>(alloc: Global, entry: &'e Entry<'_>) -> Result<Line<'e>, AllocError>
     ensures { IfOk result (λ line. cells_in line ≡ cells_of entry.now) }
 {
-    let path = or_dash(entry.path.as_str());
+    let path = or_dash(entry.path);
     Ok(Line {
         offset: entry.offset,
         count: entry.octets.len(),
         path,
-        names: or_dash(entry.names.as_str()),
+        names: or_dash(entry.names),
         kind: entry.kind,
         value: value_text(alloc, entry)?,
         is_digits: is_digits(entry),

@@ -1,37 +1,28 @@
 //! The command.
-ghost use Rattle.std.specs.Prelude.{◌≡◌, ◌≢◌, ◌≤◌, [], ◌∷◌, ◌++◌, codes, IfOk, None, map, string_bytes, true};
+ghost use Rattle.std.specs.Prelude.{◌≡◌, ◌≢◌, ◌≤◌, [], ◌∷◌, ◌++◌, codes, IfErr, IfOk, None, map, string_bytes, true};
 ghost use Rattle.std.specs.Io.KnownBytes.{Keeps};
 ghost use Rattle.clap.specs.Words.{takes};
 ghost use Rattle.oer_types.specs.Schema.{the_type};
 ghost use Rattle.oer_options.specs.Words.{behind};
 ghost use Rattle.oer_cmd.specs.Answer.{checked};
 ghost use Rattle.oer_cmd.specs.Expected.{value};
-ghost use Rattle.oer_cmd.specs.Faults.{text_of};
+ghost use Rattle.oer_cmd.specs.Faults.{status_of, text_of};
 ghost use Rattle.oer_cmd.specs.Run.{IsEncoding};
 ghost use Rattle.oer_cmd.specs.Types.{texts_at};
 ghost use Rattle.oer_cmd.specs.declared.type_text.TypeText.TheVariants.{Named, One};
-ghost use Rattle.oer_dump_cmd.specs.Ending.{Accepts, Ends, Prints, streams};
-ghost use Rattle.oer_dump_cmd.specs.Showing.{AreOne, AreOneFor, Displays, IsReasonLine, IsTextOf, Shows, judged_as, judged_for, judged_octets, octets_as, octets_at, octets_for};
+ghost use Rattle.oer_dump_cmd.specs.Ending.{Accepts, Ends, Tells, streams};
+ghost use Rattle.oer_dump_cmd.specs.Showing.{AreOne, AreOneFor, Displays, IsReasonLine, PrintsPage, Shows, judged_as, judged_for, judged_octets, octets_as, octets_at, octets_for};
 ghost use Rattle.oer_dump_cmd.specs.Words.{oer_dump, texts_asked};
 
-use crate::as_json::json_of;
-use crate::layout::text_of;
+use crate::as_json::print_array;
+use crate::layout::print_lines;
 use crate::options::{Form, Options, parsed};
 use oer_cmd::type_text::{TypeText, definitions, named_type, one_type, type_text};
 use oer_cmd::{Fault, all_octets, judged, put_all, refused, report, spelt};
-use oer_entries::{Entry, Place, entries_of};
+use oer_entries::{Place, Stopped};
 use oer_types::Schema;
 use std::alloc::{AllocError, Global};
 use std::io::{Read, Write};
-
-/// What a run prints.
-#[derive(Drop)]
-struct Page {
-    /// The lines, or the array.
-    text: String,
-    /// The line on the errors, if the octets are not one encoding of the type.
-    rejection: Option<String>,
-}
 
 // What stands behind the reason: the part that was being read.
 fn part_text(alloc: Global, place: Option<Place>) -> Result<String, AllocError> {
@@ -63,138 +54,166 @@ fn reason_line(alloc: Global, fault: Fault<'_>, place: Option<Place>) -> Result<
     line_with(alloc, fault, part.as_str())
 }
 
-// The entries as lines, or as an array.
-fn entries_text(alloc: Global, entries: Vec<Entry<'_>>, form: Form) -> Result<String, AllocError>
-    ensures { IfOk result (λ text. IsTextOf form entries.entry.items (string_bytes text)) }
-{
-    match form {
-        Form::Text { width } => text_of(alloc, entries, width),
-        Form::Json => json_of(alloc, entries),
-    }
-}
-
-// What is printed of octets.
-fn octets_page<'a>(
+// Prints the entries of octets as lines, or as an array. Returns the part that was being read when they were
+// rejected, if they were.
+fn print_entries<W: Write>(
     alloc: Global,
     schema: &Schema,
     octets: &[u8],
     form: Form,
-) -> Result<Page, Fault<'a>>
-    ensures shown { Shows (checked (the_type schema.now) octets.now) result }
-    ensures accepted { IfOk result (λ page. page.rejection ≡ None → IsEncoding (the_type schema.now) octets.now) }
-    ensures displayed { Displays form (value (the_type schema.now, octets.now)) result }
+    output: &mut W,
+) -> Result<Option<Place>, Stopped>
+    ensures { IfOk result (λ _. PrintsPage form (the_type schema.now) octets.now (W.contents output.old) (W.contents output.new)) }
 {
-    let Ok(found) = entries_of(alloc, schema, octets) else {
-        return Err(Fault::Memory);
-    };
-    let Ok(text) = entries_text(alloc, found.entries, form) else {
-        return Err(Fault::Memory);
-    };
+    match form {
+        Form::Text { width } => print_lines(alloc, schema, octets, width, output),
+        Form::Json => print_array(alloc, schema, octets, output),
+    }
+}
+
+// The same, with the fault where it fails.
+fn print<'a, W: Write>(
+    alloc: Global,
+    schema: &Schema,
+    octets: &[u8],
+    form: Form,
+    output: &mut W,
+) -> Result<Option<Place>, Fault<'a>>
+    ensures printed { IfOk result (λ _. PrintsPage form (the_type schema.now) octets.now (W.contents output.old) (W.contents output.new)) }
+    ensures fails { IfErr result (λ fault. status_of fault ≡ 3) }
+{
+    match print_entries(alloc, schema, octets, form, output) {
+        Ok(place) => Ok(place),
+        Err(Stopped::Memory) => Err(Fault::Memory),
+        Err(Stopped::Output) => Err(Fault::Output),
+    }
+}
+
+// Prints octets, and returns the line on the errors if they are rejected.
+fn print_octets<'a, W: Write>(
+    alloc: Global,
+    schema: &Schema,
+    octets: &[u8],
+    form: Form,
+    output: &mut W,
+) -> Result<Option<String>, Fault<'a>>
+    ensures shown { Shows (checked (the_type schema.now) octets.now) result }
+    ensures accepted { IfOk result (λ rejection. rejection ≡ None → IsEncoding (the_type schema.now) octets.now) }
+    ensures displayed { Displays form (value (the_type schema.now, octets.now)) result (W.contents output.old) (W.contents output.new) }
+    ensures silent { IfErr result (λ fault. status_of fault ≤ 2 → output.new ≡ output.old) }
+{
     let fault = match judged(schema, octets) {
-        Ok(_) => return Ok(Page {
-            text,
-            rejection: None,
-        }),
+        Ok(_) => {
+            print(alloc, schema, octets, form, output)?;
+            return Ok(None);
+        }
         Err(fault) => fault,
     };
     if fault.status() != 1 {
         return Err(fault);
     }
-    let Ok(line) = reason_line(alloc, fault, found.place) else {
-        return Err(Fault::Memory);
-    };
-    Ok(Page {
-        text,
-        rejection: Some(line),
-    })
+    let place = print(alloc, schema, octets, form, output)?;
+    match reason_line(alloc, fault, place) {
+        Ok(line) => Ok(Some(line)),
+        Err(_) => Err(Fault::Memory),
+    }
 }
 
-// What is printed of a value of the type.
-fn page_of<'a, R: Read>(
+// Prints a value of the type.
+fn print_value<'a, R: Read, W: Write>(
     alloc: Global,
     schema: &Schema,
     options: Options<'a>,
     input: &mut R,
-) -> Result<Page, Fault<'a>>
+    output: &mut W,
+) -> Result<Option<String>, Fault<'a>>
     ensures shown { Shows (judged_octets (behind options.entry.hex) options.entry.limit (R.remaining input.old) (the_type schema.now)) result }
-    ensures accepted { IfOk result (λ page. page.rejection ≡ None
+    ensures accepted { IfOk result (λ rejection. rejection ≡ None
         → AreOne (the_type schema.now) (behind options.entry.hex) options.entry.limit (R.remaining input.old)) }
     ensures displayed { Displays options.entry.form
-        (octets_at (behind options.entry.hex) options.entry.limit (R.remaining input.old) (the_type schema.now)) result }
+        (octets_at (behind options.entry.hex) options.entry.limit (R.remaining input.old) (the_type schema.now)) result
+        (W.contents output.old) (W.contents output.new) }
+    ensures silent { IfErr result (λ fault. status_of fault ≤ 2 → output.new ≡ output.old) }
     ensures untouched { behind options.entry.hex ≢ None → input.new ≡ input.old }
 {
     let spelt = spelt(alloc, options.hex)?;
     let octets = all_octets(alloc, spelt, input, options.limit)?;
-    octets_page(alloc, schema, octets.as_slice(), options.form)
+    print_octets(alloc, schema, octets.as_slice(), options.form, output)
 }
 
-// What is printed for the type that the text spells.
-fn page_of_one<'a, R: Read>(
+// The same for the type that the text spells.
+fn print_one<'a, R: Read, W: Write>(
     alloc: Global,
     text: &'a str,
     options: Options<'a>,
     input: &mut R,
-) -> Result<Page, Fault<'a>>
+    output: &mut W,
+) -> Result<Option<String>, Fault<'a>>
     ensures shown { Shows (judged_for (texts_at (One text.entry)) (behind options.entry.hex) options.entry.limit (R.remaining input.old)) result }
-    ensures accepted { IfOk result (λ page. page.rejection ≡ None
+    ensures accepted { IfOk result (λ rejection. rejection ≡ None
         → AreOneFor (texts_at (One text.entry)) (behind options.entry.hex) options.entry.limit (R.remaining input.old)) }
     ensures displayed { Displays options.entry.form
-        (octets_for (texts_at (One text.entry)) (behind options.entry.hex) options.entry.limit (R.remaining input.old)) result }
+        (octets_for (texts_at (One text.entry)) (behind options.entry.hex) options.entry.limit (R.remaining input.old)) result
+        (W.contents output.old) (W.contents output.new) }
+    ensures silent { IfErr result (λ fault. status_of fault ≤ 2 → output.new ≡ output.old) }
     ensures untouched { behind options.entry.hex ≢ None → input.new ≡ input.old }
 {
     let schema = one_type(alloc, text)?;
-    page_of(alloc, &schema, options, input)
+    print_value(alloc, &schema, options, input, output)
 }
 
-// What is printed for the type that the Name has among the definitions that the text spells.
-fn page_of_named<'a, R: Read>(
+// The same for the type that the Name has among the definitions that the text spells.
+fn print_named<'a, R: Read, W: Write>(
     alloc: Global,
     types: &'a str,
     name: &'a str,
     options: Options<'a>,
     input: &mut R,
-) -> Result<Page, Fault<'a>>
+    output: &mut W,
+) -> Result<Option<String>, Fault<'a>>
     ensures shown { Shows (judged_for (texts_at (Named types.entry name.entry)) (behind options.entry.hex) options.entry.limit (R.remaining input.old)) result }
-    ensures accepted { IfOk result (λ page. page.rejection ≡ None
+    ensures accepted { IfOk result (λ rejection. rejection ≡ None
         → AreOneFor (texts_at (Named types.entry name.entry)) (behind options.entry.hex) options.entry.limit (R.remaining input.old)) }
     ensures displayed { Displays options.entry.form
-        (octets_for (texts_at (Named types.entry name.entry)) (behind options.entry.hex) options.entry.limit (R.remaining input.old)) result }
+        (octets_for (texts_at (Named types.entry name.entry)) (behind options.entry.hex) options.entry.limit (R.remaining input.old)) result
+        (W.contents output.old) (W.contents output.new) }
+    ensures silent { IfErr result (λ fault. status_of fault ≤ 2 → output.new ≡ output.old) }
     ensures untouched { behind options.entry.hex ≢ None → input.new ≡ input.old }
 {
     let types = definitions(alloc, types)?;
     let schema = named_type(&types, name)?;
-    page_of(alloc, schema, options, input)
+    print_value(alloc, schema, options, input, output)
 }
 
-// What is printed of what the options ask for.
-fn page_for<'a, R: Read>(
+// Prints what the options ask for.
+fn print_asked<'a, R: Read, W: Write>(
     alloc: Global,
     options: Options<'a>,
     input: &mut R,
-) -> Result<Page, Fault<'a>>
+    output: &mut W,
+) -> Result<Option<String>, Fault<'a>>
     ensures shown { Shows (judged_as options.entry (R.remaining input.old)) result }
-    ensures accepted { IfOk result (λ page. page.rejection ≡ None
+    ensures accepted { IfOk result (λ rejection. rejection ≡ None
         → AreOneFor (texts_asked options.entry) (behind options.entry.hex) options.entry.limit (R.remaining input.old)) }
-    ensures displayed { Displays options.entry.form (octets_as options.entry (R.remaining input.old)) result }
+    ensures displayed { Displays options.entry.form
+        (octets_as options.entry (R.remaining input.old)) result
+        (W.contents output.old) (W.contents output.new) }
+    ensures silent { IfErr result (λ fault. status_of fault ≤ 2 → output.new ≡ output.old) }
     ensures untouched { behind options.entry.hex ≢ None → input.new ≡ input.old }
 {
     match type_text(options.of_check())? {
-        TypeText::One(text) => page_of_one(alloc, text, options, input),
-        TypeText::Named { types, name } => page_of_named(alloc, types, name, options, input),
+        TypeText::One(text) => print_one(alloc, text, options, input, output),
+        TypeText::Named { types, name } => {
+            print_named(alloc, types, name, options, input, output)
+        }
     }
 }
 
-// Writes the lines, and then why the octets are rejected, if they are. The status.
-fn print<W: Write, E: Write>(alloc: Global, page: &Page, output: &mut W, errors: &mut E) -> u8
-    ensures prints { Prints page.now result
-        (streams (W.contents output.old) (W.contents output.new) (E.contents errors.old) (E.contents errors.new)) }
-    ensures statuses { result ≤ 3 }
-    ensures taken { result ≢ 2 }
+// Says why the octets are rejected, if they are. The status.
+fn tell<E: Write>(rejection: &Option<String>, errors: &mut E) -> u8
+    ensures { Tells rejection.now result (E.contents errors.old) (E.contents errors.new) }
 {
-    if !put_all(page.text.as_bytes(), output) || output.flush().is_err() {
-        return report(alloc, Fault::Output, errors);
-    }
-    let Some(line) = &page.rejection else {
+    let Some(line) = rejection else {
         return 0;
     };
     put_all(line.as_bytes(), errors);
@@ -229,8 +248,8 @@ pub fn run<R: Read, W: Write, E: Write>(
         Ok(options) => options,
         Err(error) => return refused(alloc, &error, output, errors),
     };
-    match page_for(alloc, options, input) {
-        Ok(page) => print(alloc, &page, output, errors),
+    match print_asked(alloc, options, input, output) {
+        Ok(rejection) => tell(&rejection, errors),
         Err(fault) => report(alloc, fault, errors),
     }
 }

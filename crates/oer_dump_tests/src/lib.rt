@@ -1,4 +1,4 @@
-//! Tests of what the program `oer-dump` prints, through `run` alone, but for `same`.
+//! Tests of what the program `oer-dump` prints, through `run` alone.
 #![tactic(auto)]
 
 #[cfg(test)]
@@ -12,10 +12,6 @@ mod kinds;
 #[cfg(test)]
 mod refused;
 #[cfg(test)]
-mod same;
-#[cfg(test)]
 mod shared;
-#[cfg(test)]
-mod start;
 #[cfg(test)]
 mod widths;

@@ -1,2 +1,2 @@
 pub mod Floats
-pub mod Spots
+pub mod Taken

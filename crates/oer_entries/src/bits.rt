@@ -107,11 +107,11 @@ impl<'a> Bitmap<'a> {
     }
 
     /// The bits of the additions that the type knows, and those that are set of others.
-    pub(crate) fn named(
+    pub(crate) fn named<'t>(
         self,
         alloc: Global,
-        additions: &'a [Addition],
-    ) -> Result<Vec<NamedBit<'a>>, AllocError> {
+        additions: &'t [Addition],
+    ) -> Result<Vec<NamedBit<'t>>, AllocError> {
         let mut bits = Vec::new(alloc);
         for index in 0..self.count {
             let is_set = self.bit(index);

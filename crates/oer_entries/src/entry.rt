@@ -31,19 +31,26 @@ pub enum What<'a> {
     Rejected,
 }
 
+/// A part, by its path and its names.
+#[derive(Drop)]
+pub struct Place {
+    pub path: String,
+    pub names: String,
+}
+
 /// Octets, and what they are.
 #[derive(Drop)]
-pub struct Entry<'a> {
+pub struct Entry<'e> {
     /// How many octets are before them.
     pub offset: usize,
-    pub octets: &'a [u8],
+    pub octets: &'e [u8],
     /// The path to the part of which they are a piece.
-    pub path: String,
+    pub path: &'e str,
     /// The names on that path.
-    pub names: String,
+    pub names: &'e str,
     /// The kind of its type.
     pub kind: &'static str,
-    pub what: What<'a>,
+    pub what: What<'e>,
     /// The canonical spelling, if they are another one.
     pub canonical: Option<Vec<u8>>,
     /// Whether the part has the value of its DEFAULT, so that canonical octets leave it out.

@@ -4,16 +4,22 @@
 mod bits;
 mod entries;
 mod entry;
+mod extents;
 mod frame;
 mod leaf;
+mod meaning;
 mod plain;
+mod taker;
 mod text;
 mod trail;
 mod units;
 
 pub use bits::NamedBit;
-pub use entries::{Entries, Place, entries_of};
-pub use entry::{Entry, What};
+pub use entries::each_entry;
+pub use entry::{Entry, Place, What};
+pub use extents::{Extents, extents_of};
 pub use frame::Name;
+pub use oer_rows::Stopped;
 pub use plain::PlainJson;
+pub use taker::TakeEntry;
 pub use text::name_text;

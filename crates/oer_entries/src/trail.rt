@@ -1,11 +1,13 @@
 //! The way to the octets in hand: the parts on it, from the whole on, and its texts. There is always one
 //! part: the whole.
-ghost use Rattle.std.specs.Prelude.{◌≤◌, IfOk, vec_len};
+ghost use Rattle.std.specs.Prelude.{◌≡◌, ◌≤◌, string_bytes, vec_len};
 
 use crate::bits::{Bitmap, bit, has_bit};
+use crate::entry::Place;
 use crate::frame::Frame;
-use crate::text::{cut, push_name, push_step};
-use oer_reader::{Role, Step};
+use crate::text::{cut, kind_of, push_name, push_step};
+use oer_reader::Step;
+use oer_rows::RowRef;
 use oer_types::{Addition, Field, Shape};
 use std::alloc::{AllocError, Global};
 
@@ -17,6 +19,41 @@ pub(crate) struct Way<'a> {
     pub path: String,
     /// The names on that path. The whole has none.
     pub names: String,
+    /// All octets.
+    pub octets: &'a [u8],
+    /// Where those end that were read.
+    pub end: usize,
+    /// Whether a row was read.
+    is_begun: bool,
+    ghost has_whole: { 1 ≤ vec_len frames },
+}
+
+/// What is said of a part in the entry of its octets.
+#[derive(Clone, Copy)]
+pub(crate) struct Part<'p> {
+    pub path: &'p str,
+    pub names: &'p str,
+    pub kind: &'static str,
+}
+
+impl Part<'_> {
+    /// What is after the value: no part.
+    pub const AFTER: Part<'static> = Part {
+        path: "",
+        names: "",
+        kind: "-",
+    };
+}
+
+/// The octets from this offset on.
+pub(crate) fn octets_from(octets: &[u8], offset: usize) -> &[u8] {
+    &octets[offset.min(octets.len())..]
+}
+
+// So many octets from this offset on, or fewer where they end.
+fn octets_at(octets: &[u8], offset: usize, count: usize) -> &[u8] {
+    let rest = octets_from(octets, offset);
+    &rest[..count.min(rest.len())]
 }
 
 // How many of the frames are on the path.
@@ -151,44 +188,65 @@ fn next_of(frame: &Frame<'_>) -> Next {
 }
 
 impl<'a> Way<'a> {
-    /// The way to the whole.
-    pub(crate) fn whole(alloc: Global, shape: &'a Shape) -> Result<Way<'a>, AllocError>
-        ensures { IfOk result (λ way. 1 ≤ vec_len way.frames) }
-    {
+    /// The way to the whole of the octets, which are of this type.
+    pub(crate) fn whole(
+        alloc: Global,
+        shape: &'a Shape,
+        octets: &'a [u8],
+    ) -> Result<Way<'a>, AllocError> {
         let mut frames = Vec::new(alloc);
         frames.push(Frame::whole(shape))?;
         Ok(Way {
             frames,
             path: String::new(alloc),
             names: String::new(alloc),
+            octets,
+            end: 0,
+            is_begun: false,
         })
     }
 
     /// The part at the end of the way.
-    pub(crate) fn last(&self) -> &Frame<'a>
-        requires { 1 ≤ vec_len self.now.frames }
-    {
+    pub(crate) fn last(&self) -> &Frame<'a> {
         match self.frames.last() {
             Some(frame) => frame,
             None => unreachable!(),
         }
     }
 
-    /// Notes octets that were read of the last part.
-    pub(crate) fn note(&mut self, role: Role, offset: usize, octets: &'a [u8])
-        requires { 1 ≤ vec_len self.old.frames }
-        ensures { 1 ≤ vec_len self.new.frames }
-    {
+    /// Notes a row of the last part.
+    pub(crate) fn note(&mut self, row: RowRef<'_>) {
+        let octets = octets_at(self.octets, row.offset, row.octets.len());
         let Some(frame) = self.frames.last_mut() else {
             unreachable!();
         };
-        frame.note(role, offset, octets);
+        frame.note(row.role, row.offset, octets);
+        self.end = row.offset.saturating_add(octets.len());
+        self.is_begun = true;
+    }
+
+    /// What is said of the part at the end of the way.
+    pub(crate) fn part(&self) -> Part<'_>
+        ensures { (result.path.now ≡ string_bytes self.now.path) × (result.names.now ≡ string_bytes self.now.names) }
+    {
+        Part {
+            path: self.path.as_str(),
+            names: self.names.as_str(),
+            kind: kind_of(self.last().shape),
+        }
+    }
+
+    /// The part at the end of the way, with copies of its texts.
+    pub(crate) fn place(&self, alloc: Global) -> Result<Place, AllocError> {
+        Ok(Place {
+            path: String::from_str(alloc, self.path.as_str())?,
+            names: String::from_str(alloc, self.names.as_str())?,
+        })
     }
 
     // Goes back to the part with this number, counted from 1, if there are more.
     fn go_back(&mut self, count: usize)
-        requires { (1 ≤ vec_len self.old.frames) × (1 ≤ count) }
-        ensures { 1 ≤ vec_len self.new.frames }
+        requires { 1 ≤ count }
     {
         if count >= self.frames.len() {
             return;
@@ -202,10 +260,7 @@ impl<'a> Way<'a> {
     }
 
     // Goes on to the part of the last one to which the step leads.
-    fn enter(&mut self, alloc: Global, step: Step) -> Result<(), AllocError>
-        requires { 1 ≤ vec_len self.old.frames }
-        ensures { IfOk result (λ _. 1 ≤ vec_len self.new.frames) }
-    {
+    fn enter(&mut self, alloc: Global, step: Step) -> Result<(), AllocError> {
         let Some(last) = self.frames.last_mut() else {
             unreachable!();
         };
@@ -220,10 +275,7 @@ impl<'a> Way<'a> {
     }
 
     /// Goes to the part at the end of the path.
-    pub(crate) fn go_to(&mut self, alloc: Global, path: &[Step]) -> Result<(), AllocError>
-        requires { 1 ≤ vec_len self.old.frames }
-        ensures { IfOk result (λ _. 1 ≤ vec_len self.new.frames) }
-    {
+    pub(crate) fn go_to(&mut self, alloc: Global, path: &[Step]) -> Result<(), AllocError> {
         let count = shared(self.frames.as_slice(), path);
         self.go_back(count);
         for step in path.iter().skip(self.frames.len().saturating_sub(1)) {
@@ -232,11 +284,8 @@ impl<'a> Way<'a> {
         Ok(())
     }
 
-    /// Goes on to the part that comes next, where octets up to this offset were read.
-    pub(crate) fn go_on(&mut self, alloc: Global, offset: usize) -> Result<(), AllocError>
-        requires { 1 ≤ vec_len self.old.frames }
-        ensures { IfOk result (λ _. 1 ≤ vec_len self.new.frames) }
-    {
+    // Goes on to the part that comes next.
+    fn go_on(&mut self, alloc: Global) -> Result<(), AllocError> {
         for _ in 0..self.frames.len() {
             let frame = self.last();
             match next_of(frame) {
@@ -245,7 +294,7 @@ impl<'a> Way<'a> {
                 Next::After => {}
             }
             let is_filled = match frame.end {
-                Some(end) => offset >= end,
+                Some(end) => self.end >= end,
                 None => true,
             };
             let count = self.frames.len();
@@ -255,5 +304,16 @@ impl<'a> Way<'a> {
             self.go_back(count - 1);
         }
         Ok(())
+    }
+
+    /// Goes on to the part that was being read when the octets were rejected, so many having been taken by
+    /// then. Returns those of them that no row has.
+    pub(crate) fn reject(&mut self, alloc: Global, taken: u64) -> Result<&'a [u8], AllocError> {
+        let begin = self.end;
+        if self.is_begun {
+            self.go_on(alloc)?;
+        }
+        let count = (taken as usize).saturating_sub(begin);
+        Ok(octets_at(self.octets, begin, count))
     }
 }

@@ -1,3 +1,4 @@
+pub mod Folds
 mod LineSteps
 mod LineLaws
 mod LineForms

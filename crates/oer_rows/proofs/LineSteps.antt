@@ -1,6 +1,6 @@
 -- Walks, one step after another.
 use Rattle.std.proofs.Common.{◌≡◌, ℕ, zero, suc, ◌+◌, ◌-◌, ◌<◌, ◌≤◌, ◌||◌, Bool, true, false, List, [], ◌∷◌, ◌++◌, length, drop, get_or, Result, Ok, Err, arith, refl, sym, ap, ap₂, ◌∙◌, subst, drop-cons, add-one, if◌then◌else◌, Option, Some, None}
-use Rattle.std.proofs.lemmas.List.{drop_all}
+use Rattle.std.proofs.lemmas.List.{append-nil, append_assoc, drop_all}
 use Rattle.oer_units.specs.declared.tagging.Tag.{Tag}
 use Rattle.oer_units.specs.Reader.{Place, Reader, at}
 use Rattle.oer_model.specs.AsnType.{Additions, Alternatives, AsnType, Fields, choice, extensible_sequence, leaf, no_alternatives, sequence, sequence_of}
@@ -17,7 +17,7 @@ use Rattle.oer_values.specs.declared.shape.Field.{Field}
 use Rattle.oer_checker.specs.Places.{outcome, place_of}
 use Rattle.oer_model.specs.Checking.{check_value}
 use Rattle.oer_rows.specs.declared.row.Role.TheVariants.{Bitmap, Contents, Preamble, Tag as TagRole}
-use Rattle.oer_rows.specs.Rows.{Line, Reaches, ReadsRow, Walk, Walker, Walks, add_line, go_on, halted, inside, leave, leave_at, path_in, row, stay, stuck, walk_additions, walk_alternative, walk_both, walk_choose, walk_chosen, walk_extension, walk_fields, walk_if, walk_later, walk_open, walk_rest, walk_times, walk_unknown, walk_value, went}
+use Rattle.oer_rows.specs.Rows.{Comes, Line, Reaches, ReadsRow, Took, Walker, Walks, add_line, go_on, halted, inside, leave, leave_at, line_at, path_in, row, stay, stuck, walk_additions, walk_alternative, walk_both, walk_choose, walk_chosen, walk_extension, walk_fields, walk_if, walk_later, walk_open, walk_rest, walk_times, walk_unknown, walk_value, went}
 use Rattle.oer_checker.specs.BitView.{bits_in}
 use Rattle.oer_checker.specs.Facts.{IsLeaf}
 use Rattle.oer_model.specs.SharedSteps.{bits_left, is_there}
@@ -27,39 +27,99 @@ use Rattle.oer_checker.specs.declared.bit_strings.Map.{Map}
 use Rattle.oer_checker.proofs.FieldSteps.{count_is}
 use Rattle.oer_checker.specs.declared.cursor.Cursor.{Cursor}
 use Rattle.oer_rows.specs.declared.row.Halt.{Halt}
-use Rattle.oer_rows.specs.declared.row.Halt.TheVariants.{Refused, Memory}
+use Rattle.oer_rows.specs.declared.row.Halt.TheVariants.{Refused, Stopped}
 use Rattle.oer_rows.specs.declared.row.Role.{Role}
 use Rattle.oer_rows.specs.declared.spot.Spot.{Spot}
 use Rattle.oer_checker.specs.declared.stop.Stop.{Stop}
 use Rattle.oer_checker.proofs.BitLists.{drop_next, drop_past}
 use Rattle.oer_checker.proofs.TagSteps.{in_root, not_in_root}
+use Rattle.oer_rows.proofs.Folds.{folds_on}
 
-pub by_walk : (result : Result Cursor Halt) (new : List Line) (w v : Walk) → w ≡ v → Walks result new w → Walks result new v
-by_walk result new w v e h = subst (λ (x : Walk). Walks result new x) e h
+-- ---- what was taken
 
--- ---- a unit and its line
+module _ {T : Type 0} (takes : T → Line → T → Type 0) where
+  took_none : (s : T) (ls : List Line) → Took takes s s ls ls
+  took_none s ls = record { lines = []; is = sym (append-nil ls); each = refl }
 
-pub line_then : {A B : Type 0} (f : A → B) (spot : Spot) (role : Role) (ls new : List Line) (p : Cursor) (q : Cursor) (answer : Result A Stop) (y : A) (k : B → Walker)
-    → ReadsRow spot role ls p q answer new (Ok y) → k (f y) new (place_of q) ≡ add_line spot.total (path_in spot) role k ls (place_of p) (outcome f answer q)
-line_then {A} {B} f spot role ls new p q answer y k h =
-    ap (λ (l : List Line). k (f y) l (place_of q)) h.1 ∙ ap (add_line spot.total (path_in spot) role k ls (place_of p)) (sym (ap (λ (x : Result A Stop). outcome f x q) h.0))
+  took_one : (s t : T) (l : Line) (ls : List Line) → takes s l t → Took takes s t ls (ls ++ (l ∷ []))
+  took_one s t l ls h = record { lines = l ∷ []; is = refl; each = (t, h, refl) }
 
-pub line_stop : {A B : Type 0} (f : A → B) (spot : Spot) (role : Role) (ls new : List Line) (p : Cursor) (q : Cursor) (answer : Result A Stop) (h : Halt) (k : B → Walker)
-    → ReadsRow spot role ls p q answer new (Err h) → Walks (Err h) new (add_line spot.total (path_in spot) role k ls (place_of p) (outcome f answer q))
-line_stop {A} {B} f spot role ls new p q answer Refused k h =
-    ap (add_line spot.total (path_in spot) role k ls (place_of p)) (ap (λ (x : Result A Stop). outcome f x q) h.0.1) ∙ ap (λ (l : List Line). halted l) (sym h.1)
-line_stop {A} {B} f spot role ls new p q answer Memory k h = tt
+  took_on : (s t u : T) (ls ms new : List Line) → Took takes s t ls ms → Took takes t u ms new → Took takes s u ls new
+  took_on s t u ls ms new h k = record {
+    lines = h.lines ++ k.lines;
+    is = k.is ∙ ap (λ (l : List Line). l ++ k.lines) h.is ∙ append_assoc ls h.lines k.lines;
+    each = folds_on takes s t u h.lines k.lines h.each k.each;
+  }
 
-pub taken_then : {A B : Type 0} (f : A → B) (spot : Spot) (role : Role) (ls new : List Line) (p : Cursor) (q : Cursor) (answer : Result A Stop) (y : A) (r : Reader B) (k : B → Walker)
-    → outcome f answer q ≡ r (place_of p) → ReadsRow spot role ls p q answer new (Ok y) → k (f y) new (place_of q) ≡ row spot.total (path_in spot) role r k ls (place_of p)
-unfolding row
-taken_then f spot role ls new p q answer y r k e h = line_then f spot role ls new p q answer y k h ∙ ap (add_line spot.total (path_in spot) role k ls (place_of p)) e
+  -- ---- a walk and what is left of it
 
-pub taken_stop : {A B : Type 0} (f : A → B) (spot : Spot) (role : Role) (ls new : List Line) (p : Cursor) (q : Cursor) (answer : Result A Stop) (h : Halt) (r : Reader B) (k : B → Walker)
-    → outcome f answer q ≡ r (place_of p) → ReadsRow spot role ls p q answer new (Err h) → Walks (Err h) new (row spot.total (path_in spot) role r k ls (place_of p))
-unfolding row
-taken_stop f spot role ls new p q answer h r k e t =
-    by_walk (Err h) new _ _ (ap (add_line spot.total (path_in spot) role k ls (place_of p)) e) (line_stop f spot role ls new p q answer h k t)
+  -- nothing was taken, and the walks are the same
+  pub here : (s : T) (d : Walker) (q : Place) (c : Walker) (p : Place) → ((ls : List Line) → d ls q ≡ c ls p) → Comes takes s s d q c p
+  here s d q c p e = record { by = λ ls. (ls, took_none s ls, e ls) }
+
+  pub comes_on : (s t u : T) (e : Walker) (r : Place) (d : Walker) (q : Place) (c : Walker) (p : Place)
+      → Comes takes s t d q c p → Comes takes t u e r d q → Comes takes s u e r c p
+  comes_on s t u e r d q c p h k = record {
+    by = λ ls.
+        let x = h.by ls in let y = k.by x.0 in (y.0, took_on s t u ls x.0 y.0 x.1 y.1, y.2 ∙ x.2);
+  }
+
+  -- the same walk, written otherwise
+  pub comes_as : (s t : T) (d : Walker) (q : Place) (b : Walker) (o : Place) (c : Walker) (p : Place) → ((ls : List Line) → b ls o ≡ c ls p)
+      → Comes takes s t d q b o → Comes takes s t d q c p
+  comes_as s t d q b o c p e h = record { by = λ ls. let x = h.by ls in (x.0, x.1, x.2 ∙ e ls) }
+
+  pub then_walks : (result : Result Cursor Halt) (s t u : T) (d : Walker) (q : Place) (c : Walker) (p : Place) → Comes takes s t d q c p
+      → Walks result takes t u d q → Walks result takes s u c p
+  then_walks (Ok x) s t u d q c p h k = comes_on s t u stay (place_of x) d q c p h k
+  then_walks (Err Refused) s t u d q c p h k = (k.0, comes_on s t u stuck k.0 d q c p h k.1)
+  then_walks (Err (Stopped why)) s t u d q c p h k = tt
+
+  pub walks_as : (result : Result Cursor Halt) (s t : T) (b : Walker) (o : Place) (c : Walker) (p : Place) → ((ls : List Line) → b ls o ≡ c ls p)
+      → Walks result takes s t b o → Walks result takes s t c p
+  walks_as (Ok x) s t b o c p e h = comes_as s t stay (place_of x) b o c p e h
+  walks_as (Err Refused) s t b o c p e h = (h.0, comes_as s t stuck h.0 b o c p e h.1)
+  walks_as (Err (Stopped why)) s t b o c p e h = tt
+
+  pub same_walks : (result : Result Cursor Halt) (s t : T) (b c : Walker) (p : Place) → b ≡ c → Walks result takes s t b p → Walks result takes s t c p
+  same_walks result s t b c p e h = subst (λ (w : Walker). Walks result takes s t w p) e h
+
+  pub stays : (s : T) (q : Cursor) → Walks (Ok q) takes s s stay (place_of q)
+  stays s q = here s stay (place_of q) stay (place_of q) (λ ls. refl)
+
+  pub sticks : (s : T) (p : Place) → Walks (Err Refused) takes s s stuck p
+  sticks s p = (p, here s stuck p stuck p (λ ls. refl))
+
+  -- ---- a unit and its line
+
+  module _ {A B : Type 0} (f : A → B) (spot : Spot) (role : Role) (s t : T) (p q : Cursor) (answer : Result A Stop) (r : Reader B)
+      (k : B → Walker) (e : outcome f answer q ≡ r (place_of p)) where
+    pub row_then : (y : A) → ReadsRow takes spot role s p q answer t (Ok y)
+        → Comes takes s t (k (f y)) (place_of q) (row spot.total (path_in spot) role r k) (place_of p)
+    unfolding row
+    row_then y h = record {
+      by = λ ls. (
+        ls ++ (line_at spot.total (path_in spot) role (place_of p) (place_of q) ∷ []),
+        took_one s t (line_at spot.total (path_in spot) role (place_of p) (place_of q)) ls h.1,
+        is ls,
+      );
+    }
+      where
+        is : (ls : List Line) → k (f y) (ls ++ (line_at spot.total (path_in spot) role (place_of p) (place_of q) ∷ [])) (place_of q)
+            ≡ row spot.total (path_in spot) role r k ls (place_of p)
+        is ls = ap (add_line spot.total (path_in spot) role k ls (place_of p)) (sym (ap (λ (x : Result A Stop). outcome f x q) h.0) ∙ e)
+
+    pub row_stop : (h : Halt) → ReadsRow takes spot role s p q answer t (Err h)
+        → Walks (Err h) takes s t (row spot.total (path_in spot) role r k) (place_of p)
+    unfolding row stuck
+    row_stop Refused ((stop, is), same) = (
+      place_of p,
+      subst (λ (x : T). Comes takes s x stuck (place_of p) (row spot.total (path_in spot) role r k) (place_of p)) (sym same)
+          (here s stuck (place_of p) (row spot.total (path_in spot) role r k) (place_of p) halts),
+    ) where
+      halts : (ls : List Line) → stuck ls (place_of p) ≡ row spot.total (path_in spot) role r k ls (place_of p)
+      halts ls = ap (add_line spot.total (path_in spot) role k ls (place_of p)) (sym (ap (λ (x : Result A Stop). outcome f x q) is) ∙ e)
+    row_stop (Stopped why) h = tt
 
 -- a value of a type without parts
 pub leaf_row : (T : AsnType) (total : ℕ) (path : List Step) → IsLeaf T → walk_value T total path ≡ row total path Contents (check_value T) (λ f. stay)
@@ -69,41 +129,42 @@ leaf_row (extensible_sequence fs more) total path h = absurd h
 leaf_row (sequence_of size T) total path h = absurd h
 leaf_row (choice extensible more) total path h = absurd h
 
-pub type_arm : (S T : AsnType) (spot : Spot) (result : Result Cursor Halt) (ls new : List Line) (p : Place) → S ≡ T → Walks result new (walk_value T spot.total (path_in spot) ls p) → Walks result new (walk_value S spot.total (path_in spot) ls p)
-type_arm S T spot result ls new p is h = by_walk result new _ _ (ap (λ (U : AsnType). walk_value U spot.total (path_in spot) ls p) (sym is)) h
-
 -- ---- one after another
 
-pub both_then : (c d : Walker) (ls new : List Line) (p : Place) (q : Cursor) → Walks (Ok q) new (c ls p) → d new (place_of q) ≡ walk_both c d ls p
-unfolding walk_both
-both_then c d ls new p q e = sym (ap (go_on d) e)
+module _ {T : Type 0} (takes : T → Line → T → Type 0) where
+  pub type_arm : (S U : AsnType) (spot : Spot) (result : Result Cursor Halt) (s t : T) (p : Place) → S ≡ U
+      → Walks result takes s t (walk_value U spot.total (path_in spot)) p → Walks result takes s t (walk_value S spot.total (path_in spot)) p
+  type_arm S U spot result s t p is h = same_walks takes result s t _ _ p (ap (λ (V : AsnType). walk_value V spot.total (path_in spot)) (sym is)) h
 
-pub both_stop : (c d : Walker) (ls new : List Line) (p : Place) (h : Halt) → Walks (Err h) new (c ls p) → Walks (Err h) new (walk_both c d ls p)
-unfolding walk_both
-both_stop c d ls new p Refused e = ap (go_on d) e
-both_stop c d ls new p Memory e = tt
+  pub both_then : (c d : Walker) (s t : T) (p : Place) (q : Cursor) → Walks (Ok q) takes s t c p → Comes takes s t d (place_of q) (walk_both c d) p
+  unfolding stay walk_both
+  both_then c d s t p q h = record { by = λ ls. let x = h.by ls in (x.0, x.1, is ls x.0 x.2) } where
+    is : (ls new : List Line) → stay new (place_of q) ≡ c ls p → d new (place_of q) ≡ walk_both c d ls p
+    is ls new e = ap (go_on d) e
 
-pub no_inner : (spot : Spot) (step : Step) (h : Halt) (new : List Line) (w : Walk) → Reaches spot step (Err h) → Walks (Err h) new w
-no_inner spot step Refused new w e = absurd e
-no_inner spot step Memory new w e = tt
+  pub both_stop : (c d : Walker) (s t : T) (p : Place) (h : Halt) → Walks (Err h) takes s t c p → Walks (Err h) takes s t (walk_both c d) p
+  unfolding stuck walk_both
+  both_stop c d s t p Refused (q, w) = (q, record { by = λ ls. let x = w.by ls in (x.0, x.1, is ls x.0 x.2) }) where
+    is : (ls new : List Line) → stuck new q ≡ c ls p → stuck new q ≡ walk_both c d ls p
+    is ls new e = ap (go_on d) e
+  both_stop c d s t p (Stopped why) w = tt
 
--- at the part to which a step leads
-pub at_inner : (c : ℕ → List Step → Walker) (spot inner : Spot) (step : Step) (result : Result Cursor Halt) (ls new : List Line) (p : Place) → Reaches spot step (Ok inner) → Walks result new (c inner.total (path_in inner) ls p) → Walks result new (c spot.total (path_in spot ++ (step ∷ [])) ls p)
-at_inner c spot inner step result ls new p h e = by_walk result new _ _ (ap₂ (λ (n : ℕ) (path : List Step). c n path ls p) h.0 h.1) e
+  pub no_inner : (spot : Spot) (step : Step) (h : Halt) (s t : T) (c : Walker) (p : Place) → Reaches spot step (Err h) → Walks (Err h) takes s t c p
+  no_inner spot step Refused s t c p e = absurd e
+  no_inner spot step (Stopped why) s t c p e = tt
 
-pub stays : (ls : List Line) (q : Cursor) → Walks (Ok q) ls (stay ls (place_of q))
-unfolding stay
-stays ls q = refl
+  -- at the part to which a step leads
+  pub at_inner : (c : ℕ → List Step → Walker) (spot inner : Spot) (step : Step) (result : Result Cursor Halt) (s t : T) (p : Place)
+      → Reaches spot step (Ok inner) → Walks result takes s t (c inner.total (path_in inner)) p
+      → Walks result takes s t (c spot.total (path_in spot ++ (step ∷ []))) p
+  at_inner c spot inner step result s t p h w = same_walks takes result s t _ _ p (ap₂ c h.0 h.1) w
 
-pub sticks : (ls : List Line) (p : Place) → Walks (Err Refused) ls (stuck ls p)
-unfolding stuck
-sticks ls p = refl
+  pub if_not : (b : Bool) (c : Walker) (s : T) (q : Cursor) → b ≡ false → Walks (Ok q) takes s s (walk_if b c) (place_of q)
+  if_not b c s q is = same_walks takes (Ok q) s s _ _ (place_of q) (ap (λ (x : Bool). walk_if x c) (sym is)) (stays takes s q)
 
-pub if_not : (b : Bool) (c : Walker) (ls : List Line) (q : Cursor) → b ≡ false → Walks (Ok q) ls (walk_if b c ls (place_of q))
-if_not b c ls q is = by_walk (Ok q) ls _ _ (ap (λ (x : Bool). walk_if x c ls (place_of q)) (sym is)) (stays ls q)
-
-pub if_so : (b : Bool) (c : Walker) (ls new : List Line) (p : Place) (result : Result Cursor Halt) → b ≡ true → Walks result new (c ls p) → Walks result new (walk_if b c ls p)
-if_so b c ls new p result is e = by_walk result new _ _ (ap (λ (x : Bool). walk_if x c ls p) (sym is)) e
+  pub if_so : (b : Bool) (c : Walker) (s t : T) (p : Place) (result : Result Cursor Halt) → b ≡ true → Walks result takes s t c p
+      → Walks result takes s t (walk_if b c) p
+  if_so b c s t p result is w = same_walks takes result s t _ _ p (ap (λ (x : Bool). walk_if x c) (sym is)) w
 
 -- ---- open types
 
@@ -115,18 +176,44 @@ left_some : (rest : List ℕ) (outer left : ℕ) (ls : List Line) → 0 < left �
 left_some rest outer zero ls e = absurd (omega arith)
 left_some rest outer (suc k) ls e = refl
 
-pub inside_ends : (n : ℕ) (c : Walker) (ls new : List Line) (p : Place) (q : Cursor) → Walks (Ok q) new (c ls (at p.input n)) → q.left ≤ 0 → inside n c ls p ≡ went new (at q.rest.now (p.left - n))
-unfolding inside
-inside_ends n c ls new p q e none = ap (leave (p.left - n)) e ∙ left_none q.rest.now (p.left - n) q.left new none
+module _ {T : Type 0} (takes : T → Line → T → Type 0) where
+  pub inside_ends : (n : ℕ) (c : Walker) (s t : T) (p : Place) (q : Cursor) → Walks (Ok q) takes s t c (at p.input n) → q.left ≤ 0
+      → Comes takes s t stay (at q.rest.now (p.left - n)) (inside n c) p
+  unfolding inside stay
+  inside_ends n c s t p q w none = record { by = λ ls. let x = w.by ls in (x.0, x.1, is ls x.0 x.2) } where
+    is : (ls new : List Line) → stay new (place_of q) ≡ c ls (at p.input n) → stay new (at q.rest.now (p.left - n)) ≡ inside n c ls p
+    is ls new e = sym (left_none q.rest.now (p.left - n) q.left new none) ∙ ap (leave (p.left - n)) e
 
-pub inside_left : (n : ℕ) (c : Walker) (ls new : List Line) (p : Place) (q : Cursor) → Walks (Ok q) new (c ls (at p.input n)) → 0 < q.left → inside n c ls p ≡ halted new
-unfolding inside
-inside_left n c ls new p q e some = ap (leave (p.left - n)) e ∙ left_some q.rest.now (p.left - n) q.left new some
+  pub inside_left : (n : ℕ) (c : Walker) (s t : T) (p : Place) (q : Cursor) → Walks (Ok q) takes s t c (at p.input n) → 0 < q.left
+      → Walks (Err Refused) takes s t (inside n c) p
+  unfolding inside stay stuck
+  inside_left n c s t p q w some = (p, record { by = λ ls. let x = w.by ls in (x.0, x.1, is ls x.0 x.2) }) where
+    is : (ls new : List Line) → stay new (place_of q) ≡ c ls (at p.input n) → stuck new p ≡ inside n c ls p
+    is ls new e = sym (left_some q.rest.now (p.left - n) q.left new some) ∙ ap (leave (p.left - n)) e
 
-pub inside_stop : (n : ℕ) (c : Walker) (ls new : List Line) (p : Place) (h : Halt) → Walks (Err h) new (c ls (at p.input n)) → Walks (Err h) new (inside n c ls p)
-unfolding inside
-inside_stop n c ls new p Refused e = ap (leave (p.left - n)) e
-inside_stop n c ls new p Memory e = tt
+  pub inside_stop : (n : ℕ) (c : Walker) (s t : T) (p : Place) (h : Halt) → Walks (Err h) takes s t c (at p.input n) → Walks (Err h) takes s t (inside n c) p
+  unfolding inside stuck
+  inside_stop n c s t p Refused (q, w) = (q, record { by = λ ls. let x = w.by ls in (x.0, x.1, is ls x.0 x.2) }) where
+    is : (ls new : List Line) → stuck new q ≡ c ls (at p.input n) → stuck new q ≡ inside n c ls p
+    is ls new e = ap (leave (p.left - n)) e
+  inside_stop n c s t p (Stopped why) w = tt
+
+  -- ---- one more in a loop, of which `left` is left of the whole
+
+  pub loop_next : (s t u : T) (c d left whole : Walker) (p o : Place) (q : Cursor) → ((ls : List Line) → walk_both c d ls p ≡ left ls p)
+      → Comes takes s t left p whole o → Walks (Ok q) takes t u c p → Comes takes s u d (place_of q) whole o
+  loop_next s t u c d left whole p o q is inv w =
+      comes_on takes s t u d (place_of q) left p whole o inv (comes_as takes t u d (place_of q) (walk_both c d) p left p is (both_then takes c d t u p q w))
+
+  pub loop_stop : (s t u : T) (c d left whole : Walker) (p o : Place) (h : Halt) → ((ls : List Line) → walk_both c d ls p ≡ left ls p)
+      → Comes takes s t left p whole o → Walks (Err h) takes t u c p → Walks (Err h) takes s u whole o
+  loop_stop s t u c d left whole p o h is inv w =
+      then_walks takes (Err h) s t u left p whole o inv (walks_as takes (Err h) t u (walk_both c d) p left p is (both_stop takes c d t u p h w))
+
+  pub loop_end : (s t : T) (left whole : Walker) (q : Cursor) (o : Place) → ((ls : List Line) → stay ls (place_of q) ≡ left ls (place_of q))
+      → Comes takes s t left (place_of q) whole o → Walks (Ok q) takes s t whole o
+  loop_end s t left whole q o is inv =
+      then_walks takes (Ok q) s t t left (place_of q) whole o inv (walks_as takes (Ok q) t t stay (place_of q) left (place_of q) is (stays takes t q))
 
 -- ---- in a loop
 
@@ -150,18 +237,22 @@ fields_at xs i f total path s s' there ls p less is t b =
     ∙ ap (λ (k : ℕ). walk_both (a_field f total path i (is_there (need_of f.need) s)) (walk_fields (fields_of (drop (i + 1) xs)) total path k (bits_left (need_of f.need) s)) ls p) (add-one i)
     ∙ ap (λ (l : List Field). walk_fields (fields_of l) total path i s ls p) (sym (field_here xs i f less is))
 
-pub fields_next : (xs : List Field) (i : ℕ) (f : Field) (total : ℕ) (path : List Step) (s s' : List Bool) (there : Bool) (ls new : List Line) (p : Place) (q : Cursor) (whole : Walk) → i < length xs → f ≡ get_or xs i f → there ≡ is_there (need_of f.need) s → s' ≡ bits_left (need_of f.need) s
-    → fields_from xs total path i s ls p ≡ whole → Walks (Ok q) new (a_field f total path i there ls p) → fields_from xs total path (i + 1) s' new (place_of q) ≡ whole
-fields_next xs i f total path s s' there ls new p q whole less is t b inv e =
-    both_then (a_field f total path i there) (fields_from xs total path (i + 1) s') ls new p q e ∙ fields_at xs i f total path s s' there ls p less is t b ∙ inv
+module _ {T : Type 0} (takes : T → Line → T → Type 0) (xs : List Field) (i : ℕ) (total : ℕ) (path : List Step) (bits : List Bool) (s t : T) (whole : Walker) (o : Place) where
+  module _ (f : Field) (after : List Bool) (there : Bool) (u : T) (p : Place) (less : i < length xs) (is : f ≡ get_or xs i f)
+      (known : there ≡ is_there (need_of f.need) bits) (left : after ≡ bits_left (need_of f.need) bits)
+      (inv : Comes takes s t (fields_from xs total path i bits) p whole o) where
+    pub fields_next : (q : Cursor) → Walks (Ok q) takes t u (a_field f total path i there) p
+        → Comes takes s u (fields_from xs total path (i + 1) after) (place_of q) whole o
+    fields_next q w = loop_next takes s t u (a_field f total path i there) (fields_from xs total path (i + 1) after) (fields_from xs total path i bits) whole p o q
+        (λ ls. fields_at xs i f total path bits after there ls p less is known left) inv w
 
-pub fields_stop : (xs : List Field) (i : ℕ) (f : Field) (total : ℕ) (path : List Step) (s s' : List Bool) (there : Bool) (ls new : List Line) (p : Place) (h : Halt) (whole : Walk) → i < length xs → f ≡ get_or xs i f → there ≡ is_there (need_of f.need) s → s' ≡ bits_left (need_of f.need) s
-    → fields_from xs total path i s ls p ≡ whole → Walks (Err h) new (a_field f total path i there ls p) → Walks (Err h) new whole
-fields_stop xs i f total path s s' there ls new p h whole less is t b inv e =
-    by_walk (Err h) new _ _ (fields_at xs i f total path s s' there ls p less is t b ∙ inv) (both_stop (a_field f total path i there) (fields_from xs total path (i + 1) s') ls new p h e)
+    pub fields_stop : (h : Halt) → Walks (Err h) takes t u (a_field f total path i there) p → Walks (Err h) takes s u whole o
+    fields_stop h w = loop_stop takes s t u (a_field f total path i there) (fields_from xs total path (i + 1) after) (fields_from xs total path i bits) whole p o h
+        (λ ls. fields_at xs i f total path bits after there ls p less is known left) inv w
 
-pub fields_end : (xs : List Field) (i : ℕ) (total : ℕ) (path : List Step) (s : List Bool) (ls : List Line) (q : Cursor) (whole : Walk) → length xs ≤ i → fields_from xs total path i s ls (place_of q) ≡ whole → Walks (Ok q) ls whole
-fields_end xs i total path s ls q whole le inv = by_walk (Ok q) ls _ _ (ap (λ (l : List Field). walk_fields (fields_of l) total path i s ls (place_of q)) (sym (drop_all i xs le)) ∙ inv) (stays ls q)
+  pub fields_end : (q : Cursor) → length xs ≤ i → Comes takes s t (fields_from xs total path i bits) (place_of q) whole o → Walks (Ok q) takes s t whole o
+  fields_end q le inv = loop_end takes s t (fields_from xs total path i bits) whole q o
+      (λ ls. ap (λ (l : List Field). walk_fields (fields_of l) total path i bits ls (place_of q)) (sym (drop_all i xs le))) inv
 
 abbrev additions_from : List Addition → ℕ → List Step → ℕ → List Bool → Walker
 additions_from xs total path i s = walk_additions (additions_of (drop i xs)) total path i s
@@ -176,30 +267,42 @@ additions_at xs i a total path s s' there ls p less is t b =
     ∙ ap (λ (k : ℕ). walk_both (an_addition a total path i (first_bit s)) (walk_additions (additions_of (drop (i + 1) xs)) total path k (later_bits s)) ls p) (add-one i)
     ∙ ap (λ (l : List Addition). walk_additions (additions_of l) total path i s ls p) (sym (addition_here xs i a less is))
 
-pub additions_next : (xs : List Addition) (i : ℕ) (a : Addition) (total : ℕ) (path : List Step) (s s' : List Bool) (there : Bool) (ls new : List Line) (p : Place) (q : Cursor) (whole : Walk) → i < length xs → a ≡ get_or xs i a → there ≡ first_bit s → s' ≡ later_bits s
-    → additions_from xs total path i s ls p ≡ whole → Walks (Ok q) new (an_addition a total path i there ls p) → additions_from xs total path (i + 1) s' new (place_of q) ≡ whole
-additions_next xs i a total path s s' there ls new p q whole less is t b inv e =
-    both_then (an_addition a total path i there) (additions_from xs total path (i + 1) s') ls new p q e ∙ additions_at xs i a total path s s' there ls p less is t b ∙ inv
+module _ {T : Type 0} (takes : T → Line → T → Type 0) (xs : List Addition) (i : ℕ) (total : ℕ) (path : List Step) (bits : List Bool) (s t : T) (whole : Walker) (o : Place) where
+  module _ (a : Addition) (after : List Bool) (there : Bool) (u : T) (p : Place) (less : i < length xs) (is : a ≡ get_or xs i a)
+      (known : there ≡ first_bit bits) (left : after ≡ later_bits bits) (inv : Comes takes s t (additions_from xs total path i bits) p whole o) where
+    pub additions_next : (q : Cursor) → Walks (Ok q) takes t u (an_addition a total path i there) p
+        → Comes takes s u (additions_from xs total path (i + 1) after) (place_of q) whole o
+    additions_next q w = loop_next takes s t u (an_addition a total path i there) (additions_from xs total path (i + 1) after) (additions_from xs total path i bits) whole p o q
+        (λ ls. additions_at xs i a total path bits after there ls p less is known left) inv w
 
-pub additions_stop : (xs : List Addition) (i : ℕ) (a : Addition) (total : ℕ) (path : List Step) (s s' : List Bool) (there : Bool) (ls new : List Line) (p : Place) (h : Halt) (whole : Walk) → i < length xs → a ≡ get_or xs i a → there ≡ first_bit s → s' ≡ later_bits s
-    → additions_from xs total path i s ls p ≡ whole → Walks (Err h) new (an_addition a total path i there ls p) → Walks (Err h) new whole
-additions_stop xs i a total path s s' there ls new p h whole less is t b inv e =
-    by_walk (Err h) new _ _ (additions_at xs i a total path s s' there ls p less is t b ∙ inv) (both_stop (an_addition a total path i there) (additions_from xs total path (i + 1) s') ls new p h e)
+    pub additions_stop : (h : Halt) → Walks (Err h) takes t u (an_addition a total path i there) p → Walks (Err h) takes s u whole o
+    additions_stop h w = loop_stop takes s t u (an_addition a total path i there) (additions_from xs total path (i + 1) after) (additions_from xs total path i bits) whole p o h
+        (λ ls. additions_at xs i a total path bits after there ls p less is known left) inv w
 
-pub additions_end : (xs : List Addition) (i : ℕ) (total : ℕ) (path : List Step) (s : List Bool) (ls : List Line) (q : Cursor) (whole : Walk) → length xs ≤ i → additions_from xs total path i s ls (place_of q) ≡ whole → Walks (Ok q) ls whole
-additions_end xs i total path s ls q whole le inv = by_walk (Ok q) ls _ _ (ap (λ (l : List Addition). walk_additions (additions_of l) total path i s ls (place_of q)) (sym (drop_all i xs le)) ∙ inv) (stays ls q)
+  pub additions_end : (q : Cursor) → length xs ≤ i → Comes takes s t (additions_from xs total path i bits) (place_of q) whole o → Walks (Ok q) takes s t whole o
+  additions_end q le inv = loop_end takes s t (additions_from xs total path i bits) whole q o
+      (λ ls. ap (λ (l : List Addition). walk_additions (additions_of l) total path i bits ls (place_of q)) (sym (drop_all i xs le))) inv
+
+times_at : (c : ℕ → Walker) (n m i : ℕ) (ls : List Line) (p : Place) → n ≡ suc m → walk_both (c i) (walk_times c (i + 1) m) ls p ≡ walk_times c i n ls p
+times_at c n m i ls p is =
+    ap (λ (k : ℕ). walk_both (c i) (walk_times c k m) ls p) (add-one i) ∙ ap (λ (k : ℕ). walk_times c i k ls p) (sym is)
 
 -- n elements are left, of which the first has the number i
-pub times_next : (c : ℕ → Walker) (n m i : ℕ) (ls new : List Line) (p : Place) (q : Cursor) (whole : Walk) → n ≡ suc m → walk_times c i n ls p ≡ whole → Walks (Ok q) new (c i ls p) → walk_times c (i + 1) m new (place_of q) ≡ whole
-times_next c n m i ls new p q whole is inv e =
-    ap (λ (k : ℕ). walk_times c k m new (place_of q)) (add-one i) ∙ both_then (c i) (walk_times c (suc i) m) ls new p q e ∙ ap (λ (k : ℕ). walk_times c i k ls p) (sym is) ∙ inv
+module _ {T : Type 0} (takes : T → Line → T → Type 0) (c : ℕ → Walker) (n i : ℕ) (s t : T) (whole : Walker) (o : Place) where
+  pub times_next : (m : ℕ) (u : T) (p : Place) (q : Cursor) → n ≡ suc m → Comes takes s t (walk_times c i n) p whole o → Walks (Ok q) takes t u (c i) p
+      → Comes takes s u (walk_times c (i + 1) m) (place_of q) whole o
+  times_next m u p q is inv w = loop_next takes s t u (c i) (walk_times c (i + 1) m) (walk_times c i n) whole p o q (λ ls. times_at c n m i ls p is) inv w
 
-pub times_stop : (c : ℕ → Walker) (n m i : ℕ) (ls new : List Line) (p : Place) (h : Halt) (whole : Walk) → n ≡ suc m → walk_times c i n ls p ≡ whole → Walks (Err h) new (c i ls p) → Walks (Err h) new whole
-times_stop c n m i ls new p h whole is inv e =
-    by_walk (Err h) new _ _ (ap (λ (k : ℕ). walk_times c i k ls p) (sym is) ∙ inv) (both_stop (c i) (walk_times c (suc i) m) ls new p h e)
+  pub times_stop : (m : ℕ) (u : T) (p : Place) (h : Halt) → n ≡ suc m → Comes takes s t (walk_times c i n) p whole o → Walks (Err h) takes t u (c i) p
+      → Walks (Err h) takes s u whole o
+  times_stop m u p h is inv w = loop_stop takes s t u (c i) (walk_times c (i + 1) m) (walk_times c i n) whole p o h (λ ls. times_at c n m i ls p is) inv w
 
-pub times_end : (c : ℕ → Walker) (n i : ℕ) (ls : List Line) (q : Cursor) (whole : Walk) → n ≡ 0 → walk_times c i n ls (place_of q) ≡ whole → Walks (Ok q) ls whole
-times_end c n i ls q whole is inv = by_walk (Ok q) ls _ _ (ap (λ (k : ℕ). walk_times c i k ls (place_of q)) (sym is) ∙ inv) (stays ls q)
+  pub times_end : (q : Cursor) → n ≡ 0 → Comes takes s t (walk_times c i n) (place_of q) whole o → Walks (Ok q) takes s t whole o
+  times_end q is inv = loop_end takes s t (walk_times c i n) whole q o (λ ls. ap (λ (k : ℕ). walk_times c i k ls (place_of q)) (sym is)) inv
+
+pub times_start : {T : Type 0} (takes : T → Line → T → Type 0) (s : T) (c : ℕ → Walker) (n : ℕ) (p : Place)
+    → Comes takes s s (walk_times c 0 (n - 0)) p (walk_times c 0 n) p
+times_start takes s c n p = let e : n - 0 ≡ n = omega arith in here takes s (walk_times c 0 (n - 0)) p (walk_times c 0 n) p (λ ls. ap (λ (k : ℕ). walk_times c 0 k ls p) e)
 
 -- ---- alternatives
 
@@ -301,26 +404,34 @@ rest_from total path i s = walk_rest total path i (drop i s)
 one_more : (total : ℕ) (path : List Step) (i : ℕ) (s : List Bool) (ls : List Line) (p : Place) → walk_rest total path (i + 1) (drop (i + 1) s) ls p ≡ walk_rest total path (suc i) (later_bits (drop i s)) ls p
 one_more total path i s ls p = ap₂ (λ (k : ℕ) (r : List Bool). walk_rest total path k r ls p) (add-one i) (drop_next i s)
 
-pub unmarked_next : (total : ℕ) (path : List Step) (i : ℕ) (s : List Bool) (ls : List Line) (p : Place) (whole : Walk) → first_bit (drop i s) ≡ false → rest_from total path i s ls p ≡ whole → rest_from total path (i + 1) s ls p ≡ whole
-unmarked_next total path i s ls p whole e inv = one_more total path i s ls p ∙ rest_unmarked total path i (drop i s) ls p e ∙ inv
+module _ {T : Type 0} (takes : T → Line → T → Type 0) (total : ℕ) (path : List Step) (i : ℕ) (bits : List Bool) (s t : T) (whole : Walker) (o : Place) where
+  pub unmarked_next : (p : Place) → first_bit (drop i bits) ≡ false → Comes takes s t (rest_from total path i bits) p whole o
+      → Comes takes s t (rest_from total path (i + 1) bits) p whole o
+  unmarked_next p e inv = comes_on takes s t t (rest_from total path (i + 1) bits) p (rest_from total path i bits) p whole o inv
+      (here takes t (rest_from total path (i + 1) bits) p (rest_from total path i bits) p
+      (λ ls. one_more total path i bits ls p ∙ rest_unmarked total path i (drop i bits) ls p e))
 
-pub marked_next : (total : ℕ) (path : List Step) (i : ℕ) (s : List Bool) (ls new : List Line) (p : Place) (q : Cursor) (whole : Walk) → first_bit (drop i s) ≡ true → rest_from total path i s ls p ≡ whole → Walks (Ok q) new (walk_unknown total (path ++ (to_addition i ∷ [])) ls p) → rest_from total path (i + 1) s new (place_of q) ≡ whole
-marked_next total path i s ls new p q whole e inv h =
-    one_more total path i s new (place_of q)
-    ∙ both_then (walk_unknown total (path ++ (to_addition i ∷ []))) (walk_rest total path (suc i) (later_bits (drop i s))) ls new p q h
-    ∙ rest_marked total path i (drop i s) ls p e ∙ inv
+  marked_at : (ls : List Line) (p : Place) → first_bit (drop i bits) ≡ true
+      → walk_both (walk_unknown total (path ++ (to_addition i ∷ []))) (rest_from total path (i + 1) bits) ls p ≡ rest_from total path i bits ls p
+  marked_at ls p e =
+      ap₂ (λ (k : ℕ) (r : List Bool). walk_both (walk_unknown total (path ++ (to_addition i ∷ []))) (walk_rest total path k r) ls p) (add-one i) (drop_next i bits)
+      ∙ rest_marked total path i (drop i bits) ls p e
 
-pub marked_stop : (total : ℕ) (path : List Step) (i : ℕ) (s : List Bool) (ls new : List Line) (p : Place) (h : Halt) (whole : Walk) → first_bit (drop i s) ≡ true → rest_from total path i s ls p ≡ whole → Walks (Err h) new (walk_unknown total (path ++ (to_addition i ∷ [])) ls p) → Walks (Err h) new whole
-marked_stop total path i s ls new p h whole e inv k =
-    by_walk (Err h) new _ _ (rest_marked total path i (drop i s) ls p e ∙ inv) (both_stop (walk_unknown total (path ++ (to_addition i ∷ []))) (walk_rest total path (suc i) (later_bits (drop i s))) ls new p h k)
+  pub marked_next : (u : T) (p : Place) (q : Cursor) → first_bit (drop i bits) ≡ true → Comes takes s t (rest_from total path i bits) p whole o
+      → Walks (Ok q) takes t u (walk_unknown total (path ++ (to_addition i ∷ []))) p → Comes takes s u (rest_from total path (i + 1) bits) (place_of q) whole o
+  marked_next u p q e inv w = loop_next takes s t u (walk_unknown total (path ++ (to_addition i ∷ []))) (rest_from total path (i + 1) bits) (rest_from total path i bits) whole p o q
+      (λ ls. marked_at ls p e) inv w
 
-pub marked_end : (total : ℕ) (path : List Step) (i : ℕ) (s : List Bool) (ls : List Line) (q : Cursor) (whole : Walk) → length s ≤ i → rest_from total path i s ls (place_of q) ≡ whole → Walks (Ok q) ls whole
-marked_end total path i s ls q whole le inv = by_walk (Ok q) ls _ _ (ap (λ (r : List Bool). walk_rest total path i r ls (place_of q)) (sym (drop_past i s le)) ∙ inv) (stays ls q)
+  pub marked_stop : (u : T) (p : Place) (h : Halt) → first_bit (drop i bits) ≡ true → Comes takes s t (rest_from total path i bits) p whole o
+      → Walks (Err h) takes t u (walk_unknown total (path ++ (to_addition i ∷ []))) p → Walks (Err h) takes s u whole o
+  marked_stop u p h e inv w = loop_stop takes s t u (walk_unknown total (path ++ (to_addition i ∷ []))) (rest_from total path (i + 1) bits) (rest_from total path i bits) whole p o h
+      (λ ls. marked_at ls p e) inv w
+
+  pub marked_end : (q : Cursor) → length bits ≤ i → Comes takes s t (rest_from total path i bits) (place_of q) whole o → Walks (Ok q) takes s t whole o
+  marked_end q le inv = loop_end takes s t (rest_from total path i bits) whole q o
+      (λ ls. ap (λ (r : List Bool). walk_rest total path i r ls (place_of q)) (sym (drop_past i bits le))) inv
 
 -- ---- the additions of a SEQUENCE
-
-pub extension_none : (more : Additions) (x : Bool) (total : ℕ) (path : List Step) (c : List Bool → Walker) (ls : List Line) (q : Cursor) → x ≡ false → Walks (Ok q) ls (walk_extension x more total path c ls (place_of q))
-extension_none more x total path c ls q is = by_walk (Ok q) ls _ _ (ap (λ (b : Bool). walk_extension b more total path c ls (place_of q)) (sym is)) (stays ls q)
 
 abbrev extended : List Addition → Spot → (List Bool → Walker) → List Bool → Walker
 extended xs spot c s = walk_both (c s) (walk_rest spot.total (path_in spot) (length xs) (drop (length xs) s))
@@ -328,64 +439,86 @@ extended xs spot c s = walk_both (c s) (walk_rest spot.total (path_in spot) (len
 abbrev seen : Map → List Bool × Bool
 seen y = (bits_in y.bits, y.is_canonical)
 
-extension_is : (xs : List Addition) (x : Bool) (spot : Spot) (c : List Bool → Walker) (ls : List Line) (p : Place) → x ≡ true → row spot.total (path_in spot) Bitmap (addition_map (length xs)) (λ y. extended xs spot c y.0) ls p ≡ walk_extension x (additions_of xs) spot.total (path_in spot) c ls p
+extension_is : (xs : List Addition) (x : Bool) (spot : Spot) (c : List Bool → Walker) (ls : List Line) (p : Place) → x ≡ true
+    → row spot.total (path_in spot) Bitmap (addition_map (length xs)) (λ y. extended xs spot c y.0) ls p
+    ≡ walk_extension x (additions_of xs) spot.total (path_in spot) c ls p
 extension_is xs x spot c ls p is =
     ap (λ (n : ℕ). row spot.total (path_in spot) Bitmap (addition_map n) (λ y. walk_both (c y.0) (walk_rest spot.total (path_in spot) n (drop n y.0))) ls p) (sym (count_is xs))
     ∙ ap (λ (b : Bool). walk_extension b (additions_of xs) spot.total (path_in spot) c ls p) (sym is)
 
-pub extension_then : (xs : List Addition) (x : Bool) (spot : Spot) (c : List Bool → Walker) (ls new : List Line) (p : Cursor) (q : Cursor) (answer : Result Map Stop) (y : Map) → x ≡ true
-    → outcome seen answer q ≡ addition_map (length xs) (place_of p) → ReadsRow spot Bitmap ls p q answer new (Ok y) → extended xs spot c (bits_in y.bits) new (place_of q) ≡ walk_extension x (additions_of xs) spot.total (path_in spot) c ls (place_of p)
-extension_then xs x spot c ls new p q answer y is e h =
-    taken_then seen spot Bitmap ls new p q answer y (addition_map (length xs)) (λ z. extended xs spot c z.0) e h ∙ extension_is xs x spot c ls (place_of p) is
+module _ {T : Type 0} (takes : T → Line → T → Type 0) where
+  pub extension_none : (more : Additions) (x : Bool) (total : ℕ) (path : List Step) (c : List Bool → Walker) (s : T) (q : Cursor) → x ≡ false
+      → Walks (Ok q) takes s s (walk_extension x more total path c) (place_of q)
+  extension_none more x total path c s q is =
+      same_walks takes (Ok q) s s _ _ (place_of q) (ap (λ (b : Bool). walk_extension b more total path c) (sym is)) (stays takes s q)
 
-pub extension_stop : (xs : List Addition) (x : Bool) (spot : Spot) (c : List Bool → Walker) (ls new : List Line) (p : Cursor) (q : Cursor) (answer : Result Map Stop) (h : Halt) → x ≡ true
-    → outcome seen answer q ≡ addition_map (length xs) (place_of p) → ReadsRow spot Bitmap ls p q answer new (Err h) → Walks (Err h) new (walk_extension x (additions_of xs) spot.total (path_in spot) c ls (place_of p))
-extension_stop xs x spot c ls new p q answer h is e k =
-    by_walk (Err h) new _ _ (extension_is xs x spot c ls (place_of p) is) (taken_stop seen spot Bitmap ls new p q answer h (addition_map (length xs)) (λ z. extended xs spot c z.0) e k)
+  module _ (xs : List Addition) (x : Bool) (spot : Spot) (c : List Bool → Walker) (s t : T) (p q : Cursor) (answer : Result Map Stop) (is : x ≡ true)
+      (e : outcome seen answer q ≡ addition_map (length xs) (place_of p)) where
+    pub extension_then : (y : Map) → ReadsRow takes spot Bitmap s p q answer t (Ok y)
+        → Comes takes s t (extended xs spot c (bits_in y.bits)) (place_of q) (walk_extension x (additions_of xs) spot.total (path_in spot) c) (place_of p)
+    extension_then y h = comes_as takes s t _ _ _ _ _ _ (λ ls. extension_is xs x spot c ls (place_of p) is)
+        (row_then takes seen spot Bitmap s t p q answer (addition_map (length xs)) (λ z. extended xs spot c z.0) e y h)
 
-pub times_start : (c : ℕ → Walker) (n : ℕ) (ls : List Line) (p : Place) → walk_times c 0 (n - 0) ls p ≡ walk_times c 0 n ls p
-times_start c n ls p = let e : n - 0 ≡ n = omega arith in ap (λ (k : ℕ). walk_times c 0 k ls p) e
+    pub extension_stop : (h : Halt) → ReadsRow takes spot Bitmap s p q answer t (Err h)
+        → Walks (Err h) takes s t (walk_extension x (additions_of xs) spot.total (path_in spot) c) (place_of p)
+    extension_stop h k = walks_as takes (Err h) s t _ _ _ _ (λ ls. extension_is xs x spot c ls (place_of p) is)
+        (row_stop takes seen spot Bitmap s t p q answer (addition_map (length xs)) (λ z. extended xs spot c z.0) e h k)
 
 -- ---- a SEQUENCE with an extension marker
 
 abbrev after_bits : Fields → Additions → Spot → List Bool → Walker
-after_bits fs more spot s = walk_both (walk_fields fs spot.total (path_in spot) 0 (later_bits s)) (walk_extension (first_bit s) more spot.total (path_in spot) (walk_additions more spot.total (path_in spot) 0))
+after_bits fs more spot s = walk_both (walk_fields fs spot.total (path_in spot) 0 (later_bits s))
+    (walk_extension (first_bit s) more spot.total (path_in spot) (walk_additions more spot.total (path_in spot) 0))
 
-module _ (fs : Fields) (more : Additions) (spot : Spot) (k : ℕ) (ls mid : List Line) (p : Cursor) (q : Cursor) (answer : Result Bits Stop) (many : k ≡ suc (optional fs)) (e : outcome bits_in answer q ≡ preamble k (place_of p)) where
+module _ {T : Type 0} (takes : T → Line → T → Type 0) (fs : Fields) (more : Additions) (spot : Spot) (k : ℕ) (s t : T) (p q : Cursor)
+    (answer : Result Bits Stop) (many : k ≡ suc (optional fs)) (e : outcome bits_in answer q ≡ preamble k (place_of p)) where
   read : outcome bits_in answer q ≡ preamble (suc (optional fs)) (place_of p)
   read = e ∙ ap (λ (i : ℕ). preamble i (place_of p)) many
 
-  pub bits_stop : (h : Halt) → ReadsRow spot Preamble ls p q answer mid (Err h) → Walks (Err h) mid (walk_value (extensible_sequence fs more) spot.total (path_in spot) ls (place_of p))
-  bits_stop h t = taken_stop bits_in spot Preamble ls mid p q answer h (preamble (suc (optional fs))) (after_bits fs more spot) read t
+  pub bits_stop : (h : Halt) → ReadsRow takes spot Preamble s p q answer t (Err h)
+      → Walks (Err h) takes s t (walk_value (extensible_sequence fs more) spot.total (path_in spot)) (place_of p)
+  bits_stop h r = row_stop takes bits_in spot Preamble s t p q answer (preamble (suc (optional fs))) (after_bits fs more spot) read h r
 
-  module _ (y : Bits) (t : ReadsRow spot Preamble ls p q answer mid (Ok y)) (s : List Bool) (later : s ≡ later_bits (bits_in y)) where
-    run : after_bits fs more spot (bits_in y) mid (place_of q) ≡ walk_value (extensible_sequence fs more) spot.total (path_in spot) ls (place_of p)
-    run = taken_then bits_in spot Preamble ls mid p q answer y (preamble (suc (optional fs))) (after_bits fs more spot) read t
+  module _ (y : Bits) (r : ReadsRow takes spot Preamble s p q answer t (Ok y)) (bits : List Bool) (later : bits ≡ later_bits (bits_in y)) where
+    run : Comes takes s t (after_bits fs more spot (bits_in y)) (place_of q) (walk_value (extensible_sequence fs more) spot.total (path_in spot)) (place_of p)
+    run = row_then takes bits_in spot Preamble s t p q answer (preamble (suc (optional fs))) (after_bits fs more spot) read y r
 
-    pub root_stop : (h : Halt) (new : List Line) → Walks (Err h) new (walk_fields fs spot.total (path_in spot) 0 s mid (place_of q)) → Walks (Err h) new (walk_value (extensible_sequence fs more) spot.total (path_in spot) ls (place_of p))
-    root_stop h new w =
-        by_walk (Err h) new _ _ run
-        (both_stop (walk_fields fs spot.total (path_in spot) 0 (later_bits (bits_in y))) _ mid new (place_of q) h (by_walk (Err h) new _ _ (ap (λ (l : List Bool). walk_fields fs spot.total (path_in spot) 0 l mid (place_of q)) later) w))
+    abbrev root : List Bool → Walker
+    root l = walk_fields fs spot.total (path_in spot) 0 l
 
-    pub root_then : (end : Cursor) (new last : List Line) (x : Bool) (result : Result Cursor Halt) → Walks (Ok end) new (walk_fields fs spot.total (path_in spot) 0 s mid (place_of q)) → x ≡ first_bit (bits_in y)
-        → Walks result last (walk_extension x more spot.total (path_in spot) (walk_additions more spot.total (path_in spot) 0) new (place_of end)) → Walks result last (walk_value (extensible_sequence fs more) spot.total (path_in spot) ls (place_of p))
-    root_then end new last x result w first v =
-        by_walk result last _ _
-        (ap (λ (b : Bool). walk_extension b more spot.total (path_in spot) (walk_additions more spot.total (path_in spot) 0) new (place_of end)) first
-        ∙ both_then (walk_fields fs spot.total (path_in spot) 0 (later_bits (bits_in y))) _ mid new (place_of q) end (by_walk (Ok end) new _ _ (ap (λ (l : List Bool). walk_fields fs spot.total (path_in spot) 0 l mid (place_of q)) later) w)
-        ∙ run)
-        v
+    abbrev others : Bool → Walker
+    others b = walk_extension b more spot.total (path_in spot) (walk_additions more spot.total (path_in spot) 0)
+
+    pub root_stop : (h : Halt) (u : T) → Walks (Err h) takes t u (root bits) (place_of q)
+        → Walks (Err h) takes s u (walk_value (extensible_sequence fs more) spot.total (path_in spot)) (place_of p)
+    root_stop h u w =
+        then_walks takes (Err h) s t u _ (place_of q) _ (place_of p) run
+        (both_stop takes (root (later_bits (bits_in y))) (others (first_bit (bits_in y))) t u (place_of q) h (same_walks takes (Err h) t u _ _ (place_of q) (ap root later) w))
+
+    pub root_then : (end : Cursor) (u v : T) (x : Bool) (result : Result Cursor Halt) → Walks (Ok end) takes t u (root bits) (place_of q) → x ≡ first_bit (bits_in y)
+        → Walks result takes u v (others x) (place_of end)
+        → Walks result takes s v (walk_value (extensible_sequence fs more) spot.total (path_in spot)) (place_of p)
+    root_then end u v x result w first z =
+        then_walks takes result s t v _ (place_of q) _ (place_of p) run
+        (then_walks takes result t u v _ (place_of end) _ (place_of q)
+        (both_then takes (root (later_bits (bits_in y))) (others (first_bit (bits_in y))) t u (place_of q) end (same_walks takes (Ok end) t u _ _ (place_of q) (ap root later) w))
+        (same_walks takes result u v _ _ (place_of end) (ap others first) z))
 
 -- ---- a CHOICE
 
-module _ (extensible : Bool) (more : Alternatives) (spot : Spot) (ls mid : List Line) (p : Cursor) (q : Cursor) (answer : Result Tag Stop) (e : outcome (λ x. x) answer q ≡ tag (place_of p)) where
-  pub tag_stop : (h : Halt) → ReadsRow spot TagRole ls p q answer mid (Err h) → Walks (Err h) mid (walk_value (choice extensible more) spot.total (path_in spot) ls (place_of p))
-  tag_stop h t = taken_stop (λ x. x) spot TagRole ls mid p q answer h tag (after_tag extensible more spot.total (path_in spot ++ (to_chosen ∷ []))) e t
+module _ {T : Type 0} (takes : T → Line → T → Type 0) (extensible : Bool) (more : Alternatives) (spot : Spot) (s t : T) (p q : Cursor)
+    (answer : Result Tag Stop) (e : outcome (λ x. x) answer q ≡ tag (place_of p)) where
+  pub tag_stop : (h : Halt) → ReadsRow takes spot TagRole s p q answer t (Err h)
+      → Walks (Err h) takes s t (walk_value (choice extensible more) spot.total (path_in spot)) (place_of p)
+  tag_stop h r = row_stop takes (λ x. x) spot TagRole s t p q answer tag (after_tag extensible more spot.total (path_in spot ++ (to_chosen ∷ []))) e h r
 
   -- c: what follows the tag, of an alternative
-  pub tag_then : (y : Tag) (inner : Spot) (c : ℕ → List Step → Walker) (result : Result Cursor Halt) (new : List Line) → ReadsRow spot TagRole ls p q answer mid (Ok y) → Reaches spot to_chosen (Ok inner)
-      → c spot.total (path_in spot ++ (to_chosen ∷ [])) ≡ after_tag extensible more spot.total (path_in spot ++ (to_chosen ∷ [])) y → Walks result new (c inner.total (path_in inner) mid (place_of q)) → Walks result new (walk_value (choice extensible more) spot.total (path_in spot) ls (place_of p))
-  tag_then y inner c result new t at_it is w =
-      by_walk result new _ _
-      (ap (λ (d : Walker). d mid (place_of q)) is ∙ taken_then (λ x. x) spot TagRole ls mid p q answer y tag (after_tag extensible more spot.total (path_in spot ++ (to_chosen ∷ []))) e t)
-      (at_inner c spot inner to_chosen result mid new (place_of q) at_it w)
+  pub tag_then : (y : Tag) (inner : Spot) (c : ℕ → List Step → Walker) (result : Result Cursor Halt) (u : T) → ReadsRow takes spot TagRole s p q answer t (Ok y)
+      → Reaches spot to_chosen (Ok inner)
+      → c spot.total (path_in spot ++ (to_chosen ∷ [])) ≡ after_tag extensible more spot.total (path_in spot ++ (to_chosen ∷ [])) y
+      → Walks result takes t u (c inner.total (path_in inner)) (place_of q)
+      → Walks result takes s u (walk_value (choice extensible more) spot.total (path_in spot)) (place_of p)
+  tag_then y inner c result u r at_it is w =
+      then_walks takes result s t u _ (place_of q) _ (place_of p)
+      (row_then takes (λ x. x) spot TagRole s t p q answer tag (after_tag extensible more spot.total (path_in spot ++ (to_chosen ∷ []))) e y r)
+      (same_walks takes result t u _ _ (place_of q) is (at_inner takes c spot inner to_chosen result t u (place_of q) at_it w))

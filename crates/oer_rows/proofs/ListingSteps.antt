@@ -1,5 +1,9 @@
 -- From a walk to what the caller of `rows` learns.
-use Rattle.std.proofs.Common.{◌≡◌, ℕ, ◌-◌, ◌≤◌, Bool, List, [], ◌++◌, length, drop, take, Result, Ok, Err, arith, refl, sym, ap, ◌∙◌, subst, length-append, length-drop, take_at}
+use Rattle.std.proofs.Common.{◌≡◌, ℕ, ◌-◌, ◌≤◌, Bool, List, [], ◌++◌, ◌+◌, ◌∷◌, ap₂, append-nil, length, drop, drop-drop, drop_at, map, take, Result, Ok, Err, arith, refl, sym, ap, ◌∙◌, subst, length-append, length-drop, take_at}
+use Rattle.std.proofs.lemmas.List.{append_assoc}
+use Rattle.std.specs.List.{FoldsTo}
+use Rattle.oer_rows.specs.declared.keep.Kept.{Kept}
+use Rattle.oer_rows.specs.declared.row.Row.{Row}
 use Rattle.oer_units.specs.declared.fault.ReadFault.{ReadFault}
 use Rattle.oer_units.specs.Reader.{Outcome, Place, at, got, refused}
 use Rattle.oer_model.specs.AsnType.{AsnType}
@@ -9,18 +13,27 @@ use Rattle.oer_model.specs.Fits.{DefaultsFit}
 use Rattle.oer_checker.specs.Check.{Answers, Tells, most}
 use Rattle.oer_rows.specs.Lines.{AreLines}
 use Rattle.oer_rows.specs.Listing.{AreListed, Cover, Covers, lines_in, rows_of}
-use Rattle.oer_rows.specs.Rows.{Line, Walk, Walks, halted, walk_value, went}
+use Rattle.oer_rows.specs.Rows.{Line, Walk, Walker, Walks, again, halted, line, lines_of, stay, stuck, walk_value, went}
 use Rattle.oer_checker.specs.declared.cursor.Cursor.{Cursor}
 use Rattle.oer_rows.specs.declared.row.Halt.TheVariants.{Refused}
 use Rattle.oer_checker.specs.declared.verdict.Verdict.{Verdict}
 use Rattle.oer_rows.proofs.LineForms.{value_yields}
 use Rattle.oer_rows.proofs.LineLaws.{Agree, value_agrees}
 
-pub went_lines : (q : Cursor) (ls : List Line) (walk : Walk) → Walks (Ok q) ls walk → ls ≡ lines_in walk
-went_lines q ls walk e = sym (ap lines_in e)
+-- The taker took the lines of the whole walk.
+pub went_lines : {T : Type 0} (takes : T → Line → T → Type 0) (q : Cursor) (s t : T) (c : Walker) (p : Place)
+    → Walks (Ok q) takes s t c p → FoldsTo takes s (lines_in (c [] p)) t
+unfolding stay
+went_lines takes q s t c p h =
+    let x = h.by [] in
+    subst (λ (l : List Line). FoldsTo takes s l t) (sym x.1.is ∙ ap lines_in x.2) x.1.each
 
-pub halted_lines : (ls : List Line) (walk : Walk) → Walks (Err Refused) ls walk → ls ≡ lines_in walk
-halted_lines ls walk e = sym (ap lines_in e)
+pub halted_lines : {T : Type 0} (takes : T → Line → T → Type 0) (s t : T) (c : Walker) (p : Place)
+    → Walks (Err Refused) takes s t c p → FoldsTo takes s (lines_in (c [] p)) t
+unfolding stuck
+halted_lines takes s t c p (q, h) =
+    let x = h.by [] in
+    subst (λ (l : List Line). FoldsTo takes s l t) (sym x.1.is ∙ ap lines_in x.2) x.1.each
 
 covers_by : (octets : List ℕ) (o : Outcome Bool) (w : Walk) (verdict : Result Verdict ReadFault) → Agree (length octets) [] (at octets most) o w
     → ((v : Verdict) → verdict ≡ Ok v → o ≡ got v.canonical (at (drop v.octets octets) (most - v.octets)))
@@ -83,3 +96,41 @@ listing_listed T wf d octets verdict ls e told is =
           (let split = told.2 in let long = told.3 in let z : u.octets ≤ length octets = omega (arith, long, ap length split, length-append told.0 told.1) in subst (λ (w : Verdict). w.octets ≤ length octets) same z),
         )
     good (Err u) e told v is = absurd (cc)
+
+-- ---- rows that are kept
+
+again_all : (whole octets : List ℕ) (k : ℕ) (ls : List Line) (rest : List ℕ) → octets ≡ drop k whole → k ≤ length whole
+    → Cover (length whole) octets ls rest → map (again whole) ls ≡ ls
+again_all whole octets k [] rest is le h = refl
+again_all whole octets k (line offset path role b ∷ ls) rest is le (more, split, at_it, h) =
+    let long : length octets ≡ length whole - k = ap length is ∙ length-drop k whole in
+    let here : offset ≡ k = omega (arith, at_it, long, le) in
+    let parts : length octets ≡ length b + length more = ap length split ∙ length-append b more in
+    let own : take (length b) (drop offset whole) ≡ b =
+    ap (λ n. take (length b) (drop n whole)) here ∙ ap (take (length b)) (sym is ∙ split) ∙ take_at b more (length b) refl in
+    let next : more ≡ drop (k + length b) whole = sym (ap (drop (length b)) split ∙ drop_at b more (length b) refl)
+    ∙ ap (drop (length b)) is ∙ drop-drop (length b) k whole in
+    ap₂ (λ (l : Line) (xs : List Line). l ∷ xs) (ap (line offset path role) own)
+    (again_all whole more (k + length b) ls rest next (omega (arith, parts, long, le)) h)
+
+pub kept_all : (octets : List ℕ) (verdict : Result Verdict ReadFault) (ls : List Line) → Covers octets ls verdict → map (again octets) ls ≡ ls
+kept_all octets (Ok v) ls h = again_all octets octets 0 ls (drop v.octets octets) refl (omega arith) h
+kept_all octets (Err e) ls h = again_all octets octets 0 ls h.0 refl (omega arith) h.1
+
+-- rows that were taken one after another
+pub kept_lines : (ls : List Line) (s t : Kept)
+    → FoldsTo (λ p l q. (q.octets.now ≡ p.octets.now) × (lines_of q.rows.items ≡ lines_of p.rows.items ++ (again p.octets.now l ∷ []))) s ls t
+    → lines_of t.rows.items ≡ lines_of s.rows.items ++ map (again s.octets.now) ls
+kept_lines [] s t is = ap (λ (k : Kept). lines_of k.rows.items) (sym is) ∙ sym (append-nil (lines_of s.rows.items))
+kept_lines (l ∷ ls) s t (j, (same, one), more) =
+    kept_lines ls j t more
+    ∙ ap₂ (λ (a : List Line) (o : List ℕ). a ++ map (again o) ls) one same
+    ∙ append_assoc (lines_of s.rows.items) (again s.octets.now l ∷ []) (map (again s.octets.now) ls)
+
+pub kept_rows : (rows : List Line) (octets : List ℕ) (verdict : Result Verdict ReadFault) (s t : Kept) → s.rows.items ≡ [] → s.octets.now ≡ octets
+    → FoldsTo (λ p l q. (q.octets.now ≡ p.octets.now) × (lines_of q.rows.items ≡ lines_of p.rows.items ++ (again p.octets.now l ∷ []))) s rows t
+    → Covers octets rows verdict → lines_of t.rows.items ≡ rows
+kept_rows rows octets verdict s t none own h covers =
+    kept_lines rows s t h
+    ∙ ap₂ (λ (r : List Row) (o : List ℕ). lines_of r ++ map (again o) rows) none own
+    ∙ kept_all octets verdict rows covers

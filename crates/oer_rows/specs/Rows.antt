@@ -1,5 +1,6 @@
 -- Rows of octets: the plain function that walks through them.
-use Rattle.std.specs.Prelude.{◌≡◌, ℕ, zero, suc, ◌-◌, List, [], ◌∷◌, ◌++◌, length, drop, map, Bool, true, false, Result, Ok, Err, Vec}
+use Rattle.std.specs.Prelude.{◌≡◌, ℕ, zero, suc, ◌-◌, List, [], ◌∷◌, ◌++◌, length, drop, take, map, Bool, true, false, Result, Ok, Err, Vec}
+use Rattle.std.specs.List.{FoldsTo}
 use Rattle.std.specs.declared.alloc.Global.{Global}
 use Rattle.oer_units.specs.Reader.{Outcome, Place, Reader, at, got, group, refused}
 use Rattle.oer_units.specs.Reading.{tag}
@@ -16,10 +17,11 @@ use Rattle.oer_checker.specs.Steps.{addition_map, between, sized_length, sized_q
 use Rattle.oer_parts.specs.Walk.{path_of}
 use Rattle.oer_checker.specs.declared.cursor.Cursor.{Cursor}
 use Rattle.oer_rows.specs.declared.row.Halt.{Halt}
-use Rattle.oer_rows.specs.declared.row.Halt.TheVariants.{Refused, Memory}
+use Rattle.oer_rows.specs.declared.row.Halt.TheVariants.{Refused, Stopped}
 use Rattle.oer_rows.specs.declared.row.Role.{Role}
 use Rattle.oer_rows.specs.declared.row.Role.TheVariants.{Preamble, Bitmap, Quantity, Tag as TagRole, Length, Contents, Unknown}
 use Rattle.oer_rows.specs.declared.row.Row.{Row}
+use Rattle.oer_rows.specs.declared.row.RowRef.{RowRef}
 use Rattle.oer_rows.specs.declared.spot.Spot.{Spot}
 use Rattle.oer_parts.specs.declared.step.Step as rust_step
 use Rattle.oer_checker.specs.declared.stop.Stop.{Stop}
@@ -166,34 +168,52 @@ path_in spot = path_of spot.path.items
 abbrev pub walk_later : Alternatives → ℕ → List Step → Tag → Walker
 walk_later more total path t = walk_choose (has_tag t more) (walk_alternative more total path t) (walk_unknown total path)
 
--- where a walk of the program is, with the rows that it has made; nothing is said where an allocation fails
-abbrev pub Walks : Result Cursor Halt → List Line → Walk → Type 0
-Walks (Ok q) ls walk = walk ≡ went ls (place_of q)
-Walks (Err Refused) ls walk = walk ≡ halted ls
-Walks (Err Memory) ls walk = Unit {0}
+-- a row that is handed over
+abbrev pub line_in : RowRef → Line
+line_in r = line r.offset (path_of r.path.now) r.role r.octets.now
+
+-- the line with its octets read again, from where it says that they stand
+abbrev pub again : List ℕ → Line → Line
+again octets (line offset path role b) = line offset path role (take (length b) (drop offset octets))
+
+-- The taker came from s to t by taking the lines that `new` has behind `old`.
+pub record Took {T : Type 0} (takes : T → Line → T → Type 0) (s t : T) (old new : List Line) : Type 0 where
+  pub lines : List Line
+  pub is : new ≡ old ++ lines
+  pub each : FoldsTo takes s lines t
+
+-- From s to t the taker took lines of the walk c from p, of which d from q is left.
+pub record Comes {T : Type 0} (takes : T → Line → T → Type 0) (s t : T) (d : Walker) (q : Place) (c : Walker) (p : Place) : Type 0 where
+  pub by : (ls : List Line) → (new : List Line) × Took takes s t ls new × (d new q ≡ c ls p)
+
+-- The program went the whole walk c from p, and the taker took its lines; nothing is said where a row isn't taken.
+abbrev pub Walks : {T : Type 0} → Result Cursor Halt → (T → Line → T → Type 0) → T → T → Walker → Place → Type 0
+Walks (Ok q) takes s t c p = Comes takes s t stay (place_of q) c p
+Walks (Err Refused) takes s t c p = (q : Place) × Comes takes s t stuck q c p
+Walks (Err (Stopped why)) takes s t c p = Unit {0}
 
 -- the same path, unless an allocation fails
 abbrev pub Copies : List rust_step.Step → Result (Vec rust_step.Step Global) Halt → Type 0
 Copies path (Ok v) = v.items ≡ path
 Copies path (Err Refused) = ⊥
-Copies path (Err Memory) = Unit {0}
+Copies path (Err (Stopped why)) = Unit {0}
 
 -- the part to which the step leads, unless an allocation fails
 abbrev pub Reaches : Spot → Step → Result Spot Halt → Type 0
 Reaches spot step (Ok inner) = (inner.total ≡ spot.total) × (path_in inner ≡ path_in spot ++ (step ∷ []))
 Reaches spot step (Err Refused) = ⊥
-Reaches spot step (Err Memory) = Unit {0}
+Reaches spot step (Err (Stopped why)) = Unit {0}
 
--- a line of the octets from one cursor to another was added
-abbrev pub Adds : {A : Type 0} → Spot → Role → List Line → Cursor → Cursor → List Line → Result A Halt → Type 0
-Adds spot role ls p q new (Ok u) = new ≡ ls ++ (line_at spot.total (path_in spot) role (place_of p) (place_of q) ∷ [])
-Adds spot role ls p q new (Err Refused) = ⊥
-Adds spot role ls p q new (Err Memory) = Unit {0}
+-- a line of the octets from one cursor to another was taken
+abbrev pub Adds : {A T : Type 0} → (T → Line → T → Type 0) → Spot → Role → T → Cursor → Cursor → T → Result A Halt → Type 0
+Adds takes spot role s p q t (Ok u) = takes s (line_at spot.total (path_in spot) role (place_of p) (place_of q)) t
+Adds takes spot role s p q t (Err Refused) = ⊥
+Adds takes spot role s p q t (Err (Stopped why)) = Unit {0}
 
--- what was read, after a line of its octets was added
-abbrev pub ReadsRow : {A : Type 0} → Spot → Role → List Line → Cursor → Cursor → Result A Stop → List Line
+-- what was read, after a line of its octets was taken
+abbrev pub ReadsRow : {A T : Type 0} → (T → Line → T → Type 0) → Spot → Role → T → Cursor → Cursor → Result A Stop → T
     → Result A Halt → Type 0
-ReadsRow spot role ls p q answer new (Ok y) = (answer ≡ Ok y)
-    × (new ≡ ls ++ (line_at spot.total (path_in spot) role (place_of p) (place_of q) ∷ []))
-ReadsRow spot role ls p q answer new (Err Refused) = ((stop : Stop) × (answer ≡ Err stop)) × (new ≡ ls)
-ReadsRow spot role ls p q answer new (Err Memory) = Unit {0}
+ReadsRow takes spot role s p q answer t (Ok y) = (answer ≡ Ok y)
+    × takes s (line_at spot.total (path_in spot) role (place_of p) (place_of q)) t
+ReadsRow takes spot role s p q answer t (Err Refused) = ((stop : Stop) × (answer ≡ Err stop)) × (t ≡ s)
+ReadsRow takes spot role s p q answer t (Err (Stopped why)) = Unit {0}

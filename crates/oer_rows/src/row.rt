@@ -3,6 +3,7 @@
 use oer_checker::Verdict;
 use oer_parts::Step;
 use oer_units::ReadFault;
+use std::alloc::AllocError;
 
 /// What the octets of a row are.
 #[derive(Clone, Copy, Debug, PartialEq, Eq)]
@@ -37,6 +38,34 @@ pub struct Row<'a> {
     pub role: Role,
 }
 
+/// A row that is being handed over, with octets and a path that are lent for that time.
+#[derive(Clone, Copy)]
+pub struct RowRef<'r> {
+    /// How many octets are before them.
+    pub offset: usize,
+    /// The octets, which may be none.
+    pub octets: &'r [u8],
+    /// The path to the part of which they are a piece.
+    pub path: &'r [Step],
+    /// What they are.
+    pub role: Role,
+}
+
+/// Why no more rows are taken.
+#[derive(Clone, Copy, Debug, PartialEq, Eq)]
+pub enum Stopped {
+    /// An allocation failed.
+    Memory,
+    /// What takes them hands them on, and there they are not taken, as where output fails.
+    Output,
+}
+
+impl From<AllocError> for Stopped {
+    fn from(_: AllocError) -> Stopped {
+        Stopped::Memory
+    }
+}
+
 /// What octets are, row by row.
 #[derive(Drop)]
 pub struct Listing<'a> {
@@ -51,6 +80,6 @@ pub struct Listing<'a> {
 pub(crate) enum Halt {
     /// They are rejected.
     Refused,
-    /// An allocation failed.
-    Memory,
+    /// No more rows are taken.
+    Stopped(Stopped),
 }

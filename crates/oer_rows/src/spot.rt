@@ -1,9 +1,10 @@
-//! Where a walk through octets is, and the rows that it adds.
+//! Where a walk through octets is, and the rows that it hands over.
 ghost use Rattle.std.specs.Prelude.{◌≡◌};
-ghost use Rattle.oer_rows.specs.Rows.{Adds, Copies, Reaches, ReadsRow, lines_of};
+ghost use Rattle.oer_rows.specs.Rows.{Adds, Copies, Reaches, ReadsRow};
 ghost use Rattle.oer_parts.specs.Walk.{step_of};
 
-use crate::row::{Halt, Role, Row};
+use crate::row::{Halt, Role, RowRef, Stopped};
+use crate::taker::TakeRow;
 use oer_checker::readers::{Cursor, Stop, octets_between};
 use oer_parts::Step;
 use std::alloc::Global;
@@ -24,7 +25,7 @@ impl Spot {
         let mut path = Vec::new(self.alloc);
         match path.extend_from_slice(&self.path) {
             Ok(()) => Ok(path),
-            Err(_) => Err(Halt::Memory),
+            Err(_) => Err(Halt::Stopped(Stopped::Memory)),
         }
     }
 
@@ -34,7 +35,7 @@ impl Spot {
     {
         let mut path = self.copied()?;
         if path.push(step).is_err() {
-            return Err(Halt::Memory);
+            return Err(Halt::Stopped(Stopped::Memory));
         }
         Ok(Spot {
             alloc: self.alloc,
@@ -43,44 +44,43 @@ impl Spot {
         })
     }
 
-    // Adds a row of the octets from one cursor to another.
-    fn add<'a>(
+    // Hands over a row of the octets from one cursor to another.
+    fn add<'a, T: TakeRow>(
         &self,
         role: Role,
-        rows: &mut Vec<Row<'a>>,
+        taker: &mut T,
         from: Cursor<'a>,
         to: Cursor<'a>,
     ) -> Result<(), Halt>
-        ensures { Adds self.now role (lines_of rows.old.items) from.entry to.entry (lines_of rows.new.items) result }
+        ensures { Adds T.takes self.now role taker.old from.entry to.entry taker.new result }
     {
-        let path = self.copied()?;
-        let row = Row {
+        let row = RowRef {
             offset: self.total.saturating_sub(from.rest.len()),
             octets: octets_between(from, to),
-            path,
+            path: self.path.as_slice(),
             role,
         };
-        match rows.push(row) {
+        match taker.take(row) {
             Ok(()) => Ok(()),
-            Err(_) => Err(Halt::Memory),
+            Err(stopped) => Err(Halt::Stopped(stopped)),
         }
     }
 
-    /// What was read from one cursor to another, and a row of the octets between them.
-    pub(crate) fn taken<'a, T: Copy>(
+    /// What was read from one cursor to another, once a row of the octets between them is taken.
+    pub(crate) fn taken<'a, A: Copy, T: TakeRow>(
         &self,
         role: Role,
-        rows: &mut Vec<Row<'a>>,
+        taker: &mut T,
         from: Cursor<'a>,
         to: Cursor<'a>,
-        answer: Result<T, Stop>,
-    ) -> Result<T, Halt>
-        ensures { ReadsRow self.now role (lines_of rows.old.items) from.entry to.entry answer (lines_of rows.new.items) result }
+        answer: Result<A, Stop>,
+    ) -> Result<A, Halt>
+        ensures { ReadsRow T.takes self.now role taker.old from.entry to.entry answer taker.new result }
     {
         let Ok(value) = answer else {
             return Err(Halt::Refused);
         };
-        self.add(role, rows, from, to)?;
+        self.add(role, taker, from, to)?;
         Ok(value)
     }
 }

@@ -6,9 +6,7 @@ use Rattle.oer_dump_cmd.proofs.as_json.push_object.Goals as goal
 
 pub returns : goal.returns
 returns c =
-    let names = same_part (λ x. codes ",\"names\":" ++ quoted x) _ _ _ _ c.as_str.ensures.value c.in_ok-push_text-2.ensures in
-    let path = same_part (λ x. codes ",\"path\":" ++ quoted x) _ _ _ _ c.as_str-2.ensures.value c.in_ok-push_text-3.ensures in
     let role = same_part (λ x. codes ",\"role\":" ++ quoted x) _ _ _ _ c.role.ensures c.in_ok-push_text-4.ensures in
     pushed c.push_str-3.result _ _ _ _ c.push_str-3.ensures.bytes (λ h. object_pushed c.args.entry.now _ _ _ _ _ _ _ _ _ _ _ _ _ _ c.in_ok-push_opening.ensures c.in_ok-push_number.ensures
-    c.in_ok-push_default.ensures c.in_ok-push_text.ensures names c.in_ok-push_str.ensures.bytes c.in_ok-push_octets.ensures c.in_ok-push_number-2.ensures path role c.in_ok-push_str-2.ensures.bytes
+    c.in_ok-push_default.ensures c.in_ok-push_text.ensures c.in_ok-push_text-2.ensures c.in_ok-push_str.ensures.bytes c.in_ok-push_octets.ensures c.in_ok-push_number-2.ensures c.in_ok-push_text-3.ensures role c.in_ok-push_str-2.ensures.bytes
     c.in_ok-push_value.ensures h)

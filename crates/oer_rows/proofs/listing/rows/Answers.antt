@@ -1,49 +1,25 @@
-use Rattle.std.proofs.Common.{◌≡◌, rules, ap, subst}
-use Rattle.oer_model.specs.Constraints.{KeepsLimits}
-use Rattle.oer_model.specs.Fits.{DefaultsFit}
+use Rattle.std.proofs.Common.{◌≡◌, List, refl, subst, sym}
 use Rattle.oer_types.specs.Schema.{the_type}
-use Rattle.oer_values.specs.ShapeView.{type_of}
-use Rattle.oer_rows.specs.Listing.{rows_of}
-use Rattle.oer_rows.specs.Rows.{lines_of}
-use Rattle.oer_rows.proofs.ListingSteps.{listing_covers, listing_listed}
+use Rattle.oer_rows.specs.Listing.{AreListed, Covers, rows_of}
+use Rattle.oer_rows.specs.Rows.{Line, lines_of}
+use Rattle.oer_rows.proofs.ListingSteps.{kept_rows}
 use Rattle.oer_rows.proofs.listing.rows.Goals as goal
 
-pub returns-in-Ok-clause-listed : goal.returns-in-Ok-clause-listed
-returns-in-Ok-clause-listed c =
-    let T = the_type c.args.schema.now in
-    let input = c.args.octets.now in
-    let same = ap type_of c.shape.ensures.same in
-    let wf : KeepsLimits T = subst KeepsLimits same c.shape.ensures.limits in
-    let fit : DefaultsFit T = subst DefaultsFit same c.shape.ensures.defaults in
-    let is : lines_of c.list_shape.new.rows.items ≡ rows_of T input = search rules in
-    listing_listed T wf fit input c.check-verdict.result _ c.check-verdict.ensures.exact c.check-verdict.ensures.told is
+pub returns-clause-rows : goal.returns-clause-rows
+returns-clause-rows c =
+    kept_rows (rows_of (the_type c.args.schema.now) c.args.octets.now) c.args.octets.now c.in-Ok.verdict _ _ c.new.ensures.items refl
+    c.in-Ok.ensures.rows c.in-Ok.ensures.covers
 
-pub returns-in-Ok-clause-covers : goal.returns-in-Ok-clause-covers
-returns-in-Ok-clause-covers c =
-    let T = the_type c.args.schema.now in
-    let input = c.args.octets.now in
-    let same = ap type_of c.shape.ensures.same in
-    let wf : KeepsLimits T = subst KeepsLimits same c.shape.ensures.limits in
-    let fit : DefaultsFit T = subst DefaultsFit same c.shape.ensures.defaults in
-    let is : lines_of c.list_shape.new.rows.items ≡ rows_of T input = search rules in
-    listing_covers T wf fit input c.check-verdict.result _ c.check-verdict.ensures.exact is
+pub returns-clause-listed : goal.returns-clause-listed
+returns-clause-listed c =
+    let is : lines_of c.each_row.new.taker.rows.items ≡ rows_of (the_type c.args.schema.now) c.args.octets.now =
+    kept_rows (rows_of (the_type c.args.schema.now) c.args.octets.now) c.args.octets.now c.in-Ok.verdict _ _ c.new.ensures.items refl
+    c.in-Ok.ensures.rows c.in-Ok.ensures.covers in
+    subst (λ (l : List Line). AreListed (the_type c.args.schema.now) c.args.octets.now l c.in-Ok.verdict) (sym is) c.in-Ok.ensures.listed
 
-pub returns-in-Err-Refused-clause-listed : goal.returns-in-Err-Refused-clause-listed
-returns-in-Err-Refused-clause-listed c =
-    let T = the_type c.args.schema.now in
-    let input = c.args.octets.now in
-    let same = ap type_of c.shape.ensures.same in
-    let wf : KeepsLimits T = subst KeepsLimits same c.shape.ensures.limits in
-    let fit : DefaultsFit T = subst DefaultsFit same c.shape.ensures.defaults in
-    let is : lines_of c.list_shape.new.rows.items ≡ rows_of T input = search rules in
-    listing_listed T wf fit input c.check-verdict.result _ c.check-verdict.ensures.exact c.check-verdict.ensures.told is
-
-pub returns-in-Err-Refused-clause-covers : goal.returns-in-Err-Refused-clause-covers
-returns-in-Err-Refused-clause-covers c =
-    let T = the_type c.args.schema.now in
-    let input = c.args.octets.now in
-    let same = ap type_of c.shape.ensures.same in
-    let wf : KeepsLimits T = subst KeepsLimits same c.shape.ensures.limits in
-    let fit : DefaultsFit T = subst DefaultsFit same c.shape.ensures.defaults in
-    let is : lines_of c.list_shape.new.rows.items ≡ rows_of T input = search rules in
-    listing_covers T wf fit input c.check-verdict.result _ c.check-verdict.ensures.exact is
+pub returns-clause-covers : goal.returns-clause-covers
+returns-clause-covers c =
+    let is : lines_of c.each_row.new.taker.rows.items ≡ rows_of (the_type c.args.schema.now) c.args.octets.now =
+    kept_rows (rows_of (the_type c.args.schema.now) c.args.octets.now) c.args.octets.now c.in-Ok.verdict _ _ c.new.ensures.items refl
+    c.in-Ok.ensures.rows c.in-Ok.ensures.covers in
+    subst (λ (l : List Line). Covers c.args.octets.now l c.in-Ok.verdict) (sym is) c.in-Ok.ensures.covers

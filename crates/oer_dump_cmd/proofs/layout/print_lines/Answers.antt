@@ -1,0 +1,14 @@
+use Rattle.std.proofs.Common.{◌∙◌, subst, sym}
+use Rattle.oer_types.specs.Schema.{the_type}
+use Rattle.oer_dump_cmd.specs.Showing.{PrintsPage}
+use Rattle.oer_dump_cmd.specs.declared.options.Form.TheVariants as form
+use Rattle.oer_dump_cmd.proofs.Printed.{begins_with, lines_page}
+use Rattle.oer_dump_cmd.proofs.layout.print_lines.Goals as goal
+
+pub returns : goal.returns
+returns g c =
+    let same = c.output-2-1.given.1 (sym (c.in_ok-lines.ensures.loan ∙ c.new.ensures.loan)) in
+    subst (λ w. PrintsPage (form.Text c.args.width) (the_type c.args.schema.now) c.args.octets.now (g.W.Write.contents c.args.output.now)
+    (g.W.Write.contents w)) (sym same)
+    (lines_page g.W.Write.contents c.args.width (the_type c.args.schema.now) c.args.octets.now _ _ c.in_ok-lines.lines.out _
+    (begins_with g.W.Write.contents _ _ _ _ c.in_ok-text.ensures c.new.ensures.begins) c.in_ok-lines.ensures.printed c.in_ok-write_last.ensures)
