@@ -140,3 +140,98 @@ fn failing_output(rt: HostRuntime) -> Result<(), Fail> {
     }
     Ok(())
 }
+
+/// Takes so many octets a call at most, for so many calls. Each later one fails.
+#[derive(Drop)]
+struct Slow {
+    most: usize,
+    calls: usize,
+    written: usize,
+    lines: usize,
+}
+
+impl Write for Slow {
+    fn write(&mut self, from: &[u8]) -> io::Result<usize> {
+        if self.calls == 0 {
+            return Err(Error::from(ErrorKind::Other));
+        }
+        self.calls -= 1;
+        let count = from.len().min(self.most);
+        for octet in &from[..count] {
+            if *octet == b'\n' {
+                self.lines = self.lines.saturating_add(1);
+            }
+        }
+        self.written = self.written.saturating_add(count);
+        Ok(count)
+    }
+
+    fn flush(&mut self) -> io::Result<()> {
+        Ok(())
+    }
+}
+
+/// How many octets a call takes, and how many calls are answered; the status, and how many octets and lines
+/// are written of 1,000 elements. They go out in blocks of 8,192 octets and the rest of a line: the first
+/// line has 47 octets, each other one 35.
+const OUTPUTS: &[(usize, usize, u8, usize, usize)] = &[
+    (usize::MAX, 5, 0, 35_047, 1_001),
+    (usize::MAX, 4, 3, 32_877, 939),
+    (usize::MAX, 3, 3, 24_652, 704),
+    (usize::MAX, 2, 3, 16_427, 469),
+    (usize::MAX, 1, 3, 8_202, 234),
+    (usize::MAX, 0, 3, 0, 0),
+    (0, 1, 3, 0, 0),
+    (1_000, 39, 0, 35_047, 1_001),
+    (1_000, 10, 3, 9_202, 262),
+    (1, 35_047, 0, 35_047, 1_001),
+];
+
+// 1,000 elements of one octet, which is 0.
+fn thousand(alloc: Global) -> Result<Vec<u8>, Fail> {
+    let mut octets = [2u8, 0x03, 0xe8].to_vec(alloc)?;
+    octets.resize(1_003, 0)?;
+    Ok(octets)
+}
+
+// That the run ends with this status, and writes so many octets and lines.
+fn is_written(
+    alloc: Global,
+    most: usize,
+    calls: usize,
+    want: (u8, usize, usize),
+) -> Result<(), Fail> {
+    let all = with_name(alloc, &["--type=SEQUENCE OF INTEGER (0..255)"])?;
+    let octets = thousand(alloc)?;
+    let mut input = octets.as_slice();
+    let mut output = Slow {
+        most,
+        calls,
+        written: 0,
+        lines: 0,
+    };
+    let mut errors = Vec::new(alloc);
+    let status = run(
+        alloc,
+        all.as_slice(),
+        0,
+        &mut input,
+        &mut output,
+        &mut errors,
+    );
+    let (written, lines) = (output.written, output.lines);
+    let is_told = str::from_utf8(errors.as_slice())? == "oer: output failed\n";
+    if (status, written, lines) == want && is_told == (status == 3) {
+        return Ok(());
+    }
+    Err(Fail::new(format_args!("{most}, {calls}: {status}, {written}, {lines}")))
+}
+
+#[test]
+fn slow_output(rt: HostRuntime) -> Result<(), Fail> {
+    for (most, calls, status, written, lines) in OUTPUTS {
+        let want = (*status, *written, *lines);
+        is_written(rt.alloc(), *most, *calls, want)?;
+    }
+    Ok(())
+}
