@@ -147,10 +147,7 @@ fn read_simple<'s, 't>(
             spots,
         });
     }
-    if cursor.take_keyword(Keyword::Includes) {
-        return read_contained(alloc, cursor, levels);
-    }
-    if is_at_type(cursor) {
+    if cursor.take_keyword(Keyword::Includes) || is_at_type(cursor) {
         return read_contained(alloc, cursor, levels);
     }
     read_limited(alloc, cursor, levels)
