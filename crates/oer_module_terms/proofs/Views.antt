@@ -2,22 +2,19 @@
 use Rattle.std.proofs.Common.{◌≡◌, ℕ, List, map, Vec, Box, Global, Bor, rules}
 use Rattle.oer_module_lexer.specs.Token.{spots_of}
 use Rattle.oer_module_lexer.specs.declared.token.Spot.{Spot as RawSpot}
-use Rattle.oer_module_syntax.specs.Tree.{tree_of}
-use Rattle.oer_module_syntax.specs.declared.tree.TypeSyntax.{TypeSyntax}
-use Rattle.oer_module_terms.specs.Trees.{amount_of, atom_of, atom, numbered, choice, braces, members_from, value_of, member_of, bound_of}
-use Rattle.oer_module_terms.specs.Trees.{subtype, general, closed, opened, extended, union, intersection, except, all_except, value, range}
-use Rattle.oer_module_terms.specs.Trees.{size, alphabet, type, narrowing, sets_from, constraint_of, extension_of, elements_of}
+use Rattle.oer_module_terms.specs.Trees.{amount_of, atom_of, atom, numbered, choice, braces, members_from, value_of, member_of}
+use Rattle.oer_module_terms.specs.Trees.{subtype, general, closed, opened, extended, union, intersection, except, all_except}
+use Rattle.oer_module_terms.specs.Trees.{simple, simple_of, size, alphabet, sets_from, constraint_of, extension_of, elements_of}
 use Rattle.oer_module_terms.specs.declared.tree.Amount.{Amount}
 use Rattle.oer_module_terms.specs.declared.tree.Atom.{Atom}
-use Rattle.oer_module_terms.specs.declared.tree.Bound.{Bound}
 use Rattle.oer_module_terms.specs.declared.tree.Constraint as raw_constraint
 use Rattle.oer_module_terms.specs.declared.tree.Constraint.{the_lemmas as of_sets}
 use Rattle.oer_module_terms.specs.declared.tree.Elements as raw
 use Rattle.oer_module_terms.specs.declared.tree.Extension as raw_extension
 use Rattle.oer_module_terms.specs.declared.tree.General.{General}
 use Rattle.oer_module_terms.specs.declared.tree.Member as raw_member
+use Rattle.oer_module_terms.specs.declared.tree.Simple as raw_simple
 use Rattle.oer_module_terms.specs.declared.tree.Value.{the_lemmas as of_values}
-use Rattle.oer_module_terms.specs.declared.tree.Narrowing.{Narrowing}
 use Rattle.oer_module_terms.specs.declared.tree.Value as raw_value
 
 pub value_of-Atom : (at : ℕ) (a : Atom) → value_of (raw_value.Atom at a) ≡ atom at (atom_of a)
@@ -65,12 +62,6 @@ elements_of-Except e x = search (rules, of_sets)
 pub elements_of-AllExcept : (e : Box raw.Elements Global) → elements_of (raw.AllExcept e) ≡ all_except (elements_of e.value)
 elements_of-AllExcept e = search (rules, of_sets)
 
-pub elements_of-Value : (v : raw_value.Value) → elements_of (raw.Value v) ≡ value (value_of v)
-elements_of-Value v = search (rules, of_sets)
-
-pub elements_of-Range : (at : ℕ) (low high : Bound) → elements_of (raw.Range at low high) ≡ range at (bound_of low) (bound_of high)
-elements_of-Range at low high = search (rules, of_sets)
-
 pub elements_of-Size : (at : ℕ) (c : Box raw_constraint.Constraint Global) → elements_of (raw.Size at c) ≡ size at (constraint_of c.value)
 elements_of-Size at c = search (rules, of_sets)
 
@@ -78,12 +69,8 @@ pub elements_of-Alphabet : (at : ℕ) (c : Box raw_constraint.Constraint Global)
     → elements_of (raw.Alphabet at c) ≡ alphabet at (constraint_of c.value)
 elements_of-Alphabet at c = search (rules, of_sets)
 
-pub elements_of-Type : (t : TypeSyntax) → elements_of (raw.Type t) ≡ type (tree_of t)
-elements_of-Type t = search (rules, of_sets)
-
-pub elements_of-Narrowing : (at : ℕ) (k : Narrowing) (ts : Bor (List RawSpot))
-    → elements_of (raw.Narrowing at k ts) ≡ narrowing at k (spots_of ts.now)
-elements_of-Narrowing at k ts = search (rules, of_sets)
+pub elements_of-Simple : (e : Box raw_simple.Simple Global) → elements_of (raw.Simple e) ≡ simple (simple_of e.value)
+elements_of-Simple e = search (rules, of_sets)
 
 -- each level
 pub ruleset views = (value_of-Atom, value_of-Numbered, value_of-Choice, value_of-Braces)
@@ -98,10 +85,7 @@ pub ruleset sets = (
   elements_of-Intersection,
   elements_of-Except,
   elements_of-AllExcept,
-  elements_of-Value,
-  elements_of-Range,
   elements_of-Size,
   elements_of-Alphabet,
-  elements_of-Type,
-  elements_of-Narrowing,
+  elements_of-Simple,
 )

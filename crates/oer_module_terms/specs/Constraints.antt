@@ -12,7 +12,7 @@ use Rattle.oer_module_syntax.specs.declared.word.Keyword.{Keyword}
 use Rattle.oer_module_syntax.specs.declared.word.Keyword.TheVariants as kw
 use Rattle.oer_module_terms.specs.Looks.{series, past_sign, at_type, taken_at, exception_at}
 use Rattle.oer_module_terms.specs.Parameters.{span_len}
-use Rattle.oer_module_terms.specs.Trees.{Value, Constraint, subtype, general, Extension, closed, opened, extended, Elements, union}
+use Rattle.oer_module_terms.specs.Trees.{Value, Constraint, subtype, general, Extension, closed, opened, extended, Elements, Simple, simple, union}
 use Rattle.oer_module_terms.specs.Trees.{intersection, except, all_except, value, range, size, alphabet, type, narrowing, sets_from}
 use Rattle.oer_module_terms.specs.Values.{value_at}
 use Rattle.oer_module_terms.specs.declared.constraint.Mark.{Mark}
@@ -29,22 +29,22 @@ unfoldable pub limit_at : ℕ → Keyword → State → Read (Option Value)
 limit_at levels k s = if at_keyword k s then Ok (None, bump s) else (value_at levels s >>= λ v. Ok (Some v.0, v.1))
 
 -- a range that began at a place, behind its lower end (51.4)
-unfoldable pub range_at : ℕ → ℕ → Option Value → State → Read Elements
+unfoldable pub range_at : ℕ → ℕ → Option Value → State → Read Simple
 range_at levels at low s = do
   dots ← skip_sign Range (past_sign Less s)
   high ← limit_at levels kw.Max (past_sign Less dots.1)
   Ok (range at (record { limit = low; excluded = at_sign Less s }) (record { limit = high.0; excluded = at_sign Less dots.1 }), high.1)
 
 -- a value (51.2), or a range
-abbrev pub limited_by : ℕ → ℕ → Option Value → State → Read Elements
+abbrev pub limited_by : ℕ → ℕ → Option Value → State → Read Simple
 limited_by levels at None s = range_at levels at None s
 limited_by levels at (Some v) s = if at_sign Less s || at_sign Range s then range_at levels at (Some v) s else Ok (value v, s)
 
-unfoldable pub limited_at : ℕ → State → Read Elements
+unfoldable pub limited_at : ℕ → State → Read Simple
 limited_at levels s = limit_at levels kw.Min s >>= λ low. limited_by levels (place s) low.0 low.1
 
 -- a type (51.3, 51.6)
-unfoldable pub contained_at : ℕ → State → Read Elements
+unfoldable pub contained_at : ℕ → State → Read Simple
 contained_at levels s = type_at levels s >>= λ t. Ok (type t.0, t.1)
 
 -- behind WITH: one constraint, or braces (51.8)
@@ -53,11 +53,11 @@ inner_at s =
     if at_keyword kw.Components s then taken_at OpenBrace (bump s)
     else (skip_keyword kw.Component s >>= λ r. taken_at OpenParenthesis r.1)
 
-abbrev pub narrowed : ℕ → Narrowing → Read (List Spot) → Read Elements
+abbrev pub narrowed : ℕ → Narrowing → Read (List Spot) → Read Simple
 narrowed at k r = r >>= λ ts. Ok (narrowing at k ts.0, ts.1)
 
 -- what holds no other set
-unfoldable pub simple_at : ℕ → State → Read Elements
+unfoldable pub simple_at : ℕ → State → Read Simple
 simple_at levels s =
     if at_keyword kw.With s then narrowed (place s) narrow.Inner (inner_at (bump s))
     else if at_keyword kw.Pattern s then narrowed (place s) narrow.Pattern (value_tokens_at (bump s))
@@ -129,7 +129,7 @@ module _ (levels : ℕ) (set : State → Read Elements) where
       if at_sign OpenParenthesis s then nested_at (bump s)
       else if at_keyword kw.Size s then (constraint_with (bump s) >>= λ c. Ok (size (place s) c.0, c.1))
       else if at_keyword kw.From s then (constraint_with (bump s) >>= λ c. Ok (alphabet (place s) c.0, c.1))
-      else simple_at levels s
+      else (simple_at levels s >>= λ e. Ok (simple e.0, e.1))
 
   -- elements, and perhaps others that are left out (50.1)
   unfoldable pub excluding_at : State → Read Elements

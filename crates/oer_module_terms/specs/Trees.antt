@@ -19,6 +19,8 @@ use Rattle.oer_module_terms.specs.declared.tree.Item.{Item as RawItem}
 use Rattle.oer_module_terms.specs.declared.tree.Member.{Member as RawMember, fold-Member}
 use Rattle.oer_module_terms.specs.declared.tree.More.{More as RawMore}
 use Rattle.oer_module_terms.specs.declared.tree.Narrowing.{Narrowing}
+use Rattle.oer_module_terms.specs.declared.tree.Simple as raw_simple
+use Rattle.oer_module_terms.specs.declared.tree.Simple.TheVariants as raw_simples
 use Rattle.oer_module_terms.specs.declared.tree.Value.{Value as RawValue, fold-Value}
 use Rattle.oer_module_terms.specs.declared.tree.Value.TheOpen.{Member-F, Value-F}
 
@@ -98,6 +100,19 @@ pub record Bound : Type 0 where
 abbrev pub bound_of : RawBound → Bound
 bound_of b = record { limit = option_map value_of b.limit; excluded = b.excluded }
 
+-- elements that hold no other set
+pub data Simple : Type 0 where
+  value : Value → Simple
+  range : ℕ → Bound → Bound → Simple
+  type : Tree → Simple
+  narrowing : ℕ → Narrowing → List Spot → Simple
+
+abbrev pub simple_of : raw_simple.Simple → Simple
+simple_of (raw_simples.Value v) = value (value_of v)
+simple_of (raw_simples.Range at lower upper) = range at (bound_of lower) (bound_of upper)
+simple_of (raw_simples.Type t) = type (tree_of t)
+simple_of (raw_simples.Narrowing at kind spots) = narrowing at kind (spots_of spots.now)
+
 -- sets of values; a constraint begins at a place, and the tokens of a subtype are its exception
 mutual
   pub data Constraint : Type 0 where
@@ -112,11 +127,8 @@ mutual
     union intersection : Sets → Elements
     except : Elements → Elements → Elements
     all_except : Elements → Elements
-    value : Value → Elements
-    range : ℕ → Bound → Bound → Elements
     size alphabet : ℕ → Constraint → Elements
-    type : Tree → Elements
-    narrowing : ℕ → Narrowing → List Spot → Elements
+    simple : Simple → Elements
 
   pub data Sets : Type 0 where
     no_sets : Sets
@@ -140,12 +152,9 @@ elements_step (Elements-F.Union es) = union (sets_from es.items)
 elements_step (Elements-F.Intersection es) = intersection (sets_from es.items)
 elements_step (Elements-F.Except e x) = except e.value x.value
 elements_step (Elements-F.AllExcept e) = all_except e.value
-elements_step (Elements-F.Value v) = value (value_of v)
-elements_step (Elements-F.Range at lower upper) = range at (bound_of lower) (bound_of upper)
 elements_step (Elements-F.Size at c) = size at c.value
 elements_step (Elements-F.Alphabet at c) = alphabet at c.value
-elements_step (Elements-F.Type t) = type (tree_of t)
-elements_step (Elements-F.Narrowing at kind spots) = narrowing at kind (spots_of spots.now)
+elements_step (Elements-F.Simple e) = simple (simple_of e.value)
 
 abbrev pub constraint_of : RawConstraint → Constraint
 constraint_of = fold-Constraint Constraint Elements Extension constraint_step elements_step extension_step

@@ -1,15 +1,15 @@
 //! From tokens to constraints.
-ghost use Rattle.std.specs.Prelude.{◌≡◌, suc, length, map, not};
+ghost use Rattle.std.specs.Prelude.{◌≡◌, suc, length, map, not, Ok};
 ghost use Rattle.std.specs.Option.{option_map};
 ghost use Rattle.oer_module_lexer.specs.Token.{spots_of};
 ghost use Rattle.oer_module_syntax.specs.Modules.{many};
 ghost use Rattle.oer_module_syntax.specs.State.{IsReading, bump, state_of};
 ghost use Rattle.oer_module_terms.specs.Constraints.{at_mark, between_at, constraint_at, constraints_at, contained_at, element_at, everything_but_at, excluding_at, extension_at, general_at, general_of, inner_at, joined_at, limit_at, limited_at, nested_at, range_at, set_at, simple_at, specified_by, subtype_at};
-ghost use Rattle.oer_module_terms.specs.Trees.{constraint_of, elements_of, extension_of, value_of};
+ghost use Rattle.oer_module_terms.specs.Trees.{constraint_of, elements_of, except, extension_of, simple_of, value_of};
 
 use crate::look::{after, is_at_type, take_bracketed, take_exception};
 use crate::parameter::take_span;
-use crate::tree::{Bound, Constraint, Elements, Extension, General, Narrowing, Value};
+use crate::tree::{Bound, Constraint, Elements, Extension, General, Narrowing, Simple, Value};
 use crate::value::read_value;
 use oer_module_lexer::{Sign, Spot};
 use oer_module_syntax::{Cursor, Fault, Keyword, Sought, Why, read_type, take_value};
@@ -42,21 +42,21 @@ fn read_limit<'s, 't>(
 }
 
 /// A range, after its lower end.
-#[tactic(auto, unfolding(crate::specs::Constraints::range_at), using(crate::proofs::Views::sets))]
+#[tactic(auto, unfolding(crate::specs::Constraints::range_at))]
 fn read_range<'s, 't>(
     alloc: Global,
     cursor: &mut Cursor<'s, 't>,
     levels: u8,
     at: usize,
     lowest: Option<Value<'s, 't>>,
-) -> Result<Elements<'s, 't>, Fault>
-    ensures { IsReading (λ e. (elements_of e, state_of cursor.new)) result (range_at levels at (option_map value_of lowest.entry) (state_of cursor.old)) }
+) -> Result<Simple<'s, 't>, Fault>
+    ensures { IsReading (λ e. (simple_of e, state_of cursor.new)) result (range_at levels at (option_map value_of lowest.entry) (state_of cursor.old)) }
 {
     let above = cursor.take(Sign::Less);
     cursor.expect(Sign::Range)?;
     let below = cursor.take(Sign::Less);
     let highest = read_limit(alloc, cursor, levels, Keyword::Max)?;
-    Ok(Elements::Range {
+    Ok(Simple::Range {
         at,
         lower: Bound {
             limit: lowest,
@@ -70,13 +70,13 @@ fn read_range<'s, 't>(
 }
 
 /// A value, or a range.
-#[tactic(auto, unfolding(crate::specs::Constraints::limited_at), using(crate::proofs::Views::sets))]
+#[tactic(auto, unfolding(crate::specs::Constraints::limited_at))]
 fn read_limited<'s, 't>(
     alloc: Global,
     cursor: &mut Cursor<'s, 't>,
     levels: u8,
-) -> Result<Elements<'s, 't>, Fault>
-    ensures { IsReading (λ e. (elements_of e, state_of cursor.new)) result (limited_at levels (state_of cursor.old)) }
+) -> Result<Simple<'s, 't>, Fault>
+    ensures { IsReading (λ e. (simple_of e, state_of cursor.new)) result (limited_at levels (state_of cursor.old)) }
 {
     let at = cursor.place();
     let Some(value) = read_limit(alloc, cursor, levels, Keyword::Min)? else {
@@ -85,20 +85,20 @@ fn read_limited<'s, 't>(
     if cursor.is_at(Sign::Less) || cursor.is_at(Sign::Range) {
         return read_range(alloc, cursor, levels, at, Some(value));
     }
-    Ok(Elements::Value(value))
+    Ok(Simple::Value(value))
 }
 
 /// The values of a type.
-#[tactic(auto, unfolding(crate::specs::Constraints::contained_at), using(crate::proofs::Views::sets))]
+#[tactic(auto, unfolding(crate::specs::Constraints::contained_at))]
 fn read_contained<'s, 't>(
     alloc: Global,
     cursor: &mut Cursor<'s, 't>,
     levels: u8,
-) -> Result<Elements<'s, 't>, Fault>
-    ensures { IsReading (λ e. (elements_of e, state_of cursor.new)) result (contained_at levels (state_of cursor.old)) }
+) -> Result<Simple<'s, 't>, Fault>
+    ensures { IsReading (λ e. (simple_of e, state_of cursor.new)) result (contained_at levels (state_of cursor.old)) }
 {
     let contained = read_type(alloc, cursor, levels)?;
-    Ok(Elements::Type(contained))
+    Ok(Simple::Type(contained))
 }
 
 /// What follows WITH: COMPONENTS and braces, or COMPONENT and a constraint.
@@ -114,18 +114,18 @@ fn take_inner<'s, 't>(cursor: &mut Cursor<'s, 't>) -> Result<&'s [Spot<'t>], Fau
 }
 
 /// Elements that hold no other set.
-#[tactic(auto, unfolding(crate::specs::Constraints::simple_at), using(crate::proofs::Views::sets))]
+#[tactic(auto, unfolding(crate::specs::Constraints::simple_at))]
 fn read_simple<'s, 't>(
     alloc: Global,
     cursor: &mut Cursor<'s, 't>,
     levels: u8,
-) -> Result<Elements<'s, 't>, Fault>
-    ensures { IsReading (λ e. (elements_of e, state_of cursor.new)) result (simple_at levels (state_of cursor.old)) }
+) -> Result<Simple<'s, 't>, Fault>
+    ensures { IsReading (λ e. (simple_of e, state_of cursor.new)) result (simple_at levels (state_of cursor.old)) }
 {
     let at = cursor.place();
     if cursor.take_keyword(Keyword::With) {
         let spots = take_inner(cursor)?;
-        return Ok(Elements::Narrowing {
+        return Ok(Simple::Narrowing {
             at,
             kind: Narrowing::Inner,
             spots,
@@ -133,7 +133,7 @@ fn read_simple<'s, 't>(
     }
     if cursor.take_keyword(Keyword::Pattern) {
         let spots = take_value(cursor)?;
-        return Ok(Elements::Narrowing {
+        return Ok(Simple::Narrowing {
             at,
             kind: Narrowing::Pattern,
             spots,
@@ -141,16 +141,13 @@ fn read_simple<'s, 't>(
     }
     if cursor.take_keyword(Keyword::Settings) {
         let spots = take_value(cursor)?;
-        return Ok(Elements::Narrowing {
+        return Ok(Simple::Narrowing {
             at,
             kind: Narrowing::Settings,
             spots,
         });
     }
-    if cursor.take_keyword(Keyword::Includes) {
-        return read_contained(alloc, cursor, levels);
-    }
-    if is_at_type(cursor) {
+    if cursor.take_keyword(Keyword::Includes) || is_at_type(cursor) {
         return read_contained(alloc, cursor, levels);
     }
     read_limited(alloc, cursor, levels)
@@ -193,6 +190,20 @@ fn is_at_mark(cursor: &Cursor<'_, '_>, mark: Mark) -> bool
         Mark::Intersection => cursor.is_at(Sign::Caret)
             || cursor.is_at_keyword(Keyword::Intersection),
     }
+}
+
+/// The elements of the first that aren't in the second.
+#[tactic(auto, using(crate::proofs::Views::sets))]
+fn except<'s, 't>(
+    alloc: Global,
+    from: Elements<'s, 't>,
+    excluded: Elements<'s, 't>,
+) -> Result<Elements<'s, 't>, Fault>
+    ensures { IsReading elements_of result (Ok (except (elements_of from.entry) (elements_of excluded.entry))) }
+{
+    let from = Box::new(alloc, from)?;
+    let excluded = Box::new(alloc, excluded)?;
+    Ok(Elements::Except(from, excluded))
 }
 
 /// A set of values.
@@ -305,7 +316,7 @@ fn read_excluding<'s, 't>(
         return Ok(from);
     }
     let excluded = read_element(alloc, cursor, levels)?;
-    Ok(Elements::Except(Box::new(alloc, from)?, Box::new(alloc, excluded)?))
+    except(alloc, from, excluded)
 }
 
 /// Elements.
@@ -336,7 +347,8 @@ fn read_element<'s, 't>(
             alphabet: Box::new(alloc, alphabet)?,
         });
     }
-    read_simple(alloc, cursor, levels)
+    let simple = read_simple(alloc, cursor, levels)?;
+    Ok(Elements::Simple(Box::new(alloc, simple)?))
 }
 
 /// A set in parentheses, after the opening one.

@@ -13,6 +13,6 @@ pub use item::{Numbering, read_enumeration, read_items};
 pub use parameter::read_parameters;
 pub use tree::{
     Amount, Atom, Bound, Constraint, Elements, Enumeration, Extension, Fixed, General, Item,
-    Member, More, Narrowing, Value,
+    Member, More, Narrowing, Simple, Value,
 };
 pub use value::read_value;

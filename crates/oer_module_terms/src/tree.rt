@@ -126,14 +126,6 @@ pub enum Elements<'s, 't> {
     Except(Box<Elements<'s, 't>>, Box<Elements<'s, 't>>),
     /// All values that aren't in these.
     AllExcept(Box<Elements<'s, 't>>),
-    /// A single value (X.680, 51.2).
-    Value(Value<'s, 't>),
-    /// (X.680, 51.4)
-    Range {
-        at: usize,
-        lower: Bound<'s, 't>,
-        upper: Bound<'s, 't>,
-    },
     /// SIZE (X.680, 51.5)
     Size {
         at: usize,
@@ -143,6 +135,21 @@ pub enum Elements<'s, 't> {
     Alphabet {
         at: usize,
         alphabet: Box<Constraint<'s, 't>>,
+    },
+    /// Those that hold no other set.
+    Simple(Box<Simple<'s, 't>>),
+}
+
+/// Elements that hold no other set (X.680, 51).
+#[derive(Drop)]
+pub enum Simple<'s, 't> {
+    /// A single value (X.680, 51.2).
+    Value(Value<'s, 't>),
+    /// (X.680, 51.4)
+    Range {
+        at: usize,
+        lower: Bound<'s, 't>,
+        upper: Bound<'s, 't>,
     },
     /// The values of a type, with INCLUDES before it or not (X.680, 51.3 and 51.6).
     Type(TypeSyntax<'s, 't>),

@@ -3,8 +3,8 @@ use oer_module_lexer::{Sign, Spot, Token, lex};
 use oer_module_syntax::{Cursor, Fault, Sought, Why};
 use oer_module_terms::{
     Amount, Atom, Bound, Constraint, Elements, Enumeration, Extension, Fixed, General, Item,
-    Narrowing, Numbering, Value, read_constraints, read_enumeration, read_items, read_parameters,
-    read_value,
+    Narrowing, Numbering, Simple, Value, read_constraints, read_enumeration, read_items,
+    read_parameters, read_value,
 };
 use std::alloc::Global;
 use std::test::Fail;
@@ -110,6 +110,21 @@ fn general_text(kind: General) -> &'static str {
     }
 }
 
+fn draw_simple(at: Global, out: &mut String, simple: &Simple<'_, '_>) -> Result<(), Fail> {
+    match simple {
+        Simple::Value(value) => draw_value(at, out, value),
+        Simple::Range { lower, upper, .. } => {
+            draw_bound(at, out, lower)?;
+            out.push_str("..")?;
+            draw_bound(at, out, upper)
+        }
+        Simple::Type(_) => Ok(out.push_str("type")?),
+        Simple::Narrowing { kind, spots, .. } => {
+            draw_count(at, out, narrowing_text(*kind), spots)
+        }
+    }
+}
+
 /// Sets, each behind a sign where there are several.
 #[cycle(drawing)]
 fn draw_joined(
@@ -147,12 +162,6 @@ fn draw_elements(at: Global, out: &mut String, set: &Elements<'_, '_>) -> Result
             out.push_str("all - ")?;
             draw_elements(at, out, excluded)?;
         }
-        Elements::Value(value) => draw_value(at, out, value)?,
-        Elements::Range { lower, upper, .. } => {
-            draw_bound(at, out, lower)?;
-            out.push_str("..")?;
-            draw_bound(at, out, upper)?;
-        }
         Elements::Size { size, .. } => {
             out.push_str("size")?;
             draw_constraint(at, out, size)?;
@@ -161,10 +170,7 @@ fn draw_elements(at: Global, out: &mut String, set: &Elements<'_, '_>) -> Result
             out.push_str("from")?;
             draw_constraint(at, out, alphabet)?;
         }
-        Elements::Type(_) => out.push_str("type")?,
-        Elements::Narrowing { kind, spots, .. } => {
-            draw_count(at, out, narrowing_text(*kind), spots)?;
-        }
+        Elements::Simple(simple) => draw_simple(at, out, simple)?,
     }
     Ok(())
 }
