@@ -1,11 +1,9 @@
 -- Lines, as they are laid out.
-use Rattle.std.proofs.Common.{◌≡◌, ◌∙◌, ℕ, ◌+◌, ◌<◌, ◌≤◌, List, [], ◌∷◌, ◌++◌, length, get_or, map, take, refl, sym, ap, subst, append_assoc, arith}
+use Rattle.std.proofs.Common.{◌≡◌, ◌∙◌, ℕ, ◌≤◌, [], ◌∷◌, ◌++◌, refl, sym, ap, subst, append_assoc}
 use Rattle.std.specs.Prelude.{Result, Ok, Err, OnOk, if◌then◌else◌}
 use Rattle.std.specs.Result.{is_ok}
-use Rattle.std.proofs.lemmas.List.{map_more, take_all}
 use Rattle.clap.specs.Words.{Text}
-use Rattle.oer_entries.specs.declared.entry.Entry.{Entry}
-use Rattle.oer_dump_cmd.specs.Layout.{HasLines, Cells, IsLine, cells_of, spaces}
+use Rattle.oer_dump_cmd.specs.Layout.{Cells, IsLine, spaces}
 use Rattle.oer_dump_cmd.specs.Visible.{visible}
 
 flat_cell : (t a c s : Text) → ((t ++ a) ++ c) ++ s ≡ t ++ (a ++ (c ++ s))

@@ -1,6 +1,6 @@
 -- The text of objects, as it is appended.
 use Rattle.std.proofs.Common.{◌≡◌, ◌∙◌, ℕ, ◌+◌, ◌<◌, ◌≤◌, List, [], ◌∷◌, ◌++◌, length, get_or, take, drop, map, sym, ap, ap₂, append_assoc, append-nil, add-one, codes}
-use Rattle.std.proofs.Common.{Bool, true, false, decimal, Option, Some, None, Vec, Global, string_bytes}
+use Rattle.std.proofs.Common.{Bool, true, false, decimal, Option, Some, None, Vec, Global}
 use Rattle.std.proofs.Math.Seq.{take-suc}
 use Rattle.std.proofs.lemmas.Grind.{flat_map-append}
 use Rattle.std.proofs.lemmas.List.{at_drop_all, at_drop_more}

@@ -68,6 +68,19 @@ impl Widths {
         }
     }
 
+    // Wide enough for these and for the line, with its note.
+    fn with(self, line: &Line<'_>) -> Widths {
+        let value = count_of(line.value.as_str()).saturating_add(line.note.len());
+        Widths {
+            offset: self.offset.max(line.offset),
+            count: self.count.max(line.count),
+            path: self.path.max(line.path.len()),
+            names: self.names.max(line.names.len()),
+            kind: self.kind.max(line.kind.len()),
+            value: self.value.max(value),
+        }
+    }
+
     // How many characters the columns have that are never cut, with the gaps.
     fn kept(self) -> usize {
         GAPS.saturating_add(self.offset)
@@ -264,32 +277,46 @@ fn push_entry(
     push_line(alloc, text, &line, widths)
 }
 
-/// Measures the value of each entry that it takes, with its note.
+/// Measures the line of each entry that it takes; of its numbers the greatest are kept.
 #[derive(Drop)]
-struct Longest {
+struct Widest {
     alloc: Global,
-    value: usize,
+    widths: Widths,
 }
 
-impl TakeEntry for Longest {
+impl TakeEntry for Widest {
     ghost takes = { λ s e t. Unit {0} };
 
     fn take(&mut self, entry: &Entry<'_>) -> Result<(), Stopped> {
         let line = line_of(self.alloc, entry)?;
-        let value = count_of(line.value.as_str()).saturating_add(line.note.len());
-        self.value = self.value.max(value);
+        self.widths = self.widths.with(&line);
         Ok(())
     }
 }
 
+// Wide enough for all lines of the octets, of which no value is cut.
+fn uncut(alloc: Global, schema: &Schema, octets: &[u8]) -> Result<Widths, Stopped> {
+    let widths = Widths {
+        offset: 0,
+        count: 0,
+        path: 0,
+        names: 0,
+        kind: 0,
+        value: 0,
+    };
+    let (widest, _) = each_entry(alloc, schema, octets, Widest { alloc, widths })?;
+    let mut widths = widest.widths;
+    widths.offset = digits_of(widths.offset);
+    widths.count = digits_of(widths.count);
+    Ok(widths)
+}
+
 // How wide the columns are, where a line has so many characters at most; 0 is no bound.
 fn widths_of(alloc: Global, schema: &Schema, octets: &[u8], width: u64) -> Result<Widths, Stopped> {
-    let mut widths = Widths::of(extents_of(alloc, schema, octets)?);
     if width == 0 {
-        return Ok(widths);
+        return Ok(Widths::of(extents_of(alloc, schema, octets)?));
     }
-    let (longest, _) = each_entry(alloc, schema, octets, Longest { alloc, value: 0 })?;
-    widths.value = longest.value;
+    let widths = uncut(alloc, schema, octets)?;
     Ok(widths.within(width as usize))
 }
 

@@ -1,5 +1,5 @@
 -- Entries, as they are taken.
-use Rattle.std.proofs.Common.{◌≡◌, ◌∙◌, ℕ, ◌≤◌, List, [], ◌∷◌, ◌++◌, ap, ap₂, arith, length, map, refl, sym, subst}
+use Rattle.std.proofs.Common.{◌≡◌, ◌∙◌, List, [], ◌∷◌, ◌++◌, ap, ap₂, arith, length, map, refl}
 use Rattle.std.proofs.lemmas.List.{length-map, map-append}
 use Rattle.std.specs.List.{FoldsTo}
 use Rattle.oer_rows.specs.Rows.{Line}
