@@ -32,7 +32,7 @@ quick:
 	@tools/quick
 
 test:
-	@tools/costs tools/gate
+	@tools/gate
 
 documents: bin/oer
 	@examples/check
