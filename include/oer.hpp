@@ -23,11 +23,14 @@
  *
  * Arguments
  *
- * Octets are taken as an oer::octets_in: a pointer with a number, an array, or whatever has data() and
- * size(), as std::vector<std::uint8_t>, std::array, oer::octets and, from C++20 on, std::span. Texts
- * are taken as an oer::text_in: text that ends with a zero octet, a pointer with a number, std::string,
- * std::string_view, oer::text. They are UTF-8. An argument is read during the call only, and nothing
- * keeps a pointer to it.
+ * Octets are taken as an oer::octets_in: a pointer to std::uint8_t with a number, an array of these, or
+ * whatever has data() and size() and elements of one octet: std::uint8_t, char, signed char and, from C++17
+ * on, std::byte. So std::vector of each, std::array, std::string and oer::octets are taken, std::string_view
+ * from C++17 on, and std::span from C++20 on. A literal is not, since it has a zero octet at its end, and
+ * elements of more octets are not. A buffer for octets is an oer::octets_out, of the same elements, where
+ * data() lets them be written. Texts are taken as an oer::text_in: text that ends with a zero octet, a
+ * pointer with a number, std::string, std::string_view, oer::text. They are UTF-8. An argument is read
+ * during the call only, and nothing keeps a pointer to it.
  *
  * A pointer may be null where the number is 0. With another number the call is rejected, as it is where
  * the pointer to a text that ends with a zero octet is null: the status is OER_OUTSIDE of what would be
@@ -116,6 +119,37 @@ struct error {
     const char *name() const noexcept;
 };
 
+/* Whether elements of the type are taken as octets. */
+template <class T>
+struct is_octet : std::false_type {};
+template <>
+struct is_octet<std::uint8_t> : std::true_type {};
+template <>
+struct is_octet<char> : std::true_type {};
+template <>
+struct is_octet<signed char> : std::true_type {};
+#ifdef __cpp_lib_byte
+template <>
+struct is_octet<std::byte> : std::true_type {};
+#endif
+
+/* How what data() returns, a P, is a pointer to elements T: as it is; or, where T is an octet, as one to
+ * octets. What is const stays const. There is no at() where it is neither. */
+template <class P, class T, class = void>
+struct elements {};
+template <class P, class T>
+struct elements<P, T, typename std::enable_if<std::is_convertible<P, T *>::value>::type> {
+    static T *at(P from) noexcept { return from; }
+};
+template <class U, class T>
+struct elements<U *, T,
+                typename std::enable_if<std::is_same<typename std::remove_const<T>::type, std::uint8_t>::value &&
+                                        is_octet<typename std::remove_const<U>::type>::value &&
+                                        !std::is_convertible<U *, T *>::value &&
+                                        (std::is_const<T>::value || !std::is_const<U>::value)>::type> {
+    static T *at(U *from) noexcept { return reinterpret_cast<T *>(from); }
+};
+
 /* Octets or texts of the caller's: a pointer and a number of elements. T is const for what is read. */
 template <class T>
 class slice {
@@ -136,13 +170,16 @@ public:
     template <std::size_t N>
     slice(T (&array)[N]) noexcept : at_(array), size_(N) {}
 
-    /* All elements of whatever has data() and size(), as a vector or a span. It has to live, and its
-     * elements have to stay where they are, for as long as the slice is used. */
-    template <class C, class = typename std::enable_if<
-                           !std::is_same<typename std::decay<C>::type, slice>::value &&
-                           std::is_convertible<decltype(std::declval<C &>().data()), T *>::value &&
-                           std::is_convertible<decltype(std::declval<C &>().size()), std::size_t>::value>::type>
-    slice(C &&from) noexcept : at_(from.data()), size_(from.size()) {}
+    /* All elements of whatever has data() and size(), as a vector or a span. A slice of octets is made of
+     * any whose elements are octets (is_octet). It has to live, and its elements have to stay where they
+     * are, for as long as the slice is used. */
+    template <class C,
+              class How = elements<decltype(std::declval<C &>().data()), T>,
+              class = decltype(How::at(std::declval<C &>().data())),
+              class = typename std::enable_if<
+                  !std::is_same<typename std::decay<C>::type, slice>::value &&
+                  std::is_convertible<decltype(std::declval<C &>().size()), std::size_t>::value>::type>
+    slice(C &&from) noexcept : at_(How::at(from.data())), size_(from.size()) {}
 
     /* The first element. It is never null: where there are no elements it points to one that is not
      * used, as oer.h wants it. */

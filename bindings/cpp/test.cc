@@ -44,8 +44,29 @@ static_assert(std::is_nothrow_move_constructible<oer::types>::value, "types are 
 static_assert(std::is_nothrow_move_assignable<oer::types>::value, "types are moved");
 static_assert(!std::is_copy_constructible<oer::octets>::value, "octets are not copied");
 static_assert(std::is_nothrow_move_constructible<oer::octets>::value, "octets are moved");
-static_assert(!std::is_convertible<std::string, oer::octets_in>::value, "a text is no octets");
 static_assert(!std::is_convertible<const bytes &, oer::octets_out>::value, "what is const is not written");
+static_assert(!std::is_convertible<const std::vector<char> &, oer::octets_out>::value, "what is const is not written");
+static_assert(!std::is_convertible<const std::string &, oer::octets_out>::value, "what is const is not written");
+static_assert(!std::is_convertible<const std::array<const signed char, 2> &, oer::octets_out>::value, "what is const is not written");
+static_assert(std::is_convertible<const std::string &, oer::octets_in>::value, "octets in a string");
+static_assert(std::is_convertible<std::vector<char>, oer::octets_in>::value, "octets");
+static_assert(std::is_convertible<std::vector<signed char> &, oer::octets_out>::value, "octets");
+static_assert(!std::is_convertible<std::vector<std::uint16_t>, oer::octets_in>::value, "not octets");
+static_assert(!std::is_convertible<std::vector<std::int32_t> &, oer::octets_out>::value, "not octets");
+static_assert(!std::is_convertible<std::array<bool, 2>, oer::octets_in>::value, "not octets");
+static_assert(!std::is_convertible<std::array<char *, 2>, oer::octets_in>::value, "not octets");
+static_assert(!std::is_convertible<std::wstring, oer::octets_in>::value, "not octets");
+static_assert(!std::is_convertible<std::u16string, oer::octets_in>::value, "not octets");
+static_assert(!std::is_convertible<std::vector<char>, oer::slice<const oer::message>>::value, "not messages");
+static_assert(!std::is_convertible<bytes, oer::text_in>::value, "octets are no text");
+static_assert(!std::is_convertible<bytes &, oer::text_out>::value, "octets are no text");
+static_assert(!std::is_convertible<const char (&)[3], oer::octets_in>::value, "a literal has a zero octet at its end");
+#ifdef __cpp_lib_byte
+static_assert(std::is_convertible<const std::vector<std::byte> &, oer::octets_in>::value, "octets");
+static_assert(std::is_convertible<std::vector<std::byte> &, oer::octets_out>::value, "octets");
+static_assert(!std::is_convertible<const std::vector<std::byte> &, oer::octets_out>::value, "what is const is not written");
+static_assert(!std::is_convertible<std::vector<std::byte>, oer::text_in>::value, "octets are no text");
+#endif
 static_assert(std::is_constructible<oer::octets_in, std::uint8_t *, std::size_t>::value, "a pointer");
 static_assert(!std::is_constructible<oer::octets_in, const char *, std::size_t>::value, "a text is no octets");
 static_assert(!std::is_constructible<oer::octets_in, int, std::size_t>::value, "a number is no pointer");
@@ -62,6 +83,10 @@ static_assert(std::is_nothrow_move_assignable<oer::result<oer::types>>::value, "
 static_assert(std::is_convertible<std::span<const std::uint8_t>, oer::octets_in>::value, "a span");
 static_assert(std::is_convertible<std::span<std::uint8_t>, oer::octets_out>::value, "a span");
 static_assert(std::is_convertible<const oer::octets &, std::span<const std::uint8_t>>::value, "a span");
+static_assert(std::is_convertible<std::span<const std::byte>, oer::octets_in>::value, "a span");
+static_assert(std::is_convertible<std::span<char>, oer::octets_out>::value, "a span");
+static_assert(!std::is_convertible<std::span<const std::byte>, oer::octets_out>::value, "what is const is not written");
+static_assert(!std::is_convertible<std::span<const std::uint32_t>, oer::octets_in>::value, "not octets");
 #endif
 
 // ---- memory that runs out
@@ -473,6 +498,77 @@ static void test_arguments() {
 #endif
 }
 
+// The octets as elements of another type, in C.
+template <class C>
+static C filled_with(const bytes &octets) {
+    C made(octets.size(), typename C::value_type());
+    for (std::size_t i = 0; i < octets.size(); i++) made[i] = static_cast<typename C::value_type>(octets[i]);
+    return made;
+}
+
+// That each call takes the elements of C as octets, each octet as it is, also above 7f; and writes them.
+template <class C>
+static void test_elements(const char *what) {
+    oer::types types = types_of("SEQUENCE {a OCTET STRING}");
+    const bytes octets = { 0x81, 0x03, 0x00, 0x80, 0xff }, canonical = { 0x03, 0x00, 0x80, 0xff }, part = { 0x03, 0x00, 0x80, 0xff };
+    const C given = filled_with<C>(octets);
+    const oer::octets_in in = given;
+    EXPECT(in.size() == octets.size() && std::equal(octets.begin(), octets.end(), in.data()), what);
+    EXPECT(types.check("A", given)->octets == 5 && !types.check("A", given)->canonical, what);
+    EXPECT(types.check("A", C(given)).ok() && types.check("A", C()).error().why == OER_END, what);
+    EXPECT(types.check_whole("A", filled_with<C>(canonical)).ok(), what);
+    EXPECT(types.check_whole("A", given).error().status == OER_NOT_CANONICAL, what);
+    EXPECT(copy(types.canon("A", given).value()) == canonical, what);
+    EXPECT(copy(types.part("A", filled_with<C>(canonical), "c0").value()) == part, what);
+    EXPECT(types.part_at("A", given, "c0")->length == 5, what);
+    EXPECT(copy(types.to_json("A", given).value()) == from_text("{\"a\":\"0080ff\"}"), what);
+    const oer::message all = { 0, 5 };
+    oer_checked answer = {};
+    EXPECT(types.check_many("A", given, { &all, 1 }, { &answer, 1 }).ok() && answer.octets == 5, what);
+}
+
+// That each call writes into the elements of C.
+template <class C>
+static void test_written_elements(const char *what) {
+    oer::types types = types_of("OCTET STRING");
+    const bytes octets = { 0x02, 0x80, 0xff, 0x55 };
+    const C given = filled_with<C>(octets), want = filled_with<C>({ 0x02, 0x80, 0xff, 0x00 });
+    C canon(4, typename C::value_type()), part = canon, made = canon;
+    EXPECT(types.canon_into("A", given, canon)->size == 3 && canon == want, what);
+    EXPECT(types.from_json_into("A", "\"80ff\"", made)->size == 3 && made == want, what);
+    types = types_of("SEQUENCE {a OCTET STRING}");
+    EXPECT(types.part_into("A", given, "c0", part)->size == 3 && part == want, what);
+}
+
+static void test_octets_in_containers() {
+    test_elements<bytes>("std::uint8_t");
+    test_elements<std::vector<char>>("char");
+    test_elements<std::vector<signed char>>("signed char");
+    test_elements<std::vector<unsigned char>>("unsigned char");
+    test_elements<std::string>("std::string");
+    test_written_elements<bytes>("std::uint8_t");
+    test_written_elements<std::vector<char>>("char");
+    test_written_elements<std::vector<signed char>>("signed char");
+    std::array<char, 2> out = { { 0, 0 } };
+    oer::types types = types_of("OCTET STRING");
+    EXPECT(types.canon_into("A", std::array<signed char, 2>{ { 1, -1 } }, out)->size == 2 && out[1] == static_cast<char>(-1), "std::array");
+#ifdef __cpp_lib_byte
+    test_elements<std::vector<std::byte>>("std::byte");
+    test_written_elements<std::vector<std::byte>>("std::byte");
+    test_written_elements<std::string>("std::string");
+#endif
+#ifdef __cpp_lib_string_view
+    const std::string text("\x81\x02\x00\xff", 4);
+    EXPECT(types.check("A", std::string_view(text)).value().octets == 4, "std::string_view");
+#endif
+#ifdef __cpp_lib_span
+    const std::array<std::byte, 2> raw = { { std::byte(1), std::byte(0xff) } };
+    EXPECT(types.check("A", std::span<const std::byte>(raw)).value().octets == 2, "std::span");
+    EXPECT(types.check("A", std::as_bytes(std::span<const char>(out))).value().octets == 2, "std::span");
+    EXPECT(types.canon_into("A", raw, std::span<char>(out)).value().size == 2, "std::span");
+#endif
+}
+
 // A null pointer has no elements. With a number other than 0 it is not read, and nothing is written to it.
 static void test_null_pointers() {
     oer::types types = types_of("SEQUENCE OF BOOLEAN");
@@ -718,6 +814,7 @@ int main(int count, char **words) {
     test_kept_types();
     test_shared_types();
     test_arguments();
+    test_octets_in_containers();
     test_null_pointers();
     test_moved_results();
     test_growth();
