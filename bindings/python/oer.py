@@ -23,6 +23,7 @@ time. For calls at the same time each thread has a Types of its own, by share().
 child of a fork of a process with threads.
 """
 
+import collections.abc
 import ctypes
 import ctypes.util
 import enum
@@ -30,13 +31,16 @@ import operator
 import os
 import threading
 from types import TracebackType
-from typing import Any, Callable, Dict, List, NamedTuple, Optional, Sequence, Tuple, Type, Union
+from typing import Any, Callable, Dict, Iterable, List, NamedTuple, Optional, Sequence, Tuple, Type, Union
 
 __all__ = [
-    "VERSION_NUMBER", "version", "Types", "Checked", "Canonical", "Json", "Part", "Place", "Reason", "TextReason", "JsonReason",
+    "__version__", "VERSION_NUMBER", "version", "Types", "Checked", "Canonical", "Json", "Part", "Place", "Reason", "TextReason", "JsonReason",
     "Error", "Rejected", "OctetsRejected", "DefinitionsRejected", "JsonRejected", "NoTypes", "Unnamed",
     "OutOfMemory", "NoPath", "NoStep", "Absent", "NotJson", "Outside", "NotCanonical", "Follows",
 ]
+
+__version__ = "0.1.0"
+"""The version of this module: major, minor, patch."""
 
 VERSION_NUMBER = 100
 """The version of the header that this module was written for: 10,000 times the major number, 100 times the
@@ -120,7 +124,7 @@ class Rejected(Error):
         self.reason = reason
         """What is wrong."""
         self.place = place
-        """Where, in octets; the classes below say what is counted."""
+        """Where, in octets, or None where no place is known; the classes below say what is counted."""
 
     def __reduce__(self) -> Tuple[Any, ...]:
         return (type(self), (self.reason, self.place))
@@ -141,7 +145,8 @@ class DefinitionsRejected(Rejected):
 
 
 class JsonRejected(Rejected):
-    """The JSON is no value of the type. `reason` is a JsonReason, and `place` is None."""
+    """The JSON is no value of the type. `reason` is a JsonReason. `place` is None, as the library says no place
+    of JSON, and the message names none."""
 
     what = "JSON"
 
@@ -420,10 +425,18 @@ def _limited(limit: Optional[int]) -> int:
     return min(number, _NO_LIMIT)
 
 
+def _in_order(items: Any, what: str) -> Iterable[Any]:
+    """Items that are in an order, and are not the keys of a mapping or octets, which would be taken for numbers."""
+    if isinstance(items, (collections.abc.Mapping, set, frozenset, str, bytes, bytearray, memoryview)):
+        raise TypeError(f"{what}, and not a {type(items).__name__}")
+    return items  # type: ignore[no-any-return]
+
+
 def _message(message: Tuple[int, int]) -> Tuple[int, int]:
     """A message as the library takes it. One for whose numbers it has none is outside of all octets."""
+    numbers = _in_order(message[:2] if isinstance(message, Place) else message, "a message is a place and a length")
     try:
-        at, length = (_number(number) for number in (message[:2] if isinstance(message, Place) else message))
+        at, length = (_number(number) for number in numbers)
     except ValueError:
         raise TypeError("a message is a place and a length") from None
     if 0 <= at <= _MOST and 0 <= length <= _MOST:
@@ -442,11 +455,15 @@ class Types:
     """
 
     def __init__(self, definitions: Optional[Text] = None, parts: Optional[int] = None) -> None:
-        """Reads the definitions, as read() does; without any there are no types."""
-        self._held = _Types()
-        self._at = ctypes.byref(self._held)
-        self._one = threading.RLock()
-        self._room: Optional[Any] = None
+        """Reads the definitions, as read() does; without any there are no types. Called again, it does the same in
+        place of the types that were there."""
+        if not hasattr(self, "_one"):
+            self._held = _Types()
+            self._at = ctypes.byref(self._held)
+            self._room: Optional[Any] = None
+            self._one = threading.RLock()
+        elif definitions is None:
+            self.close()
         if definitions is not None:
             self.read(definitions, parts)
 
@@ -514,10 +531,10 @@ class Types:
         """Checks each message as check() does, in one call. A message is the place of its first octet and
         its length; messages may overlap. Returns their answers in their order: what check() returns, or the
         exception that it raises, or Outside where the message is not all in the octets, as with a number
-        below 0.
+        below 0. Neither a message nor the messages are a mapping, a set, a text or octets: TypeError.
         """
         named, given = _text(name), _octets(octets)
-        wanted = [_Message(*_message(message)) for message in messages]
+        wanted = [_Message(*_message(message)) for message in _in_order(messages, "messages are a sequence")]
         places = (_Message * len(wanted))(*wanted)
         answers = (_Checked * len(wanted))()
         status = self._call(

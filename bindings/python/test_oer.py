@@ -10,6 +10,7 @@ import gc
 import os
 import pickle
 import random
+import resource
 import subprocess
 import sys
 import threading
@@ -208,10 +209,19 @@ class Calls(unittest.TestCase):
         types = types_of(b"OCTET STRING")
         for octets in (b"\x01\x05", bytearray(b"\x01\x05"), memoryview(b"\x00\x01\x05")[1:]):
             self.assertEqual(types.canon("A", octets), oer.Canonical(octets=b"\x01\x05", read=2))
-        for octets in ("0105", 2, None, [1, 5]):
-            self.assertRaises(TypeError, types.check, "A", octets)
-        for name in (2, None):
+        for octets in ("0105", 2, None, [1, 5], {1: 5}, {1, 5}):
+            for call in (types.check, types.check_whole, types.canon, types.to_json):
+                self.assertRaises(TypeError, call, "A", octets)
+            self.assertRaises(TypeError, types.part, "A", octets, "c0")
+            self.assertRaises(TypeError, types.part_at, "A", octets, "c0")
+            self.assertRaises(TypeError, types.check_many, "A", octets, [])
+        for name in (2, None, {"A": 1}, ["A"]):
             self.assertRaises(TypeError, types.check, name, b"\x01\x05")
+            self.assertRaises(TypeError, types.from_json, "A", name)
+            self.assertRaises(TypeError, types.part, "A", b"\x01\x05", name)
+        for definitions in (2, {"A": "NULL"}, ["A ::= NULL"]):
+            self.assertRaises(TypeError, types.read, definitions)
+        self.assertEqual(types.check("A", b"\x01\x05"), (2, True))
         self.assertEqual(self.raised(lambda: types.check("\ud800", b"")), (oer.Unnamed, None, None))
         self.assertEqual(self.raised(lambda: types.canon("A", b"\x01\x05", 1)), (oer.OctetsRejected, 4, 1))
         self.assertEqual(types.canon("A", b"\x01\x05", 2**70).read, 2)
@@ -281,6 +291,16 @@ class Calls(unittest.TestCase):
         for messages in (5, None, [(0, 1), 5]):
             self.assertRaises(TypeError, types.check_many, "A", b"\xff", messages)
 
+        for message in ({0: 1, 1: 2}, {"at": 0, "length": 1}, {0, 1}, frozenset((0, 1)), b"\x00\x01", bytearray(b"\x00\x01"),
+                        memoryview(b"\x00\x01"), collections.OrderedDict(((0, 0), (1, 0))), {}):
+            with self.assertRaisesRegex(TypeError, "a message is a place and a length, and not a "):
+                types.check_many("A", b"\xff", [message])  # type: ignore[list-item]
+        for unordered in ({(0, 1): None}, {(0, 1)}, {}, set(), b"", "", memoryview(b"")):
+            with self.assertRaisesRegex(TypeError, "messages are a sequence, and not a "):
+                types.check_many("A", b"\xff", unordered)  # type: ignore[arg-type]
+        for message in ([0, 1], range(2), (number for number in (0, 1))):
+            self.assertEqual(types.check_many("A", b"\xff", [message]), [(1, True)])  # type: ignore[list-item]
+
         class Messages(List[Tuple[int, int]]):
             def __len__(self) -> int:
                 return 1000
@@ -301,6 +321,31 @@ class Calls(unittest.TestCase):
             self.assertEqual(freed(), 3)
             del types
             self.assertEqual(freed(), 4)
+
+    def test_begun_again(self) -> None:
+        """Types whose __init__ is called again have others, and nothing of the first is left in memory."""
+        types = types_of(b"BOOLEAN")
+        held, lock = ctypes.addressof(types._held), types._one
+        types.__init__("B ::= NULL")  # type: ignore[misc]
+        self.assertEqual(types.check("B", b""), (0, True))
+        self.assertEqual(self.raised(lambda: types.check("A", b"\xff")), (oer.Unnamed, None, None))
+        self.assertEqual((ctypes.addressof(types._held), types._one), (held, lock))
+        wanted = (oer.DefinitionsRejected, 3, 0)
+        self.assertEqual(self.raised(lambda: types.__init__("B")), wanted)  # type: ignore[misc]
+        self.assertEqual(types.check("B", b""), (0, True))
+        with mock.patch.object(oer, "_library", wraps=oer._library) as library:
+            types.__init__()  # type: ignore[misc]
+            self.assertEqual(library.oer_types_free.call_count, 1)
+        self.assertEqual(self.raised(lambda: types.check("B", b"")), (oer.NoTypes, None, None))
+
+    def test_begun_again_takes_no_memory(self) -> None:
+        text = "A ::= SEQUENCE {" + ", ".join(f"a{place} INTEGER" for place in range(4000)) + "}"
+        types = oer.Types(text)
+        for turn in range(300):
+            if turn == 20:
+                before = resource.getrusage(resource.RUSAGE_SELF).ru_maxrss
+            types.__init__(text)  # type: ignore[misc]
+        self.assertLess(resource.getrusage(resource.RUSAGE_SELF).ru_maxrss - before, 16 * 1024)
 
     def test_other_statuses(self) -> None:
         types = types_of(b"NULL")
@@ -323,6 +368,12 @@ class Calls(unittest.TestCase):
         self.assertEqual(str(problem), "octets rejected: END, place 2")
         again = pickle.loads(pickle.dumps(problem))
         self.assertEqual((type(again), again.reason, again.place), (oer.OctetsRejected, oer.Reason.END, 2))
+        with self.assertRaises(oer.Rejected) as caught:
+            types.from_json("A", "{}")
+        problem = caught.exception
+        self.assertEqual((problem.reason, problem.place, str(problem)), (oer.JsonReason.KIND, None, "JSON rejected: KIND"))
+        again = pickle.loads(pickle.dumps(problem))
+        self.assertEqual((again.reason, again.place, str(again)), (oer.JsonReason.KIND, None, "JSON rejected: KIND"))
         self.assertRaises(TypeError, copy.copy, types)
         self.assertTrue(issubclass(oer.OutOfMemory, MemoryError))
 
@@ -459,6 +510,8 @@ class Header(unittest.TestCase):
     def test_version(self) -> None:
         self.assertEqual([[str(oer.version())]], rows("version"))
         self.assertEqual(oer.VERSION_NUMBER, oer.version())
+        major, minor, patch = (int(number) for number in oer.__version__.split("."))
+        self.assertEqual(10000 * major + 100 * minor + patch, oer.VERSION_NUMBER)
 
     def test_no_library(self) -> None:
         for file in (os.path.join(HERE, "none.so"), __file__, ctypes.util.find_library("c") or __file__):
