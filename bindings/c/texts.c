@@ -1,7 +1,9 @@
-/* Texts of types that cost more than their length, if types are copied or Names are looked through: texts
+/* Texts of types that cost more than their length, if types are copied or Names are looked through:
+ * texts FOLDER PARTS
  *
- * Each is read within 64 MB of addresses and 10 seconds of the processor, and its last Name is found. It
- * prints what is not, and then its status is 1. */
+ * Each is read within 64 MB of addresses and 10 seconds of the processor, and its last Name is found. FOLDER is
+ * examples/ieee1609dot2: its types are read within PARTS parts, and within no fewer. It prints what is not, and
+ * then its status is 1. */
 #define _DEFAULT_SOURCE
 #include "oer.h"
 
@@ -75,11 +77,48 @@ static void read_copies(void) {
     oer_types_free(&types);
 }
 
-int main(void) {
+/* The definitions of the file into `text`; their length. */
+static size_t file_text(const char *folder) {
+    char path[4096];
+    size_t length = 0;
+    FILE *file;
+    snprintf(path, sizeof path, "%s/types.asn", folder);
+    file = fopen(path, "rb");
+    if (file) {
+        length = fread(text, 1, sizeof text, file);
+        fclose(file);
+    }
+    if (length == 0 || length == sizeof text) {
+        printf("texts: %s: not read\n", path);
+        exit(2);
+    }
+    return length;
+}
+
+/* The types of the file are read within so many parts, and one fewer is too few. */
+static void read_within(const char *folder, uint64_t parts) {
+    size_t length = file_text(folder);
+    oer_types types = OER_TYPES_NONE;
+    oer_parsed fewer = oer_types_read_within(&types, text, length, parts - 1);
+    oer_parsed enough = oer_types_read_within(&types, text, length, parts);
+    if (fewer.status != OER_REJECTED || fewer.why != OER_TEXT_PARTS || enough.status != OER_OK || enough.place != length) {
+        printf("texts: %s/types.asn has not just %lu parts: with one fewer status %u, reason %u, with these %u, %u\n", folder,
+               (unsigned long)parts, (unsigned)fewer.status, (unsigned)fewer.why, (unsigned)enough.status, (unsigned)enough.why);
+        failed = 1;
+    }
+    oer_types_free(&types);
+}
+
+int main(int count, char **words) {
+    if (count != 3) {
+        puts("usage: texts FOLDER PARTS");
+        return 2;
+    }
     allow(RLIMIT_AS, MOST_MEMORY);
     allow(RLIMIT_CPU, MOST_SECONDS);
     read_names();
     read_small();
     read_copies();
+    read_within(words[1], strtoul(words[2], 0, 10));
     return failed;
 }
