@@ -5,12 +5,16 @@ _oer() {
   local word=${COMP_WORDS[COMP_CWORD]} before=${COMP_WORDS[COMP_CWORD - 1]} at given=' ' options option
   COMPREPLY=()
   if [ "$COMP_CWORD" -eq 1 ]; then
-    options='canon show check part make'
+    options='canon show check part make help'
     [[ $word != -* ]] || options='--help --version'
     COMPREPLY=($(compgen -W "$options" -- "$word"))
     return
   fi
   case ${COMP_WORDS[1]} in
+    help)
+      [ "$COMP_CWORD" -gt 2 ] || COMPREPLY=($(compgen -W 'canon show check part make' -- "$word"))
+      return
+      ;;
     show) options='--type --types --name --hex --ascii --limit --help' ;;
     canon | check) options='--type --types --name --hex --limit --help' ;;
     part) options='--type --types --name --hex --path --limit --help' ;;

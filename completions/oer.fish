@@ -6,6 +6,13 @@ function __fish_oer_begins
     test (count (commandline -opc)) -eq 1
 end
 
+# Whether the line wants a subcommand: it has none yet, or only help.
+function __fish_oer_names
+    set -l words (commandline -opc)
+    test (count $words) -eq 1
+    or test (count $words) -eq 2 -a "$words[2]" = help
+end
+
 # Whether the line has one of these subcommands, and none of the options after `without`.
 function __fish_oer_takes
     set -l words (commandline -opc)
@@ -20,11 +27,12 @@ function __fish_oer_takes
 end
 
 complete -c oer -f
-complete -c oer -n __fish_oer_begins -a canon -d 'Print the canonical octets'
-complete -c oer -n __fish_oer_begins -a show -d 'Print the value as JSON'
-complete -c oer -n __fish_oer_begins -a check -d 'Say whether the octets are canonical'
-complete -c oer -n __fish_oer_begins -a part -d 'Print the octets of a part'
-complete -c oer -n __fish_oer_begins -a make -d 'Make canonical octets of JSON'
+complete -c oer -n __fish_oer_names -a canon -d 'Print the canonical octets'
+complete -c oer -n __fish_oer_names -a show -d 'Print the value as JSON'
+complete -c oer -n __fish_oer_names -a check -d 'Say whether the octets are canonical'
+complete -c oer -n __fish_oer_names -a part -d 'Print the octets of a part'
+complete -c oer -n __fish_oer_names -a make -d 'Make canonical octets of JSON'
+complete -c oer -n __fish_oer_begins -a help -d 'Print the help of a subcommand'
 complete -c oer -n __fish_oer_begins -l version -d 'Print the version'
 complete -c oer -l help -d 'Print a help text'
 
