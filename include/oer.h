@@ -231,13 +231,17 @@ void oer_types_free(oer_types *types);
 uint32_t oer_types_share(oer_types *types, oer_types *other) OER_NO_NULL;
 
 /* Whether the octets begin with an encoding of a value of the type with the name, in any spelling
- * that the rules allow (Basic-OER): how long it is, and whether it is the canonical one. What
- * follows it is not looked at: compare `octets` of the answer with octets_length. */
+ * that the rules allow (Basic-OER): how long it is, and whether it is the canonical one by these types
+ * (oer_check_whole). What follows it is not looked at: compare `octets` of the answer with
+ * octets_length. */
 oer_checked oer_check(oer_types *types, const char *name, size_t name_length,
                       const uint8_t *octets, size_t octets_length) OER_NO_NULL;
 
 /* Whether the octets are the canonical encoding (Canonical-OER) of a value of the type with the name, and
- * nothing else: what has to be asked before a signature over them counts.
+ * nothing else: what has to be asked before a signature over them counts. They are canonical by these
+ * types: the content of an addition or alternative that the types don't know is taken as it stands. So
+ * 80 ff 02 07 80 03 02 00 05 are canonical as SEQUENCE {a BOOLEAN, ...}, and not as SEQUENCE {a BOOLEAN, ...,
+ * x INTEGER (0..MAX)}, since x is 01 05 in canonical octets: ask by the newest types that there are.
  * OER_OK: they are. OER_FOLLOWS: an encoding is at the front, and others follow it, from octets + `octets`
  * of the answer on. OER_NOT_CANONICAL: they are an encoding, but not the canonical one. OER_REJECTED: no
  * encoding is at the front, as in oer_check. OER_NO_TYPES, OER_UNNAMED. */

@@ -517,8 +517,9 @@ public:
     }
 
     /* Whether the octets are the canonical encoding (Canonical-OER) of a value of the type with the name, and
-     * nothing else: what has to be asked before a signature over them counts. The result is ok() where they
-     * are. It takes no memory.
+     * nothing else: what has to be asked before a signature over them counts. They are canonical by these
+     * types, which may not know all additions: oer_check_whole in oer.h says more. The result is ok() where
+     * they are. It takes no memory.
      *   OER_FOLLOWS  an encoding is at the front, and others follow it: `place` is that of the first one
      *   OER_NOT_CANONICAL  they are an encoding, but not the canonical one
      *   OER_REJECTED  no encoding is at the front, as in check() */

@@ -55,6 +55,13 @@ static const struct vector vectors[] = {
     { CHECK, "BOOLEAN", "", 0, ALL, OER_REJECTED, OER_END, 0, 0, 0 },
     { CHECK, "OCTET STRING", ENDLESS, 0, ALL, OER_REJECTED, OER_LIMIT, 9, 0, 0 },
 
+    /* The content of an addition is spelt longer than it has to be: seen by a type that knows it. */
+    { CHECK, "SEQUENCE {a BOOLEAN, ...}", "80ff02078003020005", 0, ALL, OER_OK, 0, 9, 1, 0 },
+    { CHECK, "SEQUENCE {a BOOLEAN, ..., x INTEGER (0..MAX)}", "80ff02078003020005", 0, ALL, OER_OK, 0, 9, 0, 0 },
+    { CHECK, "SEQUENCE {a BOOLEAN, ..., x INTEGER (0..MAX)}", "80ff020780020105", 0, ALL, OER_OK, 0, 8, 1, 0 },
+    { WHOLE, "SEQUENCE {a BOOLEAN, ...}", "80ff02078003020005", 0, ALL, OER_OK, 0, 9, 1, 0 },
+    { WHOLE, "SEQUENCE {a BOOLEAN, ..., x INTEGER (0..MAX)}", "80ff02078003020005", 0, ALL, OER_NOT_CANONICAL, 0, 9, 0, 0 },
+
     { WHOLE, BOOLEANS, "0102ff00", 0, ALL, OER_OK, 0, 4, 1, 0 },
     { WHOLE, BOOLEANS, "0200020107", 0, ALL, OER_NOT_CANONICAL, 0, 5, 0, 0 },
     { WHOLE, BOOLEANS, "0102ff00ffff", 0, ALL, OER_FOLLOWS, 0, 4, 1, 0 },

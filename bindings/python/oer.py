@@ -514,7 +514,8 @@ class Types:
 
     def check_whole(self, name: Text, octets: Octets) -> None:
         """That the octets are the canonical encoding (Canonical-OER) of a value of the type with the name,
-        and nothing else: what has to be asked before a signature over them counts.
+        and nothing else: what has to be asked before a signature over them counts. They are canonical by these
+        types: the content of an addition that the types don't know is taken as it stands (LIBRARY.md).
 
         Raises Follows if an encoding is at the front and others follow it, NotCanonical if they are an
         encoding and not the canonical one, and OctetsRejected if no encoding is at the front.

@@ -282,7 +282,9 @@ impl Types {
     }
 
     /// That the octets are the canonical encoding (Canonical-OER) of a value of the type with the name, and
-    /// nothing else: what has to be asked before a signature over them counts. It takes no memory.
+    /// nothing else: what has to be asked before a signature over them counts. They are canonical by these
+    /// types: the content of an addition that the types don't know is taken as it stands (LIBRARY.md). It
+    /// takes no memory.
     ///
     /// # Errors
     ///
