@@ -1,12 +1,12 @@
 -- A type of which no fault is found in one walk has none of the faults after the first two.
-use Rattle.std.proofs.Common.{◌≡◌, ℕ, zero, suc, List, [], ◌∷◌, drop, Bool, true, false, ◌||◌, Option, Some, None, if◌then◌else◌, refl, true≢false}
+use Rattle.std.proofs.Common.{◌≡◌, ℕ, zero, suc, List, [], ◌∷◌, ◌++◌, drop, Bool, true, false, ◌||◌, Option, Some, None, if◌then◌else◌, refl, sym, ap, ◌∙◌, true≢false}
 use Rattle.oer_model.specs.AsnType.{Additions, Alternatives, AsnType, Fields, addition, alternative, choice, extensible_sequence, field, later, leaf, no_additions, no_alternatives, no_fields, sequence, sequence_of}
 use Rattle.oer_model.proofs.faults.Faults.{no_fault_found}
 use Rattle.oer_model.specs.FaultTest.{first_fault, first_in, has_fault, has_fault_here, in_additions, in_alternatives, in_fields, later_faults, somewhere}
 use Rattle.oer_model.specs.declared.fault.SchemaFault.{SchemaFault}
 use Rattle.oer_model.specs.declared.fault.SchemaFault.TheVariants.{TooDeep, TooManyParts, BoundOrder, SizeOrder, BadName, RepeatedName, NoItems, RepeatedNumber, RepeatedTag, DefaultMisfit, EmptyElement}
 use Rattle.oer_model.specs.WellFormed.{IsWellFormed}
-use Rattle.oer_types.specs.AnyFault.{any_fault, any_fault_here, any_here, inside}
+use Rattle.oer_types.specs.AnyFault.{any_fault, any_fault_here, any_here, inside, repeat_faults, spelling_faults, value_faults}
 use Rattle.oer_values.proofs.Shapes.{shapes}
 
 pub or_false : (a : Bool) → (a || false) ≡ a
@@ -186,3 +186,86 @@ here_or_inside (sequence fs) d e = neither (any_fault_here (sequence fs)) (in_fi
 here_or_inside (extensible_sequence fs more) d e = neither (any_fault_here (extensible_sequence fs more)) (in_fields any_fault_here fs || in_additions any_fault_here more) d e
 here_or_inside (sequence_of s T) d e = neither (any_fault_here (sequence_of s T)) (somewhere any_fault_here T) d e
 here_or_inside (choice extensible more) d e = neither (any_fault_here (choice extensible more)) (in_alternatives any_fault_here more) d e
+
+-- ---- the faults by what they are told from
+
+or_assoc : (a b c : Bool) → (a || (b || c)) ≡ ((a || b) || c)
+or_assoc true b c = refl
+or_assoc false b c = refl
+
+any_of_both : (fs gs : List SchemaFault) (T : AsnType) → any_here (fs ++ gs) T ≡ (any_here fs T || any_here gs T)
+any_of_both [] gs T = refl
+any_of_both (f ∷ fs) gs T = ap (λ b. has_fault_here f T || b) (any_of_both fs gs T) ∙ or_assoc (has_fault_here f T) (any_here fs T) (any_here gs T)
+
+-- all of them are those of the three lists
+pub of_three : (T : AsnType) → any_fault_here T ≡ (any_here spelling_faults T || (any_here repeat_faults T || any_here value_faults T))
+of_three T = any_of_both spelling_faults (repeat_faults ++ value_faults) T ∙ ap (λ b. any_here spelling_faults T || b) (any_of_both repeat_faults value_faults T)
+
+-- where none of a list is anywhere, neither its first nor one of the others is
+passed : (f : SchemaFault) (fs : List SchemaFault) (T : AsnType) → somewhere (any_here (f ∷ fs)) T ≡ false
+    → (somewhere (has_fault_here f) T ≡ false) × (somewhere (any_here fs) T ≡ false)
+passed f fs T e = (
+  nowhere (has_fault_here f) (any_here (f ∷ fs)) (λ U h. left (has_fault_here f U) (any_here fs U) h) T e,
+  nowhere (any_here fs) (any_here (f ∷ fs)) (λ U h. right (has_fault_here f U) (any_here fs U) h) T e,
+)
+
+pub past_spelling : (T : AsnType) → somewhere (any_here spelling_faults) T ≡ false → first_in T later_faults ≡ first_in T (repeat_faults ++ value_faults)
+past_spelling T e =
+    let p = passed BoundOrder (SizeOrder ∷ BadName ∷ []) T e in
+    let q = passed SizeOrder (BadName ∷ []) T p.1 in
+    rw (p.0, q.0, (passed BadName [] T q.1).0) refl
+
+pub past_repeats : (T : AsnType) → somewhere (any_here repeat_faults) T ≡ false → first_in T (repeat_faults ++ value_faults) ≡ first_in T value_faults
+past_repeats T e =
+    let p = passed RepeatedName (NoItems ∷ RepeatedNumber ∷ RepeatedTag ∷ []) T e in
+    let q = passed NoItems (RepeatedNumber ∷ RepeatedTag ∷ []) T p.1 in
+    let r = passed RepeatedNumber (RepeatedTag ∷ []) T q.1 in
+    rw (p.0, q.0, r.0, (passed RepeatedTag [] T r.1).0) refl
+
+pub past_values : (T : AsnType) → somewhere (any_here value_faults) T ≡ false → first_in T value_faults ≡ None
+past_values T e =
+    let p = passed DefaultMisfit (EmptyElement ∷ []) T e in
+    rw (p.0, (passed EmptyElement [] T p.1).0) refl
+
+-- what is first of a list is first of a longer one
+found_if : (b : Bool) (f g : SchemaFault) (o p : Option SchemaFault) → (o ≡ Some g → p ≡ Some g) → (if b then Some f else o) ≡ Some g → (if b then Some f else p) ≡ Some g
+found_if true f g o p h e = e
+found_if false f g o p h e = h e
+
+pub found_before : (fs gs : List SchemaFault) (T : AsnType) (g : SchemaFault) → first_in T fs ≡ Some g → first_in T (fs ++ gs) ≡ Some g
+found_before [] gs T g e = absurd (cc)
+found_before (f ∷ fs) gs T g e = found_if (has_fault f T) f g (first_in T fs) (first_in T (fs ++ gs)) (found_before fs gs T g) e
+
+-- where one of a list is somewhere, and not its first, one of the others is
+other_somewhere : (f : SchemaFault) (fs : List SchemaFault) (T : AsnType) → somewhere (any_here (f ∷ fs)) T ≡ true → somewhere (has_fault_here f) T ≡ false → somewhere (any_here fs) T ≡ true
+other_somewhere f fs T e d = by_test (somewhere (any_here fs) T) (one_more f fs T d) e
+  where
+    by_test : (b : Bool) → (b ≡ false → somewhere (any_here (f ∷ fs)) T ≡ false) → somewhere (any_here (f ∷ fs)) T ≡ true → b ≡ true
+    by_test true h e = refl
+    by_test false h e = absurd (true≢false (sym e ∙ h refl))
+
+-- the one fault of a list that is somewhere
+alone : (f : SchemaFault) (T : AsnType) → somewhere (any_here (f ∷ [])) T ≡ true → somewhere (has_fault_here f) T ≡ true
+alone f T e = by_test (somewhere (has_fault_here f) T) (λ d. one_more f [] T d (none_nowhere T))
+  where
+    by_test : (b : Bool) → (b ≡ false → somewhere (any_here (f ∷ [])) T ≡ false) → b ≡ true
+    by_test true h = refl
+    by_test false h = absurd (true≢false (sym e ∙ h refl))
+
+pub last_spelling : (T : AsnType) → somewhere (any_here spelling_faults) T ≡ true → somewhere (has_fault_here BoundOrder) T ≡ false
+    → somewhere (has_fault_here SizeOrder) T ≡ false → first_in T spelling_faults ≡ Some BadName
+last_spelling T e a b =
+    let two = other_somewhere BoundOrder (SizeOrder ∷ BadName ∷ []) T e a in
+    let one = other_somewhere SizeOrder (BadName ∷ []) T two b in
+    rw (a, b, alone BadName T one) refl
+
+pub last_repeat : (T : AsnType) → somewhere (any_here repeat_faults) T ≡ true → somewhere (has_fault_here RepeatedName) T ≡ false
+    → somewhere (has_fault_here NoItems) T ≡ false → somewhere (has_fault_here RepeatedNumber) T ≡ false → first_in T repeat_faults ≡ Some RepeatedTag
+last_repeat T e a b c =
+    let three = other_somewhere RepeatedName (NoItems ∷ RepeatedNumber ∷ RepeatedTag ∷ []) T e a in
+    let two = other_somewhere NoItems (RepeatedNumber ∷ RepeatedTag ∷ []) T three b in
+    let one = other_somewhere RepeatedNumber (RepeatedTag ∷ []) T two c in
+    rw (a, b, c, alone RepeatedTag T one) refl
+
+pub last_value : (T : AsnType) → somewhere (any_here value_faults) T ≡ true → somewhere (has_fault_here DefaultMisfit) T ≡ false → first_in T value_faults ≡ Some EmptyElement
+last_value T e a = rw (a, alone EmptyElement T (other_somewhere DefaultMisfit (EmptyElement ∷ []) T e a)) refl

@@ -6,7 +6,7 @@ ghost use Rattle.oer_model.specs.FaultTest.{any_bad_name, any_misfit as spec_any
 ghost use Rattle.oer_values.specs.ShapeView.{additions_of, choice_with, fields_of, later_of, named_number, root_of, sequence_with, type_of};
 ghost use Rattle.oer_model.specs.WellFormed.{names};
 ghost use Rattle.oer_types.specs.Ascending.{ascend, next_tag as spec_next_tag};
-ghost use Rattle.oer_types.specs.AnyFault.{any_fault_here, sought};
+ghost use Rattle.oer_types.specs.AnyFault.{any_fault_here, any_here, is_sought, repeat_faults, spelling_faults, value_faults};
 
 use crate::name;
 use oer_model::{SchemaFault, Size};
@@ -327,35 +327,71 @@ fn has_empty_element(shape: &Shape) -> bool
     }
 }
 
-/// Whether the type itself has any of the faults after the first two, whatever the types in it have. A type of
-/// one kind can't have the faults of another.
+/// What a walk looks for: one fault, or any of those that are told from the same parts of a type.
+#[derive(Clone, Copy)]
+pub(crate) enum Sought {
+    /// The fault.
+    One(SchemaFault),
+    /// Bounds, sizes and letters: `BoundOrder`, `SizeOrder`, `BadName`.
+    Spelling,
+    /// What stands twice, or not at all: `RepeatedName`, `NoItems`, `RepeatedNumber`, `RepeatedTag`.
+    Repeats,
+    /// What doesn't go with values: `DefaultMisfit`, `EmptyElement`.
+    Values,
+}
+
+/// Whether the type itself has one of the faults that are told from each number and name alone.
 #[tactic(auto, using(crate::proofs::AnyFault::here))]
-pub fn has_any_fault_here(shape: &Shape) -> bool
-    ensures { result ≡ any_fault_here (type_of shape.now) }
+fn is_misspelt(shape: &Shape) -> bool
+    ensures { result ≡ any_here spelling_faults (type_of shape.now) }
 {
     match shape {
         Shape::Boolean => false,
         Shape::Null => false,
         Shape::ObjectId => false,
         Shape::Integer { .. } => has_crossed_bounds(shape),
-        Shape::Enumerated { .. } => {
-            has_bad_name(shape)
-                || has_repeated_name(shape)
-                || has_no_items(shape)
-                || has_repeated_number(shape)
-        }
-        Shape::Sequence { .. } => {
-            has_bad_name(shape) || has_repeated_name(shape) || has_misfit(shape)
-        }
-        Shape::SequenceOf { .. } => has_crossed_size(shape) || has_empty_element(shape),
-        Shape::Choice { .. } => {
-            has_bad_name(shape)
-                || has_repeated_name(shape)
-                || has_no_items(shape)
-                || has_repeated_tag(shape)
-        }
+        Shape::Enumerated { .. } => has_bad_name(shape),
+        Shape::Sequence { .. } => has_bad_name(shape),
+        Shape::Choice { .. } => has_bad_name(shape),
         _ => has_crossed_size(shape),
     }
+}
+
+/// Whether the type itself has one of the faults of what stands twice, or not at all.
+#[tactic(auto, using(crate::proofs::AnyFault::here))]
+fn has_repeats(shape: &Shape) -> bool
+    ensures { result ≡ any_here repeat_faults (type_of shape.now) }
+{
+    match shape {
+        Shape::Enumerated { .. } => {
+            has_repeated_name(shape) || has_no_items(shape) || has_repeated_number(shape)
+        }
+        Shape::Sequence { .. } => has_repeated_name(shape),
+        Shape::Choice { .. } => {
+            has_repeated_name(shape) || has_no_items(shape) || has_repeated_tag(shape)
+        }
+        _ => false,
+    }
+}
+
+/// Whether the type itself has one of the faults that are told from values.
+#[tactic(auto, using(crate::proofs::AnyFault::here))]
+fn has_wrong_values(shape: &Shape) -> bool
+    ensures { result ≡ any_here value_faults (type_of shape.now) }
+{
+    match shape {
+        Shape::Sequence { .. } => has_misfit(shape),
+        Shape::SequenceOf { .. } => has_empty_element(shape),
+        _ => false,
+    }
+}
+
+/// Whether the type itself has any of the faults after the first two, whatever the types in it have.
+#[tactic(auto, using(crate::proofs::AnyFault::of_three))]
+pub fn has_any_fault_here(shape: &Shape) -> bool
+    ensures { result ≡ any_fault_here (type_of shape.now) }
+{
+    is_misspelt(shape) || has_repeats(shape) || has_wrong_values(shape)
 }
 
 /// Whether the type itself has the fault, whatever the types in it have.
@@ -377,43 +413,45 @@ fn has_one_fault_here(fault: SchemaFault, shape: &Shape) -> bool
     }
 }
 
-/// Whether the type itself has the fault, or any after the first two where none is given.
-fn has_fault_here(fault: Option<SchemaFault>, shape: &Shape) -> bool
-    ensures { result ≡ sought fault (type_of shape.now) }
+/// Whether the type itself has a fault that is looked for.
+fn has_fault_here(sought: Sought, shape: &Shape) -> bool
+    ensures { result ≡ is_sought sought (type_of shape.now) }
 {
-    match fault {
-        Some(fault) => has_one_fault_here(fault, shape),
-        None => has_any_fault_here(shape),
+    match sought {
+        Sought::One(fault) => has_one_fault_here(fault, shape),
+        Sought::Spelling => is_misspelt(shape),
+        Sought::Repeats => has_repeats(shape),
+        Sought::Values => has_wrong_values(shape),
     }
 }
 
-/// Whether the type or a type in it has the fault, or any after the first two where none is given.
+/// Whether the type or a type in it has a fault that is looked for. The walk stops at the first one.
 #[cycle(somewhere)]
 #[tactic(auto, using(oer_values::proofs::Shapes::shapes))]
-pub(crate) fn is_somewhere(fault: Option<SchemaFault>, shape: &Shape) -> bool
-    ensures { result ≡ somewhere (sought fault) (type_of shape.now) }
+pub(crate) fn is_somewhere(sought: Sought, shape: &Shape) -> bool
+    ensures { result ≡ somewhere (is_sought sought) (type_of shape.now) }
 {
-    if has_fault_here(fault, shape) {
+    if has_fault_here(sought, shape) {
         return true;
     }
     match shape {
         Shape::Sequence { root, additions } => {
-            if is_in_fields(fault, root) {
+            if is_in_fields(sought, root) {
                 return true;
             }
             match additions {
                 None => false,
-                Some(additions) => is_in_additions(fault, additions),
+                Some(additions) => is_in_additions(sought, additions),
             }
         }
-        Shape::SequenceOf { item, .. } => is_somewhere(fault, item),
+        Shape::SequenceOf { item, .. } => is_somewhere(sought, item),
         Shape::Choice { root, additions } => {
-            if is_in_alternatives(fault, root) {
+            if is_in_alternatives(sought, root) {
                 return true;
             }
             match additions {
                 None => false,
-                Some(additions) => is_in_alternatives(fault, additions),
+                Some(additions) => is_in_alternatives(sought, additions),
             }
         }
         _ => false,
@@ -421,11 +459,11 @@ pub(crate) fn is_somewhere(fault: Option<SchemaFault>, shape: &Shape) -> bool
 }
 
 #[cycle(somewhere)]
-fn is_in_fields(fault: Option<SchemaFault>, fields: &[Field]) -> bool
-    ensures { result ≡ in_fields (sought fault) (fields_of fields.now) }
+fn is_in_fields(sought: Sought, fields: &[Field]) -> bool
+    ensures { result ≡ in_fields (is_sought sought) (fields_of fields.now) }
 {
     for field in fields {
-        if is_somewhere(fault, &field.shape) {
+        if is_somewhere(sought, &field.shape) {
             return true;
         }
     }
@@ -433,11 +471,11 @@ fn is_in_fields(fault: Option<SchemaFault>, fields: &[Field]) -> bool
 }
 
 #[cycle(somewhere)]
-fn is_in_additions(fault: Option<SchemaFault>, additions: &[Addition]) -> bool
-    ensures { result ≡ in_additions (sought fault) (additions_of additions.now) }
+fn is_in_additions(sought: Sought, additions: &[Addition]) -> bool
+    ensures { result ≡ in_additions (is_sought sought) (additions_of additions.now) }
 {
     for addition in additions {
-        if is_somewhere(fault, &addition.shape) {
+        if is_somewhere(sought, &addition.shape) {
             return true;
         }
     }
@@ -445,11 +483,11 @@ fn is_in_additions(fault: Option<SchemaFault>, additions: &[Addition]) -> bool
 }
 
 #[cycle(somewhere)]
-fn is_in_alternatives(fault: Option<SchemaFault>, alts: &[Alt]) -> bool
-    ensures { result ≡ in_alternatives (sought fault) (root_of alts.now no_alternatives) }
+fn is_in_alternatives(sought: Sought, alts: &[Alt]) -> bool
+    ensures { result ≡ in_alternatives (is_sought sought) (root_of alts.now no_alternatives) }
 {
     for alt in alts {
-        if is_somewhere(fault, &alt.shape) {
+        if is_somewhere(sought, &alt.shape) {
             return true;
         }
     }

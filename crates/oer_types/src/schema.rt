@@ -5,7 +5,7 @@ ghost use Rattle.oer_model.specs.WellFormed.{IsWellFormed};
 
 use crate::counting::parts_left;
 use crate::depth::is_within_depth;
-use crate::rule::is_somewhere;
+use crate::rule::{Sought, is_somewhere};
 use oer_model::SchemaFault;
 use oer_values::Shape;
 
@@ -79,10 +79,10 @@ impl Schema {
     }
 }
 
-ghost use Rattle.std.specs.Prelude.{◌≡◌, MatchOption, None, Some, false};
-ghost use Rattle.oer_model.specs.FaultTest.{first_fault as spec_first_fault, first_in, has_fault, later_faults};
+ghost use Rattle.std.specs.Prelude.{◌≡◌, MatchOption, None, Some, false, true};
+ghost use Rattle.oer_model.specs.FaultTest.{first_fault as spec_first_fault, first_in, has_fault, later_faults, somewhere};
 ghost use Rattle.oer_model.specs.Widths.{HasWidths};
-ghost use Rattle.oer_types.specs.AnyFault.{any_fault};
+ghost use Rattle.oer_types.specs.AnyFault.{any_fault, any_here, repeat_faults, spelling_faults, value_faults};
 ghost use Rattle.oer_model.specs.declared.fault.SchemaFault.TheVariants.{TooManyParts};
 
 /// Whether the type has more parts than it may have. Where it hasn't, its numbers are known.
@@ -133,46 +133,64 @@ fn fault_of_sound(shape: &Shape) -> Option<SchemaFault>
     fault_of_whole(shape)
 }
 
-/// The fault of least number after the first two. Most types have none, which one walk finds.
-#[tactic(auto, using(crate::proofs::AnyFault::none_later))]
+/// The fault of least number after the first two. What takes most is looked for last: names are compared
+/// where the rest of each type is in order, values where the names are.
 fn later_fault(shape: &Shape) -> Option<SchemaFault>
     ensures { result ≡ first_in (type_of shape.now) later_faults }
 {
-    if !is_somewhere(None, shape) {
-        return None;
+    if is_somewhere(Sought::Spelling, shape) {
+        return Some(spelling_fault(shape));
     }
-    first_later_fault(shape)
-}
-
-fn first_later_fault(shape: &Shape) -> Option<SchemaFault>
-    ensures { result ≡ first_in (type_of shape.now) later_faults }
-{
-    if is_somewhere(Some(SchemaFault::BoundOrder), shape) {
-        return Some(SchemaFault::BoundOrder);
+    if is_somewhere(Sought::Repeats, shape) {
+        return Some(repeat_fault(shape));
     }
-    if is_somewhere(Some(SchemaFault::SizeOrder), shape) {
-        return Some(SchemaFault::SizeOrder);
-    }
-    if is_somewhere(Some(SchemaFault::BadName), shape) {
-        return Some(SchemaFault::BadName);
-    }
-    if is_somewhere(Some(SchemaFault::RepeatedName), shape) {
-        return Some(SchemaFault::RepeatedName);
-    }
-    if is_somewhere(Some(SchemaFault::NoItems), shape) {
-        return Some(SchemaFault::NoItems);
-    }
-    if is_somewhere(Some(SchemaFault::RepeatedNumber), shape) {
-        return Some(SchemaFault::RepeatedNumber);
-    }
-    if is_somewhere(Some(SchemaFault::RepeatedTag), shape) {
-        return Some(SchemaFault::RepeatedTag);
-    }
-    if is_somewhere(Some(SchemaFault::DefaultMisfit), shape) {
-        return Some(SchemaFault::DefaultMisfit);
-    }
-    if is_somewhere(Some(SchemaFault::EmptyElement), shape) {
-        return Some(SchemaFault::EmptyElement);
+    if is_somewhere(Sought::Values, shape) {
+        return Some(value_fault(shape));
     }
     None
+}
+
+/// Which of these faults is the least, where there is one.
+#[tactic(auto, using(crate::proofs::AnyFault::last_spelling))]
+fn spelling_fault(shape: &Shape) -> SchemaFault
+    requires { somewhere (any_here spelling_faults) (type_of shape.now) ≡ true }
+    ensures { Some result ≡ first_in (type_of shape.now) spelling_faults }
+{
+    if is_somewhere(Sought::One(SchemaFault::BoundOrder), shape) {
+        return SchemaFault::BoundOrder;
+    }
+    if is_somewhere(Sought::One(SchemaFault::SizeOrder), shape) {
+        return SchemaFault::SizeOrder;
+    }
+    SchemaFault::BadName
+}
+
+/// Which of these faults is the least, where there is one.
+#[tactic(auto, using(crate::proofs::AnyFault::last_repeat))]
+fn repeat_fault(shape: &Shape) -> SchemaFault
+    requires { somewhere (any_here repeat_faults) (type_of shape.now) ≡ true }
+    ensures { Some result ≡ first_in (type_of shape.now) repeat_faults }
+{
+    if is_somewhere(Sought::One(SchemaFault::RepeatedName), shape) {
+        return SchemaFault::RepeatedName;
+    }
+    if is_somewhere(Sought::One(SchemaFault::NoItems), shape) {
+        return SchemaFault::NoItems;
+    }
+    if is_somewhere(Sought::One(SchemaFault::RepeatedNumber), shape) {
+        return SchemaFault::RepeatedNumber;
+    }
+    SchemaFault::RepeatedTag
+}
+
+/// Which of these faults is the least, where there is one.
+#[tactic(auto, using(crate::proofs::AnyFault::last_value))]
+fn value_fault(shape: &Shape) -> SchemaFault
+    requires { somewhere (any_here value_faults) (type_of shape.now) ≡ true }
+    ensures { Some result ≡ first_in (type_of shape.now) value_faults }
+{
+    if is_somewhere(Sought::One(SchemaFault::DefaultMisfit), shape) {
+        return SchemaFault::DefaultMisfit;
+    }
+    SchemaFault::EmptyElement
 }
