@@ -1,5 +1,5 @@
 pub mod Alternatives
 pub mod NameSteps
 pub mod AnyFault
-pub mod Repeats
 pub mod Ascending
+pub mod NameOrder

@@ -1,5 +1,5 @@
 pub mod Schema
 pub mod Counting
 pub mod AnyFault
-pub mod Seen
 pub mod Ascending
+pub mod NameOrder

@@ -7,9 +7,9 @@ mod calls;
 mod counting;
 mod depth;
 mod name;
+mod order;
 mod rule;
 mod schema;
-mod seen;
 
 pub use calls::{filled, fits, same_filled};
 pub use counting::parts_left;

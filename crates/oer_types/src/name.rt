@@ -1,17 +1,16 @@
 //! Names of components, alternatives and items.
-ghost use Rattle.std.specs.Prelude.{◌≡◌, ◌++◌, false, map, string_bytes};
+ghost use Rattle.std.specs.Prelude.{◌≡◌, ◌≤◌, ◌++◌, false, length, map, string_bytes, true};
 ghost use Rattle.std.specs.Str.{bytes_eq};
 ghost use Rattle.oer_model.specs.AsnType.{no_alternatives};
 ghost use Rattle.oer_model.specs.FaultTest.{any_bad_name, contains_name, names_repeat, rest_after};
 ghost use Rattle.oer_values.specs.ShapeView.{additions_of, fields_of, named_number, root_of};
-ghost use Rattle.oer_types.specs.Seen.{AreMarked};
+ghost use Rattle.oer_types.specs.NameOrder.{names_in};
 ghost use Rattle.oer_model.specs.WellFormed.{addition_names, alternative_names, field_names, is_alphanumeric as spec_is_alphanumeric, is_identifier as spec_is_identifier, item_names};
 
-use crate::seen::Seen;
+use crate::order::{MOST, Names, names_repeat_in_order};
 use oer_values::{Addition, Alt, Field, Item};
 
-/// From so many names on, names are marked as seen, which costs more than to compare few with each other. What has
-/// the marks isn't inlined: they would stand on the stack once for each level of a type.
+/// From so many names on they are put in order, which costs more than to compare few with each other.
 const MANY: usize = 32;
 
 fn is_alphanumeric(octet: u8) -> bool
@@ -142,29 +141,22 @@ fn is_alternative_name(alts: &[Alt], name: &String) -> bool
     false
 }
 
+/// Whether there are names enough that it takes less to put them in order, and no more than can be.
+fn are_many(names: Names<'_>) -> bool
+    ensures { result ≡ true → length (names_in names.entry) ≤ 4096 }
+{
+    let count = names.count();
+    MANY <= count && count <= MOST
+}
+
 pub(crate) fn item_names_repeat(items: &[Item]) -> bool
     ensures { result ≡ names_repeat (item_names (map named_number items.now)) }
 {
-    if items.len() < MANY {
-        return few_item_names_repeat(items);
+    let names = Names::Items(items);
+    if are_many(names) {
+        return names_repeat_in_order(names);
     }
-    many_item_names_repeat(items)
-}
-
-#[inline(never)]
-fn many_item_names_repeat(items: &[Item]) -> bool
-    ensures { result ≡ names_repeat (item_names (map named_number items.now)) }
-{
-    let mut seen = Seen::new();
-    let mut index = items.len();
-    while index > 0 {
-        index -= 1;
-        let name = &items[index].name;
-        if seen.mark(name.as_str().as_bytes()) && is_item_name(&items[index + 1..], name) {
-            return true;
-        }
-    }
-    false
+    few_item_names_repeat(items)
 }
 
 fn few_item_names_repeat(items: &[Item]) -> bool
@@ -185,57 +177,11 @@ pub(crate) fn field_names_repeat(fields: &[Field], additions: &[Addition]) -> bo
     ensures { result
         ≡ names_repeat (field_names (fields_of fields.now) ++ addition_names (additions_of additions.now)) }
 {
-    if fields.len() < MANY && additions.len() < MANY {
-        return few_field_names_repeat(fields, additions);
+    let names = Names::Components(fields, additions);
+    if are_many(names) {
+        return names_repeat_in_order(names);
     }
-    many_field_names_repeat(fields, additions)
-}
-
-/// Whether the name is one of a root's or one of the additions'.
-#[tactic(auto, using(crate::proofs::Alternatives::in_both))]
-fn is_component_name(fields: &[Field], additions: &[Addition], name: &String) -> bool
-    ensures { result ≡ contains_name (string_bytes name.now)
-        (field_names (fields_of fields.now) ++ addition_names (additions_of additions.now)) }
-{
-    is_field_name(fields, name) || is_addition_name(additions, name)
-}
-
-#[inline(never)]
-fn many_field_names_repeat(fields: &[Field], additions: &[Addition]) -> bool
-    ensures { result
-        ≡ names_repeat (field_names (fields_of fields.now) ++ addition_names (additions_of additions.now)) }
-{
-    let mut seen = Seen::new();
-    if many_addition_names_repeat(additions, &mut seen) {
-        return true;
-    }
-    let mut index = fields.len();
-    while index > 0 {
-        index -= 1;
-        let name = &fields[index].name;
-        if seen.mark(name.as_str().as_bytes())
-            && is_component_name(&fields[index + 1..], additions, name)
-        {
-            return true;
-        }
-    }
-    false
-}
-
-/// Whether one name of an addition stands twice. Where none does, all are seen.
-fn many_addition_names_repeat(additions: &[Addition], seen: &mut Seen) -> bool
-    ensures repeat { result ≡ names_repeat (addition_names (additions_of additions.now)) }
-    ensures marked { result ≡ false → AreMarked seen.new.marks (addition_names (additions_of additions.now)) }
-{
-    let mut index = additions.len();
-    while index > 0 {
-        index -= 1;
-        let name = &additions[index].name;
-        if seen.mark(name.as_str().as_bytes()) && is_addition_name(&additions[index + 1..], name) {
-            return true;
-        }
-    }
-    false
+    few_field_names_repeat(fields, additions)
 }
 
 #[tactic(auto, using(crate::proofs::Alternatives::in_both))]
@@ -271,57 +217,11 @@ pub(crate) fn alternative_names_repeat(alts: &[Alt], later: &[Alt]) -> bool
     ensures { result ≡ names_repeat (alternative_names (root_of alts.now no_alternatives)
         ++ alternative_names (root_of later.now no_alternatives)) }
 {
-    if alts.len() < MANY && later.len() < MANY {
-        return few_alternative_names_repeat(alts, later);
+    let names = Names::Alternatives(alts, later);
+    if are_many(names) {
+        return names_repeat_in_order(names);
     }
-    many_alternative_names_repeat(alts, later)
-}
-
-/// Whether the name is one of either list.
-#[tactic(auto, using(crate::proofs::Alternatives::in_both))]
-fn is_name_in_either(alts: &[Alt], later: &[Alt], name: &String) -> bool
-    ensures { result ≡ contains_name (string_bytes name.now) (alternative_names (root_of alts.now no_alternatives)
-        ++ alternative_names (root_of later.now no_alternatives)) }
-{
-    is_alternative_name(alts, name) || is_alternative_name(later, name)
-}
-
-#[inline(never)]
-fn many_alternative_names_repeat(alts: &[Alt], later: &[Alt]) -> bool
-    ensures { result ≡ names_repeat (alternative_names (root_of alts.now no_alternatives)
-        ++ alternative_names (root_of later.now no_alternatives)) }
-{
-    let mut seen = Seen::new();
-    if many_of_one_list_repeat(later, &mut seen) {
-        return true;
-    }
-    let mut index = alts.len();
-    while index > 0 {
-        index -= 1;
-        let name = &alts[index].name;
-        if seen.mark(name.as_str().as_bytes())
-            && is_name_in_either(&alts[index + 1..], later, name)
-        {
-            return true;
-        }
-    }
-    false
-}
-
-/// Whether one name of an alternative stands twice in one list. Where none does, all are seen.
-fn many_of_one_list_repeat(alts: &[Alt], seen: &mut Seen) -> bool
-    ensures repeat { result ≡ names_repeat (alternative_names (root_of alts.now no_alternatives)) }
-    ensures marked { result ≡ false → AreMarked seen.new.marks (alternative_names (root_of alts.now no_alternatives)) }
-{
-    let mut index = alts.len();
-    while index > 0 {
-        index -= 1;
-        let name = &alts[index].name;
-        if seen.mark(name.as_str().as_bytes()) && is_alternative_name(&alts[index + 1..], name) {
-            return true;
-        }
-    }
-    false
+    few_alternative_names_repeat(alts, later)
 }
 
 #[tactic(auto, using(crate::proofs::Alternatives::in_both))]

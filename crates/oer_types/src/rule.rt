@@ -386,7 +386,8 @@ fn has_wrong_values(shape: &Shape) -> bool
     }
 }
 
-/// Whether the type itself has any of the faults after the first two, whatever the types in it have.
+/// Whether the type itself has any of the faults after the first two, whatever the types in it have. Up to
+/// 4,096 names of its own take n log n comparisons; more, which no `Schema` has, are compared each with each.
 #[tactic(auto, using(crate::proofs::AnyFault::of_three))]
 pub fn has_any_fault_here(shape: &Shape) -> bool
     ensures { result ≡ any_fault_here (type_of shape.now) }
