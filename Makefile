@@ -1,6 +1,7 @@
 # make: proves and builds the programs, as bin/oer and bin/oer-dump
 # make quick: proves and tests all but the wrong bodies, over what earlier runs kept, for use before a commit
 # make test: the whole gate, then the commands that the documents show, what a release has, and memory refused in turn
+# make test_programs: runs the programs by the tables of rows in tests/ and of oer_vectors
 # make lib: proves and builds the library for C and C++, in lib/
 # make test_lib: tests it from C, C++, Rust and Python; OER_STRINGS=1000 tries so many random strings of octets, else a million in C and 100,000 in each other language
 # make bench: the instructions and the memory of our codec and of a plain one, side by side, and how they grow (docs/PERFORMANCE.md)
@@ -10,7 +11,7 @@
 # make test_packages: tries these, the crate for Rust, and what CMake reads
 PREFIX ?= /usr/local
 
-.PHONY: all quick test bench documents lib test_lib install uninstall dist deb wheel test_packages clean
+.PHONY: all quick test bench documents test_programs lib test_lib install uninstall dist deb wheel test_packages clean
 
 all: bin/toolchain
 
@@ -36,6 +37,9 @@ test:
 
 documents: bin/oer
 	@examples/check
+
+test_programs: bin/oer
+	@tools/test_programs bin
 
 lib: lib/toolchain
 

@@ -14,7 +14,9 @@ mod rows;
 mod types;
 
 pub use crate::json::{REFUSED_JSON, TAKEN_JSON};
-pub use crate::octets::{KINDS, LAST_PLACE, NESTED_VALUES, PAST_LAST_PLACE, REFUSED, VALUES};
+pub use crate::octets::{
+    KINDS, LAST_PLACE, NESTED_VALUES, PAST_LAST_PLACE, PLACES, REFUSED, VALUES,
+};
 pub use crate::parts::{PARTS, RANGES};
 pub use crate::rows::{Row, expanded, row_of};
 pub use crate::types::{REFUSED_DEFINITIONS, REFUSED_TYPES, RESERVED, WITHIN};

@@ -19,6 +19,15 @@ SEQUENCE {a BOOLEAN} | {"a":true} | ff | = 01
 SEQUENCE OF BOOLEAN | [true] | 0101ff | = 02000101
 CHOICE {a NULL, b BOOLEAN} | {"b":true} | 81ff | = 8101"#;
 
+/// Types with the type `?` of a row of `KINDS` as a component, an element, an alternative, an addition, and an
+/// alternative after the extension marker; the JSON round its own; and its octets after others. `!`: they are an open
+/// type. A value without octets can't be an element.
+pub const PLACES: &str = r#"SEQUENCE {c ?} | {"c":?} | ?
+SEQUENCE OF ? | [?] | 0101?
+CHOICE {c ?} | {"c":?} | 80?
+SEQUENCE {..., c ?} | {"c":?} | 80020780!
+CHOICE {n NULL, ..., c ?} | {"c":?} | 81!"#;
+
 /// More such rows.
 pub const VALUES: &str = r##"BOOLEAN | false | 00 | =
 INTEGER (0..MAX) | 5 | 0105 | = 020005 810105 81020005 8203e8~00*999~05

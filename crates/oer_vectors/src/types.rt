@@ -74,6 +74,9 @@ CHOICE {a [1] NULL, b [1] NULL} | RepeatedTag at 0
 SEQUENCE OF SEQUENCE {a NULL, b OCTET STRING (SIZE(0))} | EmptyElement at 0
 SEQUENCE OF NumericString (SIZE(0)) | EmptyElement at 0
 SEQUENCE {a INTEGER (5..4), a SEQUENCE OF NULL} | BoundOrder at 0
+SEQUENCE {a SEQUENCE OF NULL, a INTEGER (5..4)} | BoundOrder at 0
+SEQUENCE {a SEQUENCE OF NULL, a SEQUENCE {c INTEGER (5..4)}} | BoundOrder at 0
+SEQUENCE {d SEQUENCE {c SEQUENCE OF SEQUENCE {a NULL, b OCTET STRING (SIZE(0))}}} | EmptyElement at 0
 CHOICE {a [1] NULL, ..., b [1] NULL} | RepeatedTag at 0
 SEQUENCE {b INTEGER (0..5) DEFAULT 6} | DefaultMisfit at 0
 SEQUENCE OF NULL | EmptyElement at 0
