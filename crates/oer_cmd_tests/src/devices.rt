@@ -121,6 +121,11 @@ impl Writer {
 
     /// Takes one octet a call.
     pub fn slow(alloc: Global, stop: StopAt) -> Writer {
+        Writer::taking(alloc, 1, stop)
+    }
+
+    /// Takes so many octets a call at most.
+    pub fn taking(alloc: Global, most: usize, stop: StopAt) -> Writer {
         let calls = Calls { count: 0, stop };
         let flushes = Calls {
             count: 0,
@@ -128,7 +133,7 @@ impl Writer {
         };
         Writer {
             held: Vec::new(alloc),
-            most: 1,
+            most,
             calls,
             flushes,
         }

@@ -1,6 +1,6 @@
 //! Runs whose input, output or errors fail, give or take little, or end.
 use crate::devices::{Reader, Stop, StopAt, Writer};
-use crate::shared::{Devices, has_said, is_line, is_well, ran};
+use crate::shared::{Devices, column, has_said, is_line, is_well, ran};
 use std::alloc::Global;
 use std::test::Fail;
 
@@ -42,8 +42,8 @@ struct Case<'t> {
 }
 
 fn case_of<'t>(alloc: Global, row: &'t str) -> Result<Case<'t>, Fail> {
-    let (input, rest) = row.split_once(" | ").ok_or("a line")?;
-    let (line, words) = rest.split_once(" | ").ok_or("words")?;
+    let (input, rest) = column(row)?;
+    let (line, words) = column(rest)?;
     let input = if words.starts_with("make") {
         input.as_bytes().to_vec(alloc)?
     } else {
@@ -98,6 +98,27 @@ fn input_stops(rt: HostRuntime) -> Result<(), Fail> {
         reads_slowly(rt.alloc(), row)?;
     }
     Ok(())
+}
+
+/// Words that read definitions.
+const DEFINED: &str = "canon | --types=- | --name=A | --hex=01";
+
+// That a run says so whose reader gives one octet of definitions a call, and stops so.
+fn reads_definitions(alloc: Global, stop: StopAt, want: (u8, &str)) -> Result<(), Fail> {
+    let mut on = Devices::new(alloc, &[]);
+    on.input = Reader::slow(b"A ::= BOOLEAN", stop);
+    let ended = ran(alloc, DEFINED, &mut on)?;
+    is_well(DEFINED, has_said(&on, ended, want))
+}
+
+#[test]
+fn definitions_stop(rt: HostRuntime) -> Result<(), Fail> {
+    for call in 0..=13 {
+        for stop in [Stop::Fails, Stop::IsInterrupted] {
+            reads_definitions(rt.alloc(), Some((call, stop)), (3, "oer: input failed"))?;
+        }
+    }
+    reads_definitions(rt.alloc(), None, (0, "ff"))
 }
 
 // ---- the output
@@ -213,8 +234,8 @@ fn reports_once(alloc: Global, words: &str, want: (u8, &str)) -> Result<(), Fail
 
 // Runs whose errors stop at each octet of the line, and at none.
 fn reports_slowly(alloc: Global, row: &str) -> Result<(), Fail> {
-    let (status, rest) = row.split_once(" | ").ok_or("a line")?;
-    let (line, words) = rest.split_once(" | ").ok_or("words")?;
+    let (status, rest) = column(row)?;
+    let (line, words) = column(rest)?;
     let status = status.parse::<u8>()?;
     let whole = format!(in alloc; "{line}\n")?;
     for call in 0..whole.len() {
@@ -234,14 +255,23 @@ fn errors_stop(rt: HostRuntime) -> Result<(), Fail> {
     Ok(())
 }
 
+// That words are rejected whose errors go there. Whether these took nothing, and how many calls of them were made.
+fn refuses(alloc: Global, errors: Writer) -> Result<(bool, usize), Fail> {
+    let words = "canon | --type=BOOLEAN | --json=true";
+    let mut on = Devices::new(alloc, &[]);
+    on.errors = errors;
+    let ended = ran(alloc, words, &mut on)?;
+    let is_unread = on.output.held.is_empty() && on.input.calls.count == 0;
+    is_well(words, ended == 2 && is_unread)?;
+    Ok((on.errors.held.is_empty(), on.errors.calls.count))
+}
+
 #[test]
 fn errors_of_refused_words(rt: HostRuntime) -> Result<(), Fail> {
     for call in 0..40 {
-        let mut on = Devices::new(rt.alloc(), &[]);
-        on.errors = Writer::slow(rt.alloc(), Some((call, Stop::Fails)));
-        let ended = ran(rt.alloc(), "canon | --type=BOOLEAN | --json=true", &mut on)?;
-        let is_unread = on.output.held.is_empty() && on.input.calls.count == 0;
-        is_well("refused words", ended == 2 && is_unread)?;
+        let errors = Writer::slow(rt.alloc(), Some((call, Stop::Fails)));
+        refuses(rt.alloc(), errors)?;
     }
-    Ok(())
+    let whole = refuses(rt.alloc(), Writer::whole(rt.alloc(), None))?;
+    is_well("a text in one write", whole == (false, 1))
 }

@@ -1,11 +1,11 @@
-//! What is gathered of a source.
+//! What is gathered of a reader that gives one octet a call.
 use crate::devices::{Reader, Stop};
 use oer_cmd::{GatherFault, gather};
 use oer_units::{Metered, Source};
 use std::alloc::Global;
 use std::test::Fail;
 
-const OCTETS: [u8; 5000] = [7u8; 5000];
+const OCTETS: [u8; 20] = [7u8; 20];
 
 // A failure that names the limit or the call, unless all is well.
 fn is_well(what: &str, number: u64, well: bool) -> Result<(), Fail> {
@@ -15,30 +15,10 @@ fn is_well(what: &str, number: u64, well: bool) -> Result<(), Fail> {
     Err(Fail::new(format_args!("{what} {number}")))
 }
 
-#[test]
-fn all_octets(rt: HostRuntime) -> Result<(), Fail> {
-    for limit in [5000, 5001, u64::MAX] {
-        let mut reader = Metered::new(OCTETS.as_slice());
-        let all = gather(rt.alloc(), &mut reader, limit)?;
-        is_well("limit", limit, all.as_slice() == OCTETS.as_slice())?;
-    }
-    Ok(())
-}
-
-#[test]
-fn too_many_octets(rt: HostRuntime) -> Result<(), Fail> {
-    for limit in [0, 4096, 4999] {
-        let mut reader = Metered::new(OCTETS.as_slice());
-        let answer = gather(rt.alloc(), &mut reader, limit);
-        is_well("limit", limit, matches!(answer, Err(GatherFault::Longer)))?;
-    }
-    Ok(())
-}
-
 // Whether what is gathered of twenty octets, given one a call, is refused where a call fails.
 fn fails_at(alloc: Global, call: u8, stop: Stop) -> bool {
     let call = usize::from(call);
-    let mut reader = Metered::new(Reader::slow(&OCTETS[..20], Some((call, stop))));
+    let mut reader = Metered::new(Reader::slow(&OCTETS, Some((call, stop))));
     let answer = gather(alloc, &mut reader, 20);
     matches!(answer, Err(GatherFault::Device))
         && reader.failures() == 1
@@ -48,7 +28,7 @@ fn fails_at(alloc: Global, call: u8, stop: Stop) -> bool {
 // Whether they are gathered up to the call that ends them.
 fn ends_at(alloc: Global, call: usize) -> bool {
     let stop = Some((call, Stop::Ends));
-    let mut reader = Metered::new(Reader::slow(&OCTETS[..20], stop));
+    let mut reader = Metered::new(Reader::slow(&OCTETS, stop));
     match gather(alloc, &mut reader, 20) {
         Ok(front) => front.len() == call && front.iter().all(|octet| *octet == 7),
         Err(_) => false,
@@ -71,7 +51,7 @@ fn reader_stops(rt: HostRuntime) -> Result<(), Fail> {
 #[test]
 fn one_octet_past_the_limit(rt: HostRuntime) -> Result<(), Fail> {
     for limit in 0..20usize {
-        let mut reader = Metered::new(Reader::slow(&OCTETS[..20], None));
+        let mut reader = Metered::new(Reader::slow(&OCTETS, None));
         let answer = gather(rt.alloc(), &mut reader, limit as u64);
         let is_longer = matches!(answer, Err(GatherFault::Longer));
         let calls = reader.into_inner().calls.count;

@@ -1,6 +1,5 @@
-//! Runs of the program's command, and what they have to write.
+//! Runs of the programs' commands, and what they have to write.
 use crate::devices::{Reader, Writer};
-use oer_cmd::run;
 use std::alloc::Global;
 use std::test::Fail;
 
@@ -23,20 +22,44 @@ impl<'a> Devices<'a> {
     }
 }
 
-/// Runs the program with the words that ` | ` separates after its name. The status.
-pub fn ran(alloc: Global, text: &str, on: &mut Devices<'_>) -> Result<u8, Fail> {
+// The name of a program, and the words that ` | ` separates after it.
+fn words_of(alloc: Global, name: &str, text: &str) -> Result<Vec<String>, Fail> {
     let mut words = Vec::new(alloc);
-    words.push(String::from_str(alloc, "oer")?)?;
+    words.push(String::from_str(alloc, name)?)?;
     for word in text.split(" | ") {
         words.push(String::from_str(alloc, word)?)?;
     }
-    Ok(run(
+    Ok(words)
+}
+
+/// Runs `oer` with the words that ` | ` separates after its name. The status.
+pub fn ran(alloc: Global, text: &str, on: &mut Devices<'_>) -> Result<u8, Fail> {
+    let words = words_of(alloc, "oer", text)?;
+    Ok(oer_cmd::run(
         alloc,
         words.as_slice(),
         &mut on.input,
         &mut on.output,
         &mut on.errors,
     ))
+}
+
+/// The same of `oer-dump`, whose lines have no bound if the words don't say.
+pub fn dumped(alloc: Global, text: &str, on: &mut Devices<'_>) -> Result<u8, Fail> {
+    let words = words_of(alloc, "oer-dump", text)?;
+    Ok(oer_dump_cmd::run(
+        alloc,
+        words.as_slice(),
+        0,
+        &mut on.input,
+        &mut on.output,
+        &mut on.errors,
+    ))
+}
+
+/// The next column of a row, and what follows it.
+pub fn column<'t>(row: &'t str) -> Result<(&'t str, &'t str), Fail> {
+    Ok(row.split_once(" | ").ok_or("a column")?)
 }
 
 /// Whether the octets are the line with its line feed.
@@ -61,18 +84,4 @@ pub fn has_said(on: &Devices<'_>, ended: u8, (status, line): (u8, &str)) -> bool
 /// A failure that names the words, unless all is well.
 pub fn is_well(words: &str, well: bool) -> Result<(), Fail> {
     if well { Ok(()) } else { Err(Fail::new(words)) }
-}
-
-/// That a run with these words on this input ends with the status and writes the line. Where the
-/// octets or the JSON stand among the words, the input isn't asked for any, unless it has the types.
-pub fn expect(alloc: Global, words: &str, input: &[u8], want: (u8, &str)) -> Result<(), Fail> {
-    let mut on = Devices::new(alloc, input);
-    let ended = ran(alloc, words, &mut on)?;
-    let is_given = words.contains(" | --hex") || words.contains(" | --json");
-    let is_unasked = is_given && !words.contains(" | --types=- | ");
-    if has_said(&on, ended, want) && !(is_unasked && on.input.calls.count > 0) {
-        return Ok(());
-    }
-    let (status, line) = want;
-    Err(Fail::new(format_args!("{words}: {ended}, and not {status}: {line}")))
 }

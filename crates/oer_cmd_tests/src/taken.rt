@@ -1,6 +1,6 @@
 //! How much of the input a run takes, and that it isn't asked once more than it has to be.
 use crate::devices::{Reader, Stop};
-use crate::shared::{Devices, has_said, is_well, ran};
+use crate::shared::{Devices, column, has_said, is_well, ran};
 use std::alloc::Global;
 use std::test::Fail;
 
@@ -71,11 +71,6 @@ const RUNS: &str = r#"2 | ff | 0 | ff | canon | --type=BOOLEAN
 0 | 74727565 | 2 | oer: type: BoundOrder at 0 | make | --type=INTEGER (5..4)
 0 | 74727565 | 2 | oer: no type B | make | --types=A ::= BOOLEAN | --name=B
 0 | 74727565 | 2 | oer: json: not JSON | make | --type=BOOLEAN | --json=five"#;
-
-/// The next column of a row, and what follows it.
-fn column<'t>(row: &'t str) -> Result<(&'t str, &'t str), Fail> {
-    Ok(row.split_once(" | ").ok_or("a column")?)
-}
 
 // That the run asks the input just so often, where the call after the last one would stop so.
 fn asks(alloc: Global, row: &str, stop: Stop) -> Result<(), Fail> {
