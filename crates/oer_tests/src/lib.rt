@@ -11,8 +11,6 @@ mod encodings;
 #[cfg(test)]
 mod helpers;
 #[cfg(test)]
-mod json;
-#[cfg(test)]
 mod lexer;
 #[cfg(test)]
 mod literals;

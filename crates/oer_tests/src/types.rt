@@ -1,13 +1,13 @@
-//! Faults of types; which values fit, which are the same, what they are when filled in, and copies.
+//! Faults of types that no text spells; which values fit, which are the same, what they are when filled in, and copies.
 use crate::drawing::{drawn, drawn_value};
 use crate::shared::{NESTED, each, is_wanted, is_well, octets, schema_of, value_of};
 use crate::values::{Case, each_case};
 use oer_reader::read;
 use oer_text::parse_type;
 use oer_types::{
-    Addition, Alphabet, Alt, Bits, Field, Item, Need, Schema, Shape, Size, Unknown, Value,
-    are_characters, contains_tag, filled, find_alternative, fits, has_any_fault_here, is_same_tag,
-    optional, same_filled, same_filled_at, with_tag,
+    Alphabet, Alt, Bits, Field, Need, Schema, Shape, Size, Unknown, Value, are_characters,
+    contains_tag, filled, find_alternative, fits, has_any_fault_here, is_same_tag, optional,
+    same_filled, same_filled_at, with_tag,
 };
 use oer_units::{Class, Metered, Tag};
 use oer_values::{fill_in, known_additions, known_later};
@@ -119,53 +119,6 @@ fn wide(at: Global, count: u16) -> Result<Shape, AllocError> {
     Ok(sequence(root))
 }
 
-// An ENUMERATED of two items with that number.
-fn twice_numbered(at: Global, number: i64) -> Result<Shape, AllocError> {
-    let a = Item {
-        name: String::from_str(at, "a")?,
-        number,
-    };
-    let b = Item {
-        name: String::from_str(at, "b")?,
-        number,
-    };
-    Ok(Shape::Enumerated {
-        items: Vec::from_array(at, [a, b])?,
-        extensible: false,
-    })
-}
-
-// The alternative NULL with that name and a tag in context.
-fn alternative(at: Global, name: &str, number: u32) -> Result<Alt, AllocError> {
-    let class = Class::Context;
-    Ok(Alt {
-        name: String::from_str(at, name)?,
-        tag: Tag { class, number },
-        shape: Shape::Null,
-    })
-}
-
-// A CHOICE with that tag on both sides of the extension marker.
-fn twice_tagged(at: Global, number: u32) -> Result<Shape, AllocError> {
-    Ok(Shape::Choice {
-        root: Vec::from_array(at, [alternative(at, "a", number)?])?,
-        additions: Some(Vec::from_array(at, [alternative(at, "b", number)?])?),
-    })
-}
-
-// SEQUENCE {a INTEGER (0..5) DEFAULT 6}.
-fn misfitting(at: Global) -> Result<Shape, AllocError> {
-    let a = Field {
-        name: String::from_str(at, "a")?,
-        shape: Shape::Integer {
-            low: Some(0),
-            high: Some(5),
-        },
-        need: Need::Default(Value::Int(6)),
-    };
-    Ok(sequence(Vec::from_array(at, [a])?))
-}
-
 // A SEQUENCE of NULL components with these names.
 fn named(at: Global, one: &str, other: &str) -> Result<Shape, AllocError> {
     let one = field(String::from_str(at, one)?, Shape::Null);
@@ -173,46 +126,23 @@ fn named(at: Global, one: &str, other: &str) -> Result<Shape, AllocError> {
     Ok(sequence(Vec::from_array(at, [one, other])?))
 }
 
-// An INTEGER whose lower bound is above its upper one.
-fn crossed() -> Shape {
-    let (low, high) = (Some(5), Some(4));
-    Shape::Integer { low, high }
-}
-
-/// The faults. Of each there is a shape that has it and no other.
+/// Faults of types that no text spells, and those that a type itself doesn't have. Of each there is a shape that has it
+/// and no other.
 const FAULTS: &str = "TooDeep
 TooManyParts
-BoundOrder
-SizeOrder
 BadName
-RepeatedName
-NoItems
-RepeatedNumber
-RepeatedTag
-DefaultMisfit
-EmptyElement";
+NoItems";
 
 // The shape that has the fault.
 fn faulty(at: Global, fault: &str) -> Result<Shape, AllocError> {
-    let short = Size {
-        low: 2,
-        high: Some(1),
-    };
     match fault {
         "TooDeep" => deep(at, 32),
         "TooManyParts" => wide(at, 4096),
-        "BoundOrder" => Ok(crossed()),
-        "SizeOrder" => Ok(Shape::OctetString(short)),
         "BadName" => named(at, "a", "B"),
-        "RepeatedName" => named(at, "a", "a"),
-        "NoItems" => Ok(Shape::Choice {
+        _ => Ok(Shape::Choice {
             root: Vec::new(at),
             additions: None,
         }),
-        "RepeatedNumber" => twice_numbered(at, 1),
-        "RepeatedTag" => twice_tagged(at, 1),
-        "DefaultMisfit" => misfitting(at),
-        _ => list_of(at, Shape::Null),
     }
 }
 
@@ -225,7 +155,7 @@ fn is_faulty(at: Global, fault: &str) -> Result<(), Fail> {
 }
 
 #[test]
-fn each_fault_of_a_shape(rt: HostRuntime) -> Result<(), Fail> {
+fn faults_of_shapes(rt: HostRuntime) -> Result<(), Fail> {
     each(rt.alloc(), FAULTS, is_faulty)
 }
 
@@ -236,88 +166,6 @@ fn types_without_a_fault_of_their_own() -> Result<(), Fail> {
         Ok(schema) => is_well("the shape", matches!(schema.shape(), Shape::Boolean)),
         Err(_) => Err(Fail::new("a fault")),
     }
-}
-
-// SEQUENCE {a NULL, ..., a NULL}.
-fn twice_named(at: Global) -> Result<Shape, AllocError> {
-    let addition = Addition {
-        name: String::from_str(at, "a")?,
-        shape: Shape::Null,
-    };
-    let component = field(String::from_str(at, "a")?, Shape::Null);
-    Ok(Shape::Sequence {
-        root: Vec::from_array(at, [component])?,
-        additions: Some(Vec::from_array(at, [addition])?),
-    })
-}
-
-// SEQUENCE OF SEQUENCE {a NULL, b OCTET STRING (SIZE(0))}.
-fn empty_elements(at: Global) -> Result<Shape, AllocError> {
-    let none = Size {
-        low: 0,
-        high: Some(0),
-    };
-    let a = field(String::from_str(at, "a")?, Shape::Null);
-    let b = field(String::from_str(at, "b")?, Shape::OctetString(none));
-    list_of(at, sequence(Vec::from_array(at, [a, b])?))
-}
-
-// A SEQUENCE of one component.
-fn around(at: Global, name: &str, shape: Shape) -> Result<Shape, AllocError> {
-    let component = field(String::from_str(at, name)?, shape);
-    Ok(sequence(Vec::from_array(at, [component])?))
-}
-
-// A SEQUENCE of two components with one name.
-fn both_named(at: Global, one: Shape, other: Shape) -> Result<Shape, AllocError> {
-    let one = field(String::from_str(at, "a")?, one);
-    let other = field(String::from_str(at, "a")?, other);
-    Ok(sequence(Vec::from_array(at, [one, other])?))
-}
-
-/// Shapes with a fault across their parts, deep inside, or beside others; how each is drawn, and the
-/// least fault.
-const BUILT: &str = "marker | Sequence {a Null, } ... {a Null, } | RepeatedName
-elements | SequenceOf 0 None of Sequence {a Null, b OctetString 0 Some(0), } | EmptyElement
-inside | Sequence {d Sequence {c SequenceOf 0 None of Sequence {a Null, b OctetString 0 Some(0), }, }, } | EmptyElement
-three | Sequence {a Integer Some(5) Some(4), a SequenceOf 0 None of Null, } | BoundOrder
-turned | Sequence {a SequenceOf 0 None of Null, a Integer Some(5) Some(4), } | BoundOrder
-below | Sequence {a SequenceOf 0 None of Null, a Sequence {c Integer Some(5) Some(4), }, } | BoundOrder";
-
-// The shape of the row with that name.
-fn built(at: Global, name: &str) -> Result<Shape, AllocError> {
-    match name {
-        "marker" => twice_named(at),
-        "elements" => empty_elements(at),
-        "inside" => around(at, "d", around(at, "c", empty_elements(at)?)?),
-        "three" => both_named(at, crossed(), list_of(at, Shape::Null)?),
-        "turned" => both_named(at, list_of(at, Shape::Null)?, crossed()),
-        _ => {
-            let inner = around(at, "c", crossed())?;
-            both_named(at, list_of(at, Shape::Null)?, inner)
-        }
-    }
-}
-
-fn has_least_fault(at: Global, row: &str) -> Result<(), Fail> {
-    let columns = row_of(row);
-    let shape = built(at, columns.first)?;
-    is_wanted(row, drawn(at, &shape)?.as_str(), columns.second)?;
-    has_fault(at, row, shape, columns.third)
-}
-
-#[test]
-fn least_faults_of_shapes(rt: HostRuntime) -> Result<(), Fail> {
-    each(rt.alloc(), BUILT, has_least_fault)
-}
-
-#[test]
-fn limits_of_types(rt: HostRuntime) -> Result<(), Fail> {
-    let at = rt.alloc();
-    has_fault(at, "31 levels", deep(at, 31)?, "none")?;
-    has_fault(at, "32 levels", deep(at, 32)?, "TooDeep")?;
-    has_fault(at, "4095 components", wide(at, 4095)?, "none")?;
-    has_fault(at, "4096 components", wide(at, 4096)?, "TooManyParts")
 }
 
 // ---- what texts stand for
