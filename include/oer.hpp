@@ -172,14 +172,16 @@ public:
 
     /* All elements of whatever has data() and size(), as a vector or a span. A slice of octets is made of
      * any whose elements are octets (is_octet). It has to live, and its elements have to stay where they
-     * are, for as long as the slice is used. */
+     * are, for as long as the slice is used. Of another slice that is missing() a missing() one is made. */
     template <class C,
               class How = elements<decltype(std::declval<C &>().data()), T>,
               class = decltype(How::at(std::declval<C &>().data())),
               class = typename std::enable_if<
                   !std::is_same<typename std::decay<C>::type, slice>::value &&
                   std::is_convertible<decltype(std::declval<C &>().size()), std::size_t>::value>::type>
-    slice(C &&from) noexcept : at_(How::at(from.data())), size_(from.size()) {}
+    slice(C &&from) noexcept : at_(How::at(from.data())), size_(from.size()) {
+        if (lacks(std::addressof(from))) *this = slice(static_cast<T *>(nullptr), 1);
+    }
 
     /* The first element. It is never null: where there are no elements it points to one that is not
      * used, as oer.h wants it. */
@@ -192,6 +194,13 @@ public:
     bool missing() const noexcept { return !at_ && size_ != 0; }
 
 private:
+    /* Whether it is a slice that is missing(). */
+    template <class U>
+    static bool lacks(const slice<U> *from) noexcept {
+        return from->missing();
+    }
+    static bool lacks(const void *) noexcept { return false; }
+
     static T *nothing() noexcept {
         static typename std::remove_const<T>::type element = {};
         return &element;

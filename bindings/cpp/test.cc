@@ -583,6 +583,9 @@ static void test_null_pointers() {
     EXPECT(none.size() == 0 && none.missing() && none.data(), "null");
     EXPECT(!oer::octets_in(octets, 0).missing() && !oer::octets_in(array).missing(), "octets");
     EXPECT(oer::text_in(text).missing() && !oer::text_in("").missing(), "texts");
+    EXPECT(oer::octets_in(oer::octets_out(out, 5)).missing() && oer::octets_in(no_text).missing(), "a slice of a slice");
+    EXPECT(!oer::octets_in(oer::octets_out(out, 0)).missing() && !oer::octets_in(oer::text_in("A")).missing(), "a slice of a slice");
+    EXPECT(is_only(types.check("A", oer::octets_out(out, 5)).error(), OER_OUTSIDE), "a slice of a slice");
 
     oer::error small = types.canon_into("A", array, { out, 64 }).error();
     EXPECT(small.status == OER_ROOM && small.needed == 3, "no buffer");
