@@ -1,5 +1,6 @@
 -- A type of which no fault is found in one walk has none of the faults after the first two.
-use Rattle.std.proofs.Common.{◌≡◌, ℕ, zero, suc, List, [], ◌∷◌, ◌++◌, drop, Bool, true, false, ◌||◌, Option, Some, None, if◌then◌else◌, refl, sym, ap, ◌∙◌, true≢false}
+use Rattle.std.proofs.Common.{◌≡◌, ℕ, zero, suc, List, [], ◌∷◌, ◌++◌, drop, Bool, true, false, ◌||◌, Option, Some, None}
+use Rattle.std.proofs.Common.{if◌then◌else◌, refl, sym, ap, ◌∙◌, true≢false}
 use Rattle.oer_model.specs.AsnType.{Additions, Alternatives, AsnType, Fields, addition, alternative, choice, extensible_sequence, field, later, leaf, no_additions, no_alternatives, no_fields, sequence, sequence_of}
 use Rattle.oer_model.proofs.faults.Faults.{no_fault_found}
 use Rattle.oer_model.specs.FaultTest.{first_fault, first_in, has_fault, has_fault_here, in_additions, in_alternatives, in_fields, later_faults, somewhere}
@@ -237,7 +238,8 @@ found_before [] gs T g e = absurd (cc)
 found_before (f ∷ fs) gs T g e = found_if (has_fault f T) f g (first_in T fs) (first_in T (fs ++ gs)) (found_before fs gs T g) e
 
 -- where one of a list is somewhere, and not its first, one of the others is
-other_somewhere : (f : SchemaFault) (fs : List SchemaFault) (T : AsnType) → somewhere (any_here (f ∷ fs)) T ≡ true → somewhere (has_fault_here f) T ≡ false → somewhere (any_here fs) T ≡ true
+other_somewhere : (f : SchemaFault) (fs : List SchemaFault) (T : AsnType) → somewhere (any_here (f ∷ fs)) T ≡ true
+    → somewhere (has_fault_here f) T ≡ false → somewhere (any_here fs) T ≡ true
 other_somewhere f fs T e d = by_test (somewhere (any_here fs) T) (one_more f fs T d) e
   where
     by_test : (b : Bool) → (b ≡ false → somewhere (any_here (f ∷ fs)) T ≡ false) → somewhere (any_here (f ∷ fs)) T ≡ true → b ≡ true

@@ -1,5 +1,6 @@
 -- Names in order: where each stands before the next, none stands twice.
-use Rattle.std.proofs.Common.{◌≡◌, ℕ, zero, suc, ◌+◌, ◌-◌, ◌<◌, ◌≤◌, List, [], ◌∷◌, ◌++◌, length, map, get_or, Bool, Ordering, Less, Equal, Greater, true, false, not, ◌||◌, ◌&&◌, string_bytes, refl, sym, ap, ap₂, ◌∙◌, subst, cond, arith, true≢false}
+use Rattle.std.proofs.Common.{◌≡◌, ℕ, zero, suc, ◌+◌, ◌-◌, ◌<◌, ◌≤◌, List, [], ◌∷◌, ◌++◌, length, map, get_or, Bool, true, false, not, ◌||◌, ◌&&◌, cond}
+use Rattle.std.proofs.Common.{Ordering, Less, Equal, Greater, string_bytes, refl, sym, ap, ap₂, ◌∙◌, subst, arith, true≢false}
 use Rattle.std.specs.Prelude.{IsPermutation}
 use Rattle.std.specs.Cmp.{IsTotalOrder}
 use Rattle.std.specs.Cmp.Lexicographic.{slice_cmp}
@@ -199,11 +200,14 @@ no_times x (y ∷ ys) e =
     let n : times x ys ≡ 0 = no_times x ys (right (bytes_eq y x) (contains_name x ys) e) in
     rw (more_times x y ys, left (bytes_eq y x) (contains_name x ys) e) (omega arith)
 
-twice : (xs : List (List ℕ)) → names_repeat xs ≡ true → (x : List ℕ) × (2 ≤ times x xs)
+abbrev HasTwice : List (List ℕ) → Type 0
+HasTwice xs = (x : List ℕ) × (2 ≤ times x xs)
+
+twice : (xs : List (List ℕ)) → names_repeat xs ≡ true → HasTwice xs
 twice [] e = absurd (true≢false (sym e))
 twice (y ∷ ys) e = by_test (contains_name y ys) (some_times y ys) (names_repeat ys) (twice ys) e
   where
-    by_test : (b : Bool) → (b ≡ true → 1 ≤ times y ys) → (c : Bool) → (c ≡ true → (x : List ℕ) × (2 ≤ times x ys)) → (b || c) ≡ true → (x : List ℕ) × (2 ≤ times x (y ∷ ys))
+    by_test : (b : Bool) → (b ≡ true → 1 ≤ times y ys) → (c : Bool) → (c ≡ true → HasTwice ys) → (b || c) ≡ true → HasTwice (y ∷ ys)
     by_test true h c k e = (y, (let l = h refl in rw (more_times y y ys, itself y) (omega arith)))
     by_test false h c k e = let p = k e in (p.0, (let l = p.1 in let m = more_times p.0 y ys in omega arith))
 
@@ -222,7 +226,7 @@ at_most_once (y ∷ ys) e x =
 moved_apart : (xs ys : List (List ℕ)) → ((x : List ℕ) → times x ys ≡ times x xs) → names_repeat xs ≡ false → names_repeat ys ≡ false
 moved_apart xs ys t e = by_test (names_repeat ys) (twice ys)
   where
-    by_test : (b : Bool) → (b ≡ true → (x : List ℕ) × (2 ≤ times x ys)) → b ≡ false
+    by_test : (b : Bool) → (b ≡ true → HasTwice ys) → b ≡ false
     by_test true h = let p = h refl in let q = p.1 in let m = at_most_once xs e p.0 in let s = t p.0 in absurd (omega arith)
     by_test false h = refl
 
@@ -290,7 +294,10 @@ pub in_order : (names : Names) (order : List ℕ) → length order ≡ length (n
 in_order names order l h a = subst (λ xs. names_repeat xs ≡ false) (numbered (names_in names) order l h) (ascend_apart names order a)
 
 reordered : (xs : List (List ℕ)) (order after : List ℕ) → IsPermutation order after → names_repeat (names_by xs after) ≡ names_repeat (names_by xs order)
-reordered xs order after p = moved (names_by xs order) (names_by xs after) (λ x. sum_by-IsPermutation (λ y. once (bytes_eq y x)) (names_by xs order) (names_by xs after) (IsPermutation-map (name_of xs) order after p))
+reordered xs order after p = moved (names_by xs order) (names_by xs after) (λ x. sum_by-IsPermutation (λ y. once (bytes_eq y x)) (names_by xs order) (names_by xs after) by_name)
+  where
+    by_name : IsPermutation (names_by xs order) (names_by xs after)
+    by_name = IsPermutation-map (name_of xs) order after p
 
 -- names that were put in order ascend exactly where they are all different
 pub put_in_order : (names : Names) (order after : List ℕ) → length order ≡ length (names_in names) → AreNumbered order (length order)
