@@ -258,6 +258,9 @@ elements_most T done m k vs (Some n) h is e = λ ws l f.
     let all = each_most T m h ws f in
     omega (arith, e, is, ap (λ j. j * m) long, ap (λ x. length (values_octets T x)) l, all)
 
+pub elements_none : (T : AsnType) (done : ℕ) (vs : List Value) → length vs ≡ 0 → BoundsValuesIn T done (values_of vs) (Some done)
+elements_none T done vs e = λ ws l f. omega (arith, ap (λ x. length (values_octets T (values_of x))) (none_of vs e))
+
 pub elements_given : (T : AsnType) (done : ℕ) (vs : Values) (o : Option ℕ) → IfSome o (λ n. (U : AsnType) → done + length (values_octets U vs) ≤ n) → BoundsValuesIn T done vs o
 elements_given T done vs None h = λ ws l f. tt
 elements_given T done vs (Some n) h = λ ws l f. h T

@@ -76,9 +76,13 @@ fn bound_list(item: &Shape, values: &[Value], done: u64) -> Option<u64>
     bound_elements(item, values, done)
 }
 
+// Of its elements. Where there is none, their type isn't looked at.
 fn bound_elements(item: &Shape, values: &[Value], done: u64) -> Option<u64>
     ensures { BoundsValuesIn (type_of item.now) done (values_of values.now) result }
 {
+    if values.is_empty() {
+        return Some(done);
+    }
     match most(item) {
         Some(most) => plus(done, times(values.len() as u64, most)?),
         None => bound_values(values, done),
