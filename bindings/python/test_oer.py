@@ -330,7 +330,7 @@ class Calls(unittest.TestCase):
         self.assertEqual(types.check("B", b""), (0, True))
         self.assertEqual(self.raised(lambda: types.check("A", b"\xff")), (oer.Unnamed, None, None))
         self.assertEqual((ctypes.addressof(types._held), types._one), (held, lock))
-        wanted = (oer.DefinitionsRejected, 3, 0)
+        wanted = (oer.DefinitionsRejected, 3, 1)
         self.assertEqual(self.raised(lambda: types.__init__("B")), wanted)  # type: ignore[misc]
         self.assertEqual(types.check("B", b""), (0, True))
         with mock.patch.object(oer, "_library", wraps=oer._library) as library:
