@@ -46,7 +46,7 @@ not_left : (b x : Bool) → (not b && x) ≡ true → b ≡ false
 not_left true x e = absurd (cc)
 not_left false x e = refl
 
-not_right : (b x : Bool) → (not b && x) ≡ true → x ≡ true
+pub not_right : (b x : Bool) → (not b && x) ≡ true → x ≡ true
 not_right true x e = absurd (cc)
 not_right false x e = e
 

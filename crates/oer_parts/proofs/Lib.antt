@@ -11,3 +11,4 @@ pub mod UnitFronts
 mod Standing
 mod Ranging
 mod Lasts
+mod Zeros

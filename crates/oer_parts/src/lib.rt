@@ -1,6 +1,7 @@
 //! The parts of an encoding (X.696, Basic-OER), and where they stand in it. Only `read_path` allocates.
 #![tactic(auto)]
 
+mod clear;
 mod encoding;
 mod fault;
 mod handing;

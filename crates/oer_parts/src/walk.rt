@@ -6,7 +6,7 @@ ghost use Rattle.oer_units.specs.Spelling.{IsLength};
 ghost use Rattle.oer_model.specs.AsnType.{no_alternatives};
 ghost use Rattle.oer_model.specs.Bits.{first_bit};
 ghost use Rattle.oer_model.specs.Checking.{both, check_additions as additions_checked, check_fields as fields_checked, check_unknown as unknown_checked, check_value};
-ghost use Rattle.oer_model.specs.Constraints.{AdditionsKeepLimits, FieldsKeepLimits, KeepsLimits};
+ghost use Rattle.oer_model.specs.Constraints.{AdditionsKeepLimits, FieldsKeepLimits, KeepsLimits, optional as optional_in};
 ghost use Rattle.oer_model.specs.Fits.{AdditionDefaultsFit, DefaultsFit, FieldDefaultsFit};
 ghost use Rattle.oer_model.specs.Parts.{addition_parts, field_parts, join_parts, knows as knows_step, octets_of, parts_in, read_parts, to_addition, to_chosen, to_component, to_item, unknown_parts};
 ghost use Rattle.oer_values.specs.ShapeView.{additions_of, fields_of, type_of};
@@ -16,6 +16,7 @@ ghost use Rattle.oer_parts.specs.Offsets.{AreAdditions, AreFields, AreUnknown, I
 ghost use Rattle.oer_checker.specs.Places.{place_of};
 ghost use Rattle.oer_parts.specs.Walk.{CanSplit, Enters, IsAfter, IsGot, LooksUp, StandsBy, Stands, read_in, step_of, type_in};
 
+use crate::clear::are_clear;
 use crate::fault::PartFault;
 use crate::step::Step;
 use oer_checker::readers::{
@@ -73,25 +74,22 @@ fn content_at<'s, 'a>(shape: Option<&'s Shape>, cursor: Cursor<'a>) -> Option<Pi
     })
 }
 
-/// Whether none of the components is there, by their presence bits.
-fn none_there(fields: &[Field], bits: Bits) -> bool
-    ensures { result ≡ no_field_there (fields_of fields.now) (bits_in bits.entry) }
+/// Whether none of the components is there, of which so many have a presence bit. None of them is
+/// looked at: where each has a bit, the octets of these tell. The answer no is always right, and comes
+/// where they are in more octets than `most`.
+fn none_there(fields: &[Field], count: usize, bits: Bits, most: usize) -> bool
+    requires { count ≡ optional_in (fields_of fields.now) }
+    ensures { result ≡ true → no_field_there (fields_of fields.now) (bits_in bits.entry) ≡ true }
 {
-    let mut left = bits;
-    for field in fields {
-        let (is_present, later) = presence(&field.need, left);
-        if is_present {
-            return false;
-        }
-        left = later;
-    }
-    true
+    count == fields.len() && count / 8 <= most && are_clear(bits)
 }
 
-/// The component with this number of a root whose presence bits these are, if it is there. Where the
-/// root is all that is left, its last component that is there needs no check.
+/// The component with this number of a root whose presence bits these are, if it is there; so many of
+/// the components have a bit. Where the root is all that is left, its last component that is there needs
+/// no check, unless the bits of those after it are in more octets than it can have.
 fn field_in<'s, 'a>(
     fields: &'s [Field],
+    count: usize,
     index: usize,
     bits: Bits<'a>,
     cursor: Cursor<'a>,
@@ -99,6 +97,7 @@ fn field_in<'s, 'a>(
 ) -> Option<Piece<'s, 'a>>
     requires limits { FieldsKeepLimits (fields_of fields.now) }
     requires defaults { FieldDefaultsFit (fields_of fields.now) }
+    requires count { count ≡ optional_in (fields_of fields.now) }
     requires checked { IsGot (fields_checked (fields_of fields.now) (bits_in bits) (place_of cursor)) }
     requires all { is_all ≡ true → TakesAll (fields_checked (fields_of fields.now) (bits_in bits) (place_of cursor)) }
     ensures found { LooksUp (parts_in (field_parts (fields_of fields.now) 0 (bits_in bits.entry) (place_of cursor.entry))) (to_component index) result }
@@ -109,7 +108,8 @@ fn field_in<'s, 'a>(
     }
     let field = &fields[index];
     let before = &fields[..index];
-    let (is_present, later) = presence(&field.need, bits.skip(optional(before) as u64));
+    let passed = optional(before);
+    let (is_present, later) = presence(&field.need, bits.skip(passed as u64));
     if !is_present {
         return None;
     }
@@ -117,7 +117,9 @@ fn field_in<'s, 'a>(
     let Ok(_) = check_fields(before, bits, &mut start) else {
         return None;
     };
-    let is_last = is_all && none_there(&fields[index + 1..], later);
+    let after = &fields[index + 1..];
+    let left = count - passed - optional(&fields[index..index + 1]);
+    let is_last = is_all && none_there(after, left, later, start.rest.len());
     let Some(octets) = encoding_at(&field.shape, start, is_last) else {
         return None;
     };
@@ -143,17 +145,19 @@ fn component_of<'s, 'a>(shape: &'s Shape, index: usize, cursor: Cursor<'a>) -> O
     match additions {
         None => {
             let mut next = cursor;
-            let Ok(bits) = preamble(optional(fields) as u64, &mut next) else {
+            let count = optional(fields);
+            let Ok(bits) = preamble(count as u64, &mut next) else {
                 return None;
             };
-            field_in(fields, index, bits, next, true)
+            field_in(fields, count, index, bits, next, true)
         }
         Some(_) => {
             let mut next = cursor;
-            let Ok(bits) = preamble(optional(fields) as u64 + 1, &mut next) else {
+            let count = optional(fields);
+            let Ok(bits) = preamble(count as u64 + 1, &mut next) else {
                 return None;
             };
-            field_in(fields, index, bits.later(), next, !bits.first())
+            field_in(fields, count, index, bits.later(), next, !bits.first())
         }
     }
 }

@@ -23,21 +23,21 @@ returns-in_default-preamble-clause-found c =
     let s = c.in-Sequence in
     let fs = c.deref-fields.result.now in
     let is = as_sequence c.args.shape.now s.root s.additions fs s.is c.in-None.is c.deref-fields.ensures.value in
-    absurd (not_got (check_value (type_of c.args.shape.now) (place_of c.args.cursor)) _ _ (was_read _ c.requires.checked) (by_type (type_of c.args.shape.now) (sequence (fields_of fs)) _ _ is (sequence_stop (fields_of fs) _ _ _ (rw c.optional.ensures.is at c.in_default-preamble.ensures))))
+    absurd (not_got (check_value (type_of c.args.shape.now) (place_of c.args.cursor)) _ _ (was_read _ c.requires.checked) (by_type (type_of c.args.shape.now) (sequence (fields_of fs)) _ _ is (sequence_stop (fields_of fs) _ _ _ (rw c.optional-count.ensures.is at c.in_default-preamble.ensures))))
 
 pub field_in-requires-clause-checked : goal.field_in-requires-clause-checked
 field_in-requires-clause-checked c =
     let s = c.in-Sequence in
     let fs = c.deref-fields.result.now in
     let is = as_sequence c.args.shape.now s.root s.additions fs s.is c.in-None.is c.deref-fields.ensures.value in
-    closed_checked (type_of c.args.shape.now) (fields_of fs) is (place_of c.args.cursor) _ _ (was_read _ c.requires.checked) (rw c.optional.ensures.is at c.in-Ok.ensures)
+    closed_checked (type_of c.args.shape.now) (fields_of fs) is (place_of c.args.cursor) _ _ (was_read _ c.requires.checked) (rw c.optional-count.ensures.is at c.in-Ok.ensures)
 
 pub field_in-requires-clause-all : goal.field_in-requires-clause-all
 field_in-requires-clause-all c always =
     let s = c.in-Sequence in
     let fs = c.deref-fields.result.now in
     let is = as_sequence c.args.shape.now s.root s.additions fs s.is c.in-None.is c.deref-fields.ensures.value in
-    closed_all (type_of c.args.shape.now) (fields_of fs) is (place_of c.args.cursor) _ _ c.requires.checked (rw c.optional.ensures.is at c.in-Ok.ensures)
+    closed_all (type_of c.args.shape.now) (fields_of fs) is (place_of c.args.cursor) _ _ c.requires.checked (rw c.optional-count.ensures.is at c.in-Ok.ensures)
 
 pub returns-in_default-preamble-2-clause-found : goal.returns-in_default-preamble-2-clause-found
 returns-in_default-preamble-2-clause-found c =
@@ -45,7 +45,7 @@ returns-in_default-preamble-2-clause-found c =
     let fs = c.deref-fields.result.now in
     let more = c.in-Some.field-0 in
     let is = as_extensible c.args.shape.now s.root s.additions more fs more.items s.is c.in-Some.is c.deref-fields.ensures.value refl in
-    absurd (not_got (check_value (type_of c.args.shape.now) (place_of c.args.cursor)) _ _ (was_read _ c.requires.checked) (by_type (type_of c.args.shape.now) (extensible_sequence (fields_of fs) (additions_of more.items)) _ _ is (extensible_stop (fields_of fs) (additions_of more.items) (c.optional-in-Some.result + 1) _ _ _ (ap (λ k. k + 1) c.optional-in-Some.ensures.is ∙ add-one (optional (fields_of fs))) c.in_default-preamble-2.ensures)))
+    absurd (not_got (check_value (type_of c.args.shape.now) (place_of c.args.cursor)) _ _ (was_read _ c.requires.checked) (by_type (type_of c.args.shape.now) (extensible_sequence (fields_of fs) (additions_of more.items)) _ _ is (extensible_stop (fields_of fs) (additions_of more.items) (c.optional-count-in-Some.result + 1) _ _ _ (ap (λ k. k + 1) c.optional-count-in-Some.ensures.is ∙ add-one (optional (fields_of fs))) c.in_default-preamble-2.ensures)))
 
 pub field_in-requires-in-Some-clause-checked : goal.field_in-requires-in-Some-clause-checked
 field_in-requires-in-Some-clause-checked c =
@@ -53,7 +53,7 @@ field_in-requires-in-Some-clause-checked c =
     let fs = c.deref-fields.result.now in
     let more = c.in-Some.field-0 in
     let is = as_extensible c.args.shape.now s.root s.additions more fs more.items s.is c.in-Some.is c.deref-fields.ensures.value refl in
-    root_checked (type_of c.args.shape.now) fs more.items is (c.optional-in-Some.result + 1) (place_of c.args.cursor) (place_of c.preamble-in-Some.new.at) (bits_in c.in-Ok-preamble.bits) (bits_in c.later.result) (ap (λ k. k + 1) c.optional-in-Some.ensures.is ∙ add-one (optional (fields_of fs))) (was_read _ c.requires.checked) c.in-Ok-preamble.ensures c.later.ensures
+    root_checked (type_of c.args.shape.now) fs more.items is (c.optional-count-in-Some.result + 1) (place_of c.args.cursor) (place_of c.preamble-in-Some.new.at) (bits_in c.in-Ok-preamble.bits) (bits_in c.later.result) (ap (λ k. k + 1) c.optional-count-in-Some.ensures.is ∙ add-one (optional (fields_of fs))) (was_read _ c.requires.checked) c.in-Ok-preamble.ensures c.later.ensures
 
 pub field_in-requires-in-Some-clause-all : goal.field_in-requires-in-Some-clause-all
 field_in-requires-in-Some-clause-all c none =
@@ -62,14 +62,14 @@ field_in-requires-in-Some-clause-all c none =
     let more = c.in-Some.field-0 in
     let is = as_extensible c.args.shape.now s.root s.additions more fs more.items s.is c.in-Some.is c.deref-fields.ensures.value refl in
     let unset = sym c.first.ensures ∙ not_true c.first.result none in
-    root_ends (type_of c.args.shape.now) fs more.items is (c.optional-in-Some.result + 1) (place_of c.args.cursor) (place_of c.preamble-in-Some.new.at) (bits_in c.in-Ok-preamble.bits) (bits_in c.later.result) (ap (λ k. k + 1) c.optional-in-Some.ensures.is ∙ add-one (optional (fields_of fs))) (was_read _ c.requires.checked) c.in-Ok-preamble.ensures c.later.ensures unset
+    root_ends (type_of c.args.shape.now) fs more.items is (c.optional-count-in-Some.result + 1) (place_of c.args.cursor) (place_of c.preamble-in-Some.new.at) (bits_in c.in-Ok-preamble.bits) (bits_in c.later.result) (ap (λ k. k + 1) c.optional-count-in-Some.ensures.is ∙ add-one (optional (fields_of fs))) (was_read _ c.requires.checked) c.in-Ok-preamble.ensures c.later.ensures unset
 
 pub returns-in-Ok-clause-found : goal.returns-in-Ok-clause-found
 returns-in-Ok-clause-found c =
     let s = c.in-Sequence in
     let fs = c.deref-fields.result.now in
     let is = as_sequence c.args.shape.now s.root s.additions fs s.is c.in-None.is c.deref-fields.ensures.value in
-    λ o. c.field_in.ensures.found o ∙ closed_look (type_of c.args.shape.now) (fields_of fs) is (place_of c.args.cursor) _ _ (rw c.optional.ensures.is at c.in-Ok.ensures) (to_component c.args.index) o
+    λ o. c.field_in.ensures.found o ∙ closed_look (type_of c.args.shape.now) (fields_of fs) is (place_of c.args.cursor) _ _ (rw c.optional-count.ensures.is at c.in-Ok.ensures) (to_component c.args.index) o
 
 pub returns-in-Ok-preamble-clause-found : goal.returns-in-Ok-preamble-clause-found
 returns-in-Ok-preamble-clause-found c =
@@ -77,14 +77,14 @@ returns-in-Ok-preamble-clause-found c =
     let fs = c.deref-fields.result.now in
     let more = c.in-Some.field-0 in
     let is = as_extensible c.args.shape.now s.root s.additions more fs more.items s.is c.in-Some.is c.deref-fields.ensures.value refl in
-    λ o. c.field_in-in-Some.ensures.found o ∙ root_look (type_of c.args.shape.now) fs more.items is (c.optional-in-Some.result + 1) (place_of c.args.cursor) (place_of c.preamble-in-Some.new.at) (bits_in c.in-Ok-preamble.bits) (bits_in c.later.result) (ap (λ k. k + 1) c.optional-in-Some.ensures.is ∙ add-one (optional (fields_of fs))) (was_read _ c.requires.checked) c.in-Ok-preamble.ensures c.later.ensures c.args.index o
+    λ o. c.field_in-in-Some.ensures.found o ∙ root_look (type_of c.args.shape.now) fs more.items is (c.optional-count-in-Some.result + 1) (place_of c.args.cursor) (place_of c.preamble-in-Some.new.at) (bits_in c.in-Ok-preamble.bits) (bits_in c.later.result) (ap (λ k. k + 1) c.optional-count-in-Some.ensures.is ∙ add-one (optional (fields_of fs))) (was_read _ c.requires.checked) c.in-Ok-preamble.ensures c.later.ensures c.args.index o
 
 pub returns-in-Ok-clause-stands : goal.returns-in-Ok-clause-stands
 returns-in-Ok-clause-stands c =
     let s = c.in-Sequence in
     let fs = c.deref-fields.result.now in
     let is = as_sequence c.args.shape.now s.root s.additions fs s.is c.in-None.is c.deref-fields.ensures.value in
-    closed_stands (type_of c.args.shape.now) (fields_of fs) is c.args.index (place_of c.args.cursor) (place_of c.preamble.new.at) (bits_in c.in-Ok.bits) c.field_in.result (rw c.optional.ensures.is at c.in-Ok.ensures) c.field_in.ensures.stands
+    closed_stands (type_of c.args.shape.now) (fields_of fs) is c.args.index (place_of c.args.cursor) (place_of c.preamble.new.at) (bits_in c.in-Ok.bits) c.field_in.result (rw c.optional-count.ensures.is at c.in-Ok.ensures) c.field_in.ensures.stands
 
 pub returns-in-Ok-preamble-clause-stands : goal.returns-in-Ok-preamble-clause-stands
 returns-in-Ok-preamble-clause-stands c =
@@ -92,5 +92,5 @@ returns-in-Ok-preamble-clause-stands c =
     let fs = c.deref-fields.result.now in
     let more = c.in-Some.field-0 in
     let is = as_extensible c.args.shape.now s.root s.additions more fs more.items s.is c.in-Some.is c.deref-fields.ensures.value refl in
-    let many = ap (λ k. k + 1) c.optional-in-Some.ensures.is ∙ add-one (optional (fields_of fs)) in
-    root_stands (type_of c.args.shape.now) (fields_of fs) (additions_of more.items) is c.args.index (c.optional-in-Some.result + 1) (place_of c.args.cursor) (place_of c.preamble-in-Some.new.at) (bits_in c.in-Ok-preamble.bits) (bits_in c.later.result) c.field_in-in-Some.result many c.in-Ok-preamble.ensures c.later.ensures c.field_in-in-Some.ensures.stands
+    let many = ap (λ k. k + 1) c.optional-count-in-Some.ensures.is ∙ add-one (optional (fields_of fs)) in
+    root_stands (type_of c.args.shape.now) (fields_of fs) (additions_of more.items) is c.args.index (c.optional-count-in-Some.result + 1) (place_of c.args.cursor) (place_of c.preamble-in-Some.new.at) (bits_in c.in-Ok-preamble.bits) (bits_in c.later.result) c.field_in-in-Some.result many c.in-Ok-preamble.ensures c.later.ensures c.field_in-in-Some.ensures.stands

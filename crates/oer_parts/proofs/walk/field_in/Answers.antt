@@ -1,4 +1,4 @@
-use Rattle.std.proofs.Common.{◌∙◌, ◌<◌, drop, take, length, rules, sym, ap, refl}
+use Rattle.std.proofs.Common.{◌∙◌, ◌<◌, arith, drop, take, length, rules, sym, ap, refl}
 use Rattle.oer_model.specs.Constraints.{optional}
 use Rattle.oer_values.specs.ShapeView.{fields_of, need_of, type_of}
 use Rattle.oer_checker.specs.BitView.{bits_in}
@@ -10,6 +10,7 @@ use Rattle.oer_parts.proofs.Walks.{field_entry}
 use Rattle.oer_parts.specs.Offsets.{AreFields}
 use Rattle.oer_parts.proofs.Lasts.{field_rest}
 use Rattle.oer_parts.proofs.Standing.{fields_stand, value_stands}
+use Rattle.oer_parts.proofs.Zeros.{optional_parts}
 use Rattle.oer_parts.proofs.walk.field_in.Goals as goal
 use Rattle.oer_parts.proofs.walk.field_in.Goals.{else-is_all, then-is_all}
 
@@ -24,7 +25,7 @@ returns-then-not-is_present-clause-found c =
     let s = bits_in c.args.bits in
     let less : c.args.index < length xs = search rules in
     let o = field_found xs c.args.index s x (place_of c.args.cursor) e.1 e.0 e.2 less c.index-fields-index.is in
-    let there = c.presence-is_present.ensures.there ∙ ap (is_there (need_of x.need)) (c.skip.ensures ∙ ap (λ k. drop k s) c.optional.ensures.is) in
+    let there = c.presence-is_present.ensures.there ∙ ap (is_there (need_of x.need)) (c.skip.ensures ∙ ap (λ k. drop k s) c.optional-passed.ensures.is) in
     not_there _ _ o.0 _ (sym c.if-not-is_present.true ∙ there) o.2
 
 pub check_fields-requires-clause-limits : goal.check_fields-requires-clause-limits
@@ -39,6 +40,21 @@ returns-in_default-clause-found c =
     let less : c.args.index < length c.args.fields.now = search rules in
     let o = field_found c.args.fields.now c.args.index (bits_in c.args.bits) c.index-fields-index.result (place_of c.args.cursor) e.1 e.0 e.2 less c.index-fields-index.is in
     absurd (no_refusal _ o.0 _ _ o.1 c.in_default.ensures)
+
+pub overflow_sub-left : goal.overflow_sub-left
+overflow_sub-left c =
+    let less : c.args.index < length c.args.fields.now = search rules in
+    omega (arith, optional_parts c.args.fields.now c.args.index less, c.requires.count, c.optional-passed.ensures.is)
+
+pub overflow_sub-left-2 : goal.overflow_sub-left-2
+overflow_sub-left-2 c =
+    let less : c.args.index < length c.args.fields.now = search rules in
+    omega (arith, optional_parts c.args.fields.now c.args.index less, c.requires.count, c.optional-passed.ensures.is, c.optional.ensures.is)
+
+pub none_there-is_last-requires : goal.none_there-is_last-requires
+none_there-is_last-requires c =
+    let less : c.args.index < length c.args.fields.now = search rules in
+    omega (arith, optional_parts c.args.fields.now c.args.index less, c.requires.count, c.optional-passed.ensures.is, c.optional.ensures.is)
 
 pub encoding_at-requires-clause-limits : goal.encoding_at-requires-clause-limits
 encoding_at-requires-clause-limits c =
@@ -56,10 +72,10 @@ encoding_at-requires-clause-last c last =
     let x = c.index-fields-index.result in
     let s = bits_in c.args.bits in
     let less : c.args.index < length xs = search rules in
-    let bits = c.skip.ensures ∙ ap (λ k. drop k s) c.optional.ensures.is in
+    let bits = c.skip.ensures ∙ ap (λ k. drop k s) c.optional-passed.ensures.is in
     let there = sym c.presence-is_present.ensures.there ∙ c.if-not-is_present.false in
     elim c.if-is_all.branch [
-      | then-is_all w ↦ (let none = sym last ∙ w.is_last-is ∙ w.none_there-is_last.ensures in
+      | then-is_all w ↦ (let none = sym (w.none_there-is_last.ensures (sym w.is_last-is ∙ last)) in
           field_rest xs c.args.index s x (place_of c.args.cursor) (place_of c.check_fields.new.at) _ _ _ (c.requires.all w.if-is_all.true) c.in-Ok.ensures less c.index-fields-index.is bits there c.presence-is_present.ensures.left none)
       | else-is_all w ↦ (let not_all = sym last ∙ w.is_last-is ∙ w.if-is_all.false in absurd (cc))
     ]
@@ -72,7 +88,7 @@ returns-in_default-encoding_at-clause-found c =
     let s = bits_in c.args.bits in
     let less : c.args.index < length xs = search rules in
     let o = field_found xs c.args.index s x (place_of c.args.cursor) e.1 e.0 e.2 less c.index-fields-index.is in
-    let there = c.presence-is_present.ensures.there ∙ ap (is_there (need_of x.need)) (c.skip.ensures ∙ ap (λ k. drop k s) c.optional.ensures.is) in
+    let there = c.presence-is_present.ensures.there ∙ ap (is_there (need_of x.need)) (c.skip.ensures ∙ ap (λ k. drop k s) c.optional-passed.ensures.is) in
     absurd (is_unread _ (field_entry x c.args.index (drop (optional (fields_of (take c.args.index xs))) s)) o.0 (place_of c.check_fields.new.at) _ (sym c.if-not-is_present.false ∙ there) o.2 (same_end _ o.0 _ _ o.1 c.in-Ok.ensures) c.in_default-encoding_at.ensures)
 
 pub returns-clause-found : goal.returns-clause-found
@@ -83,7 +99,7 @@ returns-clause-found c =
     let s = bits_in c.args.bits in
     let less : c.args.index < length xs = search rules in
     let o = field_found xs c.args.index s x (place_of c.args.cursor) e.1 e.0 e.2 less c.index-fields-index.is in
-    let there = c.presence-is_present.ensures.there ∙ ap (is_there (need_of x.need)) (c.skip.ensures ∙ ap (λ k. drop k s) c.optional.ensures.is) in
+    let there = c.presence-is_present.ensures.there ∙ ap (is_there (need_of x.need)) (c.skip.ensures ∙ ap (λ k. drop k s) c.optional-passed.ensures.is) in
     is_read _ (field_entry x c.args.index (drop (optional (fields_of (take c.args.index xs))) s)) o.0 (place_of c.check_fields.new.at) _ _ (sym c.if-not-is_present.false ∙ there) o.2 (same_end _ o.0 _ _ o.1 c.in-Ok.ensures) c.in-Some.ensures
 
 pub returns-clause-stands : goal.returns-clause-stands
