@@ -12,6 +12,7 @@ pub mod Finding
 pub mod LeafFacts
 pub mod Loops
 pub mod NamesGiven
+pub mod Places
 pub mod SpeltWidths
 pub mod Sound
 pub mod SoundAll

@@ -1,6 +1,7 @@
 pub mod Grammar
 pub mod Laws
 pub mod Parsing
+pub mod Places
 pub mod Reading
 pub mod Views
 pub mod Refusing

@@ -1,14 +1,15 @@
 -- What the types of the code stand for.
-use Rattle.std.specs.Prelude.{◌++◌, List, String, map, string_bytes}
+use Rattle.std.specs.Prelude.{◌≡◌, ◌++◌, ◌∷◌, [], ℕ, suc, List, length, map, string_bytes}
 use Rattle.std.specs.Arc.{arc_value}
 use Rattle.std.specs.declared.sync.Arc.{Arc}
 use Rattle.oer_model.specs.AsnType.{AsnType}
 use Rattle.oer_values.specs.ShapeView.{named_number, seen_addition, seen_alternative, seen_field}
 use Rattle.oer_notation.specs.Reading.{Known, Start, nothing, of_word, of_name, NamedItems, Components, Choices}
+use Rattle.oer_notation.specs.Places.{names_in}
 use Rattle.oer_types.specs.Schema.{the_type}
 use Rattle.oer_types.specs.declared.schema.Schema.{Schema}
-use Rattle.oer_notation.specs.declared.known.Definition.{Definition}
 use Rattle.oer_notation.specs.declared.known.Definitions.{Definitions}
+use Rattle.oer_notation.specs.declared.names.Names.{Names}
 use Rattle.oer_notation.specs.declared.types.Types.{Types}
 use Rattle.oer_notation.specs.declared.parse.Body as raw_body
 use Rattle.oer_notation.specs.declared.parse.Alternatives as raw_alternatives
@@ -20,15 +21,37 @@ use Rattle.oer_notation.specs.declared.parse.Start.TheVariants.{Nothing, Word, N
 abbrev pub shared_type : {Z : Type 0} → Arc Schema Z → AsnType
 shared_type s = the_type (arc_value s)
 
--- an entry of a map, which is a definition
-abbrev pub known : {Y Z : Type 0} → String Y × Arc Schema Z → Known
-known e = record { name = string_bytes e.0; type = shared_type e.1 }
+abbrev pub names_of : Names → List (List ℕ)
+names_of n = names_in n.places ++ map string_bytes n.others.items
 
-abbrev pub definition_of : Definition → Known
-definition_of d = known (d.name, d.schema)
+-- the Names with their types, as far as there are both
+abbrev pub together : {Z : Type 0} → List (List ℕ) → List (Arc Schema Z) → List Known
+together [] ss = []
+together (w ∷ ws) [] = []
+together (w ∷ ws) (s ∷ ss) = record { name = w; type = shared_type s } ∷ together ws ss
 
-abbrev pub known_by : Definitions → List Known
-known_by d = map known d.hashed.entries ++ map definition_of d.others.items
+unfoldable pub known_by : Definitions → List Known
+known_by d = together (names_of d.names) d.types.items
+
+abbrev pub HasAllTypes : Definitions → Type 0
+HasAllTypes d = length (names_of d.names) ≡ length d.types.items
+
+-- only the last Name has no type yet
+abbrev pub LacksOneType : Definitions → Type 0
+LacksOneType d = length (names_of d.names) ≡ suc (length d.types.items)
+
+abbrev pub name_past : {Z : Type 0} → List (List ℕ) → List (Arc Schema Z) → List ℕ
+name_past [] ss = []
+name_past (w ∷ ws) [] = w
+name_past (w ∷ ws) (s ∷ ss) = name_past ws ss
+
+-- the first Name that has no type yet
+abbrev pub next_name : Definitions → List ℕ
+next_name d = name_past (names_of d.names) d.types.items
+
+-- the definition by which it has this type
+abbrev pub given : {Z : Type 0} → Definitions → Arc Schema Z → Known
+given d s = record { name = next_name d; type = shared_type s }
 
 abbrev pub knowns : Types → List Known
 knowns t = known_by t.definitions

@@ -1,62 +1,40 @@
 //! Definitions, and the types that they gave their Names.
-ghost use Rattle.std.specs.Prelude.{◌≡◌, ◌++◌, ◌∷◌, [], None, OnOk, map, option_map, string_bytes};
+ghost use Rattle.std.specs.Prelude.{◌≡◌, ◌++◌, ◌∷◌, [], IfOk, None, OnOk, false, is_some, option_map, string_bytes, true};
 ghost use Rattle.oer_types.specs.Schema.{the_type};
 ghost use Rattle.oer_notation.specs.Reading.{find};
-ghost use Rattle.oer_notation.specs.Views.{definition_of, known_by, shared_type};
+ghost use Rattle.oer_notation.specs.Views.{HasAllTypes, LacksOneType, given, known_by, next_name, shared_type};
 
-use indexmap::IndexMap;
+use crate::names::Names;
 use oer_types::Schema;
 use std::alloc::{AllocError, Global};
 use std::sync::Arc;
 
-/// How many definitions are found by a hash. The map would have room for twice as many.
-const MOST_HASHED: usize = 1_073_741_824;
-
-/// A Name and its type, which other definitions may share.
-#[derive(Drop)]
-pub struct Definition {
-    pub name: String,
-    pub schema: Arc<Schema>,
-}
-
-/// Types by their Names, in the order of their definitions. Those behind the most that are found by a
-/// hash are looked through.
+/// Types and their Names, in the order of their definitions. While a type is read, its Name stands
+/// behind the others and has none.
 #[derive(Drop)]
 pub struct Definitions {
-    pub hashed: IndexMap<String, Arc<Schema>>,
-    pub others: Vec<Definition>,
+    pub names: Names,
+    pub types: Vec<Arc<Schema>>,
 }
 
 /// No definitions, which take no memory.
+#[tactic(auto, unfolding(crate::specs::Views::known_by))]
 pub fn none(alloc: Global) -> Definitions
-    ensures { known_by result ≡ [] }
+    ensures known { known_by result ≡ [] }
+    ensures whole { HasAllTypes result }
 {
     Definitions {
-        hashed: IndexMap::new(alloc),
-        others: Vec::new(alloc),
+        names: Names::new(alloc),
+        types: Vec::new(alloc),
     }
-}
-
-/// What has the type that one of these definitions gave the Name.
-fn find_among<'d>(definitions: &'d [Definition], name: &str) -> Option<&'d Arc<Schema>>
-    ensures { option_map (λ s. shared_type s.now) result ≡ find (map definition_of definitions.now) name.now }
-{
-    for definition in definitions {
-        if definition.name.as_str() == name {
-            return Some(&definition.schema);
-        }
-    }
-    None
 }
 
 /// What has the type that a definition gave the Name.
 pub fn find_shared<'d>(types: &'d Definitions, name: &str) -> Option<&'d Arc<Schema>>
     ensures { option_map (λ s. shared_type s.now) result ≡ find (known_by types.now) name.now }
 {
-    match types.hashed.get(name) {
-        Some(schema) => Some(schema),
-        None => find_among(&types.others, name),
-    }
+    let place = types.names.place(name)?;
+    types.types.get(place)
 }
 
 /// The type that a definition gave the Name.
@@ -69,15 +47,25 @@ pub fn find<'d>(types: &'d Definitions, name: &str) -> Option<&'d Schema>
     }
 }
 
-/// One more definition, of a Name that had none.
-pub fn add(types: &mut Definitions, entry: Definition) -> Result<(), AllocError>
-    requires { find (known_by types.old) (string_bytes entry.name) ≡ None }
-    ensures { OnOk result (known_by types.new ≡ known_by types.old ++ definition_of entry ∷ []) }
+#[tactic(auto, unfolding(crate::specs::Views::known_by), using(crate::proofs::Finding::together_named, crate::proofs::Finding::name_past_all, crate::proofs::Finding::some_found, crate::proofs::Finding::none_found))]
+/// The Name of the next definition, whose type is yet to be added. It answers whether the Name had none.
+pub fn add_name(types: &mut Definitions, name: String) -> Result<bool, AllocError>
+    requires { HasAllTypes types.old }
+    ensures new { IfOk result (λ is_new. is_new ≡ true → find (known_by types.old) (string_bytes name) ≡ None) }
+    ensures known { IfOk result (λ is_new. is_new ≡ false → is_some (find (known_by types.old) (string_bytes name)) ≡ true) }
+    ensures next { IfOk result (λ is_new. is_new ≡ true → (next_name types.new ≡ string_bytes name) × LacksOneType types.new) }
+    ensures same { OnOk result (known_by types.new ≡ known_by types.old) }
 {
-    if !types.others.is_empty() || types.hashed.len() >= MOST_HASHED {
-        types.others.push(entry)?;
-        return Ok(());
-    }
-    types.hashed.insert(entry.name, entry.schema)?;
+    types.names.add(name)
+}
+
+#[tactic(auto, unfolding(crate::specs::Views::known_by), using(crate::proofs::Finding::together_typed))]
+/// The type of the last Name.
+pub fn add_type(types: &mut Definitions, schema: Arc<Schema>) -> Result<(), AllocError>
+    requires { LacksOneType types.old }
+    ensures known { OnOk result (known_by types.new ≡ known_by types.old ++ given types.old schema ∷ []) }
+    ensures whole { OnOk result (HasAllTypes types.new) }
+{
+    types.types.push(schema)?;
     Ok(())
 }

@@ -3,6 +3,7 @@
 
 mod known;
 pub mod laws;
+mod names;
 mod parse;
 mod types;
 mod within;

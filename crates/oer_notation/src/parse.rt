@@ -19,7 +19,6 @@ use oer_value_notation::{
     Cursor, TextFault, TextWhy, TypeWord, is_name, read_bounds, read_bracketed_size,
     read_item_number, read_list_size, read_need, read_tag_number, type_word,
 };
-use oer_values::{known_additions, known_later};
 use std::alloc::{AllocFailed, Global};
 
 /// With what a type begins.
@@ -276,30 +275,12 @@ fn read_known(
     Ok(shape)
 }
 
-/// From so many names on, a type is left to `Schema::new`, which marks names in 16 KiB of the stack. Here these would
-/// come on top of what all levels of types take.
-const MANY: usize = 32;
-
-/// Whether the type has so many names of its own.
-fn has_many_names(shape: &Shape) -> bool {
-    match shape {
-        Shape::Enumerated { items, .. } => items.len() >= MANY,
-        Shape::Sequence { root, additions } => {
-            root.len() >= MANY || known_additions(additions).len() >= MANY
-        }
-        Shape::Choice { root, additions } => {
-            root.len() >= MANY || known_later(additions).len() >= MANY
-        }
-        _ => false,
-    }
-}
-
-/// Not sound any more where the type has a fault of its own, or too many names to look for one here.
+/// Not sound any more where the type has a fault of its own.
 #[inline(never)]
 fn note_fault(shape: &Shape, sound: &mut bool)
     ensures { Tells sound.old sound.new (any_fault_here (type_of shape.now)) }
 {
-    if *sound && (has_many_names(shape) || has_any_fault_here(shape)) {
+    if *sound && has_any_fault_here(shape) {
         *sound = false;
     }
 }

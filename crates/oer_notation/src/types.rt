@@ -1,5 +1,5 @@
 //! From a text to its type, or to its definitions.
-ghost use Rattle.std.specs.Prelude.{◌≡◌, [], IfErr, IfOk, MatchOption, MatchResult, None, Ok, false, length, option_map, string_bytes, suc, true};
+ghost use Rattle.std.specs.Prelude.{◌≡◌, [], IfErr, IfOk, MatchOption, MatchResult, Ok, OnOk, false, length, option_map, suc, true};
 ghost use Rattle.oer_lexer.specs.Lexing.{lex};
 ghost use Rattle.oer_lexer.specs.Token.{spots_of};
 ghost use Rattle.oer_model.specs.WellFormed.{IsFirstFault, IsWellFormed};
@@ -11,9 +11,9 @@ ghost use Rattle.oer_notation.specs.Refusing.{AreNoTypes, IsNoType};
 ghost use Rattle.oer_value_notation.specs.State.{IsReading, state_of};
 ghost use Rattle.oer_notation.specs.Reading.{find};
 ghost use Rattle.oer_notation.specs.Parsing.{definition_at, end_of, entries_more, entry_at, name_at, parse, parse_all, start};
-ghost use Rattle.oer_notation.specs.Views.{definition_of, known_by, knowns, shared_type};
+ghost use Rattle.oer_notation.specs.Views.{HasAllTypes, LacksOneType, given, known_by, knowns, next_name, shared_type};
 
-use crate::known::{Definition, Definitions, add, find, find_shared, none};
+use crate::known::{Definitions, add_name, add_type, find, find_shared, none};
 use crate::laws::{what_is_parsed_is_spelled, what_is_spelled_is_parsed};
 use crate::parse::{Start, begin, read_type};
 use oer_lexer::{Sign, Token, Tokens, lex};
@@ -154,23 +154,30 @@ fn read_definition(
     }
 }
 
-/// A Name that isn't defined yet.
+/// A Name that isn't defined yet, which becomes that of the next definition.
 #[tactic(auto, unfolding(crate::specs::Parsing::name_at))]
-fn read_new_name<'t>(types: &Definitions, cursor: &mut Cursor<'_, 't>) -> Result<&'t str, TextFault>
-    ensures read { IsReading (λ w. (w.now, state_of cursor.new)) result (name_at (known_by types.now) (state_of cursor.old)) }
-    ensures new { IfOk result (λ w. find (known_by types.now) w.now ≡ None) }
+fn read_new_name(
+    alloc: Global,
+    types: &mut Definitions,
+    cursor: &mut Cursor<'_, '_>,
+) -> Result<(), TextFault>
+    requires { HasAllTypes types.old }
+    ensures read { IsReading (λ _. (next_name types.new, state_of cursor.new)) result (name_at (known_by types.old) (state_of cursor.old)) }
+    ensures same { OnOk result (known_by types.new ≡ known_by types.old) }
+    ensures next { OnOk result (LacksOneType types.new) }
 {
-    let Some(Token::Word(name)) = cursor.peek() else {
+    let Some(Token::Word(word)) = cursor.peek() else {
         return Err(cursor.fault(TextWhy::Syntax));
     };
-    if !is_name(name) {
+    if !is_name(word) {
         return Err(cursor.fault(TextWhy::Syntax));
     }
-    if find(types, name).is_some() {
+    let name = String::from_str(alloc, word)?;
+    if !add_name(types, name)? {
         return Err(cursor.fault(TextWhy::Repeated));
     }
     cursor.bump();
-    Ok(name)
+    Ok(())
 }
 
 /// The type of a definition that is only the Name of an earlier one, whose type it shares. `None` where
@@ -209,20 +216,21 @@ fn read_meaning(
     Ok(Arc::new(alloc, schema)?)
 }
 
+/// A Name and its type, which is yet to be added.
 #[tactic(auto, unfolding(crate::specs::Parsing::entry_at))]
 pub(crate) fn read_entry(
     alloc: Global,
-    types: &Definitions,
+    types: &mut Definitions,
     cursor: &mut Cursor<'_, '_>,
-) -> Result<Definition, TextFault>
-    ensures read { IsReading (λ d. (definition_of d, state_of cursor.new)) result (entry_at (known_by types.now) (state_of cursor.old)) }
-    ensures new { IfOk result (λ d. find (known_by types.now) (string_bytes d.name) ≡ None) }
+) -> Result<Arc<Schema>, TextFault>
+    requires { HasAllTypes types.old }
+    ensures read { IsReading (λ s. (given types.new s, state_of cursor.new)) result (entry_at (known_by types.old) (state_of cursor.old)) }
+    ensures same { OnOk result (known_by types.new ≡ known_by types.old) }
+    ensures next { OnOk result (LacksOneType types.new) }
 {
-    let name = read_new_name(types, cursor)?;
+    read_new_name(alloc, types, cursor)?;
     cursor.expect(Sign::Assign)?;
-    let name = String::from_str(alloc, name)?;
-    let schema = read_meaning(alloc, types, cursor)?;
-    Ok(Definition { name, schema })
+    read_meaning(alloc, types, cursor)
 }
 
 fn read_entries(alloc: Global, cursor: &mut Cursor<'_, '_>) -> Result<Types, TextFault>
@@ -230,8 +238,8 @@ fn read_entries(alloc: Global, cursor: &mut Cursor<'_, '_>) -> Result<Types, Tex
 {
     let mut definitions = none(alloc);
     'entries: for turn in 0..cursor.spots.len() + 1 {
-        let entry = read_entry(alloc, &definitions, cursor)?;
-        add(&mut definitions, entry)?;
+        let schema = read_entry(alloc, &mut definitions, cursor)?;
+        add_type(&mut definitions, schema)?;
         if cursor.spots.is_empty() {
             expect_end(cursor)?;
             return Ok(Types { definitions });

@@ -3,18 +3,19 @@ ghost use Rattle.std.specs.Prelude.{◌≡◌, ◌<◌, ◌≤◌, ◌+◌, [], 
 ghost use Rattle.oer_notation.specs.Grammar.{SpellsAll};
 ghost use Rattle.oer_notation.specs.Parsing.{parse_all};
 ghost use Rattle.oer_model.specs.Nodes.{type_nodes};
-ghost use Rattle.oer_notation.specs.Views.{definition_of, knowns};
+ghost use Rattle.oer_notation.specs.Views.{knowns, shared_type};
 ghost use Rattle.oer_notation.specs.Within.{AreNotWithin, IsMemory, IsReadWithin, entries_within, parse_within, parts_of};
 ghost use Rattle.oer_notation.specs.declared.within.WithinFault.TheVariants.{Text};
 ghost use Rattle.oer_value_notation.specs.State.{state_of};
 
-use crate::known::{Definition, add, none};
+use crate::known::{add_type, none};
 use crate::laws::{what_is_parsed_is_spelled, what_is_spelled_is_parsed};
 use crate::types::{Types, expect_end, first, read_entry};
 use oer_lexer::lex;
-use oer_types::{MAX_PARTS, parts_left};
+use oer_types::{MAX_PARTS, Schema, parts_left};
 use oer_value_notation::{Cursor, TextFault, TextWhy};
 use std::alloc::{AllocError, Global};
+use std::sync::Arc;
 use thiserror::Error;
 
 /// Why definitions are rejected whose types may have so many parts together.
@@ -71,12 +72,11 @@ fn read_text_within(alloc: Global, text: &str, parts: u64) -> Result<Types, With
     read_entries_within(alloc, &mut cursor, parts)
 }
 
-/// Of so many parts that definitions may have, what is left after this one.
-fn left_after(definition: &Definition, left: u64) -> Option<u64>
-    ensures { MatchOption result (left < type_nodes (definition_of definition.now).type)
-        (λ rest. rest + type_nodes (definition_of definition.now).type ≡ left) }
+/// Of so many parts that definitions may have, what is left after that of this type.
+fn left_after(schema: &Arc<Schema>, left: u64) -> Option<u64>
+    ensures { MatchOption result (left < type_nodes (shared_type schema.now)) (λ rest. rest + type_nodes (shared_type schema.now) ≡ left) }
 {
-    let of_type = parts_left(definition.schema.shape(), MAX_PARTS)?;
+    let of_type = parts_left(schema.shape(), MAX_PARTS)?;
     left.checked_sub((MAX_PARTS - of_type) as u64)
 }
 
@@ -92,12 +92,12 @@ fn read_entries_within(
     let mut left = parts;
     'entries: for turn in 0..cursor.spots.len() + 1 {
         let at = cursor.fault(TextWhy::Syntax).at;
-        let entry = read_entry(alloc, &definitions, cursor)?;
-        let Some(rest) = left_after(&entry, left) else {
+        let schema = read_entry(alloc, &mut definitions, cursor)?;
+        let Some(rest) = left_after(&schema, left) else {
             return Err(WithinFault::Parts(at));
         };
         left = rest;
-        add(&mut definitions, entry)?;
+        add_type(&mut definitions, schema)?;
         if cursor.spots.is_empty() {
             expect_end(cursor)?;
             return Ok(Types { definitions });

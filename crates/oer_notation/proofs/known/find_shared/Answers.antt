@@ -1,20 +1,22 @@
-use Rattle.std.proofs.Common.{map, option_map, sym, ap, ◌∙◌}
-use Rattle.oer_notation.specs.Reading.{find}
-use Rattle.oer_notation.specs.Views.{definition_of, known, shared_type}
-use Rattle.oer_notation.proofs.Finding.{find_append, find_lookup, or_else}
+use Rattle.std.proofs.Common.{option_map, subst, sym, ap, ◌∙◌}
+use Rattle.std.specs.Slice.{IsItemAt}
+use Rattle.oer_notation.specs.Views.{known_by, names_of, shared_type}
+use Rattle.oer_notation.proofs.Finding.{find_together, item_given, one_at}
 use Rattle.oer_notation.proofs.known.find_shared.Goals as goal
 
-pub returns-in-Some : goal.returns-in-Some
-returns-in-Some c =
+pub returns-in_err-place : goal.returns-in_err-place
+unfolding known_by
+returns-in_err-place c =
     let types = c.args.types.now in
-    let name = c.args.name.now in
-    let others = map definition_of types.others.items in
-    sym (find_append (map known types.hashed.entries) others name ∙ ap (λ o. or_else o (find others name)) (find_lookup types.hashed.entries name ∙ ap (option_map shared_type) (sym c.in-Some.ensures.value)))
+    ap (option_map (λ s. shared_type s.now)) c.from_residual.ensures
+    ∙ ap (λ o. option_map shared_type (one_at types.types.items o)) c.in_err-place.ensures
+    ∙ sym (find_together (names_of types.names) types.types.items c.args.name.now)
 
-pub returns-in-None : goal.returns-in-None
-returns-in-None c =
+pub returns : goal.returns
+unfolding known_by
+returns c =
     let types = c.args.types.now in
-    let name = c.args.name.now in
-    let others = map definition_of types.others.items in
-    c.find_among.ensures ∙ ap (λ ds. find (map definition_of ds) name) c.deref.ensures.value
-    ∙ sym (find_append (map known types.hashed.entries) others name ∙ ap (λ o. or_else o (find others name)) (find_lookup types.hashed.entries name ∙ ap (option_map shared_type) (sym c.in-None.ensures.value)))
+    item_given shared_type types.types.items c.in_ok-place.place c.get.result
+    (subst (λ xs. IsItemAt xs c.in_ok-place.place c.get.result) c.deref.ensures.value c.get.ensures.lookup)
+    ∙ ap (λ o. option_map shared_type (one_at types.types.items o)) c.in_ok-place.ensures
+    ∙ sym (find_together (names_of types.names) types.types.items c.args.name.now)

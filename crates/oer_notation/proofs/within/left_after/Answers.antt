@@ -10,7 +10,7 @@ use Rattle.oer_notation.proofs.within.left_after.Goals as goal
 
 pub returns-in_err-of_type : goal.returns-in_err-of_type
 returns-in_err-of_type c =
-    let T = shared_type c.args.definition.now.schema in
+    let T = shared_type c.args.schema.now in
     let same : type_of c.shape.result.now ≡ T = ap type_of c.shape.ensures.same ∙ ap the_type c.deref.ensures in
     let well : IsWellFormed T = subst IsWellFormed same c.shape.ensures.well_formed in
     absurd (well.faultless TooManyParts (subst (λ U. max_parts < type_nodes U) same c.in_err-of_type.ensures))
