@@ -1,54 +1,81 @@
 -- How many tokens the parts have that stand in the tree as tokens.
-use Rattle.std.specs.Prelude.{ℕ, zero, suc, ◌+◌, ◌-◌, List, [], ◌∷◌, take, drop, ◌==◌, nat_lt, Bool, true, false, not, ◌&&◌, ◌||◌, Option, Some, None, Ok, Err, codes, if◌then◌else◌}
+use Rattle.std.specs.Prelude.{ℕ, zero, suc, ◌+◌, ◌-◌, List, [], ◌∷◌, take, drop, ◌==◌, Bool, true, false, not, ◌&&◌, ◌||◌, Option, Some, Result, Ok, Err, codes, if◌then◌else◌}
 use Rattle.std.specs.Str.{bytes_eq}
-use Rattle.oer_lexer.specs.Lexing.{plus}
 use Rattle.oer_module_lexer.specs.Token.{Token, word, field, number, real, bits, digits, text, sign, Spot}
 use Rattle.oer_module_lexer.specs.declared.token.Sign.{Sign}
-use Rattle.oer_module_lexer.specs.declared.token.Sign.TheVariants.{OpenBrace, CloseBrace, OpenParenthesis, CloseParenthesis, OpenBracket, CloseBracket, OpenGroup, CloseGroup, Point, Colon, Hyphen}
+use Rattle.oer_module_lexer.specs.declared.token.Sign.TheVariants.{OpenBrace, CloseBrace, OpenParenthesis, CloseParenthesis, OpenBracket, CloseBracket, OpenGroup, CloseGroup, Comma, Point, Colon, Hyphen}
 use Rattle.oer_module_syntax.specs.State.{State, Read, first_of, is_sign, at_sign, same_sign, past, end_fault, fault, ◌>>=◌}
 use Rattle.oer_module_syntax.specs.Words.{is_reserved}
+use Rattle.oer_module_syntax.specs.declared.fault.Fault.{Fault}
 use Rattle.oer_module_syntax.specs.declared.fault.Sought.TheVariants as sought
 use Rattle.oer_module_syntax.specs.declared.fault.Why.TheVariants as why
+use Rattle.oer_module_syntax.specs.declared.range.Extent.{Extent}
+use Rattle.oer_module_syntax.specs.declared.range.Extent.TheVariants.{Group, Constraints, Span}
 use Rattle.oer_module_syntax.specs.declared.range.Pair.{Pair}
 use Rattle.oer_module_syntax.specs.declared.range.Pair.TheVariants.{Step, Choice}
 
 abbrev pub starts_sign : Sign → List Spot → Bool
 starts_sign g ts = is_sign g (first_of ts)
 
-abbrev pub one_less : ℕ → ℕ
-one_less zero = zero
-one_less (suc n) = n
+-- ---- brackets. What is open is told by the signs that close it, the innermost first.
 
--- how many braces, parentheses and brackets are open after a token, where so many were before
-abbrev pub nesting : ℕ → Token → ℕ
-nesting d (sign OpenBrace) = d + 1
-nesting d (sign OpenParenthesis) = d + 1
-nesting d (sign OpenBracket) = d + 1
-nesting d (sign OpenGroup) = d + 1
-nesting d (sign CloseBrace) = one_less d
-nesting d (sign CloseParenthesis) = one_less d
-nesting d (sign CloseBracket) = one_less d
-nesting d (sign CloseGroup) = one_less d
-nesting d _ = d
+-- the sign at a place doesn't close what is open: this one does
+abbrev pub unclosed : ℕ → Sign → Fault
+unclosed at g = record { at = at; why = why.Expected (sought.Sign g) }
 
-abbrev pub nesting_after : ℕ → List Spot → ℕ
-nesting_after d [] = d
-nesting_after d (t ∷ ts) = nesting d t.token
+-- what is open behind a sign that closes
+abbrev pub close : ℕ → Sign → List Sign → Result (List Sign) Fault
+close at g [] = Err (unclosed at g)
+close at g (c ∷ cs) = if same_sign c g then Ok cs else Err (unclosed at c)
 
--- not all is closed yet, or a parenthesis opens more
-abbrev pub goes_on : Bool → ℕ → List Spot → Bool
-goes_on again d [] = false
-goes_on again d (t ∷ ts) = nat_lt 0 d || (again && starts_sign OpenParenthesis (t ∷ ts))
+-- what is open behind a token; `[[` and `]]` count two
+abbrev pub nest : ℕ → Token → List Sign → Result (List Sign) Fault
+nest at (sign OpenBrace) cs = Ok (CloseBrace ∷ cs)
+nest at (sign OpenParenthesis) cs = Ok (CloseParenthesis ∷ cs)
+nest at (sign OpenBracket) cs = Ok (CloseBracket ∷ cs)
+nest at (sign OpenGroup) cs = Ok (CloseBracket ∷ CloseBracket ∷ cs)
+nest at (sign CloseBrace) cs = close at CloseBrace cs
+nest at (sign CloseParenthesis) cs = close at CloseParenthesis cs
+nest at (sign CloseBracket) cs = close at CloseBracket cs
+nest at (sign CloseGroup) cs = close at CloseBracket cs >>= close at CloseBracket
+nest at _ cs = Ok cs
 
-abbrev pub finished : ℕ → Option ℕ
-finished zero = Some 0
-finished (suc d) = None
+abbrev pub nest_next : List Spot → List Sign → Result (List Sign) Fault
+nest_next [] cs = Ok cs
+nest_next (t ∷ ts) cs = nest t.at t.token cs
 
--- How many tokens it takes until as much is closed as was open, if they suffice; again: and what stands in parentheses
--- behind that.
-unfoldable pub groups_len : Bool → List Spot → ℕ → Option ℕ
-groups_len again [] d = finished d
-groups_len again (t ∷ ts) d = if goes_on again d (t ∷ ts) then plus 1 (groups_len again ts (nesting_after d (t ∷ ts))) else finished d
+-- a comma, or a sign that closes
+abbrev pub ends_span : List Spot → Bool
+ends_span ts =
+    starts_sign Comma ts || starts_sign CloseBrace ts || starts_sign CloseParenthesis ts || starts_sign CloseBracket ts
+    || starts_sign CloseGroup ts
+
+-- where all is closed: more belongs to it
+abbrev pub again : Extent → List Spot → Bool
+again Group ts = false
+again Constraints ts = starts_sign OpenParenthesis ts
+again Span ts = not (ends_span ts)
+
+-- not all is closed yet, or more belongs to it
+abbrev pub goes_on : Extent → Bool → List Spot → Bool
+goes_on x c [] = false
+goes_on x c (t ∷ ts) = if c then again x (t ∷ ts) else true
+
+abbrev pub none_open : List Sign → Bool
+none_open [] = true
+none_open (c ∷ cs) = false
+
+abbrev pub finished : State → List Sign → Result ℕ Fault
+finished s [] = Ok 0
+finished s (c ∷ cs) = Err (end_fault (why.Expected (sought.Sign c)) s)
+
+-- How many tokens it takes until all is closed and no more belongs to it, or the first sign that closes what isn't open.
+-- Where the tokens end before that, the sign that closes the innermost was expected there.
+unfoldable pub groups_len : Extent → State → List Spot → List Sign → Result ℕ Fault
+groups_len x s [] cs = finished s cs
+groups_len x s (t ∷ ts) cs =
+    if goes_on x (none_open cs) (t ∷ ts) then (nest_next (t ∷ ts) cs >>= λ more. groups_len x s ts more >>= λ n. Ok (1 + n))
+    else finished s cs
 
 abbrev pub is_step : Token → Bool
 is_step (word w) = true
@@ -79,17 +106,21 @@ pairs_len p (t ∷ u ∷ us) = if starts_with_pair p (t ∷ u ∷ us) then 2 + p
 abbrev pub front_of : ℕ → State → Read (List Spot)
 front_of n s = Ok (take n s.left, past n s)
 
-abbrev pub closed : ℕ → Option ℕ → State → Read (List Spot)
-closed k None s = Err (end_fault (why.Expected sought.Closing) s)
-closed k (Some n) s = front_of (k + n) s
+-- how many tokens stand between one that opens and the one that closes, with both
+abbrev pub group_len : State → Result ℕ Fault
+group_len s = nest_next s.left [] >>= λ cs. groups_len Group s (drop 1 s.left) cs >>= λ n. Ok (1 + n)
 
 -- what stands between a sign that opens and the one that closes, with both, if that sign is next
 unfoldable pub group_at : Sign → State → Read (List Spot)
-group_at g s = if at_sign g s then closed 1 (groups_len false (drop 1 s.left) 1) s else Ok ([], s)
+group_at g s = if at_sign g s then (group_len s >>= λ n. front_of n s) else Ok ([], s)
 
 -- what stands in parentheses, one after another
 unfoldable pub constraints_at : State → Read (List Spot)
-constraints_at s = closed 0 (groups_len true s.left 0) s
+constraints_at s = groups_len Constraints s s.left [] >>= λ n. front_of n s
+
+-- what stands before a comma or a sign that closes, none of which belongs to it
+unfoldable pub span_at : State → Read (List Spot)
+span_at s = groups_len Span s s.left [] >>= λ n. front_of n s
 
 abbrev pub is_reserved_value : List ℕ → Bool
 is_reserved_value w =
@@ -123,14 +154,10 @@ abbrev pub atom_len : List Spot → ℕ
 atom_len [] = 0
 atom_len (t ∷ ts) = atom_by t.token ts
 
-abbrev pub base_by : Option ℕ → State → Read ℕ
-base_by None s = Err (end_fault (why.Expected sought.Closing) s)
-base_by (Some n) s = Ok (1 + n, past (1 + n) s)
-
 -- behind the names of alternatives: how many tokens the value has, and what is left
 abbrev pub base_at : State → Read ℕ
 base_at s =
-    if at_sign OpenBrace s then base_by (groups_len false (drop 1 s.left) 1) s
+    if at_sign OpenBrace s then (group_len s >>= λ n. Ok (n, past n s))
     else if atom_len s.left == 0 then Err (fault (why.Expected sought.Value) s)
     else Ok (atom_len s.left, past (atom_len s.left) s)
 

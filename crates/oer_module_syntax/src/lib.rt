@@ -12,7 +12,9 @@ mod word;
 pub use cursor::Cursor;
 pub use fault::{Fault, Sought, Why};
 pub use modules::{Header, read_modules};
-pub use range::{Pair, nesting, pairs_len, take_constraints, take_group, take_value};
+pub use range::{
+    Extent, Pair, ends_span, pairs_len, take_constraints, take_group, take_span, take_value,
+};
 pub use tree::{
     Assignment, Body, Element, Exports, Import, Mode, Module, Need, Symbol, Tags, TypeSyntax,
 };

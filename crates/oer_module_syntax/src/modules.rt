@@ -74,7 +74,7 @@ fn read_extensible(cursor: &mut Cursor<'_, '_>) -> Result<bool, Fault>
 
 /// A name in EXPORTS or IMPORTS; braces may follow it.
 #[tactic(auto, unfolding(crate::specs::Modules::symbol_at))]
-fn read_symbol<'s, 't>(cursor: &mut Cursor<'s, 't>) -> Result<Symbol<'t>, Fault>
+fn read_symbol<'s, 't>(alloc: Global, cursor: &mut Cursor<'s, 't>) -> Result<Symbol<'t>, Fault>
     ensures { IsReading (λ x. (symbol_of x, state_of cursor.new)) result (symbol_at (state_of cursor.old)) }
 {
     let Some(Token::Word(name)) = cursor.peek() else {
@@ -85,7 +85,7 @@ fn read_symbol<'s, 't>(cursor: &mut Cursor<'s, 't>) -> Result<Symbol<'t>, Fault>
     }
     let at = cursor.place();
     cursor.bump();
-    let _braces = take_group(cursor, Sign::OpenBrace)?;
+    let _braces = take_group(alloc, cursor, Sign::OpenBrace)?;
     Ok(Symbol { at, name })
 }
 
@@ -97,13 +97,14 @@ fn read_symbols<'s, 't>(
     ensures { IsReading (λ v. (map symbol_of v.items, state_of cursor.new)) result (listed symbol_at (state_of cursor.old)) }
 {
     let mut found = Vec::new(alloc);
-    let first = read_symbol(cursor)?;
+    let first = read_symbol(alloc, cursor)?;
     found.push(first)?;
-    read_more_symbols(cursor, &mut found)?;
+    read_more_symbols(alloc, cursor, &mut found)?;
     Ok(found)
 }
 
 fn read_more_symbols<'s, 't>(
+    alloc: Global,
     cursor: &mut Cursor<'s, 't>,
     found: &mut Vec<Symbol<'t>>,
 ) -> Result<(), Fault>
@@ -113,7 +114,7 @@ fn read_more_symbols<'s, 't>(
         if !cursor.take(Sign::Comma) {
             return Ok(());
         }
-        let symbol = read_symbol(cursor)?;
+        let symbol = read_symbol(alloc, cursor)?;
         found.push(symbol)?;
     }
     Err(cursor.fault(Why::Expected(Sought::Closing)))
@@ -155,7 +156,7 @@ fn read_import<'s, 't>(alloc: Global, cursor: &mut Cursor<'s, 't>) -> Result<Imp
     cursor.expect_keyword(Keyword::From)?;
     let at = cursor.place();
     let from = cursor.reference(Sought::Reference)?;
-    let id = take_group(cursor, Sign::OpenBrace)?;
+    let id = take_group(alloc, cursor, Sign::OpenBrace)?;
     Ok(Import {
         symbols,
         at,
@@ -198,34 +199,34 @@ fn read_imports<'s, 't>(
 }
 
 /// What stands in braces, with these.
-fn take_braces<'s, 't>(cursor: &mut Cursor<'s, 't>) -> Result<&'s [Spot<'t>], Fault>
+fn take_braces<'s, 't>(alloc: Global, cursor: &mut Cursor<'s, 't>) -> Result<&'s [Spot<'t>], Fault>
     ensures { IsReading (λ r. (spots_of r.now, state_of cursor.new)) result (braced_at (state_of cursor.old)) }
 {
     if !cursor.is_at(Sign::OpenBrace) {
         return Err(cursor.fault(Why::Expected(Sought::Sign(Sign::OpenBrace))));
     }
-    take_group(cursor, Sign::OpenBrace)
+    take_group(alloc, cursor, Sign::OpenBrace)
 }
 
 /// The syntax of a class, if it has one.
 #[tactic(auto, unfolding(crate::specs::Modules::syntax_at))]
-fn take_syntax<'s, 't>(cursor: &mut Cursor<'s, 't>) -> Result<&'s [Spot<'t>], Fault>
+fn take_syntax<'s, 't>(alloc: Global, cursor: &mut Cursor<'s, 't>) -> Result<&'s [Spot<'t>], Fault>
     ensures { IsReading (λ r. (spots_of r.now, state_of cursor.new)) result (syntax_at (state_of cursor.old)) }
 {
     if !cursor.take_keyword(Keyword::With) {
         return Ok(no_spots());
     }
     cursor.expect_keyword(Keyword::Syntax)?;
-    take_braces(cursor)
+    take_braces(alloc, cursor)
 }
 
 /// What follows CLASS.
 #[tactic(auto, unfolding(crate::specs::Modules::class_at))]
-fn read_class<'s, 't>(cursor: &mut Cursor<'s, 't>) -> Result<Body<'s, 't>, Fault>
+fn read_class<'s, 't>(alloc: Global, cursor: &mut Cursor<'s, 't>) -> Result<Body<'s, 't>, Fault>
     ensures { IsReading (λ b. (body_of b, state_of cursor.new)) result (class_at (state_of cursor.old)) }
 {
-    let fields = take_braces(cursor)?;
-    let syntax = take_syntax(cursor)?;
+    let fields = take_braces(alloc, cursor)?;
+    let syntax = take_syntax(alloc, cursor)?;
     Ok(Body::Class { fields, syntax })
 }
 
@@ -239,7 +240,7 @@ fn read_defined<'s, 't>(
     ensures { IsReading (λ b. (body_of b, state_of cursor.new)) result (defined_at levels (state_of cursor.old)) }
 {
     if cursor.take_keyword(Keyword::Class) {
-        return read_class(cursor);
+        return read_class(alloc, cursor);
     }
     let definition = read_type(alloc, cursor, levels)?;
     Ok(Body::Type(definition))
@@ -256,7 +257,7 @@ fn read_set<'s, 't>(
 {
     let governor = read_type(alloc, cursor, levels)?;
     cursor.expect(Sign::Assign)?;
-    let set = take_braces(cursor)?;
+    let set = take_braces(alloc, cursor)?;
     Ok(Body::Set { governor, set })
 }
 
@@ -271,7 +272,7 @@ fn read_valued<'s, 't>(
 {
     let governor = read_type(alloc, cursor, levels)?;
     cursor.expect(Sign::Assign)?;
-    let value = take_value(cursor)?;
+    let value = take_value(alloc, cursor)?;
     Ok(Body::Value { governor, value })
 }
 
@@ -305,7 +306,7 @@ fn read_assigned<'s, 't>(
 ) -> Result<Assignment<'s, 't>, Fault>
     ensures { IsReading (λ a. (assignment_of a, state_of cursor.new)) result (assigned_at levels at name.now (state_of cursor.old)) }
 {
-    let parameters = take_group(cursor, Sign::OpenBrace)?;
+    let parameters = take_group(alloc, cursor, Sign::OpenBrace)?;
     let body = read_body(alloc, cursor, levels, is_identifier(name))?;
     Ok(Assignment {
         at,
@@ -401,7 +402,7 @@ fn read_module<'s, 't>(
 {
     let at = cursor.place();
     let name = cursor.reference(Sought::Reference)?;
-    let id = take_group(cursor, Sign::OpenBrace)?;
+    let id = take_group(alloc, cursor, Sign::OpenBrace)?;
     skip_text(cursor);
     cursor.expect_keyword(Keyword::Definitions)?;
     let tags = read_tags(cursor)?;

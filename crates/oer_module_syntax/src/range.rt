@@ -1,13 +1,25 @@
 //! How many tokens the parts have that stand in the tree as tokens.
-ghost use Rattle.std.specs.Prelude.{◌≡◌, ◌≤◌, [], drop, length, IfOk, IfSome};
+ghost use Rattle.std.specs.Prelude.{◌≡◌, ◌≤◌, ◌<◌, [], ◌∷◌, drop, length, reverse, IfOk, Ok};
 ghost use Rattle.oer_module_lexer.specs.Token.{spots_of, token_of};
-ghost use Rattle.oer_module_syntax.specs.Ranges.{atom_len, base_at, constraints_at, goes_on, group_at, groups_len, is_any_word, is_pair, is_reserved_value, is_step, is_value_word, nesting, nesting_after, pairs_len, starts_sign, starts_with_amount, starts_with_pair, value_at};
+ghost use Rattle.oer_module_syntax.specs.Ranges.{atom_len, base_at, close, constraints_at, ends_span, finished, goes_on, group_at, group_len, groups_len, is_any_word, is_pair, is_reserved_value, is_step, is_value_word, nest, nest_next, none_open, pairs_len, span_at, starts_sign, starts_with_amount, starts_with_pair, unclosed, value_at};
 ghost use Rattle.oer_module_syntax.specs.State.{IsReading, state_of};
 
 use crate::cursor::{Cursor, is_same};
 use crate::fault::{Fault, Sought, Why};
 use crate::word::is_reserved;
 use oer_module_lexer::{Sign, Spot, Token};
+use std::alloc::Global;
+
+/// Where tokens end that are kept as they are, once all is closed that they open.
+#[derive(Clone, Copy)]
+pub enum Extent {
+    /// There.
+    Group,
+    /// Where no further parenthesis opens.
+    Constraints,
+    /// Before a comma or a sign that closes.
+    Span,
+}
 
 /// The pairs of tokens of which parts of types and values consist.
 #[derive(Clone, Copy)]
@@ -43,60 +55,139 @@ fn starts_sign(spots: &[Spot<'_>], sign: Sign) -> bool
     }
 }
 
-/// How many braces, parentheses and brackets are open after this token, where so many were open before it.
-pub fn nesting(depth: usize, token: Token<'_>) -> usize
-    requires { depth ≤ 9223372036854775808 }
-    ensures { result ≡ nesting depth (token_of token.entry) }
+/// Opens what this sign closes. What is open is a list of the signs that close it, the innermost last.
+fn open(opened: &mut Vec<Sign>, closing: Sign) -> Result<(), Fault>
+    ensures { IsReading (λ _. reverse opened.new.items) result (Ok (closing ∷ reverse opened.old.items)) }
 {
-    match token {
-        Token::Sign(
-            Sign::OpenBrace | Sign::OpenParenthesis | Sign::OpenBracket | Sign::OpenGroup,
-        ) => depth + 1,
-        Token::Sign(
-            Sign::CloseBrace | Sign::CloseParenthesis | Sign::CloseBracket | Sign::CloseGroup,
-        ) => if depth == 0 { 0 } else { depth - 1 },
-        _ => depth,
+    opened.push(closing)?;
+    Ok(())
+}
+
+/// Closes the innermost that is open by the sign at a place; else the sign was expected that closes it.
+fn close(opened: &mut Vec<Sign>, at: usize, sign: Sign) -> Result<(), Fault>
+    ensures { IsReading (λ _. reverse opened.new.items) result (close at sign (reverse opened.old.items)) }
+{
+    let Some(closing) = opened.pop() else {
+        return Err(unclosed(at, sign));
+    };
+    if !is_same(closing, sign) {
+        return Err(unclosed(at, closing));
+    }
+    Ok(())
+}
+
+fn unclosed(at: usize, closing: Sign) -> Fault
+    ensures { result ≡ unclosed at closing }
+{
+    Fault {
+        at,
+        why: Why::Expected(Sought::Sign(closing)),
     }
 }
 
-/// Whether the tokens are not at their end, and what stands before them isn't whole: something is open, or
-/// more may be opened by a parenthesis here.
-fn goes_on(again: bool, depth: usize, spots: &[Spot<'_>]) -> bool
-    ensures { result ≡ goes_on again depth (spots_of spots.now) }
+/// What is open after this token: `[[` and `]]` count two.
+fn nest(opened: &mut Vec<Sign>, at: usize, token: Token<'_>) -> Result<(), Fault>
+    ensures { IsReading (λ _. reverse opened.new.items) result (nest at (token_of token.entry) (reverse opened.old.items)) }
+{
+    match token {
+        Token::Sign(Sign::OpenBrace) => open(opened, Sign::CloseBrace),
+        Token::Sign(Sign::OpenParenthesis) => open(opened, Sign::CloseParenthesis),
+        Token::Sign(Sign::OpenBracket) => open(opened, Sign::CloseBracket),
+        Token::Sign(Sign::OpenGroup) => {
+            open(opened, Sign::CloseBracket)?;
+            open(opened, Sign::CloseBracket)
+        }
+        Token::Sign(Sign::CloseGroup) => {
+            close(opened, at, Sign::CloseBracket)?;
+            close(opened, at, Sign::CloseBracket)
+        }
+        Token::Sign(Sign::CloseBrace) => close(opened, at, Sign::CloseBrace),
+        Token::Sign(Sign::CloseParenthesis) => close(opened, at, Sign::CloseParenthesis),
+        Token::Sign(Sign::CloseBracket) => close(opened, at, Sign::CloseBracket),
+        _ => Ok(()),
+    }
+}
+
+/// What is open after the next token.
+fn nest_next(opened: &mut Vec<Sign>, spots: &[Spot<'_>]) -> Result<(), Fault>
+    ensures { IsReading (λ _. reverse opened.new.items) result (nest_next (spots_of spots.now) (reverse opened.old.items)) }
+{
+    match spots.first() {
+        Some(spot) => nest(opened, spot.at, spot.token),
+        None => Ok(()),
+    }
+}
+
+#[tactic(auto, using(crate::proofs::Spots::none_open_back))]
+fn is_closed(opened: &[Sign]) -> bool
+    ensures { result ≡ none_open (reverse opened.now) }
+{
+    match opened.first() {
+        Some(_) => false,
+        None => true,
+    }
+}
+
+/// Nothing may be open where the tokens end; else the sign was expected that closes the innermost.
+fn finish(opened: Vec<Sign>, cursor: &Cursor<'_, '_>) -> Result<(), Fault>
+    ensures { IsReading (λ _. 0) result (finished (state_of cursor.now) (reverse opened.items)) }
+{
+    let mut opened = opened;
+    match opened.pop() {
+        Some(closing) => Err(cursor.end_fault(Why::Expected(Sought::Sign(closing)))),
+        None => Ok(()),
+    }
+}
+
+/// Whether a comma or a sign that closes is next.
+pub fn ends_span(spots: &[Spot<'_>]) -> bool
+    ensures { result ≡ ends_span (spots_of spots.now) }
+{
+    starts_sign(spots, Sign::Comma)
+        || starts_sign(spots, Sign::CloseBrace)
+        || starts_sign(spots, Sign::CloseParenthesis)
+        || starts_sign(spots, Sign::CloseBracket)
+        || starts_sign(spots, Sign::CloseGroup)
+}
+
+/// Whether the tokens are not at their end, and what stands before them isn't whole.
+fn goes_on(extent: Extent, is_closed: bool, spots: &[Spot<'_>]) -> bool
+    ensures { result ≡ goes_on extent is_closed (spots_of spots.now) }
 {
     if spots.is_empty() {
         return false;
     }
-    depth > 0 || again && starts_sign(spots, Sign::OpenParenthesis)
-}
-
-fn nesting_after(depth: usize, spots: &[Spot<'_>]) -> usize
-    requires { depth ≤ 9223372036854775808 }
-    ensures { result ≡ nesting_after depth (spots_of spots.now) }
-{
-    match spots.first() {
-        Some(spot) => nesting(depth, spot.token),
-        None => depth,
+    if !is_closed {
+        return true;
+    }
+    match extent {
+        Extent::Group => false,
+        Extent::Constraints => starts_sign(spots, Sign::OpenParenthesis),
+        Extent::Span => !ends_span(spots),
     }
 }
 
-/// How many tokens it takes until as much is closed as was open; `again`: and what parentheses hold that
-/// follow. `None` where the tokens end before that.
+/// How many of the tokens it takes until the extent's end, where so much is open before them.
 #[tactic(auto, using(crate::proofs::Spots::groups_more, crate::proofs::Spots::groups_over))]
-fn groups_len(again: bool, opened: usize, spots: &[Spot<'_>]) -> Option<usize>
-    requires { opened ≤ 1 }
-    ensures value { result ≡ groups_len again (spots_of spots.now) opened }
-    ensures within { IfSome result (λ n. n ≤ length spots.now) }
+fn groups_len(
+    extent: Extent,
+    opened: Vec<Sign>,
+    cursor: &Cursor<'_, '_>,
+    spots: &[Spot<'_>],
+) -> Result<usize, Fault>
+    ensures read { IsReading (λ n. n) result (groups_len extent (state_of cursor.now) (spots_of spots.now) (reverse opened.items)) }
+    ensures within { IfOk result (λ n. n ≤ length spots.now) }
 {
     let mut n = 0;
-    let mut depth = opened;
     let mut rest = spots;
-    while goes_on(again, depth, rest) {
-        depth = nesting_after(depth, rest);
+    let mut opened = opened;
+    while goes_on(extent, is_closed(&opened), rest) {
+        nest_next(&mut opened, rest)?;
         rest = tail(rest);
         n += 1;
     }
-    if depth > 0 { None } else { Some(n) }
+    finish(opened, cursor)?;
+    Ok(n)
 }
 
 fn is_pair(pair: Pair, first: Token<'_>, second: Token<'_>) -> bool
@@ -159,28 +250,56 @@ pub fn pairs_len(pair: Pair, spots: &[Spot<'_>]) -> usize
     n
 }
 
+/// How many tokens stand between the next, which opens, and the one that closes, with both.
+#[tactic(auto, using(crate::proofs::Spots::behind))]
+fn group_len(alloc: Global, cursor: &Cursor<'_, '_>) -> Result<usize, Fault>
+    requires { 0 < length cursor.now.spots.now }
+    ensures read { IsReading (λ n. n) result (group_len (state_of cursor.now)) }
+    ensures within { IfOk result (λ n. n ≤ length cursor.now.spots.now) }
+{
+    let mut opened = Vec::new(alloc);
+    nest_next(&mut opened, cursor.spots)?;
+    let n = groups_len(Extent::Group, opened, cursor, &cursor.spots[1..])?;
+    Ok(1 + n)
+}
+
 /// What stands between the sign that opens and the one that closes, with both; nothing where another token is next.
-#[tactic(auto, unfolding(crate::specs::Ranges::group_at), using(crate::proofs::Spots::behind))]
-pub fn take_group<'s, 't>(cursor: &mut Cursor<'s, 't>, sign: Sign) -> Result<&'s [Spot<'t>], Fault>
+#[tactic(auto, unfolding(crate::specs::Ranges::group_at))]
+pub fn take_group<'s, 't>(
+    alloc: Global,
+    cursor: &mut Cursor<'s, 't>,
+    sign: Sign,
+) -> Result<&'s [Spot<'t>], Fault>
     ensures { IsReading (λ r. (spots_of r.now, state_of cursor.new)) result (group_at sign (state_of cursor.old)) }
 {
     if !starts_sign(cursor.spots, sign) {
         return Ok(no_spots());
     }
-    let Some(n) = groups_len(false, 1, &cursor.spots[1..]) else {
-        return Err(cursor.end_fault(Why::Expected(Sought::Closing)));
-    };
-    Ok(cursor.take_front(1 + n))
+    let n = group_len(alloc, cursor)?;
+    Ok(cursor.take_front(n))
 }
 
 /// Constraints: what stands in parentheses, one after another, with these.
 #[tactic(auto, unfolding(crate::specs::Ranges::constraints_at))]
-pub fn take_constraints<'s, 't>(cursor: &mut Cursor<'s, 't>) -> Result<&'s [Spot<'t>], Fault>
+pub fn take_constraints<'s, 't>(
+    alloc: Global,
+    cursor: &mut Cursor<'s, 't>,
+) -> Result<&'s [Spot<'t>], Fault>
     ensures { IsReading (λ r. (spots_of r.now, state_of cursor.new)) result (constraints_at (state_of cursor.old)) }
 {
-    let Some(n) = groups_len(true, 0, cursor.spots) else {
-        return Err(cursor.end_fault(Why::Expected(Sought::Closing)));
-    };
+    let n = groups_len(Extent::Constraints, Vec::new(alloc), cursor, cursor.spots)?;
+    Ok(cursor.take_front(n))
+}
+
+/// The tokens before the comma or the closing sign that belongs to none of them.
+#[tactic(auto, unfolding(crate::specs::Ranges::span_at))]
+pub fn take_span<'s, 't>(
+    alloc: Global,
+    cursor: &mut Cursor<'s, 't>,
+) -> Result<&'s [Spot<'t>], Fault>
+    ensures { IsReading (λ r. (spots_of r.now, state_of cursor.new)) result (span_at (state_of cursor.old)) }
+{
+    let n = groups_len(Extent::Span, Vec::new(alloc), cursor, cursor.spots)?;
     Ok(cursor.take_front(n))
 }
 
@@ -244,16 +363,14 @@ fn atom_len(spots: &[Spot<'_>]) -> usize
 
 /// The value at the front, after the names of alternatives: how many tokens it has.
 #[tactic(auto, using(crate::proofs::Spots::behind))]
-fn take_base(cursor: &mut Cursor<'_, '_>) -> Result<usize, Fault>
+fn take_base(alloc: Global, cursor: &mut Cursor<'_, '_>) -> Result<usize, Fault>
     ensures read { IsReading (λ n. (n, state_of cursor.new)) result (base_at (state_of cursor.old)) }
     ensures within { IfOk result (λ n. n ≤ length cursor.old.spots.now) }
 {
     if starts_sign(cursor.spots, Sign::OpenBrace) {
-        let Some(n) = groups_len(false, 1, &cursor.spots[1..]) else {
-            return Err(cursor.end_fault(Why::Expected(Sought::Closing)));
-        };
-        let _group = cursor.take_front(1 + n);
-        return Ok(1 + n);
+        let n = group_len(alloc, cursor)?;
+        let _group = cursor.take_front(n);
+        return Ok(n);
     }
     let n = atom_len(cursor.spots);
     if n == 0 {
@@ -265,12 +382,15 @@ fn take_base(cursor: &mut Cursor<'_, '_>) -> Result<usize, Fault>
 
 /// A value, as the tokens that it consists of; else a value was expected.
 #[tactic(auto, unfolding(crate::specs::Ranges::value_at))]
-pub fn take_value<'s, 't>(cursor: &mut Cursor<'s, 't>) -> Result<&'s [Spot<'t>], Fault>
+pub fn take_value<'s, 't>(
+    alloc: Global,
+    cursor: &mut Cursor<'s, 't>,
+) -> Result<&'s [Spot<'t>], Fault>
     ensures { IsReading (λ r. (spots_of r.now, state_of cursor.new)) result (value_at (state_of cursor.old)) }
 {
     let spots = cursor.spots;
     let names = pairs_len(Pair::Choice, spots);
     let _names = cursor.take_front(names);
-    let n = take_base(cursor)?;
+    let n = take_base(alloc, cursor)?;
     Ok(&spots[..names + n])
 }

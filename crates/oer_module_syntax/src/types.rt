@@ -52,7 +52,11 @@ fn skip_second(cursor: &mut Cursor<'_, '_>, builtin: Builtin) -> Result<(), Faul
     }
 }
 
-fn take_items<'s, 't>(cursor: &mut Cursor<'s, 't>, form: Form) -> Result<&'s [Spot<'t>], Fault>
+fn take_items<'s, 't>(
+    alloc: Global,
+    cursor: &mut Cursor<'s, 't>,
+    form: Form,
+) -> Result<&'s [Spot<'t>], Fault>
     ensures { IsReading (λ r. (spots_of r.now, state_of cursor.new)) result (items_at form (state_of cursor.old)) }
 {
     match form {
@@ -60,9 +64,9 @@ fn take_items<'s, 't>(cursor: &mut Cursor<'s, 't>, form: Form) -> Result<&'s [Sp
             if !cursor.is_at(Sign::OpenBrace) {
                 return Err(cursor.fault(Why::Expected(Sought::Sign(Sign::OpenBrace))));
             }
-            take_group(cursor, Sign::OpenBrace)
+            take_group(alloc, cursor, Sign::OpenBrace)
         }
-        Form::MaybeItems => take_group(cursor, Sign::OpenBrace),
+        Form::MaybeItems => take_group(alloc, cursor, Sign::OpenBrace),
         _ => Ok(no_spots()),
     }
 }
@@ -70,6 +74,7 @@ fn take_items<'s, 't>(cursor: &mut Cursor<'s, 't>, form: Form) -> Result<&'s [Sp
 /// A type that holds no other, after its first word.
 #[tactic(auto, unfolding(crate::specs::Types::plain_at), using(crate::proofs::Trees::trees))]
 fn read_plain<'s, 't>(
+    alloc: Global,
     cursor: &mut Cursor<'s, 't>,
     at: usize,
     builtin: Builtin,
@@ -77,8 +82,8 @@ fn read_plain<'s, 't>(
     ensures { IsReading (λ t. (tree_of t, state_of cursor.new)) result (plain_at at builtin (state_of cursor.old)) }
 {
     skip_second(cursor, builtin)?;
-    let items = take_items(cursor, form_of(builtin))?;
-    let constraints = take_constraints(cursor)?;
+    let items = take_items(alloc, cursor, form_of(builtin))?;
+    let constraints = take_constraints(alloc, cursor)?;
     Ok(TypeSyntax::Plain {
         at,
         builtin,
@@ -98,6 +103,7 @@ fn take_path<'s, 't>(cursor: &mut Cursor<'s, 't>) -> &'s [Spot<'t>]
 /// A type by its name, at the name.
 #[tactic(auto, unfolding(crate::specs::Types::named_at), using(crate::proofs::Trees::trees))]
 fn read_named<'s, 't>(
+    alloc: Global,
     cursor: &mut Cursor<'s, 't>,
     name: &'t str,
 ) -> Result<TypeSyntax<'s, 't>, Fault>
@@ -106,8 +112,8 @@ fn read_named<'s, 't>(
     let at = cursor.place();
     cursor.bump();
     let path = take_path(cursor);
-    let parameters = take_group(cursor, Sign::OpenBrace)?;
-    let constraints = take_constraints(cursor)?;
+    let parameters = take_group(alloc, cursor, Sign::OpenBrace)?;
+    let constraints = take_constraints(alloc, cursor)?;
     Ok(TypeSyntax::Named {
         at,
         name,
@@ -132,7 +138,11 @@ fn read_mode(cursor: &mut Cursor<'_, '_>) -> Mode
 
 /// What makes a component optional.
 #[tactic(auto, unfolding(crate::specs::Types::need_at))]
-fn read_need<'s, 't>(cursor: &mut Cursor<'s, 't>, alternatives: bool) -> Result<Need<'s, 't>, Fault>
+fn read_need<'s, 't>(
+    alloc: Global,
+    cursor: &mut Cursor<'s, 't>,
+    alternatives: bool,
+) -> Result<Need<'s, 't>, Fault>
     ensures { IsReading (λ n. (need_of n, state_of cursor.new)) result (need_at alternatives (state_of cursor.old)) }
 {
     if alternatives {
@@ -144,7 +154,7 @@ fn read_need<'s, 't>(cursor: &mut Cursor<'s, 't>, alternatives: bool) -> Result<
     if !cursor.take_keyword(Keyword::Default) {
         return Ok(Need::Must);
     }
-    let value = take_value(cursor)?;
+    let value = take_value(alloc, cursor)?;
     Ok(Need::Default(value))
 }
 
@@ -171,13 +181,17 @@ fn skip_version(cursor: &mut Cursor<'_, '_>) -> Result<(), Fault>
 
 /// The constraint before OF.
 #[tactic(auto, unfolding(crate::specs::Types::size_at))]
-fn take_size<'s, 't>(cursor: &mut Cursor<'s, 't>, sized: bool) -> Result<&'s [Spot<'t>], Fault>
+fn take_size<'s, 't>(
+    alloc: Global,
+    cursor: &mut Cursor<'s, 't>,
+    sized: bool,
+) -> Result<&'s [Spot<'t>], Fault>
     ensures { IsReading (λ r. (spots_of r.now, state_of cursor.new)) result (size_at sized (state_of cursor.old)) }
 {
     if sized && !cursor.is_at(Sign::OpenParenthesis) {
         return Err(cursor.fault(Why::Expected(Sought::Sign(Sign::OpenParenthesis))));
     }
-    take_constraints(cursor)
+    take_constraints(alloc, cursor)
 }
 
 /// A type, in which so many levels of types may nest (X.680, 17.1). Types, values and braces that are
@@ -220,7 +234,7 @@ fn read_begun<'s, 't>(
         if !is_reference(word) {
             return Err(cursor.fault(Why::Expected(Sought::Type)));
         }
-        return read_named(cursor, word);
+        return read_named(alloc, cursor, word);
     };
     let at = cursor.place();
     cursor.bump();
@@ -241,9 +255,9 @@ fn read_formed<'s, 't>(
     match form_of(builtin) {
         Form::Components => read_sequence(alloc, cursor, levels, at, builtin),
         Form::Alternatives => read_choice(alloc, cursor, levels, at, builtin),
-        Form::Items => read_plain(cursor, at, builtin),
-        Form::MaybeItems => read_plain(cursor, at, builtin),
-        Form::Nothing => read_plain(cursor, at, builtin),
+        Form::Items => read_plain(alloc, cursor, at, builtin),
+        Form::MaybeItems => read_plain(alloc, cursor, at, builtin),
+        Form::Nothing => read_plain(alloc, cursor, at, builtin),
     }
 }
 
@@ -258,7 +272,7 @@ fn read_tagged<'s, 't>(
     ensures { IsReading (λ t. (tree_of t, state_of cursor.new)) result (tagged_at (type_at levels) (state_of cursor.old)) }
 {
     let at = cursor.place();
-    let tag = take_group(cursor, Sign::OpenBracket)?;
+    let tag = take_group(alloc, cursor, Sign::OpenBracket)?;
     let mode = read_mode(cursor);
     let inner = read_type(alloc, cursor, levels)?;
     Ok(TypeSyntax::Tagged {
@@ -319,7 +333,7 @@ fn read_list<'s, 't>(
 ) -> Result<TypeSyntax<'s, 't>, Fault>
     ensures { IsReading (λ t. (tree_of t, state_of cursor.new)) result (list_at (type_at levels) at builtin sized (state_of cursor.old)) }
 {
-    let size = take_size(cursor, sized)?;
+    let size = take_size(alloc, cursor, sized)?;
     cursor.expect_keyword(Keyword::Of)?;
     let item = read_type(alloc, cursor, levels)?;
     Ok(TypeSyntax::ListOf {
@@ -346,7 +360,7 @@ fn read_structure<'s, 't>(
 {
     let elements = read_braces(alloc, cursor, levels, alternatives)?;
     cursor.expect(Sign::CloseBrace)?;
-    let constraints = take_constraints(cursor)?;
+    let constraints = take_constraints(alloc, cursor)?;
     Ok(TypeSyntax::Structure {
         at,
         builtin,
@@ -519,7 +533,7 @@ fn read_component<'s, 't>(
     let at = cursor.place();
     let name = cursor.identifier()?;
     let from = read_type(alloc, cursor, levels)?;
-    let need = read_need(cursor, alternatives)?;
+    let need = read_need(alloc, cursor, alternatives)?;
     Ok(Element::Component {
         at,
         name,

@@ -1,3 +1,2 @@
 pub mod Series
-pub mod Spans
 pub mod Views

@@ -4,14 +4,13 @@ use Rattle.oer_module_lexer.specs.Token.{Spot}
 use Rattle.oer_module_lexer.specs.declared.token.Sign.TheVariants.{OpenBrace, OpenParenthesis, CloseParenthesis, Comma, Ellipsis, Less}
 use Rattle.oer_module_lexer.specs.declared.token.Sign.TheVariants.{Range, Bar, Caret}
 use Rattle.oer_module_syntax.specs.Modules.{all_of}
-use Rattle.oer_module_syntax.specs.Ranges.{front_of, value_at as value_tokens_at}
+use Rattle.oer_module_syntax.specs.Ranges.{span_at, value_at as value_tokens_at}
 use Rattle.oer_module_syntax.specs.State.{State, Read, ◌>>=◌, fault, place, bump, at_sign, at_keyword, skip_sign, skip_keyword}
 use Rattle.oer_module_syntax.specs.Types.{type_at}
 use Rattle.oer_module_syntax.specs.declared.fault.Why.TheVariants as why
 use Rattle.oer_module_syntax.specs.declared.word.Keyword.{Keyword}
 use Rattle.oer_module_syntax.specs.declared.word.Keyword.TheVariants as kw
 use Rattle.oer_module_terms.specs.Looks.{series, past_sign, at_type, taken_at, exception_at}
-use Rattle.oer_module_terms.specs.Parameters.{span_len}
 use Rattle.oer_module_terms.specs.Trees.{Value, Constraint, subtype, general, Extension, closed, opened, extended, Elements, Simple, simple, union}
 use Rattle.oer_module_terms.specs.Trees.{intersection, except, all_except, value, range, size, alphabet, type, narrowing, sets_from}
 use Rattle.oer_module_terms.specs.Values.{value_at}
@@ -78,7 +77,7 @@ general_of s =
 
 -- its tokens, up to where the parentheses close
 unfoldable pub general_at : ℕ → General → State → Read Constraint
-general_at at k s = front_of (span_len 0 s.left) s >>= λ r. Ok (general at k r.0, r.1)
+general_at at k s = span_at s >>= λ r. Ok (general at k r.0, r.1)
 
 -- ---- sets
 

@@ -8,11 +8,10 @@ ghost use Rattle.oer_module_terms.specs.Constraints.{at_mark, between_at, constr
 ghost use Rattle.oer_module_terms.specs.Trees.{constraint_of, elements_of, except, extension_of, simple_of, value_of};
 
 use crate::look::{after, is_at_type, take_bracketed, take_exception};
-use crate::parameter::take_span;
 use crate::tree::{Bound, Constraint, Elements, Extension, General, Narrowing, Simple, Value};
 use crate::value::read_value;
 use oer_module_lexer::{Sign, Spot};
-use oer_module_syntax::{Cursor, Fault, Keyword, Sought, Why, read_type, take_value};
+use oer_module_syntax::{Cursor, Fault, Keyword, Sought, Why, read_type, take_span, take_value};
 use std::alloc::Global;
 
 /// What joins sets.
@@ -103,14 +102,14 @@ fn read_contained<'s, 't>(
 
 /// What follows WITH: COMPONENTS and braces, or COMPONENT and a constraint.
 #[tactic(auto, unfolding(crate::specs::Constraints::inner_at))]
-fn take_inner<'s, 't>(cursor: &mut Cursor<'s, 't>) -> Result<&'s [Spot<'t>], Fault>
+fn take_inner<'s, 't>(alloc: Global, cursor: &mut Cursor<'s, 't>) -> Result<&'s [Spot<'t>], Fault>
     ensures { IsReading (λ r. (spots_of r.now, state_of cursor.new)) result (inner_at (state_of cursor.old)) }
 {
     if cursor.take_keyword(Keyword::Components) {
-        return take_bracketed(cursor, Sign::OpenBrace);
+        return take_bracketed(alloc, cursor, Sign::OpenBrace);
     }
     cursor.expect_keyword(Keyword::Component)?;
-    take_bracketed(cursor, Sign::OpenParenthesis)
+    take_bracketed(alloc, cursor, Sign::OpenParenthesis)
 }
 
 /// Elements that hold no other set.
@@ -124,7 +123,7 @@ fn read_simple<'s, 't>(
 {
     let at = cursor.place();
     if cursor.take_keyword(Keyword::With) {
-        let spots = take_inner(cursor)?;
+        let spots = take_inner(alloc, cursor)?;
         return Ok(Simple::Narrowing {
             at,
             kind: Narrowing::Inner,
@@ -132,7 +131,7 @@ fn read_simple<'s, 't>(
         });
     }
     if cursor.take_keyword(Keyword::Pattern) {
-        let spots = take_value(cursor)?;
+        let spots = take_value(alloc, cursor)?;
         return Ok(Simple::Narrowing {
             at,
             kind: Narrowing::Pattern,
@@ -140,7 +139,7 @@ fn read_simple<'s, 't>(
         });
     }
     if cursor.take_keyword(Keyword::Settings) {
-        let spots = take_value(cursor)?;
+        let spots = take_value(alloc, cursor)?;
         return Ok(Simple::Narrowing {
             at,
             kind: Narrowing::Settings,
@@ -172,13 +171,14 @@ fn general_of(cursor: &Cursor<'_, '_>) -> Option<General>
 /// The tokens of a general constraint.
 #[tactic(auto, unfolding(crate::specs::Constraints::general_at), using(crate::proofs::Views::sets))]
 fn read_general<'s, 't>(
+    alloc: Global,
     cursor: &mut Cursor<'s, 't>,
     at: usize,
     kind: General,
 ) -> Result<Constraint<'s, 't>, Fault>
     ensures { IsReading (λ c. (constraint_of c, state_of cursor.new)) result (general_at at kind (state_of cursor.old)) }
 {
-    let spots = take_span(cursor);
+    let spots = take_span(alloc, cursor)?;
     Ok(Constraint::General { at, kind, spots })
 }
 
@@ -400,7 +400,7 @@ fn read_specified<'s, 't>(
     ensures { IsReading (λ c. (constraint_of c, state_of cursor.new)) result (specified_by levels (set_at levels) at (general_of (state_of cursor.old)) (state_of cursor.old)) }
 {
     match general_of(cursor) {
-        Some(kind) => read_general(cursor, at, kind),
+        Some(kind) => read_general(alloc, cursor, at, kind),
         None => read_subtype(alloc, cursor, levels, at),
     }
 }
@@ -418,7 +418,7 @@ fn read_subtype<'s, 't>(
 {
     let root = read_set(alloc, cursor, levels)?;
     let extension = read_extension(alloc, cursor, levels)?;
-    let exception = take_exception(cursor)?;
+    let exception = take_exception(alloc, cursor)?;
     Ok(Constraint::Subtype {
         at,
         root,

@@ -153,7 +153,7 @@ fn read_extension<'s, 't>(
         return Ok(None);
     }
     cursor.expect(Sign::Ellipsis)?;
-    let exception = take_exception(cursor)?;
+    let exception = take_exception(alloc, cursor)?;
     let items = read_later(alloc, cursor)?;
     Ok(Some(More { exception, items }))
 }

@@ -12,6 +12,7 @@ use oer_module_syntax::{
     Cursor, Fault, Pair, Sought, Why, builtin_of, is_identifier, is_reference, pairs_len,
     take_group, take_value,
 };
+use std::alloc::Global;
 
 /// After the next token, if there is one.
 pub fn after<'s, 't>(cursor: &Cursor<'s, 't>) -> Cursor<'s, 't>
@@ -91,6 +92,7 @@ pub fn take_path<'s, 't>(cursor: &mut Cursor<'s, 't>) -> &'s [Spot<'t>]
 
 /// What stands between this sign and the one that closes, with both; else the sign was expected.
 pub fn take_bracketed<'s, 't>(
+    alloc: Global,
     cursor: &mut Cursor<'s, 't>,
     sign: Sign,
 ) -> Result<&'s [Spot<'t>], Fault>
@@ -99,7 +101,7 @@ pub fn take_bracketed<'s, 't>(
     if !cursor.is_at(sign) {
         return Err(cursor.fault(Why::Expected(Sought::Sign(sign))));
     }
-    take_group(cursor, sign)
+    take_group(alloc, cursor, sign)
 }
 
 /// No tokens.
@@ -110,11 +112,14 @@ fn no_spots<'s, 't>() -> &'s [Spot<'t>]
 }
 
 /// The tokens after `!`, if that is next.
-pub fn take_exception<'s, 't>(cursor: &mut Cursor<'s, 't>) -> Result<&'s [Spot<'t>], Fault>
+pub fn take_exception<'s, 't>(
+    alloc: Global,
+    cursor: &mut Cursor<'s, 't>,
+) -> Result<&'s [Spot<'t>], Fault>
     ensures { IsReading (λ r. (spots_of r.now, state_of cursor.new)) result (exception_at (state_of cursor.old)) }
 {
     if !cursor.take(Sign::Exclamation) {
         return Ok(no_spots());
     }
-    take_value(cursor)
+    take_value(alloc, cursor)
 }

@@ -348,6 +348,10 @@ fn assignments(rt: HostRuntime) -> Result<(), Fail> {
             "A CLASS4+4 | C = D",
         ),
         (
+            "A ::= CLASS {&a B, &b C} WITH SYNTAX {[A &a [B &b]]} B ::= D A ::= CLASS {&a B} WITH SYNTAX {[[A &a] B &b]} C ::= D",
+            "A CLASS7+9 | B = D | A CLASS4+9 | C = D",
+        ),
+        (
             "a REAL ::= 1.5 b B ::= c:d:TRUE",
             "a value REAL = 1 | b value B = 5",
         ),
@@ -366,7 +370,11 @@ fn faults(rt: HostRuntime) -> Result<(), Fail> {
         ("M DEFINITIONS ::= BEGIN A ::= END", "30 type"),
         ("M DEFINITIONS ::= BEGIN A ::= B", "31 symbol"),
         ("M DEFINITIONS ::= BEGIN A ::= SEQUENCE {a, END", "41 type"),
-        ("M DEFINITIONS ::= BEGIN A ::= B (1, 2 END", "41 closing"),
+        ("M DEFINITIONS ::= BEGIN A ::= B (1, 2 END", "41 sign"),
+        (
+            "M DEFINITIONS ::= BEGIN A ::= SEQUENCE {a B DEFAULT {1), b B} END",
+            "54 sign",
+        ),
         ("M DEFINITIONS ::= BEGIN A ::= B _", "32 Token"),
         ("M DEFINITIONS ::= BEGIN END _", "28 Token"),
         ("M DEFINITIONS ::= BEGIN END ;", "28 reference"),
