@@ -1,11 +1,12 @@
 -- Lists of tokens as the code has them, and as the definitions.
-use Rattle.std.proofs.Common.{◌≡◌, ℕ, zero, suc, ◌+◌, ◌≤◌, List, [], ◌∷◌, ◌++◌, length, take, drop, reverse, map, true, false, refl, sym, ap, ◌∙◌, arith, add-one, Result, Ok, Err}
+use Rattle.std.proofs.Common.{◌≡◌, ℕ, zero, suc, ◌+◌, ◌≤◌, ◌<◌, List, [], ◌∷◌, ◌++◌, length, take, drop, reverse, map, get_or, drop-cons, true, false, refl, sym, ap, ◌∙◌, arith, add-one, Result, Ok, Err}
 use Rattle.std.proofs.lemmas.Grind.{reverse_onto}
-use Rattle.std.proofs.lemmas.List.{take-map, drop-map}
-use Rattle.oer_module_lexer.specs.Token.{spot_of, spots_of}
+use Rattle.std.proofs.lemmas.List.{take-map, drop-map, length-drop}
+use Rattle.oer_module_lexer.specs.Token.{spot_of, spots_of, token_of}
 use Rattle.oer_module_lexer.specs.declared.token.Sign.{Sign}
 use Rattle.oer_module_lexer.specs.declared.token.Spot.{Spot as RawSpot}
-use Rattle.oer_module_syntax.specs.Ranges.{goes_on, nest_next, none_open, groups_len, finished, starts_with_pair, pairs_len, base_at, value_at}
+use Rattle.oer_module_syntax.specs.Ranges.{goes_on, nest_next, none_open, groups_len, finished, starts_with_pair, pairs_len, starts_sign, prefix_at, base_at, value_at}
+use Rattle.oer_module_syntax.specs.Modules.{is_end, control_len}
 use Rattle.oer_module_syntax.specs.State.{State, past, ◌>>=◌}
 use Rattle.oer_module_syntax.specs.declared.fault.Fault.{Fault}
 use Rattle.oer_module_syntax.specs.declared.range.Extent.{Extent}
@@ -82,6 +83,40 @@ pairs_over p [] h = refl
 pairs_over p (s ∷ []) h = refl
 pairs_over p (s ∷ t ∷ ts) h = rw h refl
 
-pub value_read : (s : State) (k n : ℕ) (r : State) → k ≡ pairs_len Choice s.left → base_at (past k s) ≡ Ok (n, r) → value_at s ≡ Ok (take (k + n) s.left, r)
+pub value_read : (s : State) (k p n : ℕ) (q r : State) → k ≡ pairs_len Choice s.left → prefix_at (past k s) ≡ Ok (p, q) → base_at q ≡ Ok (n, r)
+    → value_at s ≡ Ok (take (k + p + n) s.left, r)
 unfolding value_at
-value_read s k n r h g = rw (sym h, g) refl
+value_read s k p n q r h f g = rw (sym h, f, g) refl
+
+pub dropped : (n : ℕ) (ss : List RawSpot) → n ≤ length ss → length (drop n ss) + n ≡ length ss
+dropped n ss h = let e = length-drop n ss in omega arith
+
+pub sign_within : (g : Sign) (n : ℕ) (ss : List RawSpot) → starts_sign g (spots_of (drop n ss)) ≡ true → n < length ss
+sign_within g zero [] h = absurd (cc)
+sign_within g (suc n) [] h = absurd (cc)
+sign_within g zero (s ∷ ss) h = omega arith
+sign_within g (suc n) (s ∷ ss) h = let less = sign_within g n ss h in omega arith
+
+-- how many tokens stand before END, token by token
+control_here : (x : RawSpot) (ss : List RawSpot) → is_end (token_of x.token) ≡ true → control_len (spots_of (x ∷ ss)) ≡ 0
+unfolding control_len
+control_here x ss h = rw h refl
+
+pub control_stop : (ss : List RawSpot) (n : ℕ) (x : RawSpot) → n < length ss → is_end (token_of (get_or ss n x).token) ≡ true
+    → control_len (spots_of (drop n ss)) ≡ 0
+control_stop ss n x less h = rw (drop-cons ss n x less) (control_here (get_or ss n x) (drop (suc n) ss) h)
+
+control_on : (x : RawSpot) (ss : List RawSpot) → is_end (token_of x.token) ≡ false → control_len (spots_of (x ∷ ss)) ≡ suc (control_len (spots_of ss))
+unfolding control_len
+control_on x ss h = rw h refl
+
+pub control_more : (ss : List RawSpot) (n : ℕ) (x : RawSpot) → n < length ss → is_end (token_of (get_or ss n x).token) ≡ false
+    → control_len (spots_of (drop n ss)) ≡ suc (control_len (spots_of (drop (suc n) ss)))
+control_more ss n x less h = rw (drop-cons ss n x less) (control_on (get_or ss n x) (drop (suc n) ss) h)
+
+pub control_over : (ss : List RawSpot) (n : ℕ) → length ss ≤ n → control_len (spots_of (drop n ss)) ≡ 0
+unfolding control_len
+control_over [] zero h = refl
+control_over [] (suc n) h = refl
+control_over (s ∷ ss) zero h = absurd (omega arith)
+control_over (s ∷ ss) (suc n) h = control_over ss n (omega arith)

@@ -1,3 +1,4 @@
+pub mod Looks
 pub mod Modules
 pub mod Ranges
 pub mod State

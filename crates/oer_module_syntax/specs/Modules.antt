@@ -1,17 +1,21 @@
 -- Reading modules from tokens (X.680, clauses 13 and 16): what is read and what is left, or the first fault.
-use Rattle.std.specs.Prelude.{ℕ, zero, suc, List, [], ◌∷◌, ◌++◌, length, Bool, true, false, not, Option, Some, None, Result, Ok, Err, if◌then◌else◌}
+use Rattle.std.specs.Prelude.{ℕ, zero, suc, ◌+◌, List, [], ◌∷◌, ◌++◌, length, take, Bool, true, false, not, ◌&&◌, ◌||◌, Option, Some, None, Result, Ok, Err, if◌then◌else◌}
 use Rattle.oer_module_lexer.specs.Token.{Token, word, text, Spot}
-use Rattle.oer_module_lexer.specs.declared.token.Sign.TheVariants.{OpenBrace, Semicolon, Assign}
-use Rattle.oer_module_syntax.specs.Ranges.{group_at, value_at}
-use Rattle.oer_module_syntax.specs.State.{State, Read, ◌>>=◌, first, expected, fault, end_fault, place, bump, at_sign, at_keyword, skip_sign, skip_keyword, reference_at}
+use Rattle.oer_module_lexer.specs.declared.token.Sign.TheVariants.{OpenBrace, Comma, Semicolon, Assign}
+use Rattle.oer_module_syntax.specs.Looks.{names_value}
+use Rattle.oer_module_syntax.specs.Ranges.{front_of, group_at, pairs_len, value_at}
+use Rattle.oer_module_syntax.specs.State.{State, Read, ◌>>=◌, first, expected, fault, end_fault, place, past, bump, at_sign, at_keyword, is_word, skip_sign, skip_keyword, reference_at}
 use Rattle.oer_module_syntax.specs.Tree.{Symbol, Exports, Import, Body, Assignment, Module, all, these, type_body, class_body, value_body, set_body}
 use Rattle.oer_module_syntax.specs.Types.{listed, type_at}
-use Rattle.oer_module_syntax.specs.Words.{is_identifier, is_reference, is_reserved}
+use Rattle.oer_module_syntax.specs.Words.{is_identifier, is_reserved, keyword_text}
 use Rattle.oer_module_syntax.specs.declared.fault.Fault.{Fault}
 use Rattle.oer_module_syntax.specs.declared.fault.Sought.TheVariants as sought
 use Rattle.oer_module_syntax.specs.declared.fault.Why.TheVariants as why
+use Rattle.oer_module_syntax.specs.declared.range.Pair.TheVariants.{Step}
 use Rattle.oer_module_syntax.specs.declared.tree.Tags.{Tags}
 use Rattle.oer_module_syntax.specs.declared.tree.Tags.TheVariants as tags
+use Rattle.oer_module_syntax.specs.declared.tree.Versions.{Versions}
+use Rattle.oer_module_syntax.specs.declared.tree.Versions.TheVariants as versions
 use Rattle.oer_module_syntax.specs.declared.word.Keyword.TheVariants as kw
 
 -- one after another, up to where it is done; the number bounds the turns, and the count of the tokens is always enough
@@ -49,6 +53,14 @@ tags_at s =
 unfoldable pub extensible_at : State → Read Bool
 extensible_at s = if at_keyword kw.Extensibility s then (skip_keyword kw.Implied (bump s) >>= λ r. Ok (true, r.1)) else Ok (false, s)
 
+-- what instructions in brackets are for (13.1: EncodingReferenceDefault)
+abbrev pub instructions_by : Option Token → State → Option (List ℕ) × State
+instructions_by (Some (word w)) s = if at_keyword kw.Instructions (bump s) then (Some w, past 2 s) else (None, s)
+instructions_by _ s = (None, s)
+
+abbrev pub instructions_at : State → Option (List ℕ) × State
+instructions_at s = instructions_by (first s) s
+
 -- ---- EXPORTS and IMPORTS
 
 -- a word that isn't reserved; braces may follow it (13.1)
@@ -70,19 +82,68 @@ exported_at s =
 unfoldable pub exports_at : State → Read Exports
 exports_at s = if at_keyword kw.Exports s then (exported_at (bump s) >>= λ x. skip_sign Semicolon x.1 >>= λ r. Ok (x.0, r.1)) else Ok (all, s)
 
+-- A list of symbols goes on behind its first, or that has braces: what stands before isn't the identifier of a module (13.1).
+abbrev pub goes_on_symbols : State → Bool
+goes_on_symbols s = at_sign Comma s || at_keyword kw.From s || at_sign OpenBrace s
+
+-- how many tokens the name of a value has
+abbrev pub name_len : State → ℕ
+name_len s = 1 + pairs_len Step (bump s).left
+
+-- the name of a value, if it is next and what stands behind it belongs to no list of symbols
+abbrev pub id_name_by : Option Token → State → Option (List Spot) × State
+id_name_by (Some (word w)) s =
+    if names_value w s && not (goes_on_symbols (past (name_len s) s)) then (Some (take (name_len s) s.left), past (name_len s) s)
+    else (None, s)
+id_name_by _ s = (None, s)
+
+abbrev pub id_name_at : State → Option (List Spot) × State
+id_name_at s = id_name_by (first s) s
+
+abbrev pub id_by : Option (List Spot) × State → Read (List Spot)
+id_by (Some name, s) = Ok (name, s)
+id_by (None, s) = group_at OpenBrace s
+
+-- the identifier of a module, if it is there: the name of a value, or in braces (13.1: AssignedIdentifier)
+unfoldable pub id_at : State → Read (List Spot)
+id_at s = id_by (id_name_at s)
+
+-- behind WITH
+unfoldable pub versions_behind : State → Read Versions
+versions_behind s =
+    if at_keyword kw.Successors s then Ok (versions.Successors, bump s)
+    else (skip_keyword kw.Descendants s >>= λ r. Ok (versions.Descendants, r.1))
+
+-- which versions of a module names may come from (13.1: SelectionOption)
+unfoldable pub versions_at : State → Read Versions
+versions_at s = if at_keyword kw.With s then versions_behind (bump s) else Ok (versions.Same, s)
+
 -- names, FROM, and a module
 unfoldable pub import_at : State → Read Import
 import_at s = do
   symbols ← listed symbol_at s
   behind ← skip_keyword kw.From symbols.1
   from ← reference_at sought.Reference behind.1
-  id ← group_at OpenBrace from.1
-  Ok (record { symbols = symbols.0; at = place behind.1; from = from.0; id = id.0 }, id.1)
+  id ← id_at from.1
+  versions ← versions_at id.1
+  Ok (record { symbols = symbols.0; at = place behind.1; from = from.0; id = id.0; versions = versions.0 }, versions.1)
 
 unfoldable pub imports_at : State → Read (List Import)
 imports_at s = if at_keyword kw.Imports s then (all_of (at_sign Semicolon) import_at (bump s) >>= λ x. Ok (x.0, bump x.1)) else Ok ([], s)
 
 -- ---- assignments
+
+-- assignments end here
+abbrev pub ends_assignments : State → Bool
+ends_assignments s = at_keyword kw.End s || at_keyword kw.EncodingControl s
+
+abbrev pub is_end : Token → Bool
+is_end t = is_word (keyword_text kw.End) (Some t)
+
+-- how many tokens stand before END (54.1)
+unfoldable pub control_len : List Spot → ℕ
+control_len [] = 0
+control_len (t ∷ ts) = if is_end t.token then 0 else suc (control_len ts)
 
 -- what stands in braces, with these
 abbrev pub braced_at : State → Read (List Spot)
@@ -142,12 +203,28 @@ module _ (levels : ℕ) where
   -- ---- modules
 
   -- behind BEGIN, with what the header says
-  unfoldable pub content_at : ℕ → List ℕ → List Spot → Tags → Bool → State → Read Module
-  content_at at name id tags extensible s = do
+  unfoldable pub content_at : ℕ → List ℕ → List Spot → Option (List ℕ) → Tags → Bool → State → Read Module
+  content_at at name id instructions tags extensible s = do
     exports ← exports_at s
     imports ← imports_at exports.1
-    assignments ← all_of (at_keyword kw.End) assignment_at imports.1
-    Ok (record { at = at; name = name; id = id; tags = tags; extensible = extensible; exports = exports.0; imports = imports.0; assignments = assignments.0 }, bump assignments.1)
+    assignments ← all_of ends_assignments assignment_at imports.1
+    control ← front_of (control_len assignments.1.left) assignments.1
+    end ← skip_keyword kw.End control.1
+    Ok (
+      record {
+        at = at;
+        name = name;
+        id = id;
+        instructions = instructions;
+        tags = tags;
+        extensible = extensible;
+        exports = exports.0;
+        imports = imports.0;
+        assignments = assignments.0;
+        control = control.0;
+      },
+      end.1,
+    )
 
   -- a module (13.1)
   unfoldable pub module_at : State → Read Module
@@ -155,11 +232,11 @@ module _ (levels : ℕ) where
     name ← reference_at sought.Reference s
     id ← group_at OpenBrace name.1
     definitions ← skip_keyword kw.Definitions (past_text id.1)
-    tags ← tags_at definitions.1
+    tags ← tags_at (instructions_at definitions.1).1
     extensible ← extensible_at tags.1
     assign ← skip_sign Assign extensible.1
     begin ← skip_keyword kw.Begin assign.1
-    content_at (place s) name.0 id.0 tags.0 extensible.0 begin.1
+    content_at (place s) name.0 id.0 (instructions_at definitions.1).0 tags.0 extensible.0 begin.1
 
 abbrev pub none_left : List Spot → Bool
 none_left [] = true

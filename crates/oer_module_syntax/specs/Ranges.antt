@@ -4,13 +4,14 @@ use Rattle.std.specs.Str.{bytes_eq}
 use Rattle.oer_module_lexer.specs.Token.{Token, word, field, number, real, bits, digits, text, sign, Spot}
 use Rattle.oer_module_lexer.specs.declared.token.Sign.{Sign}
 use Rattle.oer_module_lexer.specs.declared.token.Sign.TheVariants.{OpenBrace, CloseBrace, OpenParenthesis, CloseParenthesis, OpenBracket, CloseBracket, OpenGroup, CloseGroup, Comma, Point, Colon, Hyphen}
-use Rattle.oer_module_syntax.specs.State.{State, Read, first_of, is_sign, at_sign, same_sign, past, end_fault, fault, ◌>>=◌}
-use Rattle.oer_module_syntax.specs.Words.{is_reserved}
+use Rattle.oer_module_lexer.specs.declared.token.Sign.TheVariants.{Assign, Semicolon, Exclamation}
+use Rattle.oer_module_syntax.specs.State.{State, Read, first, first_of, bump, is_sign, at_sign, same_sign, past, end_fault, fault, ◌>>=◌}
+use Rattle.oer_module_syntax.specs.Words.{is_identifier, is_reserved}
 use Rattle.oer_module_syntax.specs.declared.fault.Fault.{Fault}
 use Rattle.oer_module_syntax.specs.declared.fault.Sought.TheVariants as sought
 use Rattle.oer_module_syntax.specs.declared.fault.Why.TheVariants as why
 use Rattle.oer_module_syntax.specs.declared.range.Extent.{Extent}
-use Rattle.oer_module_syntax.specs.declared.range.Extent.TheVariants.{Group, Constraints, Span}
+use Rattle.oer_module_syntax.specs.declared.range.Extent.TheVariants.{Group, Constraints, Span, Prefix}
 use Rattle.oer_module_syntax.specs.declared.range.Pair.{Pair}
 use Rattle.oer_module_syntax.specs.declared.range.Pair.TheVariants.{Step, Choice}
 
@@ -50,11 +51,16 @@ ends_span ts =
     starts_sign Comma ts || starts_sign CloseBrace ts || starts_sign CloseParenthesis ts || starts_sign CloseBracket ts
     || starts_sign CloseGroup ts
 
+-- what stands behind a type in a value: a colon, or what no type holds
+abbrev pub ends_prefix : List Spot → Bool
+ends_prefix ts = ends_span ts || starts_sign Colon ts || starts_sign Assign ts || starts_sign Semicolon ts
+
 -- where all is closed: more belongs to it
 abbrev pub again : Extent → List Spot → Bool
 again Group ts = false
 again Constraints ts = starts_sign OpenParenthesis ts
 again Span ts = not (ends_span ts)
+again Prefix ts = not (ends_prefix ts)
 
 -- not all is closed yet, or more belongs to it
 abbrev pub goes_on : Extent → Bool → List Spot → Bool
@@ -154,13 +160,46 @@ abbrev pub atom_len : List Spot → ℕ
 atom_len [] = 0
 atom_len (t ∷ ts) = atom_by t.token ts
 
--- behind the names of alternatives: how many tokens the value has, and what is left
-abbrev pub base_at : State → Read ℕ
-base_at s =
-    if at_sign OpenBrace s then (group_len s >>= λ n. Ok (n, past n s))
-    else if atom_len s.left == 0 then Err (fault (why.Expected sought.Value) s)
-    else Ok (atom_len s.left, past (atom_len s.left) s)
+abbrev pub is_some_word : Option Token → Bool
+is_some_word (Some (word w)) = true
+is_some_word _ = false
 
--- a value: what stands in braces, or a number, a quoted text or a name, with the names of alternatives before it (17.7)
+-- behind a name: actual parameters (X.683, 9.1)
+abbrev pub parameters_len : Bool → State → Result ℕ Fault
+parameters_len takes s = if not takes || not (at_sign OpenBrace s) then Ok 0 else group_len s
+
+-- a value in no braces: how many tokens it has, and what is left
+unfoldable pub atom_at : State → Read ℕ
+atom_at s =
+    if atom_len s.left == 0 then Err (fault (why.Expected sought.Value) s)
+    else (
+    parameters_len (is_some_word (first s)) (past (atom_len s.left) s) >>= λ n. Ok (atom_len s.left + n, past n (past (atom_len s.left) s))
+    )
+
+-- behind the names of alternatives and a type
+abbrev pub base_at : State → Read ℕ
+base_at s = if at_sign OpenBrace s then (group_len s >>= λ n. Ok (n, past n s)) else atom_at s
+
+-- a word that begins no value by itself: of a type, or the name of a module
+abbrev pub is_type_word : Option Token → Bool
+is_type_word (Some (word w)) = not (is_identifier w) && not (is_reserved_value w)
+is_type_word _ = false
+
+abbrev pub prefix_by : ℕ → State → ℕ × State
+prefix_by n s = if at_sign Colon (past n s) then (n + 1, past (n + 1) s) else (0, s)
+
+-- a type and a colon, if they are there (X.680, 53.1; X.681, 14.6): how many tokens, and what is left
+unfoldable pub prefix_at : State → Read ℕ
+prefix_at s = if is_type_word (first s) then (groups_len Prefix s s.left [] >>= λ n. Ok (prefix_by n s)) else Ok (0, s)
+
+-- A value: what stands in braces, or a number, a quoted text or a name, perhaps with actual parameters. The names of
+-- alternatives stand before it, or a type and a colon (17.7; X.681, 14.6).
 unfoldable pub value_at : State → Read (List Spot)
-value_at s = base_at (past (pairs_len Choice s.left) s) >>= λ b. Ok (take (pairs_len Choice s.left + b.0) s.left, b.1)
+value_at s = do
+  prefix ← prefix_at (past (pairs_len Choice s.left) s)
+  base ← base_at prefix.1
+  Ok (take (pairs_len Choice s.left + prefix.0 + base.0) s.left, base.1)
+
+-- an exception (53.1), if there is one: the tokens behind `!`
+abbrev pub exception_at : State → Read (List Spot)
+exception_at s = if at_sign Exclamation s then value_at (bump s) else Ok ([], s)

@@ -1,11 +1,13 @@
 -- Reading a type from tokens (X.680, clauses 17 to 31): what is read and what is left, or the first fault.
-use Rattle.std.specs.Prelude.{ℕ, zero, suc, List, [], ◌∷◌, ◌++◌, length, Bool, true, false, not, ◌&&◌, Option, Some, None, Ok, Err, if◌then◌else◌}
+use Rattle.std.specs.Prelude.{ℕ, zero, suc, List, [], ◌∷◌, ◌++◌, length, Bool, true, false, not, ◌&&◌, ◌||◌, Option, Some, None, Ok, Err, if◌then◌else◌}
 use Rattle.oer_module_lexer.specs.Token.{Token, word, number, Spot}
-use Rattle.oer_module_lexer.specs.declared.token.Sign.TheVariants.{OpenBrace, CloseBrace, OpenParenthesis, OpenBracket, OpenGroup, CloseGroup, Comma, Ellipsis, Colon}
-use Rattle.oer_module_syntax.specs.Ranges.{pairs_len, front_of, group_at, constraints_at, value_at}
+use Rattle.oer_module_lexer.specs.declared.token.Sign.TheVariants.{OpenBrace, CloseBrace, OpenParenthesis, OpenBracket, OpenGroup, CloseGroup, Less, Comma, Ellipsis, Colon}
+use Rattle.oer_module_syntax.specs.Looks.{at_any_defined, at_field_step, begins_type}
+use Rattle.oer_module_syntax.specs.Ranges.{pairs_len, front_of, group_at, constraints_at, value_at, exception_at}
 use Rattle.oer_module_syntax.specs.State.{State, Read, ◌>>=◌, first, fault, expected, place, bump, at_sign, at_keyword, skip_sign, skip_keyword, identifier_at}
-use Rattle.oer_module_syntax.specs.Tree.{Tree, Element, Need, must, may, default, plain, named, tagged, structure, list_of, marker, group, components_of, component, no_elements, elements_from}
-use Rattle.oer_module_syntax.specs.Words.{builtin_of, builtin_second, is_reference}
+use Rattle.oer_module_syntax.specs.Tree.{Tree, Element, Need, must, may, default, plain, named, tagged, structure, list_of}
+use Rattle.oer_module_syntax.specs.Tree.{selection, instance_of, any_defined_by, marker, group, components_of, component, elements_from}
+use Rattle.oer_module_syntax.specs.Words.{builtin_of, builtin_second, is_identifier, is_reference, is_useful_class}
 use Rattle.oer_module_syntax.specs.declared.fault.Sought.TheVariants as sought
 use Rattle.oer_module_syntax.specs.declared.fault.Why.TheVariants as why
 use Rattle.oer_module_syntax.specs.declared.range.Pair.TheVariants.{Step}
@@ -69,6 +71,30 @@ named_at name s = do
   constraints ← constraints_at parameters.1
   Ok (named (place s) name path.0 parameters.0 constraints.0, constraints.1)
 
+-- the name of a class, or of its module (X.681, 8.1)
+abbrev pub is_class : List ℕ → Bool
+is_class w = is_reference w || is_useful_class w
+
+abbrev pub class_by : Option Token → State → Read (List ℕ)
+class_by (Some (word w)) s = if is_class w then Ok (w, bump s) else expected sought.Reference s
+class_by _ s = expected sought.Reference s
+
+unfoldable pub class_at : State → Read (List ℕ)
+class_at s = class_by (first s) s
+
+-- INSTANCE OF, at the first word (X.681, annex C)
+unfoldable pub instance_at : State → Read Tree
+instance_at s = do
+  of ← skip_keyword kw.Of (bump s)
+  class ← class_at of.1
+  path ← front_of (pairs_len Step class.1.left) class.1
+  constraints ← constraints_at path.1
+  Ok (instance_of (place s) class.0 path.0 constraints.0, constraints.1)
+
+-- ANY DEFINED BY, at the first word (X.208, 28)
+unfoldable pub any_defined_at : State → Read Tree
+any_defined_at s = identifier_at (bump (bump (bump s))) >>= λ name. Ok (any_defined_by (place s) name.0, name.1)
+
 -- how a tag is applied (31.2)
 abbrev pub mode_at : State → Mode × State
 mode_at s = if at_keyword kw.Implicit s then (Implicit, bump s) else if at_keyword kw.Explicit s then (Explicit, bump s) else (Unsaid, s)
@@ -94,6 +120,18 @@ version_at s = if is_number (first s) then skip_sign Colon (bump s) else Ok (tt,
 -- the constraint before OF, behind the word SIZE if that is there (49)
 unfoldable pub size_at : Bool → State → Read (List Spot)
 size_at sized s = if sized && not (at_sign OpenParenthesis s) then expected (sought.Sign OpenParenthesis) s else constraints_at s
+
+-- the name of the elements, if they have one (26.1, 28.1)
+abbrev pub item_name_by : Option Token → State → Option (List ℕ) × State
+item_name_by (Some (word w)) s = if is_identifier w && not (begins_type s) then (Some w, bump s) else (None, s)
+item_name_by _ s = (None, s)
+
+abbrev pub item_name_at : State → Option (List ℕ) × State
+item_name_at s = item_name_by (first s) s
+
+-- the marker and its exception, if it has one (25.1, 53.1)
+unfoldable pub marker_at : State → Read Element
+marker_at s = exception_at (bump s) >>= λ x. Ok (marker (place s) x.0, x.1)
 
 -- parts of types, where a type is read so; alternatives: of a CHOICE
 module _ (type : State → Read Tree) where
@@ -125,7 +163,7 @@ module _ (type : State → Read Tree) where
   -- what may stand in the braces of a SEQUENCE, SET or CHOICE
   unfoldable pub element_at : Bool → State → Read Element
   element_at alternatives s =
-      if at_sign Ellipsis s then Ok (marker (place s), bump s)
+      if at_sign Ellipsis s then marker_at s
       else if at_sign OpenGroup s then members_at (place s) alternatives (bump s)
       else member_at alternatives s
 
@@ -150,8 +188,8 @@ module _ (type : State → Read Tree) where
   list_at at b sized s = do
     size ← size_at sized s
     of ← skip_keyword kw.Of size.1
-    t ← type of.1
-    Ok (list_of at b sized size.0 t.0, t.1)
+    t ← type (item_name_at of.1).1
+    Ok (list_of at b sized size.0 (item_name_at of.1).0 t.0, t.1)
 
   -- behind the word SEQUENCE or SET
   unfoldable pub sequence_at : ℕ → Builtin → State → Read Tree
@@ -179,9 +217,29 @@ module _ (type : State → Read Tree) where
   formed_at form.MaybeItems at b s = plain_at at b s
   formed_at form.Nothing at b s = plain_at at b s
 
+  -- a name, `<` and a type (30.1)
+  unfoldable pub selection_at : List ℕ → State → Read Tree
+  selection_at name s = type (bump (bump s)) >>= λ t. Ok (selection (place s) name t.0, t.1)
+
+  -- a type that begins with a small letter
+  unfoldable pub small_at : List ℕ → State → Read Tree
+  small_at w s =
+      if at_sign Less (bump s) then selection_at w s
+      else if at_field_step s then named_at w s
+      else expected sought.Type s
+
+  -- a type that begins with a word of none that is built in
+  unfoldable pub unbuilt_at : List ℕ → State → Read Tree
+  unbuilt_at w s =
+      if at_keyword kw.Instance s then instance_at s
+      else if at_any_defined s then any_defined_at s
+      else if is_identifier w then small_at w s
+      else if is_class w then named_at w s
+      else expected sought.Type s
+
   abbrev pub worded_at : Option Builtin → List ℕ → State → Read Tree
   worded_at (Some b) w s = formed_at (form_of b) (place s) b (bump s)
-  worded_at None w s = if is_reference w then named_at w s else expected sought.Type s
+  worded_at None w s = unbuilt_at w s
 
   abbrev pub begun_at : Option Token → State → Read Tree
   begun_at (Some (word w)) s = worded_at (builtin_of w) w s

@@ -1,4 +1,4 @@
--- Reserved words (X.680, 12.38).
+-- Reserved words (X.680, 12.38), and words that have a meaning only where the grammar has them.
 use Rattle.std.specs.Prelude.{ℕ, List, [], ◌∷◌, Bool, true, false, not, ◌&&◌, ◌||◌, Option, Some, None, is_some, codes, if◌then◌else◌}
 use Rattle.std.specs.Char.{is_ascii_lowercase}
 use Rattle.std.specs.Str.{bytes_eq}
@@ -13,6 +13,7 @@ abbrev pub keyword_text : Keyword → List ℕ
 keyword_text kw.Absent = codes "ABSENT"
 keyword_text kw.AbstractSyntax = codes "ABSTRACT-SYNTAX"
 keyword_text kw.All = codes "ALL"
+keyword_text kw.Any = codes "ANY"
 keyword_text kw.Application = codes "APPLICATION"
 keyword_text kw.Automatic = codes "AUTOMATIC"
 keyword_text kw.Begin = codes "BEGIN"
@@ -23,7 +24,9 @@ keyword_text kw.Components = codes "COMPONENTS"
 keyword_text kw.Constrained = codes "CONSTRAINED"
 keyword_text kw.Containing = codes "CONTAINING"
 keyword_text kw.Default = codes "DEFAULT"
+keyword_text kw.Defined = codes "DEFINED"
 keyword_text kw.Definitions = codes "DEFINITIONS"
+keyword_text kw.Descendants = codes "DESCENDANTS"
 keyword_text kw.Encoded = codes "ENCODED"
 keyword_text kw.EncodingControl = codes "ENCODING-CONTROL"
 keyword_text kw.End = codes "END"
@@ -55,6 +58,7 @@ keyword_text kw.Private = codes "PRIVATE"
 keyword_text kw.Settings = codes "SETTINGS"
 keyword_text kw.Size = codes "SIZE"
 keyword_text kw.String = codes "STRING"
+keyword_text kw.Successors = codes "SUCCESSORS"
 keyword_text kw.Syntax = codes "SYNTAX"
 keyword_text kw.Tags = codes "TAGS"
 keyword_text kw.True = codes "TRUE"
@@ -146,6 +150,7 @@ builtin_second bi.TimeOfDay = None
 builtin_second bi.DateTime = None
 builtin_second bi.Duration = None
 
+-- those that are reserved
 abbrev pub keywords : List Keyword
 keywords = kw.Absent ∷ kw.AbstractSyntax ∷ kw.All ∷ kw.Application ∷ kw.Automatic ∷ kw.Begin ∷ kw.By ∷ kw.Class ∷ kw.Component ∷ kw.Components ∷ kw.Constrained ∷ kw.Containing ∷ kw.Default ∷ kw.Definitions ∷ kw.Encoded ∷ kw.EncodingControl ∷ kw.End ∷ kw.Except ∷ kw.Explicit ∷ kw.Exports ∷ kw.Extensibility ∷ kw.False ∷ kw.From ∷ kw.Identifier ∷ kw.Implicit ∷ kw.Implied ∷ kw.Imports ∷ kw.Includes ∷ kw.Instance ∷ kw.Instructions ∷ kw.Intersection ∷ kw.Max ∷ kw.Min ∷ kw.MinusInfinity ∷ kw.NotANumber ∷ kw.Of ∷ kw.Optional ∷ kw.Pattern ∷ kw.Pdv ∷ kw.PlusInfinity ∷ kw.Present ∷ kw.Private ∷ kw.Settings ∷ kw.Size ∷ kw.String ∷ kw.Syntax ∷ kw.Tags ∷ kw.True ∷ kw.TypeIdentifier ∷ kw.Union ∷ kw.Unique ∷ kw.Universal ∷ kw.With ∷ []
 
@@ -177,3 +182,7 @@ is_identifier w = starts is_ascii_lowercase w
 -- one that begins with a capital and isn't reserved (12.2, 12.5)
 abbrev pub is_reference : List ℕ → Bool
 is_reference w = not (is_identifier w) && not (is_reserved w)
+
+-- a class that needs no definition (X.681, 8.4 and annexes A and B)
+abbrev pub is_useful_class : List ℕ → Bool
+is_useful_class w = bytes_eq w (keyword_text kw.TypeIdentifier) || bytes_eq w (keyword_text kw.AbstractSyntax)

@@ -1,5 +1,5 @@
 //! A place among the tokens.
-ghost use Rattle.std.specs.Prelude.{◌≡◌, ◌≤◌, drop, length, option_map, take, if◌then◌else◌};
+ghost use Rattle.std.specs.Prelude.{◌≡◌, ◌≤◌, ◌+◌, drop, length, option_map, take, if◌then◌else◌};
 ghost use Rattle.oer_module_lexer.specs.Token.{spots_of, token_of};
 ghost use Rattle.oer_module_syntax.specs.State.{IsReading, at_keyword, at_sign, bump, end_fault, fault, first, identifier_at, past, place, reference_at, same_sign, skip_keyword, skip_sign, start, state_of};
 
@@ -80,11 +80,12 @@ impl<'s, 't> Cursor<'s, 't> {
     }
 
     /// Takes so many tokens.
-    #[tactic(auto, using(crate::proofs::Spots::taken))]
+    #[tactic(auto, using(crate::proofs::Spots::taken, crate::proofs::Spots::dropped))]
     pub fn take_front(&mut self, count: usize) -> &'s [Spot<'t>]
         requires { count ≤ length self.old.spots.now }
         ensures value { spots_of result.now ≡ take count (state_of self.old).left }
         ensures rest { state_of self.new ≡ past count (state_of self.old) }
+        ensures within { length self.new.spots.now + count ≡ length self.old.spots.now }
     {
         let front = &self.spots[..count];
         self.spots = rest_of(self.spots, count);
@@ -188,7 +189,7 @@ impl<'s, 't> Cursor<'s, 't> {
     }
 }
 
-fn rest_of<'s, 't>(spots: &'s [Spot<'t>], count: usize) -> &'s [Spot<'t>]
+pub fn rest_of<'s, 't>(spots: &'s [Spot<'t>], count: usize) -> &'s [Spot<'t>]
     requires { count ≤ length spots.now }
     ensures { result.now ≡ drop count spots.now }
 {

@@ -1,17 +1,18 @@
 //! From tokens to modules.
-ghost use Rattle.std.specs.Prelude.{◌≡◌, [], Ok, suc, length, map};
-ghost use Rattle.oer_module_lexer.specs.Token.{spots_of};
-ghost use Rattle.oer_module_syntax.specs.Modules.{all_of, assigned_at, assignment_at, body_at, braced_at, class_at, content_at, defined_at, ended, exported_at, exports_at, extensible_at, import_at, imports_at, is_last, is_text, many, module_at, modules_of, past_text, set_at, symbol_at, syntax_at, tags_at, tags_behind, valued_at};
-ghost use Rattle.oer_module_syntax.specs.State.{IsReading, at_keyword, at_sign, first, state_of};
+ghost use Rattle.std.specs.Prelude.{◌≡◌, ◌≤◌, [], Ok, suc, length, map, option_map};
+ghost use Rattle.oer_module_lexer.specs.Token.{spots_of, token_of};
+ghost use Rattle.oer_module_syntax.specs.Modules.{all_of, assigned_at, assignment_at, body_at, braced_at, class_at, content_at, control_len, defined_at, ended, ends_assignments, exported_at, exports_at, extensible_at, goes_on_symbols, id_at, id_name_at, import_at, imports_at, instructions_at, is_end, is_last, is_text, many, module_at, modules_of, past_text, set_at, symbol_at, syntax_at, tags_at, tags_behind, valued_at, versions_at, versions_behind};
+ghost use Rattle.oer_module_syntax.specs.Ranges.{front_of};
+ghost use Rattle.oer_module_syntax.specs.State.{IsReading, at_sign, first, state_of};
 ghost use Rattle.oer_module_syntax.specs.Tree.{assignment_of, body_of, exports_of, import_of, module_of, symbol_of};
 ghost use Rattle.oer_module_syntax.specs.Types.{listed, more_listed};
 ghost use Rattle.oer_module_lexer.specs.declared.token.Sign.TheVariants.{Semicolon};
-ghost use Rattle.oer_module_syntax.specs.declared.word.Keyword.TheVariants.{End};
 
 use crate::cursor::Cursor;
 use crate::fault::{Fault, Sought, Why};
-use crate::range::{no_spots, take_group, take_value};
-use crate::tree::{Assignment, Body, Exports, Import, Module, Symbol, Tags};
+use crate::look::{after, names_value};
+use crate::range::{Pair, no_spots, pairs_len, take_group, take_value};
+use crate::tree::{Assignment, Body, Exports, Import, Module, Symbol, Tags, Versions};
 use crate::types::read_type;
 use crate::word::{Keyword, is_identifier, is_reserved};
 use oer_module_lexer::{Sign, Spot, Token, Tokens};
@@ -33,6 +34,21 @@ fn skip_text(cursor: &mut Cursor<'_, '_>)
     if is_at_text(cursor) {
         cursor.bump();
     }
+}
+
+/// What instructions in brackets are for, if the header says so.
+fn take_instructions<'s, 't>(cursor: &mut Cursor<'s, 't>) -> Option<&'t str>
+    ensures { instructions_at (state_of cursor.old) ≡ (option_map (λ w. w.now) result, state_of cursor.new) }
+{
+    let Some(Token::Word(word)) = cursor.peek() else {
+        return None;
+    };
+    if !after(cursor).is_at_keyword(Keyword::Instructions) {
+        return None;
+    }
+    cursor.bump();
+    cursor.bump();
+    Some(word)
 }
 
 #[tactic(auto, unfolding(crate::specs::Modules::tags_behind))]
@@ -147,6 +163,76 @@ fn read_exports<'s, 't>(alloc: Global, cursor: &mut Cursor<'s, 't>) -> Result<Ex
     Ok(exports)
 }
 
+/// Whether a list of symbols goes on here behind its first, or that has braces.
+fn goes_on_symbols(cursor: &Cursor<'_, '_>) -> bool
+    ensures { result ≡ goes_on_symbols (state_of cursor.now) }
+{
+    cursor.is_at(Sign::Comma)
+        || cursor.is_at_keyword(Keyword::From)
+        || cursor.is_at(Sign::OpenBrace)
+}
+
+/// The name of a value, if it is next and what stands behind it belongs to no list of symbols.
+fn take_id_name<'s, 't>(cursor: &mut Cursor<'s, 't>) -> Option<&'s [Spot<'t>]>
+    ensures { id_name_at (state_of cursor.old) ≡ (option_map (λ r. spots_of r.now) result, state_of cursor.new) }
+{
+    let Some((first, rest)) = cursor.spots.split_first() else {
+        return None;
+    };
+    let Token::Word(word) = first.token else {
+        return None;
+    };
+    if !names_value(word, cursor) {
+        return None;
+    }
+    let count = 1 + pairs_len(Pair::Step, rest);
+    let mut behind = Cursor {
+        spots: cursor.spots,
+        end: cursor.end,
+        complete: cursor.complete,
+    };
+    let name = behind.take_front(count);
+    if goes_on_symbols(&behind) {
+        return None;
+    }
+    let _name = cursor.take_front(count);
+    Some(name)
+}
+
+/// The identifier of a module, if it is there.
+#[tactic(auto, unfolding(crate::specs::Modules::id_at))]
+fn take_id<'s, 't>(alloc: Global, cursor: &mut Cursor<'s, 't>) -> Result<&'s [Spot<'t>], Fault>
+    ensures { IsReading (λ r. (spots_of r.now, state_of cursor.new)) result (id_at (state_of cursor.old)) }
+{
+    match take_id_name(cursor) {
+        Some(name) => Ok(name),
+        None => take_group(alloc, cursor, Sign::OpenBrace),
+    }
+}
+
+/// What follows WITH.
+#[tactic(auto, unfolding(crate::specs::Modules::versions_behind))]
+fn versions_behind(cursor: &mut Cursor<'_, '_>) -> Result<Versions, Fault>
+    ensures { IsReading (λ v. (v, state_of cursor.new)) result (versions_behind (state_of cursor.old)) }
+{
+    if cursor.take_keyword(Keyword::Successors) {
+        return Ok(Versions::Successors);
+    }
+    cursor.expect_keyword(Keyword::Descendants)?;
+    Ok(Versions::Descendants)
+}
+
+/// Which versions of a module names may come from.
+#[tactic(auto, unfolding(crate::specs::Modules::versions_at))]
+fn read_versions(cursor: &mut Cursor<'_, '_>) -> Result<Versions, Fault>
+    ensures { IsReading (λ v. (v, state_of cursor.new)) result (versions_at (state_of cursor.old)) }
+{
+    if !cursor.take_keyword(Keyword::With) {
+        return Ok(Versions::Same);
+    }
+    versions_behind(cursor)
+}
+
 /// Names from one module.
 #[tactic(auto, unfolding(crate::specs::Modules::import_at))]
 fn read_import<'s, 't>(alloc: Global, cursor: &mut Cursor<'s, 't>) -> Result<Import<'s, 't>, Fault>
@@ -156,12 +242,14 @@ fn read_import<'s, 't>(alloc: Global, cursor: &mut Cursor<'s, 't>) -> Result<Imp
     cursor.expect_keyword(Keyword::From)?;
     let at = cursor.place();
     let from = cursor.reference(Sought::Reference)?;
-    let id = take_group(alloc, cursor, Sign::OpenBrace)?;
+    let id = take_id(alloc, cursor)?;
+    let versions = read_versions(cursor)?;
     Ok(Import {
         symbols,
         at,
         from,
         id,
+        versions,
     })
 }
 
@@ -336,17 +424,24 @@ fn read_assignment<'s, 't>(
     read_assigned(alloc, cursor, levels, at, name)
 }
 
-/// Assignments, up to END.
+/// Whether the assignments end here.
+fn ends_assignments(cursor: &Cursor<'_, '_>) -> bool
+    ensures { result ≡ ends_assignments (state_of cursor.now) }
+{
+    cursor.is_at_keyword(Keyword::End) || cursor.is_at_keyword(Keyword::EncodingControl)
+}
+
+/// Assignments, up to END or the sections for encodings.
 fn read_assignments<'s, 't>(
     alloc: Global,
     cursor: &mut Cursor<'s, 't>,
     levels: u8,
 ) -> Result<Vec<Assignment<'s, 't>>, Fault>
-    ensures { IsReading (λ v. (map assignment_of v.items, state_of cursor.new)) result (all_of (at_keyword End) (assignment_at levels) (state_of cursor.old)) }
+    ensures { IsReading (λ v. (map assignment_of v.items, state_of cursor.new)) result (all_of ends_assignments (assignment_at levels) (state_of cursor.old)) }
 {
     let mut found = Vec::new(alloc);
     'more: for turn in 0..cursor.spots.len() + 1 {
-        if cursor.is_at_keyword(Keyword::End) {
+        if ends_assignments(cursor) {
             return Ok(found);
         }
         let assignment = read_assignment(alloc, cursor, levels)?;
@@ -355,12 +450,43 @@ fn read_assignments<'s, 't>(
     Err(cursor.fault(Why::Expected(Sought::Closing)))
 }
 
+fn is_end(token: Token<'_>) -> bool
+    ensures { result ≡ is_end (token_of token.entry) }
+{
+    match token {
+        Token::Word(word) => word == Keyword::End.text(),
+        _ => false,
+    }
+}
+
+/// How many tokens stand before END.
+fn control_len(spots: &[Spot<'_>]) -> usize
+    ensures value { result ≡ control_len (spots_of spots.now) }
+    ensures within { result ≤ length spots.now }
+{
+    for (n, spot) in spots.iter().enumerate() {
+        if is_end(spot.token) {
+            return n;
+        }
+    }
+    spots.len()
+}
+
+/// The sections for encodings, up to END.
+fn take_control<'s, 't>(cursor: &mut Cursor<'s, 't>) -> &'s [Spot<'t>]
+    ensures { front_of (control_len (state_of cursor.old).left) (state_of cursor.old) ≡ Ok (spots_of result.now, state_of cursor.new) }
+{
+    let count = control_len(cursor.spots);
+    cursor.take_front(count)
+}
+
 /// What the header of a module says.
 #[derive(Clone, Copy)]
 pub struct Header<'s, 't> {
     pub at: usize,
     pub name: &'t str,
     pub id: &'s [Spot<'t>],
+    pub instructions: Option<&'t str>,
     pub tags: Tags,
     pub extensible: bool,
 }
@@ -373,21 +499,24 @@ fn read_content<'s, 't>(
     levels: u8,
     header: Header<'s, 't>,
 ) -> Result<Module<'s, 't>, Fault>
-    ensures { IsReading (λ m. (module_of m, state_of cursor.new)) result (content_at levels header.entry.at header.entry.name.now (spots_of header.entry.id.now) header.entry.tags header.entry.extensible (state_of cursor.old)) }
+    ensures { IsReading (λ m. (module_of m, state_of cursor.new)) result (content_at levels header.entry.at header.entry.name.now (spots_of header.entry.id.now) (option_map (λ w. w.now) header.entry.instructions) header.entry.tags header.entry.extensible (state_of cursor.old)) }
 {
     let exports = read_exports(alloc, cursor)?;
     let imports = read_imports(alloc, cursor)?;
     let assignments = read_assignments(alloc, cursor, levels)?;
-    cursor.bump();
+    let control = take_control(cursor);
+    cursor.expect_keyword(Keyword::End)?;
     Ok(Module {
         at: header.at,
         name: header.name,
         id: header.id,
+        instructions: header.instructions,
         tags: header.tags,
         extensible: header.extensible,
         exports,
         imports,
         assignments,
+        control,
     })
 }
 
@@ -405,6 +534,7 @@ fn read_module<'s, 't>(
     let id = take_group(alloc, cursor, Sign::OpenBrace)?;
     skip_text(cursor);
     cursor.expect_keyword(Keyword::Definitions)?;
+    let instructions = take_instructions(cursor);
     let tags = read_tags(cursor)?;
     let extensible = read_extensible(cursor)?;
     cursor.expect(Sign::Assign)?;
@@ -413,6 +543,7 @@ fn read_module<'s, 't>(
         at,
         name,
         id,
+        instructions,
         tags,
         extensible,
     };

@@ -1,12 +1,12 @@
 //! How many tokens the parts have that stand in the tree as tokens.
-ghost use Rattle.std.specs.Prelude.{◌≡◌, ◌≤◌, ◌<◌, [], ◌∷◌, drop, length, reverse, IfOk, Ok};
+ghost use Rattle.std.specs.Prelude.{◌≡◌, ◌≤◌, ◌<◌, ◌+◌, [], ◌∷◌, drop, length, reverse, IfOk, Ok};
 ghost use Rattle.oer_module_lexer.specs.Token.{spots_of, token_of};
-ghost use Rattle.oer_module_syntax.specs.Ranges.{atom_len, base_at, close, constraints_at, ends_span, finished, goes_on, group_at, group_len, groups_len, is_any_word, is_pair, is_reserved_value, is_step, is_value_word, nest, nest_next, none_open, pairs_len, span_at, starts_sign, starts_with_amount, starts_with_pair, unclosed, value_at};
-ghost use Rattle.oer_module_syntax.specs.State.{IsReading, state_of};
+ghost use Rattle.oer_module_syntax.specs.Ranges.{atom_at, atom_len, base_at, close, constraints_at, ends_prefix, ends_span, exception_at, finished, goes_on, group_at, group_len, groups_len, is_any_word, is_pair, is_reserved_value, is_some_word, is_step, is_type_word, is_value_word, nest, nest_next, none_open, pairs_len, parameters_len, prefix_at, span_at, starts_sign, starts_with_amount, starts_with_pair, unclosed, value_at};
+ghost use Rattle.oer_module_syntax.specs.State.{IsReading, first, state_of};
 
-use crate::cursor::{Cursor, is_same};
+use crate::cursor::{Cursor, is_same, rest_of};
 use crate::fault::{Fault, Sought, Why};
-use crate::word::is_reserved;
+use crate::word::{is_identifier, is_reserved};
 use oer_module_lexer::{Sign, Spot, Token};
 use std::alloc::Global;
 
@@ -19,6 +19,8 @@ pub enum Extent {
     Constraints,
     /// Before a comma or a sign that closes.
     Span,
+    /// Before a colon, or a sign that stands in no type.
+    Prefix,
 }
 
 /// The pairs of tokens of which parts of types and values consist.
@@ -150,6 +152,16 @@ pub fn ends_span(spots: &[Spot<'_>]) -> bool
         || starts_sign(spots, Sign::CloseGroup)
 }
 
+/// Whether a colon is next, or a sign that stands in no type.
+fn ends_prefix(spots: &[Spot<'_>]) -> bool
+    ensures { result ≡ ends_prefix (spots_of spots.now) }
+{
+    ends_span(spots)
+        || starts_sign(spots, Sign::Colon)
+        || starts_sign(spots, Sign::Assign)
+        || starts_sign(spots, Sign::Semicolon)
+}
+
 /// Whether the tokens are not at their end, and what stands before them isn't whole.
 fn goes_on(extent: Extent, is_closed: bool, spots: &[Spot<'_>]) -> bool
     ensures { result ≡ goes_on extent is_closed (spots_of spots.now) }
@@ -164,6 +176,7 @@ fn goes_on(extent: Extent, is_closed: bool, spots: &[Spot<'_>]) -> bool
         Extent::Group => false,
         Extent::Constraints => starts_sign(spots, Sign::OpenParenthesis),
         Extent::Span => !ends_span(spots),
+        Extent::Prefix => !ends_prefix(spots),
     }
 }
 
@@ -361,23 +374,81 @@ fn atom_len(spots: &[Spot<'_>]) -> usize
     }
 }
 
-/// The value at the front, after the names of alternatives: how many tokens it has.
-#[tactic(auto, using(crate::proofs::Spots::behind))]
+fn is_at_word(cursor: &Cursor<'_, '_>) -> bool
+    ensures { result ≡ is_some_word (first (state_of cursor.now)) }
+{
+    match cursor.peek() {
+        Some(Token::Word(_)) => true,
+        _ => false,
+    }
+}
+
+/// How many tokens the actual parameters have, after a value that takes some.
+fn parameters_len(alloc: Global, takes: bool, cursor: &Cursor<'_, '_>) -> Result<usize, Fault>
+    ensures read { IsReading (λ n. n) result (parameters_len takes (state_of cursor.now)) }
+    ensures within { IfOk result (λ n. n ≤ length cursor.now.spots.now) }
+{
+    if !takes || !starts_sign(cursor.spots, Sign::OpenBrace) {
+        return Ok(0);
+    }
+    group_len(alloc, cursor)
+}
+
+/// A value in no braces: how many tokens it has.
+#[tactic(auto, unfolding(crate::specs::Ranges::atom_at))]
+fn take_atom(alloc: Global, cursor: &mut Cursor<'_, '_>) -> Result<usize, Fault>
+    ensures read { IsReading (λ n. (n, state_of cursor.new)) result (atom_at (state_of cursor.old)) }
+    ensures within { IfOk result (λ n. n ≤ length cursor.old.spots.now) }
+{
+    let takes = is_at_word(cursor);
+    let atom = atom_len(cursor.spots);
+    if atom == 0 {
+        return Err(cursor.fault(Why::Expected(Sought::Value)));
+    }
+    let _atom = cursor.take_front(atom);
+    let more = parameters_len(alloc, takes, cursor)?;
+    let _parameters = cursor.take_front(more);
+    Ok(atom + more)
+}
+
+/// The value at the front, after what stands before it: how many tokens it has.
 fn take_base(alloc: Global, cursor: &mut Cursor<'_, '_>) -> Result<usize, Fault>
     ensures read { IsReading (λ n. (n, state_of cursor.new)) result (base_at (state_of cursor.old)) }
     ensures within { IfOk result (λ n. n ≤ length cursor.old.spots.now) }
 {
-    if starts_sign(cursor.spots, Sign::OpenBrace) {
-        let n = group_len(alloc, cursor)?;
-        let _group = cursor.take_front(n);
-        return Ok(n);
+    if !starts_sign(cursor.spots, Sign::OpenBrace) {
+        return take_atom(alloc, cursor);
     }
-    let n = atom_len(cursor.spots);
-    if n == 0 {
-        return Err(cursor.fault(Why::Expected(Sought::Value)));
-    }
-    let _atom = cursor.take_front(n);
+    let n = group_len(alloc, cursor)?;
+    let _group = cursor.take_front(n);
     Ok(n)
+}
+
+/// Whether a word is next that begins no value by itself: that of a type, or the name of a module.
+fn is_at_type_word(cursor: &Cursor<'_, '_>) -> bool
+    ensures { result ≡ is_type_word (first (state_of cursor.now)) }
+{
+    match cursor.peek() {
+        Some(Token::Word(word)) => !is_identifier(word) && !is_reserved_value(word),
+        _ => false,
+    }
+}
+
+/// A type and a colon, if they are there: how many tokens they have.
+#[tactic(auto, unfolding(crate::specs::Ranges::prefix_at), using(crate::proofs::Spots::left, crate::proofs::Spots::sign_within))]
+fn take_prefix(alloc: Global, cursor: &mut Cursor<'_, '_>) -> Result<usize, Fault>
+    ensures read { IsReading (λ n. (n, state_of cursor.new)) result (prefix_at (state_of cursor.old)) }
+    ensures within { IfOk result (λ n. length cursor.new.spots.now + n ≡ length cursor.old.spots.now) }
+{
+    if !is_at_type_word(cursor) {
+        return Ok(0);
+    }
+    let n = groups_len(Extent::Prefix, Vec::new(alloc), cursor, cursor.spots)?;
+    if !starts_sign(rest_of(cursor.spots, n), Sign::Colon) {
+        return Ok(0);
+    }
+    let _prefix = cursor.take_front(n + 1);
+    Ok(n + 1)
 }
 
 /// A value, as the tokens that it consists of; else a value was expected.
@@ -391,6 +462,20 @@ pub fn take_value<'s, 't>(
     let spots = cursor.spots;
     let names = pairs_len(Pair::Choice, spots);
     let _names = cursor.take_front(names);
-    let n = take_base(alloc, cursor)?;
-    Ok(&spots[..names + n])
+    let prefix = take_prefix(alloc, cursor)?;
+    let base = take_base(alloc, cursor)?;
+    Ok(&spots[..names + prefix + base])
+}
+
+/// The tokens after `!`, if that is next (X.680, 53).
+pub fn take_exception<'s, 't>(
+    alloc: Global,
+    cursor: &mut Cursor<'s, 't>,
+) -> Result<&'s [Spot<'t>], Fault>
+    ensures { IsReading (λ r. (spots_of r.now, state_of cursor.new)) result (exception_at (state_of cursor.old)) }
+{
+    if !cursor.take(Sign::Exclamation) {
+        return Ok(no_spots());
+    }
+    take_value(alloc, cursor)
 }

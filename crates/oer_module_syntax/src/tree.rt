@@ -16,8 +16,8 @@ pub enum TypeSyntax<'s, 't> {
         items: &'s [Spot<'t>],
         constraints: &'s [Spot<'t>],
     },
-    /// The name of a type, or of a module or a class, with the steps from there (`.` and a word or a field),
-    /// and the actual parameters, braces included (X.680, 14.1; X.681, 14; X.683, 9).
+    /// The name of a type, or of a module, a class or an object, with the steps from there (`.` and a word
+    /// or a field), and the actual parameters, braces included (X.680, 14.1; X.681, 14 and 15; X.683, 9).
     Named {
         at: usize,
         name: &'t str,
@@ -46,7 +46,27 @@ pub enum TypeSyntax<'s, 't> {
         /// Whether the word SIZE stands before the constraint.
         sized: bool,
         size: &'s [Spot<'t>],
+        /// The name of the elements, if they have one.
+        name: Option<&'t str>,
         item: Box<TypeSyntax<'s, 't>>,
+    },
+    /// A name, `<` and a CHOICE: the type of its alternative of that name (X.680, 30).
+    Selection {
+        at: usize,
+        name: &'t str,
+        from: Box<TypeSyntax<'s, 't>>,
+    },
+    /// INSTANCE OF and a class, or its module with the steps from there (X.681, annex C).
+    InstanceOf {
+        at: usize,
+        class: &'t str,
+        path: &'s [Spot<'t>],
+        constraints: &'s [Spot<'t>],
+    },
+    /// ANY DEFINED BY and the name of a component (X.208, 28).
+    AnyDefinedBy {
+        at: usize,
+        by: &'t str,
     },
 }
 
@@ -54,9 +74,10 @@ pub enum TypeSyntax<'s, 't> {
 #[cycle(tree)]
 #[derive(Drop)]
 pub enum Element<'s, 't> {
-    /// `...`
+    /// `...`, and the tokens after `!`, if that stands behind it (X.680, 25.1 and 53).
     Marker {
         at: usize,
+        exception: &'s [Spot<'t>],
     },
     /// What stands between `[[` and `]]`: no marker and no group (X.680, 25.1).
     Group {
@@ -103,12 +124,16 @@ pub struct Module<'s, 't> {
     pub name: &'t str,
     /// The object identifier, braces included.
     pub id: &'s [Spot<'t>],
+    /// What instructions in brackets are for, if the header says so (X.680, 13.1: INSTRUCTIONS).
+    pub instructions: Option<&'t str>,
     pub tags: Tags,
     /// Whether EXTENSIBILITY IMPLIED stands in the header (X.680, 13.4).
     pub extensible: bool,
     pub exports: Exports<'t>,
     pub imports: Vec<Import<'s, 't>>,
     pub assignments: Vec<Assignment<'s, 't>>,
+    /// The sections of instructions for encodings, from ENCODING-CONTROL up to END (X.680, 54).
+    pub control: &'s [Spot<'t>],
 }
 
 /// How tags are applied in a module (X.680, 13.2).
@@ -142,8 +167,20 @@ pub struct Import<'s, 't> {
     /// The place of the module's name.
     pub at: usize,
     pub from: &'t str,
-    /// The object identifier, braces included.
+    /// The object identifier: in braces, these included, or the name of a value.
     pub id: &'s [Spot<'t>],
+    pub versions: Versions,
+}
+
+/// Which versions of a module names may come from (X.680, 13.1).
+#[derive(Clone, Copy, Debug, PartialEq, Eq)]
+pub enum Versions {
+    /// The one that is named.
+    Same,
+    /// It or a later one: WITH SUCCESSORS.
+    Successors,
+    /// It, or one that adds to it: WITH DESCENDANTS.
+    Descendants,
 }
 
 /// What a module gives a name (X.680, 16.1; X.681, 9.1, 11.1 and 12.1; X.683, 8.1).

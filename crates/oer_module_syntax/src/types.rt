@@ -1,18 +1,21 @@
 //! From tokens to a type.
-ghost use Rattle.std.specs.Prelude.{◌≡◌, suc, length, map, Ok};
+ghost use Rattle.std.specs.Prelude.{◌≡◌, suc, length, map, option_map, Ok};
 ghost use Rattle.oer_module_lexer.specs.Token.{spots_of};
 ghost use Rattle.oer_module_syntax.specs.Ranges.{front_of, pairs_len};
 ghost use Rattle.oer_module_syntax.specs.declared.range.Pair.TheVariants.{Step};
 ghost use Rattle.oer_module_syntax.specs.State.{IsReading, first, state_of};
 ghost use Rattle.oer_module_syntax.specs.Tree.{element_of, need_of, tree_of};
-ghost use Rattle.oer_module_syntax.specs.Types.{any_type_at, begun_at, braces_at, choice_at, component_at, components_of_at, element_at, form_of, formed_at, is_number, items_at, list_at, listed, member_at, members_at, mode_at, more_listed, named_at, need_at, one_at, plain_at, sequence_at, size_at, skip_second, structure_at, tagged_at, type_at, version_at, worded_at};
+ghost use Rattle.oer_module_syntax.specs.Types.{any_defined_at, any_type_at, begun_at, braces_at, choice_at, class_at, component_at, components_of_at, element_at, form_of, formed_at, instance_at, is_class, is_number, item_name_at, items_at, list_at, listed, marker_at, member_at, members_at, mode_at, more_listed, named_at, need_at, one_at, plain_at, selection_at, sequence_at, size_at, skip_second, small_at, structure_at, tagged_at, type_at, unbuilt_at, version_at, worded_at};
 ghost use Rattle.oer_module_syntax.specs.Words.{builtin_of, builtin_second};
 
 use crate::cursor::Cursor;
 use crate::fault::{Fault, Sought, Why};
-use crate::range::{Pair, no_spots, pairs_len, take_constraints, take_group, take_value};
+use crate::look::{after, begins_type, is_at_any_defined, is_at_field_step};
+use crate::range::{
+    Pair, no_spots, pairs_len, take_constraints, take_exception, take_group, take_value,
+};
 use crate::tree::{Element, Mode, Need, TypeSyntax};
-use crate::word::{Builtin, Keyword, builtin_of, is_reference};
+use crate::word::{Builtin, Keyword, builtin_of, is_identifier, is_reference, is_useful_class};
 use oer_module_lexer::{Sign, Spot, Token};
 use std::alloc::Global;
 
@@ -123,6 +126,62 @@ fn read_named<'s, 't>(
     })
 }
 
+/// The name of a class, or of its module.
+#[tactic(auto, unfolding(crate::specs::Types::class_at))]
+fn read_class_name<'s, 't>(cursor: &mut Cursor<'s, 't>) -> Result<&'t str, Fault>
+    ensures { IsReading (λ w. (w.now, state_of cursor.new)) result (class_at (state_of cursor.old)) }
+{
+    let Some(Token::Word(word)) = cursor.peek() else {
+        return Err(cursor.fault(Why::Expected(Sought::Reference)));
+    };
+    if !is_class(word) {
+        return Err(cursor.fault(Why::Expected(Sought::Reference)));
+    }
+    cursor.bump();
+    Ok(word)
+}
+
+fn is_class(word: &str) -> bool
+    ensures { result ≡ is_class word.now }
+{
+    is_reference(word) || is_useful_class(word)
+}
+
+/// INSTANCE OF, at the first word.
+#[tactic(auto, unfolding(crate::specs::Types::instance_at), using(crate::proofs::Trees::trees))]
+fn read_instance<'s, 't>(
+    alloc: Global,
+    cursor: &mut Cursor<'s, 't>,
+) -> Result<TypeSyntax<'s, 't>, Fault>
+    ensures { IsReading (λ t. (tree_of t, state_of cursor.new)) result (instance_at (state_of cursor.old)) }
+{
+    let at = cursor.place();
+    cursor.bump();
+    cursor.expect_keyword(Keyword::Of)?;
+    let class = read_class_name(cursor)?;
+    let path = take_path(cursor);
+    let constraints = take_constraints(alloc, cursor)?;
+    Ok(TypeSyntax::InstanceOf {
+        at,
+        class,
+        path,
+        constraints,
+    })
+}
+
+/// ANY DEFINED BY, at the first word.
+#[tactic(auto, unfolding(crate::specs::Types::any_defined_at), using(crate::proofs::Trees::trees))]
+fn read_any_defined<'s, 't>(cursor: &mut Cursor<'s, 't>) -> Result<TypeSyntax<'s, 't>, Fault>
+    ensures { IsReading (λ t. (tree_of t, state_of cursor.new)) result (any_defined_at (state_of cursor.old)) }
+{
+    let at = cursor.place();
+    cursor.bump();
+    cursor.bump();
+    cursor.bump();
+    let by = cursor.identifier()?;
+    Ok(TypeSyntax::AnyDefinedBy { at, by })
+}
+
 /// How a tag is applied.
 fn read_mode(cursor: &mut Cursor<'_, '_>) -> Mode
     ensures { mode_at (state_of cursor.old) ≡ (result, state_of cursor.new) }
@@ -194,6 +253,31 @@ fn take_size<'s, 't>(
     take_constraints(alloc, cursor)
 }
 
+/// The name of the elements of a list, if they have one.
+fn take_item_name<'s, 't>(cursor: &mut Cursor<'s, 't>) -> Option<&'t str>
+    ensures { item_name_at (state_of cursor.old) ≡ (option_map (λ w. w.now) result, state_of cursor.new) }
+{
+    let Some(Token::Word(word)) = cursor.peek() else {
+        return None;
+    };
+    if !is_identifier(word) || begins_type(cursor) {
+        return None;
+    }
+    cursor.bump();
+    Some(word)
+}
+
+/// The marker and its exception.
+#[tactic(auto, unfolding(crate::specs::Types::marker_at), using(crate::proofs::Trees::trees))]
+fn read_marker<'s, 't>(alloc: Global, cursor: &mut Cursor<'s, 't>) -> Result<Element<'s, 't>, Fault>
+    ensures { IsReading (λ e. (element_of e, state_of cursor.new)) result (marker_at (state_of cursor.old)) }
+{
+    let at = cursor.place();
+    cursor.bump();
+    let exception = take_exception(alloc, cursor)?;
+    Ok(Element::Marker { at, exception })
+}
+
 /// A type, in which so many levels of types may nest (X.680, 17.1). Types, values and braces that are
 /// kept as tokens only have to be closed.
 ///
@@ -231,14 +315,79 @@ fn read_begun<'s, 't>(
         return Err(cursor.fault(Why::Expected(Sought::Type)));
     };
     let Some(builtin) = builtin_of(word) else {
-        if !is_reference(word) {
-            return Err(cursor.fault(Why::Expected(Sought::Type)));
-        }
-        return read_named(alloc, cursor, word);
+        return read_unbuilt(alloc, cursor, levels, word);
     };
     let at = cursor.place();
     cursor.bump();
     read_formed(alloc, cursor, levels, at, builtin)
+}
+
+/// A type that begins with a word of none that is built in.
+#[cycle(types)]
+#[tactic(auto, unfolding(crate::specs::Types::unbuilt_at))]
+fn read_unbuilt<'s, 't>(
+    alloc: Global,
+    cursor: &mut Cursor<'s, 't>,
+    levels: u8,
+    word: &'t str,
+) -> Result<TypeSyntax<'s, 't>, Fault>
+    ensures { IsReading (λ t. (tree_of t, state_of cursor.new)) result (unbuilt_at (type_at levels) word.now (state_of cursor.old)) }
+{
+    if cursor.is_at_keyword(Keyword::Instance) {
+        return read_instance(alloc, cursor);
+    }
+    if is_at_any_defined(cursor) {
+        return read_any_defined(cursor);
+    }
+    if is_identifier(word) {
+        return read_small(alloc, cursor, levels, word);
+    }
+    if !is_class(word) {
+        return Err(cursor.fault(Why::Expected(Sought::Type)));
+    }
+    read_named(alloc, cursor, word)
+}
+
+/// A type that begins with a small letter: a selection, or a field of an object.
+#[cycle(types)]
+#[tactic(auto, unfolding(crate::specs::Types::small_at))]
+fn read_small<'s, 't>(
+    alloc: Global,
+    cursor: &mut Cursor<'s, 't>,
+    levels: u8,
+    word: &'t str,
+) -> Result<TypeSyntax<'s, 't>, Fault>
+    ensures { IsReading (λ t. (tree_of t, state_of cursor.new)) result (small_at (type_at levels) word.now (state_of cursor.old)) }
+{
+    if after(cursor).is_at(Sign::Less) {
+        return read_selection(alloc, cursor, levels, word);
+    }
+    if !is_at_field_step(cursor) {
+        return Err(cursor.fault(Why::Expected(Sought::Type)));
+    }
+    read_named(alloc, cursor, word)
+}
+
+/// A name, `<` and a type, at the name.
+#[cycle(types)]
+#[tactic(auto, unfolding(crate::specs::Types::selection_at), using(crate::proofs::Trees::trees))]
+fn read_selection<'s, 't>(
+    alloc: Global,
+    cursor: &mut Cursor<'s, 't>,
+    levels: u8,
+    name: &'t str,
+) -> Result<TypeSyntax<'s, 't>, Fault>
+    ensures { IsReading (λ t. (tree_of t, state_of cursor.new)) result (selection_at (type_at levels) name.now (state_of cursor.old)) }
+{
+    let at = cursor.place();
+    cursor.bump();
+    cursor.bump();
+    let from = read_type(alloc, cursor, levels)?;
+    Ok(TypeSyntax::Selection {
+        at,
+        name,
+        from: Box::new(alloc, from)?,
+    })
 }
 
 /// A type with words of its own, after the first.
@@ -335,12 +484,14 @@ fn read_list<'s, 't>(
 {
     let size = take_size(alloc, cursor, sized)?;
     cursor.expect_keyword(Keyword::Of)?;
+    let name = take_item_name(cursor);
     let item = read_type(alloc, cursor, levels)?;
     Ok(TypeSyntax::ListOf {
         at,
         builtin,
         sized,
         size,
+        name,
         item: Box::new(alloc, item)?,
     })
 }
@@ -454,10 +605,10 @@ fn read_element<'s, 't>(
 ) -> Result<Element<'s, 't>, Fault>
     ensures { IsReading (λ e. (element_of e, state_of cursor.new)) result (element_at (type_at levels) alternatives (state_of cursor.old)) }
 {
-    let at = cursor.place();
-    if cursor.take(Sign::Ellipsis) {
-        return Ok(Element::Marker { at });
+    if cursor.is_at(Sign::Ellipsis) {
+        return read_marker(alloc, cursor);
     }
+    let at = cursor.place();
     if cursor.take(Sign::OpenGroup) {
         return read_group(alloc, cursor, levels, at, alternatives);
     }

@@ -1,13 +1,14 @@
-//! Reserved words (X.680, 12.38).
+//! Reserved words (X.680, 12.38), and words that have a meaning only where the grammar has them.
 ghost use Rattle.std.specs.Prelude.{◌≡◌, is_some};
-ghost use Rattle.oer_module_syntax.specs.Words.{builtin_of, builtin_among, builtin_first, builtin_second, is_identifier, is_reference, is_reserved, keyword_of, keyword_among, keyword_text};
+ghost use Rattle.oer_module_syntax.specs.Words.{builtin_of, builtin_among, builtin_first, builtin_second, is_identifier, is_reference, is_reserved, is_useful_class, keyword_of, keyword_among, keyword_text};
 
-/// The words that begin no type.
+/// The words that begin no type. ANY, DEFINED, DESCENDANTS and SUCCESSORS are not reserved.
 #[derive(Clone, Copy, Debug, PartialEq, Eq)]
 pub enum Keyword {
     Absent,
     AbstractSyntax,
     All,
+    Any,
     Application,
     Automatic,
     Begin,
@@ -18,7 +19,9 @@ pub enum Keyword {
     Constrained,
     Containing,
     Default,
+    Defined,
     Definitions,
+    Descendants,
     Encoded,
     EncodingControl,
     End,
@@ -50,6 +53,7 @@ pub enum Keyword {
     Settings,
     Size,
     String,
+    Successors,
     Syntax,
     Tags,
     True,
@@ -103,6 +107,7 @@ pub enum Builtin {
     Duration,
 }
 
+/// Those that are reserved.
 const KEYWORDS: [Keyword; 53] = [
     Keyword::Absent,
     Keyword::AbstractSyntax,
@@ -209,6 +214,7 @@ impl Keyword {
             Keyword::Absent => "ABSENT",
             Keyword::AbstractSyntax => "ABSTRACT-SYNTAX",
             Keyword::All => "ALL",
+            Keyword::Any => "ANY",
             Keyword::Application => "APPLICATION",
             Keyword::Automatic => "AUTOMATIC",
             Keyword::Begin => "BEGIN",
@@ -219,7 +225,9 @@ impl Keyword {
             Keyword::Constrained => "CONSTRAINED",
             Keyword::Containing => "CONTAINING",
             Keyword::Default => "DEFAULT",
+            Keyword::Defined => "DEFINED",
             Keyword::Definitions => "DEFINITIONS",
+            Keyword::Descendants => "DESCENDANTS",
             Keyword::Encoded => "ENCODED",
             Keyword::EncodingControl => "ENCODING-CONTROL",
             Keyword::End => "END",
@@ -251,6 +259,7 @@ impl Keyword {
             Keyword::Settings => "SETTINGS",
             Keyword::Size => "SIZE",
             Keyword::String => "STRING",
+            Keyword::Successors => "SUCCESSORS",
             Keyword::Syntax => "SYNTAX",
             Keyword::Tags => "TAGS",
             Keyword::True => "TRUE",
@@ -325,7 +334,7 @@ impl Builtin {
     }
 }
 
-/// The keyword that this word is.
+/// The reserved word that this is, if it begins no type.
 #[tactic(auto, unfolding(crate::specs::Words::keyword_of))]
 pub fn keyword_of(word: &str) -> Option<Keyword>
     ensures { result ≡ keyword_of word.now }
@@ -370,6 +379,13 @@ pub fn is_reserved(word: &str) -> bool
     ensures { result ≡ is_reserved word.now }
 {
     keyword_of(word).is_some() || builtin_of(word).is_some()
+}
+
+/// Whether the word is a class that needs no definition (X.681, 8.4 and annexes A and B).
+pub fn is_useful_class(word: &str) -> bool
+    ensures { result ≡ is_useful_class word.now }
+{
+    word == Keyword::TypeIdentifier.text() || word == Keyword::AbstractSyntax.text()
 }
 
 /// Whether the word begins with a small letter, as an identifier or a value reference does

@@ -4,13 +4,13 @@ use Rattle.oer_module_lexer.specs.Token.{Spot}
 use Rattle.oer_module_lexer.specs.declared.token.Sign.TheVariants.{OpenBrace, OpenParenthesis, CloseParenthesis, Comma, Ellipsis, Less}
 use Rattle.oer_module_lexer.specs.declared.token.Sign.TheVariants.{Range, Bar, Caret}
 use Rattle.oer_module_syntax.specs.Modules.{all_of}
-use Rattle.oer_module_syntax.specs.Ranges.{span_at, value_at as value_tokens_at}
+use Rattle.oer_module_syntax.specs.Ranges.{exception_at, span_at, value_at as value_tokens_at}
 use Rattle.oer_module_syntax.specs.State.{State, Read, ◌>>=◌, fault, place, bump, at_sign, at_keyword, skip_sign, skip_keyword}
 use Rattle.oer_module_syntax.specs.Types.{type_at}
 use Rattle.oer_module_syntax.specs.declared.fault.Why.TheVariants as why
 use Rattle.oer_module_syntax.specs.declared.word.Keyword.{Keyword}
 use Rattle.oer_module_syntax.specs.declared.word.Keyword.TheVariants as kw
-use Rattle.oer_module_terms.specs.Looks.{series, past_sign, at_type, taken_at, exception_at}
+use Rattle.oer_module_terms.specs.Looks.{series, past_sign, at_type, taken_at}
 use Rattle.oer_module_terms.specs.Trees.{Value, Constraint, subtype, general, Extension, closed, opened, extended, Elements, Simple, simple, union}
 use Rattle.oer_module_terms.specs.Trees.{intersection, except, all_except, value, range, size, alphabet, type, narrowing, sets_from}
 use Rattle.oer_module_terms.specs.Values.{value_at}

@@ -1,8 +1,9 @@
 -- Reading items from tokens (X.680, 19.1, 20.1 and 22.1): what is read and what is left, or the first fault.
 use Rattle.std.specs.Prelude.{List, [], Bool, true, false, not, ◌&&◌, ◌||◌, Option, Some, None, Ok, if◌then◌else◌}
 use Rattle.oer_module_lexer.specs.declared.token.Sign.TheVariants.{OpenBrace, CloseBrace, OpenParenthesis, Comma, Ellipsis}
+use Rattle.oer_module_syntax.specs.Ranges.{exception_at}
 use Rattle.oer_module_syntax.specs.State.{State, Read, ◌>>=◌, place, bump, at_sign, skip_sign, identifier_at}
-use Rattle.oer_module_terms.specs.Looks.{series, exception_at}
+use Rattle.oer_module_terms.specs.Looks.{series}
 use Rattle.oer_module_terms.specs.Trees.{Amount, Item, More, Enumeration}
 use Rattle.oer_module_terms.specs.Values.{enclosed_at}
 use Rattle.oer_module_terms.specs.declared.item.Numbering.{Numbering}

@@ -1,13 +1,14 @@
 -- What the next tokens are.
-use Rattle.std.specs.Prelude.{ℕ, suc, List, [], ◌∷◌, length, Bool, false, not, ◌&&◌, ◌||◌, Option, Some, is_some, Ok, codes, if◌then◌else◌}
+use Rattle.std.specs.Prelude.{ℕ, suc, List, [], ◌∷◌, length, Bool, false, not, ◌&&◌, ◌||◌, Option, Some, is_some, codes, if◌then◌else◌}
 use Rattle.std.specs.Str.{bytes_eq}
 use Rattle.oer_module_lexer.specs.Token.{Token, word, Spot}
 use Rattle.oer_module_lexer.specs.declared.token.Sign.{Sign}
-use Rattle.oer_module_lexer.specs.declared.token.Sign.TheVariants.{OpenParenthesis, Comma, Point, Exclamation}
+use Rattle.oer_module_lexer.specs.declared.token.Sign.TheVariants.{OpenParenthesis, Comma}
 use Rattle.oer_module_syntax.specs.Modules.{many}
-use Rattle.oer_module_syntax.specs.Ranges.{group_at, value_at}
+use Rattle.oer_module_syntax.specs.Looks.{at_small_step, is_small}
+use Rattle.oer_module_syntax.specs.Ranges.{group_at}
 use Rattle.oer_module_syntax.specs.State.{State, Read, ◌>>=◌, first, bump, expected, at_sign}
-use Rattle.oer_module_syntax.specs.Words.{is_identifier, is_reference, builtin_of}
+use Rattle.oer_module_syntax.specs.Words.{is_reference, builtin_of}
 use Rattle.oer_module_syntax.specs.declared.fault.Sought.TheVariants as sought
 
 -- one, and more behind it, up to where they are done
@@ -21,23 +22,11 @@ no_comma s = not (at_sign Comma s)
 abbrev pub past_sign : Sign → State → State
 past_sign g s = if at_sign g s then bump s else s
 
-abbrev pub is_small : Option Token → Bool
-is_small (Some (word w)) = is_identifier w
-is_small _ = false
-
 -- a name that begins with a small letter, and an opening parenthesis
 abbrev pub at_numbered : State → Bool
 at_numbered s = is_small (first s) && at_sign OpenParenthesis (bump s)
 
--- behind the next token, which is a name: a point and a name that begins with a small letter
-abbrev pub at_small_step : State → Bool
-at_small_step s = at_sign Point (bump s) && is_small (first (bump (bump s)))
-
--- A name of a value begins with a small letter, or is one in a module (14.1).
-abbrev pub names_value : List ℕ → State → Bool
-names_value w s = is_identifier w || is_reference w && at_small_step s
-
--- The other names that aren't reserved are those of types and sets.
+-- The names that aren't reserved are those of types and sets, where they aren't those of values.
 abbrev pub names_type : List ℕ → State → Bool
 names_type w s = is_reference w && not (at_small_step s)
 
@@ -56,7 +45,3 @@ at_type s = is_type (first s) s
 -- what stands between a sign and the one that closes, with both
 abbrev pub taken_at : Sign → State → Read (List Spot)
 taken_at g s = if at_sign g s then group_at g s else expected (sought.Sign g) s
-
--- an exception (53), if there is one: the tokens behind `!`
-abbrev pub exception_at : State → Read (List Spot)
-exception_at s = if at_sign Exclamation s then value_at (bump s) else Ok ([], s)

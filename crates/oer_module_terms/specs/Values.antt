@@ -5,12 +5,13 @@ use Rattle.oer_module_lexer.specs.Token.{Token, word, number as a_number, real a
 use Rattle.oer_module_lexer.specs.Token.{text as a_text}
 use Rattle.oer_module_lexer.specs.declared.token.Sign.TheVariants.{OpenBrace, CloseBrace, OpenParenthesis, CloseParenthesis, Comma, Colon}
 use Rattle.oer_module_lexer.specs.declared.token.Sign.TheVariants.{Hyphen}
+use Rattle.oer_module_syntax.specs.Looks.{names_value}
 use Rattle.oer_module_syntax.specs.Ranges.{pairs_len, front_of}
 use Rattle.oer_module_syntax.specs.State.{State, Read, ◌>>=◌, first, fault, expected, place, bump, at_sign, skip_sign, identifier_at}
 use Rattle.oer_module_syntax.specs.declared.fault.Sought.TheVariants as sought
 use Rattle.oer_module_syntax.specs.declared.fault.Why.TheVariants as why
 use Rattle.oer_module_syntax.specs.declared.range.Pair.TheVariants.{Step}
-use Rattle.oer_module_terms.specs.Looks.{series, no_comma, at_numbered, names_value}
+use Rattle.oer_module_terms.specs.Looks.{series, no_comma, at_numbered}
 use Rattle.oer_module_terms.specs.Trees.{Amount, number, named, Atom, amount, real, fixed, bits, digits, text, Value, atom, numbered}
 use Rattle.oer_module_terms.specs.Trees.{choice, braces, Parts, parts_from, members_from}
 use Rattle.oer_module_terms.specs.declared.tree.Fixed.{Fixed}

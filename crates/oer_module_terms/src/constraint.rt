@@ -7,11 +7,13 @@ ghost use Rattle.oer_module_syntax.specs.State.{IsReading, bump, state_of};
 ghost use Rattle.oer_module_terms.specs.Constraints.{at_mark, between_at, constraint_at, constraints_at, contained_at, element_at, everything_but_at, excluding_at, extension_at, general_at, general_of, inner_at, joined_at, limit_at, limited_at, nested_at, range_at, set_at, simple_at, specified_by, subtype_at};
 ghost use Rattle.oer_module_terms.specs.Trees.{constraint_of, elements_of, except, extension_of, simple_of, value_of};
 
-use crate::look::{after, is_at_type, take_bracketed, take_exception};
+use crate::look::{is_at_type, take_bracketed};
 use crate::tree::{Bound, Constraint, Elements, Extension, General, Narrowing, Simple, Value};
 use crate::value::read_value;
 use oer_module_lexer::{Sign, Spot};
-use oer_module_syntax::{Cursor, Fault, Keyword, Sought, Why, read_type, take_span, take_value};
+use oer_module_syntax::{
+    Cursor, Fault, Keyword, Sought, Why, after, read_type, take_exception, take_span, take_value,
+};
 use std::alloc::Global;
 
 /// What joins sets.

@@ -6,11 +6,10 @@ ghost use Rattle.oer_module_syntax.specs.State.{IsReading, bump, state_of};
 ghost use Rattle.oer_module_terms.specs.Items.{enumeration_at, item_at, items_at, items_end, later_items_at, more_at, number_at, some_items_at, some_number_at};
 ghost use Rattle.oer_module_terms.specs.Trees.{amount_of, enumeration_of, item_of, more_of};
 
-use crate::look::{after, take_exception};
 use crate::tree::{Amount, Enumeration, Item, More};
 use crate::value::read_enclosed;
 use oer_module_lexer::Sign;
-use oer_module_syntax::{Cursor, Fault, Sought, Why};
+use oer_module_syntax::{Cursor, Fault, Sought, Why, after, take_exception};
 use std::alloc::Global;
 
 /// How items are numbered.

@@ -1,61 +1,23 @@
 //! What the next tokens are.
-ghost use Rattle.std.specs.Prelude.{◌≡◌, [], Ok};
-ghost use Rattle.oer_module_lexer.specs.Token.{spots_of, token_of};
-ghost use Rattle.std.specs.Option.{option_map};
+ghost use Rattle.std.specs.Prelude.{◌≡◌, Ok};
+ghost use Rattle.oer_module_lexer.specs.Token.{spots_of};
 ghost use Rattle.oer_module_syntax.specs.Ranges.{front_of, pairs_len};
-ghost use Rattle.oer_module_syntax.specs.State.{IsReading, bump, state_of};
+ghost use Rattle.oer_module_syntax.specs.State.{IsReading, state_of};
 ghost use Rattle.oer_module_syntax.specs.declared.range.Pair.TheVariants.{Step};
-ghost use Rattle.oer_module_terms.specs.Looks.{at_numbered, at_small_step, at_type, exception_at, is_null, is_small, names_type, names_value, taken_at};
+ghost use Rattle.oer_module_terms.specs.Looks.{at_numbered, at_type, is_null, names_type, taken_at};
 
 use oer_module_lexer::{Sign, Spot, Token};
 use oer_module_syntax::{
-    Cursor, Fault, Pair, Sought, Why, builtin_of, is_identifier, is_reference, pairs_len,
-    take_group, take_value,
+    Cursor, Fault, Pair, Sought, Why, after, builtin_of, is_at_small_step, is_reference, is_small,
+    pairs_len, take_group,
 };
 use std::alloc::Global;
-
-/// After the next token, if there is one.
-pub fn after<'s, 't>(cursor: &Cursor<'s, 't>) -> Cursor<'s, 't>
-    ensures { state_of result ≡ bump (state_of cursor.now) }
-{
-    let mut next = Cursor {
-        spots: cursor.spots,
-        end: cursor.end,
-        complete: cursor.complete,
-    };
-    next.bump();
-    next
-}
-
-fn is_small(token: Option<Token<'_>>) -> bool
-    ensures { result ≡ is_small (option_map token_of token.entry) }
-{
-    match token {
-        Some(Token::Word(word)) => is_identifier(word),
-        _ => false,
-    }
-}
 
 /// Whether a name and an opening parenthesis are next.
 pub fn is_at_numbered(cursor: &Cursor<'_, '_>) -> bool
     ensures { result ≡ at_numbered (state_of cursor.now) }
 {
     is_small(cursor.peek()) && after(cursor).is_at(Sign::OpenParenthesis)
-}
-
-/// Whether a point and a name that begins with a small letter follow the next token.
-fn is_at_small_step(cursor: &Cursor<'_, '_>) -> bool
-    ensures { result ≡ at_small_step (state_of cursor.now) }
-{
-    let next = after(cursor);
-    next.is_at(Sign::Point) && is_small(after(&next).peek())
-}
-
-/// Whether the word that is next names a value.
-pub fn names_value(word: &str, cursor: &Cursor<'_, '_>) -> bool
-    ensures { result ≡ names_value word.now (state_of cursor.now) }
-{
-    is_identifier(word) || is_reference(word) && is_at_small_step(cursor)
 }
 
 /// Whether the word that is next names a type.
@@ -102,24 +64,4 @@ pub fn take_bracketed<'s, 't>(
         return Err(cursor.fault(Why::Expected(Sought::Sign(sign))));
     }
     take_group(alloc, cursor, sign)
-}
-
-/// No tokens.
-fn no_spots<'s, 't>() -> &'s [Spot<'t>]
-    ensures { spots_of result.now ≡ [] }
-{
-    &[]
-}
-
-/// The tokens after `!`, if that is next.
-pub fn take_exception<'s, 't>(
-    alloc: Global,
-    cursor: &mut Cursor<'s, 't>,
-) -> Result<&'s [Spot<'t>], Fault>
-    ensures { IsReading (λ r. (spots_of r.now, state_of cursor.new)) result (exception_at (state_of cursor.old)) }
-{
-    if !cursor.take(Sign::Exclamation) {
-        return Ok(no_spots());
-    }
-    take_value(alloc, cursor)
 }

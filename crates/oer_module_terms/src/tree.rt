@@ -153,7 +153,7 @@ pub enum Simple<'s, 't> {
     },
     /// The values of a type, with INCLUDES before it or not (X.680, 51.3 and 51.6).
     Type(TypeSyntax<'s, 't>),
-    /// One that changes no octet, as the tokens after its words.
+    /// One that narrows values alone, as the tokens after its words.
     Narrowing {
         at: usize,
         kind: Narrowing,
@@ -161,7 +161,8 @@ pub enum Simple<'s, 't> {
     },
 }
 
-/// Sets of values that change no octet.
+/// Sets of values that are kept as tokens. They change no octet, except that WITH COMPONENTS changes those of a
+/// REAL and SETTINGS those of a TIME, neither of which has an encoding here.
 #[derive(Clone, Copy)]
 pub enum Narrowing {
     /// WITH COMPONENT or WITH COMPONENTS (X.680, 51.8)

@@ -7,10 +7,10 @@ ghost use Rattle.oer_module_terms.specs.Looks.{no_comma};
 ghost use Rattle.oer_module_terms.specs.Trees.{amount_of, atom_of, member_of, value_of};
 ghost use Rattle.oer_module_terms.specs.Values.{alternative_by, amount_at, atom_at, atom_by, braces_at, choice_at, enclosed_at, fixed_of, later_member_at, member_at, member_ends, minus_by, named_at, negative_by, numbered_at, part_at, single_at, some_members_at, value_at, worded_at};
 
-use crate::look::{after, is_at_numbered, names_value, take_path};
+use crate::look::{is_at_numbered, take_path};
 use crate::tree::{Amount, Atom, Fixed, Member, Value};
 use oer_module_lexer::{Sign, Token};
-use oer_module_syntax::{Cursor, Fault, Sought, Why};
+use oer_module_syntax::{Cursor, Fault, Sought, Why, after, names_value};
 use std::alloc::Global;
 
 fn no_value(cursor: &Cursor<'_, '_>) -> Fault

@@ -2,7 +2,7 @@
 use oer_module_lexer::{Spot, lex};
 use oer_module_syntax::{
     Assignment, Body, Cursor, Element, Exports, Fault, Import, Mode, Module, Need, Sought, Symbol,
-    Tags, TypeSyntax, Why, read_modules,
+    Tags, TypeSyntax, Versions, Why, read_modules,
 };
 use std::alloc::Global;
 use std::test::Fail;
@@ -16,6 +16,17 @@ fn draw_count(at: Global, out: &mut String, open: &str, spots: &[Spot<'_>]) -> R
     Ok(())
 }
 
+/// A word and a space, if there is one.
+fn draw_word(out: &mut String, word: Option<&str>) -> Result<(), Fail> {
+    match word {
+        Some(word) => {
+            out.push_str(word)?;
+            Ok(out.push_str(" ")?)
+        }
+        None => Ok(()),
+    }
+}
+
 fn draw_need(at: Global, out: &mut String, need: Need<'_, '_>) -> Result<(), Fail> {
     match need {
         Need::Must => Ok(()),
@@ -27,7 +38,10 @@ fn draw_need(at: Global, out: &mut String, need: Need<'_, '_>) -> Result<(), Fai
 #[cycle(drawing)]
 fn draw_element(at: Global, out: &mut String, element: &Element<'_, '_>) -> Result<(), Fail> {
     match element {
-        Element::Marker { .. } => out.push_str("...")?,
+        Element::Marker { exception, .. } => {
+            out.push_str("...")?;
+            draw_count(at, out, "!", exception)?;
+        }
         Element::Group { elements, .. } => {
             out.push_str("[[")?;
             for element in elements.iter() {
@@ -118,6 +132,7 @@ fn draw_type(at: Global, out: &mut String, node: &TypeSyntax<'_, '_>) -> Result<
             builtin,
             sized,
             size,
+            name,
             item,
             ..
         } => {
@@ -125,7 +140,28 @@ fn draw_type(at: Global, out: &mut String, node: &TypeSyntax<'_, '_>) -> Result<
             out.push_str(if *sized { " SIZE" } else { "" })?;
             draw_count(at, out, "(", size)?;
             out.push_str(" OF ")?;
+            draw_word(out, *name)?;
             draw_type(at, out, item)?;
+        }
+        TypeSyntax::Selection { name, from, .. } => {
+            out.push_str(name)?;
+            out.push_str(" < ")?;
+            draw_type(at, out, from)?;
+        }
+        TypeSyntax::InstanceOf {
+            class,
+            path,
+            constraints,
+            ..
+        } => {
+            out.push_str("instance ")?;
+            out.push_str(class)?;
+            draw_count(at, out, ".", path)?;
+            draw_count(at, out, "(", constraints)?;
+        }
+        TypeSyntax::AnyDefinedBy { by, .. } => {
+            out.push_str("any ")?;
+            out.push_str(by)?;
         }
     }
     Ok(())
@@ -173,14 +209,23 @@ fn draw_import(at: Global, out: &mut String, import: &Import<'_, '_>) -> Result<
     draw_symbols(out, &import.symbols)?;
     out.push_str("<")?;
     out.push_str(import.from)?;
-    draw_count(at, out, "{", import.id)
+    draw_count(at, out, "{", import.id)?;
+    Ok(out.push_str(versions_text(import.versions))?)
+}
+
+fn versions_text(versions: Versions) -> &'static str {
+    match versions {
+        Versions::Same => "",
+        Versions::Successors => "+",
+        Versions::Descendants => "-",
+    }
 }
 
 fn tags_text(tags: Tags) -> &'static str {
     match tags {
-        Tags::Explicit => " E",
-        Tags::Implicit => " I",
-        Tags::Automatic => " A",
+        Tags::Explicit => "E",
+        Tags::Implicit => "I",
+        Tags::Automatic => "A",
     }
 }
 
@@ -188,6 +233,8 @@ fn tags_text(tags: Tags) -> &'static str {
 fn draw_module(at: Global, out: &mut String, module: &Module<'_, '_>) -> Result<(), Fail> {
     out.push_str(module.name)?;
     draw_count(at, out, "{", module.id)?;
+    out.push_str(" ")?;
+    draw_word(out, module.instructions)?;
     out.push_str(tags_text(module.tags))?;
     out.push_str(if module.extensible { "+" } else { "" })?;
     match &module.exports {
@@ -205,7 +252,7 @@ fn draw_module(at: Global, out: &mut String, module: &Module<'_, '_>) -> Result<
         out.push_str(" | ")?;
         draw_assignment(at, out, assignment)?;
     }
-    Ok(())
+    draw_count(at, out, " control", module.control)
 }
 
 fn sought_text(sought: Sought) -> &'static str {
@@ -283,6 +330,14 @@ fn headers(rt: HostRuntime) -> Result<(), Fail> {
             "M E < A,b,C,<N{6 < D,<O",
         ),
         (
+            "M DEFINITIONS ::= BEGIN IMPORTS A FROM N WITH SUCCESSORS B, c FROM O {x(1)} WITH DESCENDANTS D FROM P q e FROM Q r.s WITH SUCCESSORS f FROM R g, H FROM S t; END",
+            "M E < A,<N+ < B,c,<O{6- < D,<P{1 < e,<Q{3+ < f,<R < g,H,<S{1",
+        ),
+        (
+            "M DEFINITIONS XER INSTRUCTIONS ::= BEGIN A ::= [XMLNAME AS \"a\"] B ENCODING-CONTROL XER TEXT A ENCODING-CONTROL PER END N DEFINITIONS ::= BEGIN END",
+            "M XER E | A = [5]B control6N E",
+        ),
+        (
             "M DEFINITIONS ::= BEGIN END N DEFINITIONS ::= BEGIN END",
             "M EN E",
         ),
@@ -295,34 +350,37 @@ fn headers(rt: HostRuntime) -> Result<(), Fail> {
 #[test]
 fn types(rt: HostRuntime) -> Result<(), Fail> {
     for (text, want) in [
-        ("A ::= BOOLEAN", "A = BOOLEAN"),
         (
-            "A ::= INTEGER {a(1)} (0..7) (1..5, ...)",
-            "A = INTEGER{6(12",
+            "A ::= BOOLEAN B ::= INTEGER {a(1)} (0..7) (1..5, ...) C ::= OCTET STRING (SIZE (1..5)) D ::= ENUMERATED {a, b(3), ...}",
+            "A = BOOLEAN | B = INTEGER{6(12 | C = OCTET(8 | D = ENUMERATED{10",
         ),
-        ("A ::= OCTET STRING (SIZE (1..5))", "A = OCTET(8"),
-        ("A ::= ENUMERATED {a, b(3), ...}", "A = ENUMERATED{10"),
-        ("A ::= N.T {INTEGER, {b}} (5)", "A = N.2{7(3"),
-        ("A ::= C.&Type ({S}{@id})", "A = C.2(9"),
-        ("A ::= [APPLICATION 1] IMPLICIT [0] B", "A = [4i][3]B"),
-        ("A ::= SEQUENCE OF B (0..7)", "A = SEQUENCE OF B(5"),
-        ("A ::= SET SIZE (1..MAX) OF C", "A = SET SIZE(5 OF C"),
         (
-            "A ::= SEQUENCE (SIZE (1)) OF SET OF C",
-            "A = SEQUENCE(6 OF SET OF C",
+            "A ::= N.T {INTEGER, {b}} (5) B ::= C.&Type ({S}{@id}) D ::= [APPLICATION 1] IMPLICIT [0] B",
+            "A = N.2{7(3 | B = C.2(9 | D = [4i][3]B",
         ),
-        ("A ::= SEQUENCE {}", "A = SEQUENCE<>"),
+        (
+            "A ::= SEQUENCE OF B (0..7) C ::= SET SIZE (1..MAX) OF C D ::= SEQUENCE (SIZE (1)) OF SET OF C",
+            "A = SEQUENCE OF B(5 | C = SET SIZE(5 OF C | D = SEQUENCE(6 OF SET OF C",
+        ),
+        (
+            "A ::= SEQUENCE OF a < B C ::= SET OF b D (0..7) E ::= SEQUENCE OF c.&F G ::= a.&b.&C",
+            "A = SEQUENCE OF a < B | C = SET OF b D(5 | E = SEQUENCE OF c.2 | G = a.4",
+        ),
+        (
+            "A ::= INSTANCE OF M.B ({C}) D ::= TYPE-IDENTIFIER E ::= ABSTRACT-SYNTAX.&Type",
+            "A = instance M.2(5 | D = TYPE-IDENTIFIER | E = ABSTRACT-SYNTAX.2",
+        ),
+        (
+            "A ::= SEQUENCE {a B, b ANY DEFINED BY a OPTIONAL, c ANY, ... ! 1, ..., d E} F ::= CHOICE {a B, ... ! OCTET STRING : '00'H}",
+            "A = SEQUENCE<a:B,b:any a?,c:ANY,...!1,...,d:E,> | F = CHOICE<a:B,...!4,>",
+        ),
         (
             "A ::= SEQUENCE {a B OPTIONAL, b [1] C DEFAULT x:{1, 2}, ..., [[2: c D]], ..., COMPONENTS OF E} (ALL)",
             "A = SEQUENCE<a:B?,b:[3]C=7,...,[[c:D;]],...,*E,>(3",
         ),
         (
-            "A ::= CHOICE {a B, ..., [[c D, d E]]}",
-            "A = CHOICE<a:B,...,[[c:D;d:E;]],>",
-        ),
-        (
-            "A ::= SEQUENCE {a INTEGER DEFAULT -5, b B DEFAULT N.c}",
-            "A = SEQUENCE<a:INTEGER=2,b:B=3,>",
+            "A ::= CHOICE {a B, ..., [[c D, d E]]} B ::= SEQUENCE {a INTEGER DEFAULT -5, b B DEFAULT N.c} C ::= SEQUENCE {}",
+            "A = CHOICE<a:B,...,[[c:D;d:E;]],> | B = SEQUENCE<a:INTEGER=2,b:B=3,> | C = SEQUENCE<>",
         ),
     ] {
         body(rt.alloc(), text, want)?;
@@ -333,23 +391,21 @@ fn types(rt: HostRuntime) -> Result<(), Fail> {
 #[test]
 fn assignments(rt: HostRuntime) -> Result<(), Fail> {
     for (text, want) in [
-        ("a INTEGER ::= 5 B ::= C", "a value INTEGER = 1 | B = C"),
         (
-            "A B ::= {1 | 2} c D ::= {e 1}",
-            "A set B = 5 | c value D = 4",
+            "a INTEGER ::= 5 B ::= C A B ::= {1 | 2} c D ::= {e 1} A {B, INTEGER:c} ::= SEQUENCE {a B}",
+            "a value INTEGER = 1 | B = C | A set B = 5 | c value D = 4 | A{7 = SEQUENCE<a:B,>",
         ),
         (
-            "A {B, INTEGER:c} ::= SEQUENCE {a B}",
-            "A{7 = SEQUENCE<a:B,>",
-        ),
-        ("A ::= CLASS {&id INTEGER UNIQUE, &Type}", "A CLASS7"),
-        (
-            "A ::= CLASS {&id B} WITH SYNTAX {ID &id} C ::= D",
-            "A CLASS4+4 | C = D",
+            "A ::= CLASS {&id INTEGER UNIQUE, &Type} A ::= CLASS {&id B} WITH SYNTAX {ID &id} C ::= D",
+            "A CLASS7 | A CLASS4+4 | C = D",
         ),
         (
             "A ::= CLASS {&a B, &b C} WITH SYNTAX {[A &a [B &b]]} B ::= D A ::= CLASS {&a B} WITH SYNTAX {[[A &a] B &b]} C ::= D",
             "A CLASS7+9 | B = D | A CLASS4+9 | C = D",
+        ),
+        (
+            "a B ::= b {5} c D ::= OCTET STRING : e {F} g H ::= M.I {5} (0..7) : {1} j K ::= M.b {5} l N ::= TRUE",
+            "a value B = 4 | c value D = 7 | g value H = 15 | j value K = 6 | l value N = 1",
         ),
         (
             "a REAL ::= 1.5 b B ::= c:d:TRUE",
@@ -391,6 +447,17 @@ fn faults(rt: HostRuntime) -> Result<(), Fail> {
             "47 identifier",
         ),
         ("M DEFINITIONS ::= BEGIN a A ::= , END", "32 value"),
+        ("M DEFINITIONS ::= BEGIN a A ::= BIT STRING END", "32 value"),
+        (
+            "M DEFINITIONS ::= BEGIN A ::= INSTANCE OF b END",
+            "42 reference",
+        ),
+        ("M DEFINITIONS ::= BEGIN A ::= a.b END", "30 type"),
+        (
+            "M DEFINITIONS ::= BEGIN IMPORTS A FROM N WITH B; END",
+            "46 DESCENDANTS",
+        ),
+        ("M DEFINITIONS ::= BEGIN ENCODING-CONTROL XER", "44 END"),
     ] {
         reads(rt.alloc(), text, want)?;
     }

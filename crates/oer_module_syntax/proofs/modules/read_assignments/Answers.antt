@@ -2,11 +2,10 @@ use Rattle.std.proofs.Common.{◌≡◌, ◌+◌, ◌-◌, suc, length, map, Ok,
 use Rattle.std.proofs.lemmas.Result.{err_from_is_err_and}
 use Rattle.std.proofs.lemmas.List.{map_push}
 use Rattle.oer_module_lexer.specs.Token.{spots_of}
-use Rattle.oer_module_syntax.specs.State.{state_of, at_keyword}
+use Rattle.oer_module_syntax.specs.State.{state_of}
 use Rattle.oer_module_syntax.proofs.Spots.{spots_count}
-use Rattle.oer_module_syntax.specs.declared.word.Keyword.TheVariants.{End}
 use Rattle.oer_module_syntax.specs.Tree.{assignment_of}
-use Rattle.oer_module_syntax.specs.Modules.{many, assignment_at}
+use Rattle.oer_module_syntax.specs.Modules.{many, ends_assignments, assignment_at}
 use Rattle.oer_module_syntax.proofs.Loops.{many_end, many_err, many_step, many_over}
 use Rattle.oer_module_syntax.proofs.modules.read_assignments.Goals as goal
 
@@ -16,14 +15,14 @@ returns-in_err-assignment c =
     let size = spots_count c.args.cursor.now.spots.now in
     let some = c.more-test.true in
     let p = err_from_is_err_and c.from_residual.result c.from_residual.ensures.1 in
-    rw (p.1, p.2) (λ not_memory. l.invariant ∙ many_err (at_keyword End) (assignment_at c.args.levels) (suc (length (spots_of c.args.cursor.now.spots.now)) - l.turn) (map assignment_of l.found.items) (state_of l.cursor) _ (omega arith) (sym c.is_at_keyword.ensures ∙ c.if-is_at_keyword.false) (c.in_err-assignment.ensures not_memory))
+    rw (p.1, p.2) (λ not_memory. l.invariant ∙ many_err ends_assignments (assignment_at c.args.levels) (suc (length (spots_of c.args.cursor.now.spots.now)) - l.turn) (map assignment_of l.found.items) (state_of l.cursor) _ (omega arith) (sym c.ends_assignments.ensures ∙ c.if-ends_assignments.false) (c.in_err-assignment.ensures not_memory))
 
-pub returns-then-is_at_keyword : goal.returns-then-is_at_keyword
-returns-then-is_at_keyword c =
+pub returns-then-ends_assignments : goal.returns-then-ends_assignments
+returns-then-ends_assignments c =
     let l = c.more in
     let size = spots_count c.args.cursor.now.spots.now in
     let some = c.more-test.true in
-    l.invariant ∙ many_end (at_keyword End) (assignment_at c.args.levels) (suc (length (spots_of c.args.cursor.now.spots.now)) - l.turn) (map assignment_of l.found.items) (state_of l.cursor) (omega arith) (sym c.is_at_keyword.ensures ∙ c.if-is_at_keyword.true)
+    l.invariant ∙ many_end ends_assignments (assignment_at c.args.levels) (suc (length (spots_of c.args.cursor.now.spots.now)) - l.turn) (map assignment_of l.found.items) (state_of l.cursor) (omega arith) (sym c.ends_assignments.ensures ∙ c.if-ends_assignments.true)
 
 pub more-preserved : goal.more-preserved
 more-preserved c =
@@ -32,12 +31,12 @@ more-preserved c =
     let some = c.more-test.true in
     let pushed = ap (map assignment_of) c.in_ok-push.ensures.items ∙ map_push assignment_of l.found.items c.in_ok-assignment.assignment in
     let next : suc (length (spots_of c.args.cursor.now.spots.now)) - l.turn - 1 ≡ suc (length (spots_of c.args.cursor.now.spots.now)) - (l.turn + 1) = omega arith in
-    l.invariant ∙ many_step (at_keyword End) (assignment_at c.args.levels) (suc (length (spots_of c.args.cursor.now.spots.now)) - l.turn) (map assignment_of l.found.items) (state_of l.cursor) _ _ (omega arith) (sym c.is_at_keyword.ensures ∙ c.if-is_at_keyword.false) c.in_ok-assignment.ensures
-    ∙ ap₂ (λ n xs. many (at_keyword End) (assignment_at c.args.levels) n xs (state_of c.read_assignment.new.cursor)) next (sym pushed)
+    l.invariant ∙ many_step ends_assignments (assignment_at c.args.levels) (suc (length (spots_of c.args.cursor.now.spots.now)) - l.turn) (map assignment_of l.found.items) (state_of l.cursor) _ _ (omega arith) (sym c.ends_assignments.ensures ∙ c.if-ends_assignments.false) c.in_ok-assignment.ensures
+    ∙ ap₂ (λ n xs. many ends_assignments (assignment_at c.args.levels) n xs (state_of c.read_assignment.new.cursor)) next (sym pushed)
 
 pub returns : goal.returns
 returns c =
     let l = c.more in
     let size = spots_count c.args.cursor.now.spots.now in
     let over = c.more-test.false in
-    λ not_memory. l.invariant ∙ many_over (at_keyword End) (assignment_at c.args.levels) (suc (length (spots_of c.args.cursor.now.spots.now)) - l.turn) (map assignment_of l.found.items) (state_of l.cursor) (omega arith) ∙ ap Err (sym c.fault.ensures)
+    λ not_memory. l.invariant ∙ many_over ends_assignments (assignment_at c.args.levels) (suc (length (spots_of c.args.cursor.now.spots.now)) - l.turn) (map assignment_of l.found.items) (state_of l.cursor) (omega arith) ∙ ap Err (sym c.fault.ensures)

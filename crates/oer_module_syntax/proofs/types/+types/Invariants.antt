@@ -10,6 +10,15 @@ decreases-read_type l = 30 * l.levels + 0
 abbrev pub decreases-read_begun : goal.decreases-read_begun
 decreases-read_begun l = 30 * l.levels + 20
 
+abbrev pub decreases-read_unbuilt : goal.decreases-read_unbuilt
+decreases-read_unbuilt l = 30 * l.levels + 19
+
+abbrev pub decreases-read_small : goal.decreases-read_small
+decreases-read_small l = 30 * l.levels + 18
+
+abbrev pub decreases-read_selection : goal.decreases-read_selection
+decreases-read_selection l = 30 * l.levels + 17
+
 abbrev pub decreases-read_formed : goal.decreases-read_formed
 decreases-read_formed l = 30 * l.levels + 19
 
