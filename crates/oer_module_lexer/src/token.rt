@@ -52,7 +52,7 @@ pub enum Token<'t> {
     /// A letter, then letters, digits and single hyphens: a reference, an identifier or a reserved
     /// word (X.680, 12.2 to 12.5 and 12.38).
     Word(&'t str),
-    /// `&` and a word: a field of a class (X.681, 7.4 to 7.9).
+    /// `&` and a word: a field of a class (X.681, 7.4 to 7.8).
     Field(&'t str),
     /// Digits, the first of which is 0 only in `0` (X.680, 12.8).
     Number(&'t str),

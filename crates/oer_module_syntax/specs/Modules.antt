@@ -196,7 +196,7 @@ module _ (levels : ℕ) where
   assignment_by (Some (word w)) s = if is_reserved w then expected sought.Symbol s else assigned_at (place s) w (bump s)
   assignment_by _ s = expected sought.Symbol s
 
-  -- a name and what it stands for (16.1)
+  -- a name and what it stands for (13.1)
   unfoldable pub assignment_at : State → Read Assignment
   assignment_at s = assignment_by (first s) s
 

@@ -68,7 +68,7 @@ keyword_text kw.Unique = codes "UNIQUE"
 keyword_text kw.Universal = codes "UNIVERSAL"
 keyword_text kw.With = codes "WITH"
 
--- the first word of a type (17.2)
+-- the first word of a type (17.2), or of a useful type (17.3, 45 to 48)
 abbrev pub builtin_first : Builtin → List ℕ
 builtin_first bi.Boolean = codes "BOOLEAN"
 builtin_first bi.Null = codes "NULL"

@@ -183,7 +183,7 @@ pub enum Versions {
     Descendants,
 }
 
-/// What a module gives a name (X.680, 16.1; X.681, 9.1, 11.1 and 12.1; X.683, 8.1).
+/// What a module gives a name (X.680, 13.1; X.681, 9.1, 11.1 and 12.1; X.683, 8.1).
 #[derive(Drop)]
 pub struct Assignment<'s, 't> {
     pub at: usize,

@@ -64,7 +64,8 @@ pub enum Keyword {
     With,
 }
 
-/// The types that have words of their own (X.680, 17.2).
+/// The types that have words of their own: those that are built in (X.680, 17.2), and the useful types
+/// GeneralizedTime, UTCTime and ObjectDescriptor (X.680, 17.3 and 45 to 48).
 #[derive(Clone, Copy, Debug, PartialEq, Eq)]
 pub enum Builtin {
     Boolean,
