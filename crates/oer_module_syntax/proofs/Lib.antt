@@ -1,3 +1,4 @@
 pub mod Loops
+pub mod Matching
 pub mod Spots
 pub mod Trees

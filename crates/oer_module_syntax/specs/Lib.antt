@@ -1,4 +1,5 @@
 pub mod Looks
+pub mod Matched
 pub mod Modules
 pub mod Ranges
 pub mod State

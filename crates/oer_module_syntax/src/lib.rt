@@ -3,6 +3,7 @@
 
 mod cursor;
 mod fault;
+pub mod laws;
 mod look;
 mod modules;
 mod range;
