@@ -15,17 +15,26 @@ use Rattle.oer_c.specs.contracts.shared.Shared as known
 use Rattle.oer_c.specs.declared.shared.Shared.{Shared}
 use Rattle.oer_c.specs.contracts.held.Held as held
 use Rattle.std.proofs.Crossing.{crosses}
+use Rattle.std.proofs.MapsCrossing as maps
 use Rattle.oer_values.proofs.shape.Shape.TheLaws.TheKnot as shape
 use Rattle.oer_values.proofs.value.Value.TheLaws.TheKnot as value
 use Rattle.oer_notation.specs.contracts.known.Definitions as definitions
+use Rattle.oer_notation.specs.contracts.names.Names as names
 use Rattle.oer_notation.specs.contracts.types.Types as named
 
--- the definitions, which stand in a map and in a list
+-- the Names, which stand in a map and in a list
+names_send : IsSend names.the_row
+names_send = search (maps.crosses, crosses, sendable) depth 60 fits 20000
+
+names_sync : IsSync names.the_row
+names_sync = search (maps.crosses, crosses, sendable) depth 60 fits 20000
+
+-- the definitions
 definitions_send : IsSend definitions.the_row
-definitions_send = search (crosses, shape.crosses, value.crosses, sendable) depth 60 fits 20000
+definitions_send = search (names_send, crosses, shape.crosses, value.crosses, sendable) depth 60 fits 20000
 
 definitions_sync : IsSync definitions.the_row
-definitions_sync = search (crosses, shape.crosses, value.crosses, sendable) depth 60 fits 20000
+definitions_sync = search (names_sync, crosses, shape.crosses, value.crosses, sendable) depth 60 fits 20000
 
 named_send : IsSend named.the_row
 named_send = search (definitions_send, crosses, shape.crosses, value.crosses, sendable) depth 60 fits 20000
