@@ -1,2 +1,10 @@
+pub mod Again
+pub mod Chains
 pub mod Floats
+pub mod Nexts
+pub mod Parts
+pub mod Spoken
+pub mod Steps
+pub mod Tags
 pub mod Taken
+pub mod Texts

@@ -1,4 +1,8 @@
 //! Bits of a preamble, and of a bitmap of additions.
+ghost use Rattle.std.specs.Prelude.{◌≡◌, drop};
+ghost use Rattle.oer_model.specs.Bits.{bits_of, first_bit};
+ghost use Rattle.oer_values.specs.ShapeView.{need_of};
+ghost use Rattle.oer_entries.specs.Next.{after_length, bits_in, has_bit, map_bits};
 
 use crate::frame::Name;
 use oer_types::{Addition, Field, Need};
@@ -14,7 +18,9 @@ pub struct NamedBit<'a> {
 
 /// The bit with this number, the most significant of the first octet being number 0. It is false
 /// past the octets.
-pub(crate) fn bit(octets: &[u8], index: usize) -> bool {
+pub(crate) fn bit(octets: &[u8], index: usize) -> bool
+    ensures { result ≡ first_bit (drop index (bits_of octets.now)) }
+{
     match octets.get(index / 8) {
         Some(octet) => (*octet >> (7 - index % 8)) % 2 == 1,
         None => false,
@@ -22,7 +28,9 @@ pub(crate) fn bit(octets: &[u8], index: usize) -> bool {
 }
 
 /// Whether the component has a bit in the preamble (X.696, 16.2).
-pub(crate) fn has_bit(field: &Field) -> bool {
+pub(crate) fn has_bit(field: &Field) -> bool
+    ensures { result ≡ has_bit (need_of field.now.need) }
+{
     !matches!(field.need, Need::Must)
 }
 
@@ -60,7 +68,9 @@ pub(crate) struct Bitmap<'a> {
 }
 
 // What follows a length.
-fn after_length(octets: &[u8]) -> &[u8] {
+fn after_length(octets: &[u8]) -> &[u8]
+    ensures { result.now ≡ after_length octets.now }
+{
     let Some((first, rest)) = octets.split_first() else {
         return octets;
     };
@@ -77,7 +87,9 @@ fn after_length(octets: &[u8]) -> &[u8] {
 impl<'a> Bitmap<'a> {
     /// The bits of a bitmap (X.696, 16.4): a length, an octet that says how many bits of the last
     /// octet aren't used, and the bits.
-    pub(crate) fn of(octets: &'a [u8]) -> Bitmap<'a> {
+    pub(crate) fn of(octets: &'a [u8]) -> Bitmap<'a>
+        ensures { bits_in result ≡ map_bits octets.now }
+    {
         let Some((unused, bits)) = after_length(octets).split_first() else {
             return Bitmap { octets, count: 0 };
         };
@@ -91,7 +103,9 @@ impl<'a> Bitmap<'a> {
     }
 
     /// The bit with this number; false past the bits.
-    pub(crate) fn bit(self, index: usize) -> bool {
+    pub(crate) fn bit(self, index: usize) -> bool
+        ensures { result ≡ first_bit (drop index (bits_in self.entry)) }
+    {
         index < self.count && bit(self.octets, index)
     }
 

@@ -3,12 +3,14 @@ ghost use Rattle.std.specs.Prelude.{◌≡◌, IfOk, OnOk};
 ghost use Rattle.oer_types.specs.Schema.{the_type};
 ghost use Rattle.oer_rows.specs.Listing.{rows_of};
 ghost use Rattle.oer_rows.specs.Rows.{line_in};
-ghost use Rattle.oer_entries.specs.Entries.{AreTakenFor, TakesAtMostOne, TakesOne, spot_of};
+ghost use Rattle.oer_entries.specs.Entries.{ArePlacedFor, AreTakenFor, TakesAtMostOne, spot_of};
+ghost use Rattle.oer_entries.specs.Makes.{Makes, Places};
 
 use crate::entry::{Entry, Place, What};
 use crate::meaning::{Meaning, meaning_of};
 use crate::taker::TakeEntry;
-use crate::trail::{Part, Way, octets_from};
+use crate::trail::{Part, octets_from};
+use crate::way::Way;
 use oer_reader::Verdict;
 use oer_rows::{RowRef, Stopped, TakeRow, each_row};
 use oer_types::Schema;
@@ -17,7 +19,9 @@ use std::alloc::Global;
 
 // The entry of octets of the part.
 fn entry<'e>(part: Part<'e>, offset: usize, octets: &'e [u8], meaning: Meaning<'e>) -> Entry<'e>
-    ensures { spot_of result ≡ (offset, octets.entry.now) }
+    ensures spot { spot_of result ≡ (offset, octets.entry.now) }
+    ensures path { result.path.now ≡ part.entry.path.now }
+    ensures names { result.names.now ≡ part.entry.names.now }
 {
     Entry {
         offset,
@@ -58,7 +62,7 @@ struct Making<'a, E: TakeEntry + Drop> {
 impl<E: TakeEntry + Drop> Making<'_, E> {
     // Goes to the part of the row, and has the entry of its octets taken.
     fn enter(&mut self, row: RowRef<'_>) -> Result<(), Stopped>
-        ensures { OnOk result (TakesOne E.takes self.old.taker (line_in row.entry) self.new.taker) }
+        ensures { OnOk result (Places E.takes self.old.taker self.old.way (line_in row.entry) self.new.taker self.new.way) }
     {
         self.way.go_to(self.alloc, row.path)?;
         let meaning = meaning_of(self.alloc, &self.way, row)?;
@@ -101,7 +105,7 @@ impl<E: TakeEntry + Drop> Making<'_, E> {
 }
 
 impl<E: TakeEntry + Drop> TakeRow for Making<'_, E> {
-    ghost takes = { λ s l t. TakesOne E.takes s.taker l t.taker };
+    ghost takes = { λ s l t. Makes E.takes s.taker s.way l t.taker t.way };
 
     fn take(&mut self, row: RowRef<'_>) -> Result<(), Stopped> {
         self.enter(row)?;
@@ -120,7 +124,10 @@ pub fn each_entry<E: TakeEntry + Drop>(
     octets: &[u8],
     taker: E,
 ) -> Result<(E, Option<Place>), Stopped>
-    ensures { IfOk result (λ done. AreTakenFor E.takes (rows_of (the_type schema.now) octets.now) taker done.0) }
+    ensures taken { IfOk result (λ done. AreTakenFor E.takes (rows_of (the_type schema.now) octets.now) taker done.0) }
+    // Each entry of a row has the path of its row, and the names on it.
+    ensures placed { let T = the_type schema.now in
+        IfOk result (λ done. ArePlacedFor E.takes T (rows_of T octets.now) taker done.0) }
 {
     let mut making = Making {
         alloc,

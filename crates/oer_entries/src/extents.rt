@@ -1,6 +1,7 @@
 //! How far entries reach.
 
-use crate::trail::{Part, Way, octets_from};
+use crate::trail::{Part, octets_from};
+use crate::way::Way;
 use oer_rows::{RowRef, Stopped, TakeRow, each_row};
 use oer_types::Schema;
 use oer_units::ReadFault;

@@ -1,4 +1,13 @@
 //! A part on the way to the octets in hand.
+ghost use Rattle.std.specs.Prelude.{◌≡◌, [], ◌∷◌, MatchOption, option_map, string_bytes};
+ghost use Rattle.oer_model.specs.Parts.{to_chosen};
+ghost use Rattle.oer_values.specs.ShapeView.{fields_of, sequence_with, type_of};
+ghost use Rattle.oer_json.specs.Keys.{place_key, tag_key};
+ghost use Rattle.oer_parts.specs.Walk.{step_of};
+ghost use Rattle.oer_entries.specs.Frames.{fresh, noted, seen, type_at};
+ghost use Rattle.oer_entries.specs.Known.{component_at, part_in, part_of, plainly, unknown};
+ghost use Rattle.oer_entries.specs.Names.{text_of};
+ghost use Rattle.oer_entries.specs.Next.{follows_tag};
 
 use crate::units::{length_in, quantity_in, tag_in};
 use oer_reader::{Role, Step};
@@ -54,7 +63,9 @@ pub(crate) struct Frame<'a> {
 
 impl<'a> Frame<'a> {
     // A part of which nothing was read yet.
-    fn new(step: Option<Step>, name: Name<'a>, shape: Option<&'a Shape>) -> Frame<'a> {
+    fn new(step: Option<Step>, name: Name<'a>, shape: Option<&'a Shape>) -> Frame<'a>
+        ensures { seen result ≡ fresh step (record { name = text_of name.entry; type = option_map (λ s. type_of s.now) shape.entry; default_value = None }) 0 0 }
+    {
         Frame {
             step,
             name,
@@ -74,12 +85,16 @@ impl<'a> Frame<'a> {
     }
 
     /// The whole.
-    pub(crate) fn whole(shape: &'a Shape) -> Frame<'a> {
+    pub(crate) fn whole(shape: &'a Shape) -> Frame<'a>
+        ensures { seen result ≡ fresh None (plainly [] (type_of shape.now)) 0 0 }
+    {
         Frame::new(None, Name::Whole, Some(shape))
     }
 
     // A component of the root.
-    fn component(step: Step, field: &'a Field) -> Frame<'a> {
+    fn component(step: Step, field: &'a Field) -> Frame<'a>
+        ensures { seen result ≡ fresh (Some step) (component_at 0 (fields_of (field.now ∷ []))) 0 0 }
+    {
         let mut frame = Frame::new(
             Some(step),
             Name::Text(field.name.as_str()),
@@ -92,7 +107,10 @@ impl<'a> Frame<'a> {
     }
 
     // An addition, which the type may not know.
-    fn addition(step: Step, index: usize, known: Option<&'a Addition>) -> Frame<'a> {
+    fn addition(step: Step, index: usize, known: Option<&'a Addition>) -> Frame<'a>
+        ensures { MatchOption known.entry (seen result ≡ fresh (Some step) (unknown (place_key index)) 0 0)
+            (λ a. seen result ≡ fresh (Some step) (plainly (string_bytes a.now.name) (type_of a.now.shape)) 0 0) }
+    {
         match known {
             Some(one) => Frame::new(Some(step), Name::Text(one.name.as_str()), Some(&one.shape)),
             None => Frame::new(Some(step), Name::Addition(index), None),
@@ -100,7 +118,10 @@ impl<'a> Frame<'a> {
     }
 
     // The alternative with the tag, which the type may not know.
-    fn chosen(step: Step, tag: Tag, known: Option<&'a Alt>) -> Frame<'a> {
+    fn chosen(step: Step, tag: Tag, known: Option<&'a Alt>) -> Frame<'a>
+        ensures { MatchOption known.entry (seen result ≡ fresh (Some step) (unknown (tag_key tag)) 0 0)
+            (λ a. seen result ≡ fresh (Some step) (plainly (string_bytes a.now.name) (type_of a.now.shape)) 0 0) }
+    {
         match known {
             Some(one) => Frame::new(Some(step), Name::Text(one.name.as_str()), Some(&one.shape)),
             None => Frame::new(Some(step), Name::Alternative(tag), None),
@@ -112,7 +133,10 @@ impl<'a> Frame<'a> {
         step: Step,
         root: &'a [Field],
         additions: &'a Option<Vec<Addition>>,
-    ) -> Option<Frame<'a>> {
+    ) -> Option<Frame<'a>>
+        ensures { let part = part_of (sequence_with root.now additions.now) None (step_of step) in
+            MatchOption result (part ≡ unknown []) (λ f. seen f ≡ fresh (Some step) part 0 0) }
+    {
         match step {
             Step::Component(index) => {
                 let field = root.get(index)?;
@@ -129,7 +153,10 @@ impl<'a> Frame<'a> {
     }
 
     // The part to which the step leads, if its type has the step.
-    fn known(&self, step: Step) -> Option<Frame<'a>> {
+    fn known(&self, step: Step) -> Option<Frame<'a>>
+        ensures { let part = part_in (type_at self.now) self.now.tag (step_of step) in
+            MatchOption result (part ≡ unknown []) (λ f. seen f ≡ fresh (Some step) part 0 0) }
+    {
         match self.shape? {
             Shape::Sequence { root, additions } => Frame::of_sequence(step, root, additions),
             Shape::SequenceOf { item, .. } => match step {
@@ -145,7 +172,9 @@ impl<'a> Frame<'a> {
     }
 
     /// The part to which the step leads.
-    pub(crate) fn inner(&self, step: Step) -> Frame<'a> {
+    pub(crate) fn inner(&self, step: Step) -> Frame<'a>
+        ensures { seen result ≡ fresh (Some step) (part_in (type_at self.now) self.now.tag (step_of step)) 0 0 }
+    {
         match self.known(step) {
             Some(frame) => frame,
             None => Frame::new(Some(step), Name::Whole, None),
@@ -154,7 +183,9 @@ impl<'a> Frame<'a> {
 
     /// Whether the type knows the alternative with the tag, or has an extension marker, so that something
     /// follows the tag.
-    pub(crate) fn has_alternative(&self, tag: Tag) -> bool {
+    pub(crate) fn has_alternative(&self, tag: Tag) -> bool
+        ensures { result ≡ follows_tag (type_at self.now) tag }
+    {
         let Some(Shape::Choice { root, additions }) = self.shape else {
             return false;
         };
@@ -162,7 +193,9 @@ impl<'a> Frame<'a> {
     }
 
     /// What the alternative with the tag is called.
-    pub(crate) fn alternative(&self, tag: Tag) -> Name<'a> {
+    pub(crate) fn alternative(&self, tag: Tag) -> Name<'a>
+        ensures { text_of result ≡ (part_in (type_at self.now) (Some tag) to_chosen).name }
+    {
         let Some(Shape::Choice { root, additions }) = self.shape else {
             return Name::Whole;
         };
@@ -173,7 +206,9 @@ impl<'a> Frame<'a> {
     }
 
     /// Notes octets that were read of the part.
-    pub(crate) fn note(&mut self, role: Role, offset: usize, octets: &'a [u8]) {
+    pub(crate) fn note(&mut self, role: Role, offset: usize, octets: &'a [u8])
+        ensures { seen self.new ≡ noted role offset octets.now (seen self.old) }
+    {
         self.is_begun = true;
         match role {
             Role::Preamble => self.preamble = Some(octets),

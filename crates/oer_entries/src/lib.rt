@@ -8,11 +8,13 @@ mod extents;
 mod frame;
 mod leaf;
 mod meaning;
+mod next;
 mod plain;
 mod taker;
 mod text;
 mod trail;
 mod units;
+mod way;
 
 pub use bits::NamedBit;
 pub use entries::each_entry;

@@ -1,32 +1,22 @@
-//! The way to the octets in hand: the parts on it, from the whole on, and its texts. There is always one
-//! part: the whole.
-ghost use Rattle.std.specs.Prelude.{◌≡◌, ◌≤◌, string_bytes, vec_len};
+//! How the way leads on to other octets, and back.
+ghost use Rattle.std.specs.Prelude.{◌≡◌, ◌≤◌, ◌+◌, ◌++◌, ◌∷◌, [], List, IfOk, OnOk, drop, length, map, string_bytes, take, vec_len};
+ghost use Rattle.oer_model.specs.AsnType.{AsnType};
+ghost use Rattle.oer_values.specs.ShapeView.{type_of};
+ghost use Rattle.oer_entries.specs.declared.frame.Frame.{Frame};
+ghost use Rattle.oer_entries.specs.Frames.{fresh, noted, seen};
+ghost use Rattle.oer_entries.specs.Known.{plainly};
+ghost use Rattle.oer_entries.specs.Next.{gone_on};
+ghost use Rattle.oer_entries.specs.Trails.{IsWay, common, entered, last_by, parts_of, reached};
 
-use crate::bits::{Bitmap, bit, has_bit};
 use crate::entry::Place;
 use crate::frame::Frame;
+use crate::next::{Next, next_of};
 use crate::text::{cut, kind_of, push_name, push_step};
+use crate::way::Way;
 use oer_reader::Step;
 use oer_rows::RowRef;
-use oer_types::{Addition, Field, Shape};
+use oer_types::Shape;
 use std::alloc::{AllocError, Global};
-
-/// The parts from the whole to the one in hand, and its texts.
-#[derive(Drop)]
-pub(crate) struct Way<'a> {
-    pub frames: Vec<Frame<'a>>,
-    /// The path to the last part, in the spelling of `oer part`. That of the whole is empty.
-    pub path: String,
-    /// The names on that path. The whole has none.
-    pub names: String,
-    /// All octets.
-    pub octets: &'a [u8],
-    /// Where those end that were read.
-    pub end: usize,
-    /// Whether a row was read.
-    is_begun: bool,
-    ghost has_whole: { 1 ≤ vec_len frames },
-}
 
 /// What is said of a part in the entry of its octets.
 #[derive(Clone, Copy)]
@@ -46,145 +36,33 @@ impl Part<'_> {
 }
 
 /// The octets from this offset on.
-pub(crate) fn octets_from(octets: &[u8], offset: usize) -> &[u8] {
+pub(crate) fn octets_from(octets: &[u8], offset: usize) -> &[u8]
+    ensures { result.now ≡ drop offset octets.now }
+{
     &octets[offset.min(octets.len())..]
 }
 
 // So many octets from this offset on, or fewer where they end.
-fn octets_at(octets: &[u8], offset: usize, count: usize) -> &[u8] {
+fn octets_at(octets: &[u8], offset: usize, count: usize) -> &[u8]
+    ensures { result.now ≡ take count (drop offset octets.now) }
+{
     let rest = octets_from(octets, offset);
     &rest[..count.min(rest.len())]
 }
 
 // How many of the frames are on the path.
 fn shared(frames: &[Frame<'_>], path: &[Step]) -> usize
-    ensures { 1 ≤ result }
+    ensures is { result ≡ common (drop 1 (map seen frames.now)) path.now + 1 }
+    ensures steps { result ≤ length path.now + 1 }
 {
     let mut count: usize = 1;
-    for (frame, step) in frames.iter().skip(1).zip(path) {
-        if frame.step != Some(*step) {
-            return count;
+    for step in path {
+        match frames.get(count) {
+            Some(frame) if frame.step == Some(*step) => count += 1,
+            _ => return count,
         }
-        count = count.saturating_add(1);
     }
     count
-}
-
-// The first component from this one on that has octets, by the preamble.
-fn next_component(
-    root: &[Field],
-    from: usize,
-    is_extensible: bool,
-    preamble: &[u8],
-) -> Option<Step> {
-    let mut place: usize = if is_extensible { 1 } else { 0 };
-    for (index, field) in root.iter().enumerate() {
-        let is_present = !has_bit(field) || bit(preamble, place);
-        if has_bit(field) {
-            place = place.saturating_add(1);
-        }
-        if is_present && index >= from {
-            return Some(Step::Component(index));
-        }
-    }
-    None
-}
-
-// The first addition from this one on that is there.
-fn next_addition(bitmap: &[u8], from: usize) -> Option<Step> {
-    let bits = Bitmap::of(bitmap);
-    for index in from..bits.count {
-        if bits.bit(index) {
-            return Some(Step::Addition(index));
-        }
-    }
-    None
-}
-
-/// What comes next in a part of which some was read.
-#[derive(Clone, Copy)]
-enum Next {
-    /// Octets of the part itself.
-    Here,
-    /// A part of it.
-    Inside(Step),
-    /// Nothing: it is whole.
-    After,
-}
-
-// What comes after the components of the root.
-fn next_after_root(frame: &Frame<'_>, is_extended: bool) -> Next {
-    if !is_extended {
-        return Next::After;
-    }
-    let Some(bitmap) = frame.bitmap else {
-        return Next::Here;
-    };
-    let from = match frame.last {
-        Some(Step::Addition(index)) => index.saturating_add(1),
-        _ => 0,
-    };
-    match next_addition(bitmap, from) {
-        Some(step) => Next::Inside(step),
-        None => Next::After,
-    }
-}
-
-// What comes next in a SEQUENCE.
-fn next_in_sequence(frame: &Frame<'_>, root: &[Field], additions: &Option<Vec<Addition>>) -> Next {
-    let Some(preamble) = frame.preamble else {
-        return Next::Here;
-    };
-    let is_extensible = additions.is_some();
-    let from = match frame.last {
-        None => Some(0),
-        Some(Step::Component(index)) => Some(index.saturating_add(1)),
-        _ => None,
-    };
-    if let Some(from) = from {
-        if let Some(step) = next_component(root, from, is_extensible, preamble) {
-            return Next::Inside(step);
-        }
-    }
-    next_after_root(frame, is_extensible && bit(preamble, 0))
-}
-
-// What comes next in a SEQUENCE OF.
-fn next_element(frame: &Frame<'_>) -> Next {
-    let Some(count) = frame.count else {
-        return Next::Here;
-    };
-    let index = match frame.last {
-        Some(Step::Item(index)) => index.saturating_add(1),
-        _ => 0,
-    };
-    if index < count {
-        Next::Inside(Step::Item(index))
-    } else {
-        Next::After
-    }
-}
-
-// What comes next in a CHOICE.
-fn next_in_choice(frame: &Frame<'_>) -> Next {
-    if frame.last.is_some() {
-        return Next::After;
-    }
-    match frame.tag {
-        Some(tag) if frame.has_alternative(tag) => Next::Inside(Step::Chosen),
-        _ => Next::Here,
-    }
-}
-
-// What comes next in the part.
-fn next_of(frame: &Frame<'_>) -> Next {
-    match frame.shape {
-        Some(Shape::Sequence { root, additions }) => next_in_sequence(frame, root, additions),
-        Some(Shape::SequenceOf { .. }) => next_element(frame),
-        Some(Shape::Choice { .. }) => next_in_choice(frame),
-        _ if frame.is_done => Next::After,
-        _ => Next::Here,
-    }
 }
 
 impl<'a> Way<'a> {
@@ -193,7 +71,11 @@ impl<'a> Way<'a> {
         alloc: Global,
         shape: &'a Shape,
         octets: &'a [u8],
-    ) -> Result<Way<'a>, AllocError> {
+    ) -> Result<Way<'a>, AllocError>
+        ensures way { IfOk result (λ way. IsWay (type_of shape.now) way) }
+        ensures parts { IfOk result (λ way. parts_of way ≡ fresh None (plainly [] (type_of shape.now)) 0 0 ∷ []) }
+        ensures octets { IfOk result (λ way. way.octets.now ≡ octets.now) }
+    {
         let mut frames = Vec::new(alloc);
         frames.push(Frame::whole(shape))?;
         Ok(Way {
@@ -207,7 +89,9 @@ impl<'a> Way<'a> {
     }
 
     /// The part at the end of the way.
-    pub(crate) fn last(&self) -> &Frame<'a> {
+    pub(crate) fn last(&self) -> &Frame<'a>
+        ensures { (front : List Frame) × (self.now.frames.items ≡ front ++ result.now ∷ []) }
+    {
         match self.frames.last() {
             Some(frame) => frame,
             None => unreachable!(),
@@ -215,7 +99,12 @@ impl<'a> Way<'a> {
     }
 
     /// Notes a row of the last part.
-    pub(crate) fn note(&mut self, row: RowRef<'_>) {
+    pub(crate) fn note(&mut self, row: RowRef<'_>)
+        ensures parts { let octets = take (length row.entry.octets.now) (drop row.entry.offset self.old.octets.now) in
+            parts_of self.new ≡ last_by (noted row.entry.role row.entry.offset octets) (parts_of self.old) }
+        ensures way { (T : AsnType) → IsWay T self.old → IsWay T self.new }
+        ensures octets { self.new.octets ≡ self.old.octets }
+    {
         let octets = octets_at(self.octets, row.offset, row.octets.len());
         let Some(frame) = self.frames.last_mut() else {
             unreachable!();
@@ -247,6 +136,10 @@ impl<'a> Way<'a> {
     // Goes back to the part with this number, counted from 1, if there are more.
     fn go_back(&mut self, count: usize)
         requires { 1 ≤ count }
+        ensures parts { parts_of self.new ≡ take count (parts_of self.old) }
+        ensures way { (T : AsnType) → IsWay T self.old → IsWay T self.new }
+        ensures end { self.new.end ≡ self.old.end }
+        ensures octets { self.new.octets ≡ self.old.octets }
     {
         if count >= self.frames.len() {
             return;
@@ -260,7 +153,11 @@ impl<'a> Way<'a> {
     }
 
     // Goes on to the part of the last one to which the step leads.
-    fn enter(&mut self, alloc: Global, step: Step) -> Result<(), AllocError> {
+    fn enter(&mut self, alloc: Global, step: Step) -> Result<(), AllocError>
+        ensures parts { (T : AsnType) → IsWay T self.old → OnOk result (parts_of self.new ≡ entered step (parts_of self.old)) }
+        ensures way { (T : AsnType) → IsWay T self.old → OnOk result (IsWay T self.new) }
+        ensures octets { self.new.octets ≡ self.old.octets }
+    {
         let Some(last) = self.frames.last_mut() else {
             unreachable!();
         };
@@ -275,17 +172,25 @@ impl<'a> Way<'a> {
     }
 
     /// Goes to the part at the end of the path.
-    pub(crate) fn go_to(&mut self, alloc: Global, path: &[Step]) -> Result<(), AllocError> {
+    pub(crate) fn go_to(&mut self, alloc: Global, path: &[Step]) -> Result<(), AllocError>
+        ensures parts { (T : AsnType) → IsWay T self.old → OnOk result (parts_of self.new ≡ reached path.now (parts_of self.old)) }
+        ensures way { (T : AsnType) → IsWay T self.old → OnOk result (IsWay T self.new) }
+        ensures octets { self.new.octets ≡ self.old.octets }
+    {
         let count = shared(self.frames.as_slice(), path);
         self.go_back(count);
-        for step in path.iter().skip(self.frames.len().saturating_sub(1)) {
+        let steps = &path[count - 1..];
+        for step in steps {
             self.enter(alloc, *step)?;
         }
         Ok(())
     }
 
     // Goes on to the part that comes next.
-    fn go_on(&mut self, alloc: Global) -> Result<(), AllocError> {
+    fn go_on(&mut self, alloc: Global) -> Result<(), AllocError>
+        ensures parts { (T : AsnType) → IsWay T self.old → OnOk result (parts_of self.new ≡ gone_on self.old.end (parts_of self.old)) }
+        ensures way { (T : AsnType) → IsWay T self.old → OnOk result (IsWay T self.new) }
+    {
         for _ in 0..self.frames.len() {
             let frame = self.last();
             match next_of(frame) {

@@ -1,36 +1,50 @@
 //! Units that stand between parts: what they say, and how they are spelt in the shortest form.
+ghost use Rattle.std.specs.Prelude.{◌≡◌};
+ghost use Rattle.oer_units.specs.Reader.{at};
+ghost use Rattle.oer_checker.specs.Check.{most};
+ghost use Rattle.oer_checker.specs.Places.{place_of};
+ghost use Rattle.oer_entries.specs.Frames.{length_of, quantity_of, tag_of};
 
-use oer_units::{
-    Metered, Tag, Window, length, length_len, put_length, put_unsigned_counted, tag,
-    unsigned_counted, unsigned_counted_len,
-};
+use oer_checker::readers::{Cursor, sized_length_at, sized_quantity_at, tag_at};
+use oer_model::Size;
+use oer_units::{Metered, Tag, length_len, put_length, put_unsigned_counted, unsigned_counted_len};
 use std::alloc::{AllocError, Global};
 
+// A cursor at the front of the octets, without a bound.
+fn front(octets: &[u8]) -> Cursor<'_>
+    ensures { place_of result ≡ at octets.now most }
+{
+    Cursor {
+        rest: octets,
+        left: u64::MAX,
+    }
+}
+
 /// The length (X.696, 8.6) that the octets are, whatever follows it.
-pub(crate) fn length_in(octets: &[u8]) -> Option<u64> {
-    let mut reader = Metered::new(octets);
-    let mut w = Window::new(&mut reader, u64::MAX);
-    match length(&mut w) {
-        Ok(count) => Some(count),
+pub(crate) fn length_in(octets: &[u8]) -> Option<u64>
+    ensures { result ≡ length_of octets.now }
+{
+    match sized_length_at(&mut front(octets)) {
+        Ok(counted) => Some(counted.count),
         Err(_) => None,
     }
 }
 
 /// The quantity (X.696, 17) that the octets are.
-pub(crate) fn quantity_in(octets: &[u8]) -> Option<u64> {
-    let mut reader = Metered::new(octets);
-    let mut w = Window::new(&mut reader, u64::MAX);
-    match unsigned_counted(&mut w) {
-        Ok(count) => u64::try_from(count).ok(),
+pub(crate) fn quantity_in(octets: &[u8]) -> Option<u64>
+    ensures { result ≡ quantity_of octets.now }
+{
+    match sized_quantity_at(Size::any(), &mut front(octets)) {
+        Ok(counted) => Some(counted.count),
         Err(_) => None,
     }
 }
 
 /// The tag (X.696, 8.7.2) that the octets are.
-pub(crate) fn tag_in(octets: &[u8]) -> Option<Tag> {
-    let mut reader = Metered::new(octets);
-    let mut w = Window::new(&mut reader, u64::MAX);
-    match tag(&mut w) {
+pub(crate) fn tag_in(octets: &[u8]) -> Option<Tag>
+    ensures { result ≡ tag_of octets.now }
+{
+    match tag_at(&mut front(octets)) {
         Ok(tag) => Some(tag),
         Err(_) => None,
     }

@@ -1,8 +1,10 @@
-use Rattle.std.proofs.Common.{◌≤◌}
+use Rattle.std.proofs.Common.{◌≡◌, ◌≤◌, ◌+◌, drop, map}
+use Rattle.oer_entries.specs.Frames.{seen}
+use Rattle.oer_entries.specs.Trails.{common}
 use Rattle.oer_entries.proofs.trail.shared.Given as goal
 
-abbrev pub invariant-loop-frame : goal.invariant-loop-frame
-invariant-loop-frame l =
-    (goal.iterator-loop-frame).can_next l.frame-iterator ×
-    (goal.iterator-loop-frame).is_finite l.frame-iterator ×
-    (1 ≤ l.count)
+abbrev pub invariant-loop-step : goal.invariant-loop-step
+invariant-loop-step l = record {
+  count : l.count ≡ l.step-index + 1;
+  is : common (drop l.count (map seen l.frames)) (drop l.step-index l.path) + l.count ≡ common (drop 1 (map seen l.frames)) l.path + 1;
+}
