@@ -1,5 +1,5 @@
 -- Parts of a way as it is entered, left and gone on.
-use Rattle.std.proofs.Common.{◌≡◌, ◌<◌, ◌≤◌, ◌+◌, ℕ, zero, suc, Bool, true, false, cond, if◌then◌else◌, List, [], ◌∷◌, ◌++◌, length, map, take, drop, Option, Some, None, refl, sym, ap, ap₂, subst, ◌∙◌, arith, length-append}
+use Rattle.std.proofs.Common.{◌≡◌, ◌≤◌, ℕ, zero, suc, Bool, true, false, if◌then◌else◌, List, [], ◌∷◌, ◌++◌, length, map, take, drop, Option, Some, refl, sym, ap, ◌∙◌, arith}
 use Rattle.oer_model.specs.AsnType.{AsnType}
 use Rattle.oer_parts.specs.declared.step.Step.{Step}
 use Rattle.oer_rows.specs.declared.row.Role.{Role}
@@ -7,9 +7,8 @@ use Rattle.oer_rows.specs.declared.row.Role.TheVariants.{Preamble, Bitmap, Quant
 use Rattle.oer_entries.specs.Frames.{Seen, noted}
 use Rattle.oer_entries.specs.Known.{Known}
 use Rattle.oer_entries.specs.Next.{gone, gone_from, gone_on, is_through, next_at, next_in, open_parts, unless_through}
-use Rattle.oer_entries.specs.Trails.{AreParts, Follow, Follows, IsWhole, entered, entered_from, grown, grown_from, inner_of, known_from, last_by, names_in, names_to, path_in, path_to, text_to}
+use Rattle.oer_entries.specs.Trails.{AreParts, Follow, Follows, entered, entered_from, grown_from, inner_of, known_from, last_by, names_in, names_to, path_in, path_to, text_to}
 use Rattle.oer_entries.specs.Ways.{joined, pointed, step_text}
-use Rattle.oer_entries.specs.declared.next.Next.TheVariants.{After, Here, Inside}
 use Rattle.oer_entries.proofs.Texts.{names_of, steps_of}
 
 -- ---- left

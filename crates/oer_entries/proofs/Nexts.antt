@@ -1,13 +1,12 @@
 -- What comes next, step by step through components and bits.
-use Rattle.std.proofs.Common.{◌≡◌, ◌<◌, ◌≤◌, ◌+◌, ◌-◌, ◌^◌, ℕ, zero, suc, Bool, true, false, not, ◌&&◌, ◌||◌, leb, if◌then◌else◌, List, [], ◌∷◌, length, drop, take, get_or, min, ⊎_elim, ◌⊎◌, Option, Some, None, refl, sym, ap, ap₂, ◌∙◌, arith, add-one, drop-cons}
+use Rattle.std.proofs.Common.{◌≡◌, ◌<◌, ◌≤◌, ◌+◌, ℕ, zero, suc, Bool, true, false, not, ◌&&◌, ◌||◌, leb, if◌then◌else◌, List, [], ◌∷◌, length, drop, take, get_or, min, ⊎_elim, Some, None, refl, sym, ap, ap₂, ◌∙◌, arith, add-one, drop-cons}
 use Rattle.std.proofs.lemmas.Bool.{le-leb}
 use Rattle.std.proofs.lemmas.Bool.Decides.{leb_tells}
-use Rattle.oer_model.specs.AsnType.{Fields, Need, default, may, must}
-use Rattle.oer_model.specs.Bits.{bits_of, first_bit, later_bits}
+use Rattle.oer_model.specs.AsnType.{Need, default, may, must}
+use Rattle.oer_model.specs.Bits.{first_bit, later_bits}
 use Rattle.oer_model.specs.SharedSteps.{bits_left, is_there}
 use Rattle.oer_values.specs.ShapeView.{fields_of, need_of}
 use Rattle.oer_values.specs.declared.shape.Field.{Field}
-use Rattle.oer_parts.specs.declared.step.Step.{Step}
 use Rattle.oer_parts.specs.declared.step.Step.TheVariants.{Addition, Component}
 use Rattle.oer_checker.proofs.BitLists.{drop_past}
 use Rattle.oer_entries.specs.Next.{addition_from, component_from, has_bit}

@@ -1,12 +1,12 @@
 -- What a step leads to, in a shape and in its type.
 use Rattle.std.proofs.Common.{◌≡◌, ◌<◌, ◌≤◌, ℕ, zero, suc, Bool, true, false, ◌||◌, if◌then◌else◌, List, [], ◌∷◌, length, get_or, Option, Some, None, option_map, is_some, MatchOption, IfSome, slice_index_or, Vec, Global, Bor, string_bytes, refl, sym, ap, ap₂, ◌∙◌, arith}
 use Rattle.oer_units.specs.declared.tagging.Tag.{Tag}
-use Rattle.oer_model.specs.AsnType.{AsnType, no_alternatives}
+use Rattle.oer_model.specs.AsnType.{no_alternatives}
 use Rattle.oer_model.specs.Constraints.{has_tag, same_tag}
 use Rattle.oer_model.specs.Parts as plain
 use Rattle.oer_model.specs.Parts.{to_addition, to_component}
 use Rattle.oer_values.specs.Lookup.{alternative_with, first_with, or_else}
-use Rattle.oer_values.specs.ShapeView.{additions_of, choice_with, fields_of, known_later, later_of, root_of, sequence_with, type_of}
+use Rattle.oer_values.specs.ShapeView.{additions_of, choice_with, fields_of, later_of, root_of, sequence_with, type_of}
 use Rattle.oer_values.specs.declared.shape.Addition.{Addition}
 use Rattle.oer_values.specs.declared.shape.Alt.{Alt}
 use Rattle.oer_values.specs.declared.shape.Field.{Field}
@@ -117,12 +117,14 @@ addition_past n [] (suc i) le = refl
 addition_past n (x ∷ xs) zero le = absurd (omega arith)
 addition_past n (x ∷ xs) (suc i) le = addition_past n xs i (omega arith)
 
-addition_there : (n : ℕ) (xs : List Addition) (i : ℕ) (d : Addition) → i < length xs → plainly (string_bytes (get_or xs i d).name) (type_of (get_or xs i d).shape) ≡ addition_at n i (additions_of xs)
+addition_there : (n : ℕ) (xs : List Addition) (i : ℕ) (d : Addition) → i < length xs
+    → plainly (string_bytes (get_or xs i d).name) (type_of (get_or xs i d).shape) ≡ addition_at n i (additions_of xs)
 addition_there n [] i d less = absurd (omega arith)
 addition_there n (x ∷ xs) zero d less = refl
 addition_there n (x ∷ xs) (suc i) d less = addition_there n xs i d (omega arith)
 
-pub addition_found : (n : ℕ) (xs : List Addition) (i : ℕ) (a : Addition) → i < length xs → a ≡ get_or xs i a → plainly (string_bytes a.name) (type_of a.shape) ≡ addition_at n i (additions_of xs)
+pub addition_found : (n : ℕ) (xs : List Addition) (i : ℕ) (a : Addition) → i < length xs → a ≡ get_or xs i a
+    → plainly (string_bytes a.name) (type_of a.shape) ≡ addition_at n i (additions_of xs)
 addition_found n xs i a less is = ap (λ (x : Addition). plainly (string_bytes x.name) (type_of x.shape)) is ∙ addition_there n xs i a less
 
 -- ---- parts of which nothing was read
@@ -170,7 +172,8 @@ sequence_next : (fs : List Field) (more : Option (Vec Addition Global)) (f : See
 sequence_next fs None f = refl
 sequence_next fs (Some v) f = refl
 
-pub next_is : (f : Frame) (shape : Bor Shape) (root : Vec Field Global) (more : Option (Vec Addition Global)) (fs : List Field) → f.shape ≡ Some shape → shape.now ≡ Sequence root more → fs ≡ root.items
+pub next_is : (f : Frame) (shape : Bor Shape) (root : Vec Field Global) (more : Option (Vec Addition Global)) (fs : List Field) → f.shape ≡ Some shape
+    → shape.now ≡ Sequence root more → fs ≡ root.items
     → after_preamble (is_some more) (fields_of fs) (seen f).preamble (seen f) ≡ next_in (seen f)
 next_is f shape root more fs e is items =
     ap (λ (l : List Field). after_preamble (is_some more) (fields_of l) (seen f).preamble (seen f)) items

@@ -12,12 +12,11 @@ use Rattle.oer_checker.proofs.BitLists.{drop_past}
 use Rattle.oer_entries.specs.Frames.{Seen, fresh, seen}
 use Rattle.oer_entries.specs.Known.{Known}
 use Rattle.oer_entries.specs.Names.{text_of}
-use Rattle.oer_entries.specs.Next.{gone, gone_on, next_in, reaches, through}
+use Rattle.oer_entries.specs.Next.{gone, gone_on, next_in, through}
 use Rattle.oer_entries.specs.Trails.{AreParts, IsWay, common, entered, grown_from, inner_of, known_from, last_by, leads_to, names_in, parts_of, path_in, reached}
 use Rattle.oer_entries.specs.Ways.{pointed, step_text}
 use Rattle.oer_entries.specs.declared.frame.Frame.{Frame}
 use Rattle.oer_entries.specs.declared.next.Next.{Next}
-use Rattle.oer_entries.specs.declared.next.Next.TheVariants.{After}
 use Rattle.oer_entries.specs.declared.way.Way.{Way}
 use Rattle.oer_entries.proofs.Chains.{Stays, entered_snoc, gone_back, gone_here, gone_whole, grown_step, grown_whole, last_by_snoc, names_last, names_snoc, parts_entered, parts_last, parts_take, path_last, path_snoc}
 use Rattle.oer_entries.proofs.Texts.{Cuts, cut_at, last_of, last_snoc}
@@ -164,7 +163,8 @@ on_whole read fs (f ∷ front) x m is few next all =
     let long : length fs ≡ suc (length front + 1) = ap length is ∙ ap suc (length-append front (x ∷ [])) in absurd (omega (arith, long, few))
 
 -- it is, and there are others
-pub on_back : (read : ℕ) (fs : List Frame) (front : List Frame) (x : Frame) (m : Next) (k : ℕ) → fs ≡ front ++ x ∷ [] → k + 1 ≡ length fs → 1 ≤ k → m ≡ next_in (seen x) → through read x.end m ≡ true
+pub on_back : (read : ℕ) (fs : List Frame) (front : List Frame) (x : Frame) (m : Next) (k : ℕ) → fs ≡ front ++ x ∷ [] → k + 1 ≡ length fs → 1 ≤ k → m ≡ next_in (seen x)
+    → through read x.end m ≡ true
     → gone_on read (take k (map seen fs)) ≡ gone_on read (map seen fs)
 on_back read fs [] x m k is long some next all = let one : length fs ≡ 1 = ap length is in absurd (omega (arith, long, some, one))
 on_back read fs (f ∷ front) x m k is long some next all =

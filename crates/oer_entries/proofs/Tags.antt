@@ -1,5 +1,5 @@
 -- The steps and the tags of a way, row by row.
-use Rattle.std.proofs.Common.{◌≡◌, ℕ, zero, suc, Bool, true, false, eqb, ◌&&◌, if◌then◌else◌, List, [], ◌∷◌, ◌++◌, map, take, drop, Option, Some, None, option_map, string_bytes, refl, sym, ap, ap₂, subst, ◌∙◌, append_assoc, append-nil}
+use Rattle.std.proofs.Common.{◌≡◌, ℕ, suc, Bool, true, false, eqb, ◌&&◌, if◌then◌else◌, List, [], ◌∷◌, ◌++◌, map, take, drop, Option, Some, None, option_map, string_bytes, refl, sym, ap, ap₂, subst, ◌∙◌, append_assoc, append-nil}
 use Rattle.std.proofs.lemmas.Bool.{eqb-true, eq-eqb}
 use Rattle.std.proofs.lemmas.List.{drop-map}
 use Rattle.oer_units.specs.declared.tagging.Tag.{Tag}
@@ -16,7 +16,7 @@ use Rattle.oer_entries.specs.Entries.{tag_at, tag_by}
 use Rattle.oer_entries.specs.Frames.{Seen, fresh, noted}
 use Rattle.oer_entries.specs.Known.{Known, part_in, plainly}
 use Rattle.oer_entries.specs.Makes.{Stands, Tagged, last_path, path_steps, step_list, taken}
-use Rattle.oer_entries.specs.Trails.{AreParts, Follow, Follows, IsWay, common, grown, grown_from, inner_of, known_from, last_by, leads_to, names_in, names_to, parts_of, path_in, path_to, reached, text_to}
+use Rattle.oer_entries.specs.Trails.{AreParts, Follow, IsWay, common, grown, grown_from, inner_of, known_from, last_by, leads_to, names_in, names_to, parts_of, path_in, path_to, reached, text_to}
 use Rattle.oer_entries.specs.Ways.{joined, letter_text, names_on, names_text, path_text, pointed, step_text}
 use Rattle.oer_entries.specs.declared.way.Way.{Way}
 use Rattle.oer_entries.proofs.Texts.{names_of, steps_of}
@@ -91,8 +91,11 @@ nones_on tags front s (t ∷ path) h = λ q. ap tags (append_assoc front (step_o
 grown_tags : (tags : List plain.Step → Option Tag) (front : List plain.Step) (path : List Step) (p n : List ℕ) (f : Seen) → f.tag ≡ tags (front ++ step_list (taken f))
     → Nones tags (front ++ step_list (taken f)) path → Tagged tags front (grown path p n f)
 grown_tags tags front [] p n f e none = (e, tt)
-grown_tags tags front (s ∷ path) p n f e none =
-    (e, grown_tags tags (front ++ step_list (taken f)) path (pointed p ++ step_text s) (pointed n ++ (known_from f s).name) (inner_of f p n s) (sym (none [])) (nones_on tags (front ++ step_list (taken f)) s path none))
+grown_tags tags front (s ∷ path) p n f e none = (
+  e,
+  grown_tags tags (front ++ step_list (taken f)) path (pointed p ++ step_text s) (pointed n ++ (known_from f s).name) (inner_of f p n s) (sym (none [])) (nones_on tags
+      (front ++ step_list (taken f)) s path none),
+)
 
 pub Beyond : (List plain.Step → Option Tag) → List plain.Step → Type 0
 Beyond tags path = (q : List plain.Step) → starts_with q path ≡ false → tags q ≡ None
@@ -102,7 +105,8 @@ unfolding Beyond
 past_end tags front [] h = tt
 past_end tags front (s ∷ path) h = λ q. h (front ++ step_of s ∷ q) (goes_past front (step_of s ∷ q) [])
 
-other_way : (tags : List plain.Step → Option Tag) (front : List plain.Step) (s : Step) (o : plain.Step) (old : List plain.Step) (path : List Step) → same_step (step_of s) o ≡ false → Beyond tags (front ++ o ∷ old) → Nones tags front (s ∷ path)
+other_way : (tags : List plain.Step → Option Tag) (front : List plain.Step) (s : Step) (o : plain.Step) (old : List plain.Step) (path : List Step)
+    → same_step (step_of s) o ≡ false → Beyond tags (front ++ o ∷ old) → Nones tags front (s ∷ path)
 unfolding Beyond
 other_way tags front s o old path e h = λ q. h (front ++ step_of s ∷ q) (goes_past front (step_of s ∷ q) (o ∷ old) ∙ ap (λ b. b && starts_with q old) e)
 
@@ -265,7 +269,8 @@ taken_last role offset b (f ∷ g ∷ fs) = ap (λ l. taken f ∷ l) (taken_last
 abbrev Texts : AsnType → (List plain.Step → Option Tag) → List plain.Step → List Seen → Type 0
 Texts T tags path fs = (path_in fs ≡ path_text path) × (names_in fs ≡ names_text T tags path)
 
-texts_are : (T : AsnType) (tags : List plain.Step → Option Tag) (path : List plain.Step) (fs : List Seen) → AreParts T fs → map taken (drop 1 fs) ≡ path_steps path → Tagged tags [] fs → Texts T tags path fs
+texts_are : (T : AsnType) (tags : List plain.Step → Option Tag) (path : List plain.Step) (fs : List Seen) → AreParts T fs → map taken (drop 1 fs) ≡ path_steps path
+    → Tagged tags [] fs → Texts T tags path fs
 texts_are T tags path [] h is t = absurd h
 texts_are T tags path (f ∷ gs) (whole, more) is (own, later) =
     let here : step_list (taken f) ≡ [] = ap (λ o. step_list (option_map step_of o)) whole.step in (
@@ -285,7 +290,8 @@ unfolding Beyond
 no_tag [] = λ q e. refl
 no_tag (line n at role b ∷ before) = λ q e. ap (λ x. if x then tag_by (starts_with at q) role b (tag_at before q) else None) e
 
-reached_parts : (T : AsnType) (tags : List plain.Step → Option Tag) (old : List plain.Step) (path : List Step) (fs : List Seen) → AreParts T fs → map taken (drop 1 fs) ≡ path_steps old → Tagged tags [] fs → Beyond tags old
+reached_parts : (T : AsnType) (tags : List plain.Step → Option Tag) (old : List plain.Step) (path : List Step) (fs : List Seen) → AreParts T fs
+    → map taken (drop 1 fs) ≡ path_steps old → Tagged tags [] fs → Beyond tags old
     → (map taken (drop 1 (reached path fs)) ≡ path_steps (map step_of path)) × Tagged tags [] (reached path fs)
 reached_parts T tags old path [] h is t beyond = absurd h
 reached_parts T tags old path (f ∷ gs) (whole, more) is t beyond =
@@ -315,7 +321,8 @@ noted_all T before offset path role b (f ∷ fs) (whole, more) is t =
     noted_tags before offset path role b [] f fs path t is (ap (λ l. l ++ path) (sym here))
 
 -- a way on which a row was noted
-pub noted_stands : (T : AsnType) (octets : List ℕ) (before : List Line) (offset : ℕ) (path : List plain.Step) (role : Role) (b : List ℕ) (v w : Way) → Stands T octets before path v → IsWay T w
+pub noted_stands : (T : AsnType) (octets : List ℕ) (before : List Line) (offset : ℕ) (path : List plain.Step) (role : Role) (b : List ℕ) (v w : Way)
+    → Stands T octets before path v → IsWay T w
     → parts_of w ≡ last_by (noted role offset b) (parts_of v) → w.octets.now ≡ v.octets.now → Stands T octets (line offset path role b ∷ before) path w
 noted_stands T octets before offset path role b v w h leads parts same = record {
   leads = leads;

@@ -1,11 +1,9 @@
 -- Texts of a way, cut back to those of a way to an earlier part.
-use Rattle.std.proofs.Common.{◌≡◌, ◌<◌, ◌≤◌, ◌+◌, ℕ, zero, suc, List, [], ◌∷◌, ◌++◌, length, map, take, drop, get_or, refl, sym, ap, subst, ◌∙◌, append_assoc, arith, length-append}
-use Rattle.std.proofs.lemmas.List.{get_or-append-add, take-append-le, take_all}
+use Rattle.std.proofs.Common.{◌≡◌, ◌<◌, ℕ, zero, suc, List, [], ◌∷◌, ◌++◌, length, map, take, refl, sym, ap, subst, ◌∙◌, append_assoc, arith, length-append}
 use Rattle.std.specs.String.Boundary.{IsSplitPoint}
 use Rattle.std.specs.Prelude.{slice_index}
-use Rattle.oer_parts.specs.declared.step.Step.{Step}
 use Rattle.oer_entries.specs.Frames.{Seen}
-use Rattle.oer_entries.specs.Trails.{Follow, Follows, names_to, path_to, text_to}
+use Rattle.oer_entries.specs.Trails.{Follow, names_to, path_to, text_to}
 use Rattle.oer_entries.specs.Ways.{joined, pointed}
 
 -- what the further texts add behind a text that isn't empty

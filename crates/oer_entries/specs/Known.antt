@@ -2,10 +2,10 @@
 use Rattle.std.specs.Prelude.{ℕ, zero, suc, List, [], Option, Some, None, if◌then◌else◌}
 use Rattle.std.specs.Fmt.{decimal}
 use Rattle.oer_units.specs.declared.tagging.Tag.{Tag}
-use Rattle.oer_model.specs.AsnType.{Additions, Alternatives, AsnType, Fields, Need, addition, alternative, choice, default, extensible_sequence, field, later, leaf, may, must, no_additions, no_alternatives, no_fields, sequence, sequence_of}
+use Rattle.oer_model.specs.AsnType.{Additions, Alternatives, AsnType, Fields, Need, addition, alternative, choice, default, extensible_sequence, field, later, may, must, no_additions, no_alternatives, no_fields, sequence, sequence_of}
 use Rattle.oer_model.specs.AsnValue.{AsnValue}
 use Rattle.oer_model.specs.Constraints.{same_tag}
-use Rattle.oer_model.specs.Parts.{Step, to_addition, to_chosen, to_component, to_item}
+use Rattle.oer_model.specs.Parts.{Step, to_addition, to_component, to_item}
 use Rattle.oer_json.specs.Keys.{place_key, tag_key}
 
 -- what a part is called, its type, if that is known, and the value of its DEFAULT, if it has one

@@ -1,5 +1,5 @@
 -- What comes next where octets were rejected, by what was read before.
-use Rattle.std.specs.Prelude.{ℕ, zero, suc, ◌-◌, ◌*◌, List, [], ◌∷◌, length, drop, take, Bool, true, false, ◌&&◌, ◌||◌, leb, ltb, min, Option, Some, None, if◌then◌else◌}
+use Rattle.std.specs.Prelude.{ℕ, suc, ◌-◌, ◌*◌, List, [], ◌∷◌, length, drop, take, Bool, true, false, ◌&&◌, ◌||◌, leb, ltb, min, Option, Some, None, if◌then◌else◌}
 use Rattle.oer_units.specs.Stream.{one_more}
 use Rattle.oer_units.specs.declared.tagging.Tag.{Tag}
 use Rattle.oer_model.specs.AsnType.{AsnType, Fields, Need, choice, default, extensible_sequence, field, leaf, may, must, no_fields, sequence, sequence_of}

@@ -1,5 +1,5 @@
 -- The parts on the way to the octets in hand: how steps lead on, and back.
-use Rattle.std.specs.Prelude.{◌≡◌, ℕ, zero, suc, List, [], ◌∷◌, ◌++◌, length, drop, take, map, Bool, true, false, Option, Some, None, if◌then◌else◌, string_bytes}
+use Rattle.std.specs.Prelude.{◌≡◌, ℕ, suc, List, [], ◌∷◌, ◌++◌, length, drop, take, map, Bool, false, Option, Some, None, if◌then◌else◌, string_bytes}
 use Rattle.oer_model.specs.AsnType.{AsnType}
 use Rattle.oer_model.specs.Parts.{same_step}
 use Rattle.oer_parts.specs.Walk.{step_of}

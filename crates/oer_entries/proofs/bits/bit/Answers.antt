@@ -1,4 +1,4 @@
-use Rattle.std.proofs.Common.{◌≡◌, ◌-◌, ◌/◌, ◌^◌, ◌%◌, ◌∷◌, ℕ, List, ap, drop, drop-cons, nat_eq, refl, suc, sym, ◌∙◌}
+use Rattle.std.proofs.Common.{◌≡◌, ◌-◌, ◌/◌, ◌^◌, ◌%◌, ◌∷◌, ℕ, ap, drop, drop-cons, nat_eq, refl, suc, sym, ◌∙◌}
 use Rattle.oer_model.specs.Bits.{bit}
 use Rattle.oer_checker.proofs.BitLists.{bit_past, bit_there}
 use Rattle.oer_entries.proofs.bits.bit.Goals as goal

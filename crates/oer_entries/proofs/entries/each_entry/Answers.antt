@@ -1,4 +1,4 @@
-use Rattle.std.proofs.Common.{ap, subst, sym, []}
+use Rattle.std.proofs.Common.{ap, subst, []}
 use Rattle.oer_types.specs.Schema.{the_type}
 use Rattle.oer_values.specs.ShapeView.{type_of}
 use Rattle.oer_rows.specs.Listing.{rows_of}

@@ -1,4 +1,4 @@
-use Rattle.std.proofs.Common.{◌≡◌, ◌≤◌, ◌<◌, ◌+◌, ◌∙◌, ◌^◌, ◌&&◌, ◌||◌, ap, ap₂, arith, drop, get_or, leb, length, min, not, rules, sym, true, false, Bool, ℕ, if◌then◌else◌}
+use Rattle.std.proofs.Common.{◌≡◌, ◌≤◌, ◌<◌, ◌+◌, ◌∙◌, ◌^◌, ◌&&◌, ◌||◌, ap, ap₂, arith, drop, leb, length, min, not, rules, sym, false, Bool, if◌then◌else◌}
 use Rattle.std.proofs.lemmas.Bool.{lt-leb}
 use Rattle.oer_model.specs.Bits.{bits_of, first_bit}
 use Rattle.oer_model.specs.SharedSteps.{is_there}
@@ -20,15 +20,18 @@ loop-index-preserved c =
     let few : length root < 2 ^ 64 = search rules in
     let long : length root ≤ 18446744073709551615 = omega (arith, few) in
     let present : c.if-not-has_bit.is_present ≡ is_there need (drop p s) = (elim c.if-not-has_bit.branch [
-      | then-not-has_bit w ↦ w.is_present-is ∙ ap not w.if-not-has_bit.true ∙ sym (ap (λ (b : Bool). not b || first_bit (drop p s)) (sym c.has_bit.ensures ∙ w.if-not-has_bit.true)) ∙ there need (drop p s)
-      | else-not-has_bit w ↦ w.is_present-is ∙ w.bit-is_present.ensures ∙ sym (ap (λ (b : Bool). not b || first_bit (drop p s)) (sym c.has_bit.ensures ∙ w.if-not-has_bit.false)) ∙ there need (drop p s)
+      | then-not-has_bit w ↦ w.is_present-is ∙ ap not w.if-not-has_bit.true ∙ sym (ap (λ (b : Bool). not b || first_bit (drop p s)) (sym c.has_bit.ensures
+          ∙ w.if-not-has_bit.true)) ∙ there need (drop p s)
+      | else-not-has_bit w ↦ w.is_present-is ∙ w.bit-is_present.ensures ∙ sym (ap (λ (b : Bool). not b || first_bit (drop p s)) (sym c.has_bit.ensures ∙ w.if-not-has_bit.false))
+          ∙ there need (drop p s)
     ]) in
     let other : (c.if-not-has_bit.is_present && leb from i) ≡ false = (elim c.else-is_present.branch [
       | else-is_present-via-then-is_present+else-index-from w ↦ ap₂ (λ (a b : Bool). a && b) w.if-is_present.true (lt-leb from i w.if-index-from.false)
       | else-is_present-via-else-is_present w ↦ ap (λ (a : Bool). a && leb from i) w.if-is_present.false
     ]) in
     let next : c.if-has_bit.place ≡ (if has_bit need then min (p + 1) 18446744073709551615 else p) = (elim c.if-has_bit.branch [
-      | then-has_bit w ↦ w.place-is ∙ w.saturating_add-place.ensures ∙ sym (ap (λ (b : Bool). if b then min (p + 1) 18446744073709551615 else p) (sym c.has_bit-in-loop-index.ensures ∙ w.if-has_bit.true))
+      | then-has_bit w ↦ w.place-is ∙ w.saturating_add-place.ensures
+          ∙ sym (ap (λ (b : Bool). if b then min (p + 1) 18446744073709551615 else p) (sym c.has_bit-in-loop-index.ensures ∙ w.if-has_bit.true))
       | else-has_bit w ↦ w.place-is ∙ sym (ap (λ (b : Bool). if b then min (p + 1) 18446744073709551615 else p) (sym c.has_bit-in-loop-index.ensures ∙ w.if-has_bit.false))
     ]) in
     let near : c.if-has_bit.place ≤ p + 1 = (elim c.if-has_bit.branch [

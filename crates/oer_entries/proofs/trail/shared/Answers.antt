@@ -5,7 +5,7 @@ use Rattle.oer_parts.specs.contracts.step.StepPartialEq.TheImpl as step_eq
 use Rattle.oer_parts.specs.declared.step.Step.{Step}
 use Rattle.oer_parts.specs.declared.step.Step.TheVariants.{Addition, Chosen, Component, Item}
 use Rattle.oer_entries.specs.Trails.{leads_to}
-use Rattle.oer_entries.proofs.Steps.{common_end, common_less, common_more, common_past, eq_leads}
+use Rattle.oer_entries.proofs.Steps.{common_end, common_less, common_more, eq_leads}
 use Rattle.oer_entries.proofs.trail.shared.Goals as goal
 
 law : (a b : Step) → (step_eq.eq-value).it a b ≡ same_step (step_of a) (step_of b)

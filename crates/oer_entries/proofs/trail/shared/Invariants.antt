@@ -1,4 +1,4 @@
-use Rattle.std.proofs.Common.{◌≡◌, ◌≤◌, ◌+◌, drop, map}
+use Rattle.std.proofs.Common.{◌≡◌, ◌+◌, drop, map}
 use Rattle.oer_entries.specs.Frames.{seen}
 use Rattle.oer_entries.specs.Trails.{common}
 use Rattle.oer_entries.proofs.trail.shared.Given as goal

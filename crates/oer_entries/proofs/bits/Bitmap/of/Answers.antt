@@ -1,4 +1,4 @@
-use Rattle.std.proofs.Common.{◌-◌, ◌∙◌, List, ap, sym, take, ℕ}
+use Rattle.std.proofs.Common.{◌-◌, ◌∙◌, ap, sym, take, ℕ}
 use Rattle.oer_model.specs.Bits.{bits_of}
 use Rattle.oer_entries.specs.Next.{used_bits}
 use Rattle.oer_entries.proofs.bits.Bitmap.of.Goals as goal

@@ -12,5 +12,16 @@ returns g c = on_ok_weaker c.take.result (λ took. λ T before h.
     let octets = v.octets.now in
     let leads = c.in_ok-go_to.ensures.way T h.leads in
     let stands = reached_stands T octets before v w row.path.now h leads (c.in_ok-go_to.ensures.parts T h.leads) (ap (λ (o : Bor (List ℕ)). o.now) c.in_ok-go_to.ensures.octets) in
-    let texts = placed T octets before (path_of row.path.now) w stands in
-    (stands, (c.entry-entry.result, c.entry-entry.ensures.spot, (c.entry-entry.ensures.path ∙ c.part.ensures.0 ∙ texts.0, c.entry-entry.ensures.names ∙ c.part.ensures.1 ∙ texts.1), took))) c.take.ensures
+    let texts = placed T octets before (path_of row.path.now) w stands in (
+      stands,
+      (
+        c.entry-entry.result,
+        c.entry-entry.ensures.spot,
+        (
+          c.entry-entry.ensures.path ∙ c.part.ensures.0 ∙ texts.0,
+          c.entry-entry.ensures.names ∙ c.part.ensures.1
+              ∙ texts.1,
+        ),
+        took,
+      ),
+    )) c.take.ensures

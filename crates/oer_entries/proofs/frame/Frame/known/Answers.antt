@@ -1,4 +1,4 @@
-use Rattle.std.proofs.Common.{◌≡◌, ◌∙◌, ap, refl, sym, Option, Some}
+use Rattle.std.proofs.Common.{◌∙◌, ap, refl, sym, Option, Some}
 use Rattle.oer_units.specs.declared.tagging.Tag.{Tag}
 use Rattle.oer_parts.specs.Walk.{step_of}
 use Rattle.oer_values.specs.Lookup.{alternative_with}

@@ -6,7 +6,8 @@ pub returns-clause-parts : goal.returns-clause-parts
 returns-clause-parts c = λ T h.
     let frames = c.args.self.now.frames in
     enter_parts frames.items _ (vec_len frames) c.in-Some.last.now c.inner-inner.result c.args.step _ _ _ _ c.len.result c.len-2.result
-    frames.ok.0 c.args.self.now.has_whole c.in-Some.ensures.value c.inner-inner.ensures h.path h.names c.in_ok-push_step.ensures c.in_ok-push_name.ensures (c.len.ensures ∙ c.push_step.new.text.bytes.ok.0) (c.len-2.ensures ∙ c.push_name.new.text.bytes.ok.0) c.in_ok-push.ensures.items
+    frames.ok.0 c.args.self.now.has_whole c.in-Some.ensures.value c.inner-inner.ensures h.path h.names c.in_ok-push_step.ensures c.in_ok-push_name.ensures (c.len.ensures
+    ∙ c.push_step.new.text.bytes.ok.0) (c.len-2.ensures ∙ c.push_name.new.text.bytes.ok.0) c.in_ok-push.ensures.items
 
 pub returns-clause-way : goal.returns-clause-way
 returns-clause-way c = λ T h.

@@ -1,6 +1,6 @@
-use Rattle.std.proofs.Common.{◌≡◌, ◌∙◌, ◌<◌, ◌≤◌, ◌+◌, ◌-◌, ap, arith, false, length, refl, sym, true, vec_len, Bool, ℕ}
+use Rattle.std.proofs.Common.{◌≡◌, ◌∙◌, ◌-◌, ap, arith, length, refl, sym, true, ℕ}
 use Rattle.std.proofs.lemmas.Result.{on_ok_weaker}
-use Rattle.oer_entries.specs.Next.{gone_on, reaches, through}
+use Rattle.oer_entries.specs.Next.{gone_on, reaches}
 use Rattle.oer_entries.specs.declared.next.Next.TheVariants.{After, Here, Inside}
 use Rattle.oer_entries.proofs.Steps.{back_length, on_back, on_here, on_whole}
 use Rattle.oer_entries.proofs.way.Way.go_on.Goals as goal
@@ -20,7 +20,8 @@ returns-in-Inside-clause-parts c = λ T h.
     let x = c.last-frame.result.now in
     let read = c.args.self.now.end in
     on_ok_weaker c.enter.result
-    (λ new. new ∙ sym (on_here read c.loop.self.frames.items c.last-frame.ensures.0 x (Inside c.in-Inside.step) c.last-frame.ensures.1 (sym c.in-Inside.is ∙ c.next_of.ensures) refl) ∙ c.loop.invariant.parts)
+    (λ new. new ∙ sym (on_here read c.loop.self.frames.items c.last-frame.ensures.0 x (Inside c.in-Inside.step) c.last-frame.ensures.1 (sym c.in-Inside.is
+    ∙ c.next_of.ensures) refl) ∙ c.loop.invariant.parts)
     (c.enter.ensures.parts T (c.loop.invariant.way T h))
 
 pub returns-in-Inside-clause-way : goal.returns-in-Inside-clause-way
@@ -41,7 +42,8 @@ returns-then-not-is_filled-clause-parts c = λ T h.
       | then-not-is_filled-via-then-not-is_filled w ↦
           sym (on_here read frames.items c.last-frame.ensures.0 x After c.last-frame.ensures.1 next (all ∙ w.if-not-is_filled.true)) ∙ c.loop.invariant.parts
       | then-not-is_filled-via-else-not-is_filled+then-count-lt2 w ↦
-          sym (on_whole read frames.items c.last-frame.ensures.0 x After c.last-frame.ensures.1 (omega (arith, w.if-count-lt2.true, c.len-count.ensures, frames.ok.0)) next (all ∙ w.if-not-is_filled.false))
+          sym (on_whole read frames.items c.last-frame.ensures.0 x After c.last-frame.ensures.1 (omega (arith, w.if-count-lt2.true, c.len-count.ensures, frames.ok.0)) next (all
+          ∙ w.if-not-is_filled.false))
           ∙ c.loop.invariant.parts
     ]
 

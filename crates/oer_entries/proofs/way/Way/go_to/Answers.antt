@@ -1,4 +1,4 @@
-use Rattle.std.proofs.Common.{◌≡◌, ◌∙◌, ◌+◌, ap, drop, map, sym, List, [], ℕ}
+use Rattle.std.proofs.Common.{◌≡◌, ◌∙◌, ◌+◌, ap, drop, map, List, []}
 use Rattle.oer_parts.specs.declared.step.Step.TheVariants.{Component}
 use Rattle.oer_entries.specs.Frames.{seen}
 use Rattle.oer_entries.specs.Trails.{common, grown_from, parts_of}

@@ -1,4 +1,4 @@
-use Rattle.std.proofs.Common.{◌∙◌, ap, drop, length, refl, sym, take, vec_len, List, ℕ}
+use Rattle.std.proofs.Common.{◌∙◌, ap, drop, length, refl, take, vec_len, List, ℕ}
 use Rattle.oer_entries.specs.Frames.{noted, seen}
 use Rattle.oer_entries.proofs.Chains.{noted_stays}
 use Rattle.oer_entries.proofs.Steps.{noted_parts, noted_way}
