@@ -6,3 +6,8 @@ pub mod Terminal
 pub mod Shown
 pub mod Ends
 mod Visibly
+pub mod Counted
+pub mod Measured
+mod Parts
+pub mod Spelt
+pub mod Celled

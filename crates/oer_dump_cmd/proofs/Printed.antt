@@ -1,5 +1,5 @@
 -- What is printed, one entry after another.
-use Rattle.std.proofs.Common.{◌≡◌, ◌∙◌, ℕ, List, [], ◌∷◌, ◌++◌, Bool, true, false, Option, Some, None, codes, map, refl, sym, ap, subst, append_assoc, append-nil, string_bytes}
+use Rattle.std.proofs.Common.{◌≡◌, ◌∙◌, ℕ, List, [], ◌∷◌, ◌++◌, Bool, true, false, Option, Some, None, codes, refl, sym, ap, subst, append_assoc, append-nil, string_bytes}
 use Rattle.std.specs.Borrow.{MutBor}
 use Rattle.std.specs.List.{FoldsTo}
 use Rattle.std.specs.Io.KnownBytes.{Appends, append_known}
@@ -7,10 +7,12 @@ use Rattle.serde_json.specs.Written.{compact_text}
 use Rattle.clap.specs.Words.{Text}
 use Rattle.oer_entries.specs.declared.entry.Entry.{Entry}
 use Rattle.oer_dump_cmd.specs.Array.{array_text, object_of, objects_text, separator}
-use Rattle.oer_dump_cmd.specs.Layout.{HasLines, cells_of}
+use Rattle.oer_dump_cmd.specs.Cells.{cells_of}
+use Rattle.oer_dump_cmd.specs.Layout.{AreWidths, line_text, lines_text}
 use Rattle.oer_dump_cmd.specs.Outgoing.{Begins, Grows, Sends, held, loan_of}
 use Rattle.oer_dump_cmd.specs.Printing.{PrintsLine, PrintsLines, PrintsObject, PrintsObjects}
 use Rattle.oer_dump_cmd.specs.Showing.{PrintsPage}
+use Rattle.oer_dump_cmd.specs.declared.columns.Widths.{Widths}
 use Rattle.oer_dump_cmd.specs.declared.options.Form.TheVariants as form
 use Rattle.oer_model.specs.AsnType.{AsnType}
 use Rattle.oer_rows.specs.Listing.{rows_of}
@@ -73,17 +75,15 @@ module _ {W : Type 0} (contents : W → Option (List ℕ)) where
     adds = subst (λ o. Appends (held contents s) o []) (sym (known_none (contents t.output.now) (string_bytes t.text) h.empty)) h.sent;
   }
 
-  pub lines_printed : {S : Type 0} (out : S → Outgoing W) (es : List Entry) (s t : S)
-      → FoldsTo (λ p e q. PrintsLine contents (out p) e (out q)) s es t
-      → (text : Text) × HasLines (map cells_of es) text × Grows contents (out s) text (out t)
-  lines_printed out [] s t is = ([], refl, subst (λ x. Grows contents (out s) [] (out x)) is (grows_none (out s)))
-  lines_printed out (e ∷ es) s t (j, (cells, line, adds), more) =
-      let rest = lines_printed out es j t more in
-      let end : Text = visible cells ++ 10 ∷ [] in (
-        end ++ rest.0,
-        (cells, rest.0, append_assoc (visible cells) (10 ∷ []) rest.0, line, rest.1),
-        grows_on (out s) (out j) (out t) end rest.0 adds rest.2,
-      )
+  pub lines_printed : {S : Type 0} (out : S → Outgoing W) (widths : S → Widths) (es : List Entry) (s t : S)
+      → FoldsTo (λ p e q. (widths q ≡ widths p) × PrintsLine contents (widths p) (out p) e (out q)) s es t
+      → Grows contents (out s) (lines_text (widths s) es) (out t)
+  lines_printed out widths [] s t is = subst (λ x. Grows contents (out s) [] (out x)) is (grows_none (out s))
+  lines_printed out widths (e ∷ es) s t (j, (same, adds), more) =
+      let shown : Text = visible (line_text (widths s) (cells_of e)) in
+      let rest : Text = lines_text (widths s) es in
+      let next : Grows contents (out j) rest (out t) = subst (λ w. Grows contents (out j) (lines_text w es) (out t)) same (lines_printed out widths es j t more) in
+      subst (λ x. Grows contents (out s) x (out t)) (append_assoc shown (10 ∷ []) rest) (grows_on (out s) (out j) (out t) (shown ++ 10 ∷ []) rest adds next)
 
   pub objects_printed : {S : Type 0} (out : S → Outgoing W) (first : S → Bool) (es : List Entry) (s t : S)
       → FoldsTo (λ p e q. (first q ≡ false) × PrintsObject contents (first p) (out p) e (out q)) s es t
@@ -118,13 +118,13 @@ module _ {W : Type 0} (contents : W → Option (List ℕ)) where
   pub begins_with : (old front : Text) (output : MutBor W) (out : Outgoing W) → old ≡ front → Begins contents old output out → Begins contents front output out
   begins_with old front output out is h = subst (λ x. Begins contents x output out) is h
 
-  pub lines_page : (width : ℕ) (T : AsnType) (b : List ℕ) (output : MutBor W) (s t : Outgoing W) (last : Option (List ℕ)) → Begins contents [] output s → PrintsLines contents T b s t
-      → Appends (contents t.output.now) last (string_bytes t.text ++ []) → PrintsPage (form.Text width) T b (contents output.now) last
-  lines_page width T b output s t last begin (es, are, (text, lines, grows)) end = (
-    text,
-    (es, are, lines),
-    subst (λ x. Appends (contents output.now) last x) (append-nil text)
-        (all_printed [] text [] output s t last begin grows end),
+  pub lines_page : (width : ℕ) (T : AsnType) (b : List ℕ) (w : Widths) (output : MutBor W) (s t : Outgoing W) (last : Option (List ℕ)) → Begins contents [] output s → AreWidths width T b w
+      → PrintsLines contents w T b s t → Appends (contents t.output.now) last (string_bytes t.text ++ []) → PrintsPage (form.Text width) T b (contents output.now) last
+  lines_page width T b w output s t last begin widths (es, are, grows) end = (
+    lines_text w es,
+    (es, are, (w, widths, refl)),
+    subst (λ x. Appends (contents output.now) last x) (append-nil (lines_text w es))
+        (all_printed [] (lines_text w es) [] output s t last begin grows end),
   )
 
   pub array_page : (T : AsnType) (b : List ℕ) (output : MutBor W) (s t : Outgoing W) (last : Option (List ℕ)) → Begins contents (codes "[") output s → PrintsObjects contents true T b s t
@@ -132,9 +132,10 @@ module _ {W : Type 0} (contents : W → Option (List ℕ)) where
   array_page T b output s t last begin (es, are, grows) end =
       (array_text es, (es, are, refl), all_printed (codes "[") (objects_text true es) (93 ∷ 10 ∷ []) output s t last begin grows end)
 
-  pub lines_of_rows : {S : Type 0} (out : S → Outgoing W) (T : AsnType) (b : List ℕ) (s t : S) → AreTakenFor (λ p e q. PrintsLine contents (out p) e (out q)) (rows_of T b) s t
-      → PrintsLines contents T b (out s) (out t)
-  lines_of_rows out T b s t (es, are, taken) = (es, are, lines_printed out es s t taken)
+  pub lines_of_rows : {S : Type 0} (out : S → Outgoing W) (widths : S → Widths) (T : AsnType) (b : List ℕ) (s t : S)
+      → AreTakenFor (λ p e q. (widths q ≡ widths p) × PrintsLine contents (widths p) (out p) e (out q)) (rows_of T b) s t
+      → PrintsLines contents (widths s) T b (out s) (out t)
+  lines_of_rows out widths T b s t (es, are, taken) = (es, are, lines_printed out widths es s t taken)
 
   pub objects_of_rows : {S : Type 0} (out : S → Outgoing W) (first : S → Bool) (T : AsnType) (b : List ℕ) (s t : S)
       → AreTakenFor (λ p e q. (first q ≡ false) × PrintsObject contents (first p) (out p) e (out q)) (rows_of T b) s t

@@ -1,48 +1,158 @@
--- The lines that are printed without `--json`.
-use Rattle.std.specs.Prelude.{◌≡◌, ◌≤◌, ℕ, List, [], ◌∷◌, ◌++◌, length, replicate, codes}
+-- The lines that are printed without `--json`: cells in columns, as a plain function of the entries and of how wide the columns are. Paths,
+-- names, kinds and notes are of ASCII, so of these the octets are counted.
+use Rattle.std.specs.Prelude.{◌≡◌, ℕ, zero, suc, ◌+◌, ◌-◌, ◌/◌, ◌%◌, ◌^◌, ◌==◌, List, [], ◌∷◌, ◌++◌, length, take, drop, map, max, min, replicate, Bool, cond, nat_lt, ◌&&◌, codes}
 use Rattle.std.specs.Fmt.{decimal}
+use Rattle.std.specs.Str.{chars, encode_utf8_all}
 use Rattle.clap.specs.Words.{Text}
+use Rattle.oer_model.specs.AsnType.{AsnType}
+use Rattle.oer_rows.specs.Listing.{rows_of}
+use Rattle.oer_entries.specs.Entries.{AreOfRows}
 use Rattle.oer_entries.specs.declared.entry.Entry.{Entry}
-use Rattle.oer_dump_cmd.specs.declared.line.Line.{Line}
+use Rattle.oer_entries.specs.declared.extents.Extents.{Extents}
+use Rattle.oer_dump_cmd.specs.Cells.{Cells, cells_of}
 use Rattle.oer_dump_cmd.specs.Visible.{visible}
+use Rattle.oer_dump_cmd.specs.declared.columns.Widths.{Widths}
 
--- what is never cut of a line
-pub record Cells : Type 0 where
-  pub offset : Text
-  pub count : Text
-  pub path : Text
-  pub kind : Text
+-- ---- widths
 
--- a text; `-` stands for the empty one
-abbrev pub or_dash : Text → Text
-or_dash [] = codes "-"
-or_dash (x ∷ xs) = x ∷ xs
+-- how many characters a text has
+abbrev pub count_of : Text → ℕ
+count_of text = length (chars text)
 
-abbrev pub cells_of : Entry → Cells
-cells_of e = record { offset = decimal e.offset; count = decimal (length e.octets.now); path = or_dash e.path.now; kind = e.kind.now }
+-- how many digits a number has
+abbrev pub digits_of : ℕ → ℕ
+digits_of n = length (decimal n)
 
--- those of a line of the program
-abbrev pub cells_in : Line → Cells
-cells_in l = record { offset = decimal l.offset; count = decimal l.count; path = l.path.now; kind = l.kind.now }
+-- how many characters the other columns leave of a line of so many: ten stand between the columns
+abbrev pub room : Widths → ℕ → ℕ
+room w width = width - (10 + w.offset + w.count + w.path + w.kind)
+
+-- The widths for lines of so many characters. Names and values share the room that the other columns leave, and each has half of it if it
+-- needs that. Both have twelve characters at least.
+abbrev pub within : ℕ → Widths → Widths
+within width w =
+    let all = room w width in
+    let names = min w.names (max (max (all / 2) (all - w.value)) 12) in
+    record w { names = names; value = max (all - names) 12 }
+
+-- the largest of numbers; 0 where there are none
+abbrev pub largest : List ℕ → ℕ
+largest [] = 0
+largest (n ∷ ns) = max n (largest ns)
+
+-- how many characters a value has with its note
+abbrev pub value_count : Cells → ℕ
+value_count c = count_of c.value + length c.note
+
+-- the largest of the numbers, and the most characters of the texts
+abbrev pub most_of : List Cells → Widths
+most_of cs = record {
+  offset = largest (map (λ c. c.offset) cs);
+  count = largest (map (λ c. c.count) cs);
+  path = largest (map (λ c. length c.path) cs);
+  names = largest (map (λ c. length c.names) cs);
+  kind = largest (map (λ c. length c.kind) cs);
+  value = largest (map value_count cs);
+}
+
+-- how wide the columns are for cells of which none is cut
+abbrev pub widest : List Cells → Widths
+widest cs = record (most_of cs) { offset = digits_of (most_of cs).offset; count = digits_of (most_of cs).count }
+
+-- the same for entries of these extents: an empty text has a dash in its place, and no value is so long that it is cut
+abbrev pub unbounded : Extents → Widths
+unbounded x = record { offset = digits_of x.offset; count = digits_of x.count; path = max x.path 1; names = max x.names 1; kind = x.kind; value = 2 ^ 64 - 1 }
+
+-- The widths for lines of octets, with a bound on their characters: those within the bound of the widest cells that entries of the octets
+-- have. 0 is no bound: those of some extents.
+abbrev pub AreWidths : ℕ → AsnType → List ℕ → Widths → Type 0
+AreWidths zero T b w = (x : Extents) × (w ≡ unbounded x)
+AreWidths (suc n) T b w = (es : List Entry) × AreOfRows (rows_of T b) es × (w ≡ within (suc n) (widest (map cells_of es)))
+
+-- the largest of the numbers, and the most characters, of cells before and of one more
+abbrev pub with_cells : Widths → Cells → Widths
+with_cells w c = record {
+  offset = max w.offset c.offset;
+  count = max w.count c.count;
+  path = max w.path (length c.path);
+  names = max w.names (length c.names);
+  kind = max w.kind (length c.kind);
+  value = max w.value (value_count c);
+}
+
+-- ---- what is cut
+
+-- the first characters of a text, so many
+abbrev pub first_of : ℕ → Text → Text
+first_of n text = encode_utf8_all (take n (chars text))
+
+-- the characters of a text without the first, so many
+abbrev pub last_of : ℕ → Text → Text
+last_of n text = encode_utf8_all (drop n (chars text))
+
+-- how many characters stand beside `+`, the number of what is left out, and `..`; it has as many digits as the number of all has
+abbrev pub beside_mark : ℕ → ℕ → ℕ
+beside_mark room most = room - (digits_of most + 3)
+
+-- how many of the names' characters are left out
+abbrev pub names_left : ℕ → Text → ℕ
+names_left room names = length names - beside_mark room (length names)
+
+-- the last of them, behind the number of those left out
+abbrev pub cut_names : ℕ → Text → Text
+cut_names room names = codes "+" ++ (decimal (names_left room names) ++ (codes ".." ++ last_of (names_left room names) names))
+
+-- names in so much room
+abbrev pub names_shown : ℕ → Text → Text
+names_shown room names = cond (nat_lt room (length names)) (cut_names room names) names
+
+-- how many characters of a value are kept: of digits, behind the quotation mark, two for each octet
+abbrev pub kept_of : Bool → ℕ → Text → ℕ
+kept_of is_digits room value = let most = beside_mark room (length value) in cond (is_digits && most % 2 == 0) (most - 1) most
+
+-- 1 for a text that begins with a quotation mark, and so ends with one
+abbrev pub quote_of : Text → ℕ
+quote_of [] = 0
+quote_of (x ∷ xs) = cond (x == 34) 1 0
+
+-- how many octets of a value are left out where so many are shown; of digits, how many that they write
+abbrev pub left_out : Bool → Text → ℕ → ℕ
+left_out is_digits value shown = let left = length value - shown - quote_of value in cond is_digits (left / 2) left
+
+-- the first characters, and how many octets are left out
+abbrev pub cut_value : Bool → ℕ → Text → Text
+cut_value is_digits room value =
+    let shown : Text = first_of (kept_of is_digits room value) value in
+    shown ++ (codes "..+" ++ decimal (left_out is_digits value (length shown)))
+
+-- a value in so much room
+abbrev pub value_shown : Bool → ℕ → Text → Text
+value_shown is_digits room value = cond (nat_lt room (count_of value)) (cut_value is_digits room value) value
+
+-- ---- lines
 
 abbrev pub spaces : ℕ → Text
 spaces n = replicate n 32
 
--- The cells stand in the line in this order, with spaces between: the names behind the path, and a value behind the kind. Of these two
--- nothing is said.
-pub record IsLine (c : Cells) (line : Text) : Type 0 where
-  pub names : Text
-  pub value : Text
-  pub before_offset : ℕ
-  pub before_count : ℕ
-  pub after_path : ℕ
-  pub after_names : ℕ
-  pub after_kind : ℕ
-  pub is : line ≡ spaces before_offset ++ (c.offset ++ (spaces 2 ++ (spaces before_count ++ (c.count ++ (spaces 2 ++ (c.path ++ (spaces after_path
-      ++ (names ++ (spaces after_names ++ (c.kind ++ (spaces after_kind ++ value)))))))))))
-  pub apart : (2 ≤ after_path) × (2 ≤ after_names) × (2 ≤ after_kind)
+-- what stands between two columns
+abbrev pub gap : Text
+gap = spaces 2
 
--- a line for each, in their order: printed as Visible.antt says, and behind it a line feed
-abbrev pub HasLines : List Cells → Text → Type 0
-HasLines [] text = text ≡ []
-HasLines (c ∷ cs) text = (line : Text) × (rest : Text) × (text ≡ visible line ++ 10 ∷ rest) × IsLine c line × HasLines cs rest
+-- a cell at the right of its column
+abbrev pub right : ℕ → Text → Text
+right width cell = spaces (width - length cell) ++ cell
+
+-- and at the left
+abbrev pub left : ℕ → Text → Text
+left width cell = cell ++ spaces (width - length cell)
+
+-- The whole line. The value has the room that its note leaves it, twelve characters at least.
+abbrev pub line_text : Widths → Cells → Text
+line_text w c = right w.offset (decimal c.offset) ++ (gap ++ (right w.count (decimal c.count) ++ (gap ++ (left w.path c.path ++ (gap
+    ++ (left w.names (names_shown w.names c.names) ++ (gap ++ (left w.kind c.kind ++ (gap
+    ++ (value_shown c.is_digits (max (w.value - length c.note) 12) c.value ++ c.note))))))))))
+
+-- a line for each entry, in their order: printed as Visible.antt says, and behind it a line feed
+abbrev pub lines_text : Widths → List Entry → Text
+lines_text w [] = []
+lines_text w (e ∷ es) = visible (line_text w (cells_of e)) ++ 10 ∷ lines_text w es

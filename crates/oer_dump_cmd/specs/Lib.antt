@@ -1,5 +1,6 @@
 pub mod Words
 pub mod Array
+pub mod Cells
 pub mod Layout
 pub mod Visible
 pub mod Outgoing

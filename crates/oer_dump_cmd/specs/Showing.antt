@@ -1,5 +1,5 @@
 -- What is shown of octets.
-use Rattle.std.specs.Prelude.{◌≡◌, ◌≤◌, ℕ, List, [], ◌∷◌, ◌++◌, length, map, Bool, Option, Some, None, Result, Ok, Err, String, codes, string_bytes, ⊤}
+use Rattle.std.specs.Prelude.{◌≡◌, ◌≤◌, ℕ, List, [], ◌∷◌, ◌++◌, length, Bool, Option, Some, None, Result, Ok, Err, String, codes, string_bytes, ⊤}
 use Rattle.std.specs.Global.{Global}
 use Rattle.std.specs.Io.KnownBytes.{Appends}
 use Rattle.clap.specs.Words.{Text}
@@ -15,8 +15,9 @@ use Rattle.oer_rows.specs.Listing.{rows_of}
 use Rattle.oer_entries.specs.Entries.{AreOfRows}
 use Rattle.oer_entries.specs.declared.entry.Entry.{Entry}
 use Rattle.oer_dump_cmd.specs.Array.{array_text}
-use Rattle.oer_dump_cmd.specs.Layout.{HasLines, cells_of}
+use Rattle.oer_dump_cmd.specs.Layout.{AreWidths, lines_text}
 use Rattle.oer_dump_cmd.specs.Words.{texts_asked}
+use Rattle.oer_dump_cmd.specs.declared.columns.Widths.{Widths}
 use Rattle.oer_dump_cmd.specs.declared.options.Form.{Form}
 use Rattle.oer_dump_cmd.specs.declared.options.Form.TheVariants as form
 use Rattle.oer_dump_cmd.specs.declared.options.Options.{Options}
@@ -63,14 +64,14 @@ AreOne T hex limit told = OfOctets hex told (λ b. IsEncoding T b × (length b �
 abbrev pub AreOneFor : Texts → Option Text → ℕ → Option (List ℕ) → Type 0
 AreOneFor texts hex limit told = (T : AsnType) × SpelledBy texts T × AreOne T hex limit told
 
--- the text of entries in this form
-abbrev pub IsTextOf : Form → List Entry → Text → Type 0
-IsTextOf form.Json es text = text ≡ array_text es
-IsTextOf (form.Text width) es text = HasLines (map cells_of es) text
+-- the text, in this form, of entries that octets have
+abbrev pub IsTextOf : Form → AsnType → List ℕ → List Entry → Text → Type 0
+IsTextOf form.Json T b es text = text ≡ array_text es
+IsTextOf (form.Text width) T b es text = (w : Widths) × AreWidths width T b w × (text ≡ lines_text w es)
 
 -- The text is that of entries of the octets b: one for each row that they have by the type T, and behind these at most one more.
 abbrev pub IsPage : Form → AsnType → List ℕ → Text → Type 0
-IsPage f T b text = (es : List Entry) × AreOfRows (rows_of T b) es × IsTextOf f es text
+IsPage f T b text = (es : List Entry) × AreOfRows (rows_of T b) es × IsTextOf f T b es text
 
 -- the type, and the octets of `--hex`, else those of the input: no more than the limit
 abbrev pub octets_at : Option Text → ℕ → Option (List ℕ) → AsnType → Expected (AsnType × List ℕ)

@@ -48,14 +48,11 @@ fn push_spelt(alloc: Global, text: &mut String, part: &str) -> Result<(), AllocE
     text.push_str(string.as_str())
 }
 
-/// Up to how many octets a text is looked through for characters with another spelling.
-const SHORT: usize = 64;
-
-// Appends a text as a string. A long one is left to serde_json, which looks through it faster.
+// Appends a text as a string. It is copied once, if no character has another spelling there.
 fn push_quoted(alloc: Global, text: &mut String, part: &str) -> Result<(), AllocError>
     ensures { OnOk result (string_bytes text.new ≡ string_bytes text.old ++ quoted part.now) }
 {
-    if part.len() > SHORT || !is_plain(part) {
+    if !is_plain(part) {
         return push_spelt(alloc, text, part);
     }
     text.push_str("\"")?;
@@ -174,12 +171,14 @@ fn role(what: &What<'_>) -> &'static str
     }
 }
 
-// Appends octets in hexadecimal digits, as a string.
+// Appends octets in hexadecimal digits, as a string. Digits stand there as they are.
 fn push_octets(alloc: Global, text: &mut String, octets: &[u8]) -> Result<(), AllocError>
     ensures { OnOk result (string_bytes text.new ≡ string_bytes text.old ++ compact_text (octets_data octets.now)) }
 {
     let digits = hex::encode(alloc, octets)?;
-    push_quoted(alloc, text, digits.as_str())
+    text.push_str("\"")?;
+    text.push_str(digits.as_str())?;
+    text.push_str("\"")
 }
 
 // Begins an object, with the member for the canonical spelling, if it is another one.

@@ -3,6 +3,8 @@
 #![tactic(auto)]
 
 mod as_json;
+mod columns;
+mod cut;
 mod help;
 mod layout;
 mod line;

@@ -1,0 +1,15 @@
+-- Characters of a text, one after another.
+use Rattle.std.proofs.Common.{◌≡◌, ◌∙◌, ℕ, List, [], ◌∷◌, ◌++◌, map, ap, sym, append_assoc, append-nil, map-id}
+use Rattle.std.specs.Char.{encode_utf8}
+use Rattle.std.specs.Str.{encode_utf8_all}
+use Rattle.std.proofs.lemmas.Str.{encodes-append}
+
+-- one more was pushed
+pub character_more : (t text new : List ℕ) (cs : List ℕ) (c : ℕ) → text ≡ t ++ encode_utf8_all cs → new ≡ text ++ encode_utf8 c → new ≡ t ++ encode_utf8_all (cs ++ c ∷ [])
+character_more t text new cs c so is =
+    is ∙ ap (λ x. x ++ encode_utf8 c) so ∙ append_assoc t (encode_utf8_all cs) (encode_utf8 c)
+    ∙ ap (λ x. t ++ (encode_utf8_all cs ++ x)) (sym (append-nil (encode_utf8 c))) ∙ ap (λ x. t ++ x) (sym (encodes-append cs (c ∷ [])))
+
+-- all were
+pub characters_all : (t text : List ℕ) (cs all : List ℕ) → text ≡ t ++ encode_utf8_all cs → map (λ c. c) cs ≡ all → text ≡ t ++ encode_utf8_all all
+characters_all t text cs all so is = so ∙ ap (λ xs. t ++ encode_utf8_all xs) (sym (map-id cs) ∙ is)
