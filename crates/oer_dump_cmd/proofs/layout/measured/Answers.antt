@@ -5,4 +5,4 @@ use Rattle.oer_dump_cmd.proofs.Measured.{rows_measured}
 use Rattle.oer_dump_cmd.proofs.layout.measured.Goals as goal
 
 pub returns : goal.returns
-returns c = rows_measured (λ (p : Widest). p.widths) (the_type c.args.schema.now) c.args.octets.now _ c.in_ok-widest.widest refl c.in_ok-widest.ensures
+returns c = rows_measured (λ (p : Widest). p.widths) (the_type c.args.schema.now) c.args.octets.now _ c.in_ok-widest.widest refl c.in_ok-widest.ensures.taken
