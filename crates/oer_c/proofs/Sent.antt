@@ -18,32 +18,25 @@ use Rattle.std.proofs.Crossing.{crosses}
 use Rattle.std.proofs.MapsCrossing as maps
 use Rattle.oer_values.proofs.shape.Shape.TheLaws.TheKnot as shape
 use Rattle.oer_values.proofs.value.Value.TheLaws.TheKnot as value
-use Rattle.oer_notation.specs.contracts.known.Definitions as definitions
-use Rattle.oer_notation.specs.contracts.names.Names as names
+use Rattle.oer_types.specs.contracts.schema.Schema as schema
 use Rattle.oer_notation.specs.contracts.types.Types as named
 
--- the Names, which stand in a map and in a list
-names_send : IsSend names.the_row
-names_send = search (maps.crosses, crosses, sendable) depth 60 fits 20000
+-- a type
+schema_send : IsSend schema.the_row
+schema_send = search (crosses, shape.crosses, value.crosses, sendable) depth 60 fits 20000
 
-names_sync : IsSync names.the_row
-names_sync = search (maps.crosses, crosses, sendable) depth 60 fits 20000
+schema_sync : IsSync schema.the_row
+schema_sync = search (crosses, shape.crosses, value.crosses, sendable) depth 60 fits 20000
 
--- the definitions
-definitions_send : IsSend definitions.the_row
-definitions_send = search (names_send, crosses, shape.crosses, value.crosses, sendable) depth 60 fits 20000
-
-definitions_sync : IsSync definitions.the_row
-definitions_sync = search (names_sync, crosses, shape.crosses, value.crosses, sendable) depth 60 fits 20000
-
+-- definitions: Names in a map and in a list, and types
 named_send : IsSend named.the_row
-named_send = search (definitions_send, crosses, shape.crosses, value.crosses, sendable) depth 60 fits 20000
+named_send = search (maps.crosses, schema_send, schema_sync, crosses, sendable) depth 60 fits 20000
 
 named_sync : IsSync named.the_row
-named_sync = search (definitions_sync, crosses, shape.crosses, value.crosses, sendable) depth 60 fits 20000
+named_sync = search (maps.crosses, schema_send, schema_sync, crosses, sendable) depth 60 fits 20000
 
 types_send : IsSend known.the_row
-types_send = search (named_send, named_sync, crosses, shape.crosses, value.crosses, sendable) depth 60 fits 20000
+types_send = search (named_send, named_sync, maps.crosses, crosses, sendable) depth 60 fits 20000
 
 quiet : {D X : Type 0} (to : D → X) (e : Exit X) → Quiet e → Quiet (hidden (under to e))
 quiet to unchanged q = λ x w. tt
