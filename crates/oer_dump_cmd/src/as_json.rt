@@ -48,11 +48,14 @@ fn push_spelt(alloc: Global, text: &mut String, part: &str) -> Result<(), AllocE
     text.push_str(string.as_str())
 }
 
-// Appends a text as a string. It is copied once, if no character has another spelling there.
+/// Up to how many octets a text is looked through for characters with another spelling.
+const SHORT: usize = 64;
+
+// Appends a text as a string. A long one is left to serde_json, which looks through it faster.
 fn push_quoted(alloc: Global, text: &mut String, part: &str) -> Result<(), AllocError>
     ensures { OnOk result (string_bytes text.new ≡ string_bytes text.old ++ quoted part.now) }
 {
-    if !is_plain(part) {
+    if part.len() > SHORT || !is_plain(part) {
         return push_spelt(alloc, text, part);
     }
     text.push_str("\"")?;
