@@ -1,0 +1,11 @@
+//! What a Name in a module stands for (X.680, 13.12 to 13.17): an assignment of a module.
+#![tactic(auto)]
+
+mod error;
+mod index;
+mod names;
+mod part;
+mod way;
+
+pub use error::{Found, NameError, Place, Why};
+pub use names::Names;
