@@ -30,23 +30,23 @@ abbrev pub ◌>>=◌ : {A B : Type 0} → Result A Fault → (A → Result B Fau
 
 module _ (ms : List Module) where
   -- where module k begins
-  abbrev pub module_place : ℕ → Place
-  module_place k = record { «module» = k; at = option_map_or (λ m. m.at) 0 (slice_get ms k) }
+  unfoldable pub module_place : ℕ → Place
+  module_place k = record { «module» = k; at = option_map_or (λ m. m.at) (slice_get ms k) 0 }
 
   -- where assignment n of module k begins
-  abbrev pub assignment_place : ℕ → ℕ → Place
-  assignment_place k n = record { «module» = k; at = option_map_or (λ a. a.at) 0 (slice_get (assignments_in ms k) n) }
+  unfoldable pub assignment_place : ℕ → ℕ → Place
+  assignment_place k n = record { «module» = k; at = option_map_or (λ a. a.at) (slice_get (assignments_in ms k) n) 0 }
 
   -- the name behind FROM in import i of module k
-  abbrev pub from_name : ℕ → ℕ → List ℕ
-  from_name k i = option_map_or (λ x. x.from) [] (slice_get (imports_in ms k) i)
+  unfoldable pub from_name : ℕ → ℕ → List ℕ
+  from_name k i = option_map_or (λ x. x.from) (slice_get (imports_in ms k) i) []
 
   -- where that name stands
-  abbrev pub from_place : ℕ → ℕ → Place
-  from_place k i = record { «module» = k; at = option_map_or (λ x. x.at) 0 (slice_get (imports_in ms k) i) }
+  unfoldable pub from_place : ℕ → ℕ → Place
+  from_place k i = record { «module» = k; at = option_map_or (λ x. x.at) (slice_get (imports_in ms k) i) 0 }
 
-  abbrev pub own_name : ℕ → List ℕ
-  own_name k = option_map_or (λ m. m.name) [] (slice_get ms k)
+  unfoldable pub own_name : ℕ → List ℕ
+  own_name k = option_map_or (λ m. m.name) (slice_get ms k) []
 
   -- ---- a module by its name, which stands at a place
 
@@ -102,7 +102,7 @@ module _ (ms : List Module) where
     after more (On way) = more way
 
     -- in so many modules, one after another
-    abbrev pub follow : ℕ → Way → Result Found Fault
+    unfoldable pub follow : ℕ → Way → Result Found Fault
     follow zero way = fault Circular w (Some way.place)
     follow (suc n) way = step way >>= after (follow n)
 

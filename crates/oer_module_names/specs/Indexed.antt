@@ -51,7 +51,7 @@ pub record IsIndexed (ms : List Module) (by_name : Index) (parts : List Part) (a
   pub size : length parts ≡ length ms
   pub named : (f : List ℕ) → held by_name f ≡ named ms f
   pub assigner : (w : List ℕ) → held assigners w ≡ assigner ms w
-  pub assigned : (k : ℕ) (w : List ℕ) → option_map_or (λ p. held p.assigned w) Nothing (slice_get parts k) ≡ assigned_in ms k w
-  pub source : (k : ℕ) (f : List ℕ) → option_map_or (λ p. held p.sources f) Nothing (slice_get parts k) ≡ source_in ms k f
-  pub imported : (k : ℕ) (w : List ℕ) → option_map_or (λ p. held p.imported w) Nothing (slice_get parts k) ≡ imported_in ms k w
-  pub exported : (k : ℕ) (w : List ℕ) → option_map_or (λ p. leaves p.exported w) false (slice_get parts k) ≡ is_exported_in ms k w
+  pub assigned : (k : ℕ) (w : List ℕ) → option_map_or (λ p. held p.assigned w) (slice_get parts k) Nothing ≡ assigned_in ms k w
+  pub source : (k : ℕ) (f : List ℕ) → option_map_or (λ p. held p.sources f) (slice_get parts k) Nothing ≡ source_in ms k f
+  pub imported : (k : ℕ) (w : List ℕ) → option_map_or (λ p. held p.imported w) (slice_get parts k) Nothing ≡ imported_in ms k w
+  pub exported : (k : ℕ) (w : List ℕ) → option_map_or (λ p. leaves p.exported w) (slice_get parts k) false ≡ is_exported_in ms k w

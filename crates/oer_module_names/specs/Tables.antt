@@ -44,7 +44,7 @@ is_exported (these ss) w = is_there (sole (numbered 0 (symbol_names ss)) w)
 -- ---- modules, named by their place in the list
 
 -- which module has the name
-abbrev pub named : List Module → List ℕ → Sole
+unfoldable pub named : List Module → List ℕ → Sole
 named ms f = sole (numbered 0 (module_names ms)) f
 
 -- the Names that modules assign, of which the first is the n-th
@@ -53,23 +53,23 @@ assigners_from n [] = []
 assigners_from n (m ∷ ms) = each (assignment_names m.assignments) n ++ assigners_from (suc n) ms
 
 -- which module assigns the Name
-abbrev pub assigner : List Module → List ℕ → Sole
+unfoldable pub assigner : List Module → List ℕ → Sole
 assigner ms w = sole (assigners_from 0 ms) w
 
-abbrev pub assignments_in : List Module → ℕ → List Assignment
-assignments_in ms k = option_map_or (λ m. m.assignments) [] (slice_get ms k)
+unfoldable pub assignments_in : List Module → ℕ → List Assignment
+assignments_in ms k = option_map_or (λ m. m.assignments) (slice_get ms k) []
 
-abbrev pub imports_in : List Module → ℕ → List Import
-imports_in ms k = option_map_or (λ m. m.imports) [] (slice_get ms k)
+unfoldable pub imports_in : List Module → ℕ → List Import
+imports_in ms k = option_map_or (λ m. m.imports) (slice_get ms k) []
 
-abbrev pub assigned_in : List Module → ℕ → List ℕ → Sole
-assigned_in ms k w = option_map_or (λ m. assigned m w) Nothing (slice_get ms k)
+unfoldable pub assigned_in : List Module → ℕ → List ℕ → Sole
+assigned_in ms k w = option_map_or (λ m. assigned m w) (slice_get ms k) Nothing
 
-abbrev pub source_in : List Module → ℕ → List ℕ → Sole
-source_in ms k f = option_map_or (λ m. source m.imports f) Nothing (slice_get ms k)
+unfoldable pub source_in : List Module → ℕ → List ℕ → Sole
+source_in ms k f = option_map_or (λ m. source m.imports f) (slice_get ms k) Nothing
 
-abbrev pub imported_in : List Module → ℕ → List ℕ → Sole
-imported_in ms k w = option_map_or (λ m. imported m w) Nothing (slice_get ms k)
+unfoldable pub imported_in : List Module → ℕ → List ℕ → Sole
+imported_in ms k w = option_map_or (λ m. imported m w) (slice_get ms k) Nothing
 
-abbrev pub is_exported_in : List Module → ℕ → List ℕ → Bool
-is_exported_in ms k w = option_map_or (λ m. is_exported m.exports w) false (slice_get ms k)
+unfoldable pub is_exported_in : List Module → ℕ → List ℕ → Bool
+is_exported_in ms k w = option_map_or (λ m. is_exported m.exports w) (slice_get ms k) false

@@ -5,12 +5,14 @@ use Rattle.oer_module_names.specs.Finding.{Fault}
 use Rattle.oer_module_names.specs.Tables.{assignments_in}
 use Rattle.oer_module_names.specs.declared.error.Found.{Found}
 use Rattle.oer_module_names.specs.declared.error.NameError.{NameError}
+use Rattle.oer_module_names.specs.declared.index.Sole.{Sole}
+use Rattle.oer_module_names.specs.declared.index.Sole.TheVariants.{Nothing, One, Two}
 use Rattle.oer_module_names.specs.declared.names.Names.{Names}
 use Rattle.oer_module_names.specs.declared.way.Step.{Step}
 use Rattle.oer_module_names.specs.declared.way.Step.TheVariants.{Here, On}
 
 -- the modules whose Names these are
-abbrev pub modules_in : Names → List Module
+unfoldable pub modules_in : Names → List Module
 modules_in n = map module_of n.modules.now
 
 abbrev pub fault_of : NameError → Fault
@@ -29,3 +31,8 @@ pub record IsWithin (ms : List Module) (x : Found) : Type 0 where
 abbrev pub IsStepWithin : List Module → Step → Type 0
 IsStepWithin ms (Here x) = IsWithin ms x
 IsStepWithin ms (On way) = way.«module» < length ms
+
+abbrev pub IsSoleBelow : ℕ → Sole → Type 0
+IsSoleBelow n Nothing = Unit {0}
+IsSoleBelow n (One a) = a < n
+IsSoleBelow n (Two a b) = (a < n) × (b < n)

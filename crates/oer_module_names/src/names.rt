@@ -24,9 +24,9 @@ pub struct Names<'m, 's, 't> {
 impl<'m, 's, 't> Names<'m, 's, 't> {
     ghost use Rattle.std.specs.Prelude.{◌≡◌, ◌<◌, IfOk, IfSome, Some, length, map, slice_get};
     ghost use Rattle.oer_module_syntax.specs.Tree.{assignment_of, module_of};
-    ghost use Rattle.oer_module_names.specs.Finding.{find, find_anywhere, find_in, find_module, follow, from_place, import_of_name, module_at, module_place, own, step, through};
-    ghost use Rattle.oer_module_names.specs.Tables.{assignments_in, imports_in, is_exported_in};
-    ghost use Rattle.oer_module_names.specs.Views.{IsStepWithin, IsWithin, answer_of, modules_in};
+    ghost use Rattle.oer_module_names.specs.Finding.{assignment_place, find, find_anywhere, find_in, find_module, follow, from_name, from_place, import_of_name, module_at, module_place, own, own_name, step, through};
+    ghost use Rattle.oer_module_names.specs.Tables.{assigned_in, assigner, assignments_in, imported_in, imports_in, is_exported_in, named, source_in};
+    ghost use Rattle.oer_module_names.specs.Views.{IsSoleBelow, IsStepWithin, IsWithin, answer_of, modules_in};
 
     /// Looks through the modules once. They are in any order, of one text or several; the places of
     /// their tokens are kept as they are. What is wrong with a Name shows when that Name is looked for.
@@ -49,7 +49,8 @@ impl<'m, 's, 't> Names<'m, 's, 't> {
 
     /// The modules, in the order in which they were given.
     pub fn modules(&self) -> &'m [Module<'s, 't>]
-        ensures { map module_of result.now ≡ modules_in self.now }
+        ensures value { map module_of result.now ≡ modules_in self.now }
+        ensures len { length result.now ≡ length (modules_in self.now) }
     {
         self.modules
     }
@@ -105,10 +106,10 @@ impl<'m, 's, 't> Names<'m, 's, 't> {
         ensures answer { answer_of result ≡ find_in (modules_in self.now) «module» of.now name.now }
         ensures within { IfOk result (IsWithin (modules_in self.now)) }
     {
-        if of == self.modules[module].name {
+        if of == self.own_name(module) {
             return self.find(module, name);
         }
-        match self.parts[module].sources.get(of) {
+        match self.source(module, of) {
             Sole::Nothing => Err(NameError {
                 why: Why::NotImported,
                 name: of,
@@ -129,7 +130,7 @@ impl<'m, 's, 't> Names<'m, 's, 't> {
         ensures answer { answer_of result ≡ find_anywhere (modules_in self.now) name.now }
         ensures within { IfOk result (IsWithin (modules_in self.now)) }
     {
-        match self.assigners.get(name) {
+        match self.assigner(name) {
             Sole::Nothing => Err(NameError {
                 why: Why::Missing,
                 name,
@@ -155,12 +156,102 @@ impl<'m, 's, 't> Names<'m, 's, 't> {
         }
     }
 
+    fn assignment_place(&self, module: usize, assignment: usize) -> Place
+        requires known { «module» < length (modules_in self.now) }
+        requires assignment { assignment < length (assignments_in (modules_in self.now) «module») }
+        ensures { result ≡ assignment_place (modules_in self.now) «module» assignment }
+    {
+        Place {
+            module,
+            at: self.modules[module].assignments[assignment].at,
+        }
+    }
+
+    /// Where an import names its module.
+    fn from_place(&self, module: usize, import: usize) -> Place
+        requires known { «module» < length (modules_in self.now) }
+        requires import { import < length (imports_in (modules_in self.now) «module») }
+        ensures { result ≡ from_place (modules_in self.now) «module» import }
+    {
+        Place {
+            module,
+            at: self.modules[module].imports[import].at,
+        }
+    }
+
+    /// The name of that module.
+    fn from_name(&self, module: usize, import: usize) -> &'t str
+        requires known { «module» < length (modules_in self.now) }
+        requires import { import < length (imports_in (modules_in self.now) «module») }
+        ensures { result.now ≡ from_name (modules_in self.now) «module» import }
+    {
+        self.modules[module].imports[import].from
+    }
+
+    fn own_name(&self, module: usize) -> &'t str
+        requires { «module» < length (modules_in self.now) }
+        ensures { result.now ≡ own_name (modules_in self.now) «module» }
+    {
+        self.modules[module].name
+    }
+
+    /// Which module has the name.
+    fn named(&self, name: &str) -> Sole
+        ensures value { result ≡ named (modules_in self.now) name.now }
+        ensures below { IsSoleBelow (length (modules_in self.now)) result }
+    {
+        self.by_name.get(name)
+    }
+
+    /// Which module assigns the Name.
+    fn assigner(&self, name: &str) -> Sole
+        ensures value { result ≡ assigner (modules_in self.now) name.now }
+        ensures below { IsSoleBelow (length (modules_in self.now)) result }
+    {
+        self.assigners.get(name)
+    }
+
+    /// Which assignment of a module has the Name.
+    fn assigned(&self, module: usize, name: &str) -> Sole
+        requires { «module» < length (modules_in self.now) }
+        ensures value { result ≡ assigned_in (modules_in self.now) «module» name.now }
+        ensures below { IsSoleBelow (length (assignments_in (modules_in self.now) «module»)) result }
+    {
+        self.parts[module].assigned.get(name)
+    }
+
+    /// Which import of a module has the Name.
+    fn imported(&self, module: usize, name: &str) -> Sole
+        requires { «module» < length (modules_in self.now) }
+        ensures value { result ≡ imported_in (modules_in self.now) «module» name.now }
+        ensures below { IsSoleBelow (length (imports_in (modules_in self.now) «module»)) result }
+    {
+        self.parts[module].imported.get(name)
+    }
+
+    /// Which import of a module is from the module of this name.
+    fn source(&self, module: usize, from: &str) -> Sole
+        requires { «module» < length (modules_in self.now) }
+        ensures value { result ≡ source_in (modules_in self.now) «module» from.now }
+        ensures below { IsSoleBelow (length (imports_in (modules_in self.now) «module»)) result }
+    {
+        self.parts[module].sources.get(from)
+    }
+
+    /// Whether a module exports the Name.
+    fn is_exported(&self, module: usize, name: &str) -> bool
+        requires { «module» < length (modules_in self.now) }
+        ensures { result ≡ is_exported_in (modules_in self.now) «module» name.now }
+    {
+        self.parts[module].exports(name)
+    }
+
     /// The module of a name that stands at a place.
     fn module_at<'n>(&self, place: Option<Place>, name: &'n str) -> Result<usize, NameError<'n>>
         ensures answer { answer_of result ≡ module_at (modules_in self.now) place name.now }
         ensures within { IfOk result (λ k. k < length (modules_in self.now)) }
     {
-        match self.by_name.get(name) {
+        match self.named(name) {
             Sole::Nothing => Err(NameError {
                 why: Why::NoModule,
                 name,
@@ -181,29 +272,14 @@ impl<'m, 's, 't> Names<'m, 's, 't> {
         ensures answer { answer_of result ≡ own (modules_in self.now) name.now «module» }
         ensures within { IfOk result (λ o. IfSome o (λ n. n < length (assignments_in (modules_in self.now) «module»))) }
     {
-        match self.parts[module].assigned.get(name) {
+        match self.assigned(module, name) {
             Sole::Nothing => Ok(None),
             Sole::One(assignment) => Ok(Some(assignment)),
             Sole::Two(first, second) => Err(NameError {
                 why: Why::AssignedTwice { first, second },
                 name,
-                place: Some(Place {
-                    module,
-                    at: self.modules[module].assignments[second].at,
-                }),
+                place: Some(self.assignment_place(module, second)),
             }),
-        }
-    }
-
-    /// Where an import names its module.
-    fn from_place(&self, module: usize, import: usize) -> Place
-        requires known { «module» < length (modules_in self.now) }
-        requires import { import < length (imports_in (modules_in self.now) «module») }
-        ensures { result ≡ from_place (modules_in self.now) «module» import }
-    {
-        Place {
-            module,
-            at: self.modules[module].imports[import].at,
         }
     }
 
@@ -213,7 +289,7 @@ impl<'m, 's, 't> Names<'m, 's, 't> {
         ensures answer { answer_of result ≡ import_of_name (modules_in self.now) name.now way }
         ensures within { IfOk result (λ i. i < length (imports_in (modules_in self.now) way.«module»)) }
     {
-        match self.parts[way.module].imported.get(name) {
+        match self.imported(way.module, name) {
             Sole::Nothing => Err(NameError {
                 why: Why::Missing,
                 name,
@@ -228,17 +304,6 @@ impl<'m, 's, 't> Names<'m, 's, 't> {
         }
     }
 
-    /// Whether a module exports the Name.
-    fn is_exported(&self, module: usize, name: &str) -> bool
-        requires { «module» < length (modules_in self.now) }
-        ensures { result ≡ is_exported_in (modules_in self.now) «module» name.now }
-    {
-        match &self.parts[module].exported {
-            None => true,
-            Some(names) => names.get(name).is_there(),
-        }
-    }
-
     /// Through an import to the module that it names, which must export the Name.
     fn through<'n>(&self, module: usize, import: usize, name: &'n str) -> Result<Way, NameError<'n>>
     where
@@ -249,8 +314,7 @@ impl<'m, 's, 't> Names<'m, 's, 't> {
         ensures within { IfOk result (λ way. way.«module» < length (modules_in self.now)) }
     {
         let place = self.from_place(module, import);
-        let from = self.modules[module].imports[import].from;
-        let next = self.module_at(Some(place), from)?;
+        let next = self.module_at(Some(place), self.from_name(module, import))?;
         if !self.is_exported(next, name) {
             return Err(NameError {
                 why: Why::NotExported,
@@ -292,7 +356,7 @@ impl<'m, 's, 't> Names<'m, 's, 't> {
         ensures within { IfOk result (IsWithin (modules_in self.now)) }
     {
         let mut way = start;
-        for _ in 0..self.modules.len() {
+        for turn in 0..self.modules().len() {
             match self.step(way, name)? {
                 Step::Here(found) => return Ok(found),
                 Step::On(next) => way = next,

@@ -3,7 +3,7 @@ ghost use Rattle.std.specs.Prelude.{◌≡◌, Ok, IfOk, MatchOption, map};
 ghost use Rattle.oer_module_syntax.specs.Tree.{assignment_of, import_of, exports_of, module_of, symbol_of};
 ghost use Rattle.oer_module_names.specs.Sole.{numbered};
 ghost use Rattle.oer_module_names.specs.Tables.{assigners_from, imports_from, module_names, source_names, symbol_names, assignment_names};
-ghost use Rattle.oer_module_names.specs.Indexed.{ArePartsOf, IsExportsOf, IsIndexOf, IsPartOf, held};
+ghost use Rattle.oer_module_names.specs.Indexed.{ArePartsOf, IsExportsOf, IsIndexOf, IsPartOf, held, leaves};
 
 use crate::index::Index;
 use oer_module_syntax::{Assignment, Exports, Import, Module, Symbol};
@@ -20,6 +20,18 @@ pub struct Part<'t> {
     pub imported: Index<'t>,
     /// The Names that other modules may import, unless these are all.
     pub exported: Option<Index<'t>>,
+}
+
+impl<'t> Part<'t> {
+    /// Whether other modules may import the Name.
+    pub fn exports(&self, name: &str) -> bool
+        ensures { result ≡ leaves self.now.exported name.now }
+    {
+        match &self.exported {
+            None => true,
+            Some(names) => names.get(name).is_there(),
+        }
+    }
 }
 
 fn assignment_names<'t>(
