@@ -1,7 +1,10 @@
 -- Parts, and the modules that they are of.
-use Rattle.std.proofs.Common.{◌≡◌, ◌<◌, ◌+◌, ℕ, zero, suc, Bool, true, false, List, [], ◌∷◌, ◌++◌, length, map, Option, None, Some, slice_get, refl, ap, ◌∙◌}
+use Rattle.std.proofs.Common.{◌≡◌, ◌<◌, ◌+◌, ℕ, zero, suc, Bool, true, false, List, [], ◌∷◌, ◌++◌, length, map, Option, None, Some, slice_get, take, get_or, add-one, refl, ap, ◌∙◌}
+use Rattle.std.proofs.lemmas.List.{map-append}
+use Rattle.std.proofs.Math.Seq.{take-suc}
 use Rattle.std.specs.Option.{option_map_or}
-use Rattle.oer_module_syntax.specs.Tree.{Import, Module}
+use Rattle.oer_module_syntax.specs.Tree.{Import, Module, module_of}
+use Rattle.oer_module_syntax.specs.declared.tree.Module.{Module as RawModule}
 use Rattle.oer_module_names.specs.Indexed.{ArePartsOf, IsIndexOf, IsIndexed, IsPartOf, held, leaves}
 use Rattle.oer_module_names.specs.Sole.{Entry, each, first_of, numbered, sole}
 use Rattle.oer_module_names.specs.Tables.{assigned, assigned_in, assigner, assigners_from, imported, imported_in, imports_from, is_exported, is_exported_in, module_names, named, source, source_in, symbol_names}
@@ -62,3 +65,8 @@ imports_same f g n [] same = refl
 imports_same f g n (i ∷ is) same =
     ap (λ s. each (symbol_names i.symbols) (first_of s n) ++ imports_from f (suc n) is) (same i.from)
     ∙ ap (λ es. each (symbol_names i.symbols) (first_of (g i.from) n) ++ es) (imports_same f g (suc n) is same)
+
+-- one module more
+pub modules_taken : (xs : List RawModule) (i : ℕ) (d : RawModule) → i < length xs → map module_of (take (i + 1) xs) ≡ map module_of (take i xs) ++ module_of (get_or xs i d) ∷ []
+modules_taken xs i d l =
+    ap (λ j. map module_of (take j xs)) (add-one i) ∙ ap (map module_of) (take-suc xs i d l) ∙ map-append module_of (take i xs) (get_or xs i d ∷ [])

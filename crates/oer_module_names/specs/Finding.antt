@@ -109,7 +109,7 @@ module _ (ms : List Module) where
   -- ---- what is asked for
 
   -- what the Name stands for in module k: a way through all modules and one more comes round
-  abbrev pub find : ℕ → List ℕ → Result Found Fault
+  unfoldable pub find : ℕ → List ℕ → Result Found Fault
   find k w = follow w (length ms) (record { «module» = k; place = module_place k })
 
   abbrev pub find_from : ℕ → List ℕ → List ℕ → Sole → Result Found Fault
@@ -118,10 +118,10 @@ module _ (ms : List Module) where
   find_from k f w (Two i j) = through w k i >>= follow w (length ms)
 
   -- what f.w stands for in module k
-  abbrev pub find_in : ℕ → List ℕ → List ℕ → Result Found Fault
+  unfoldable pub find_in : ℕ → List ℕ → List ℕ → Result Found Fault
   find_in k f w = if bytes_eq f (own_name k) then find k w else find_from k f w (source_in ms k f)
 
-  abbrev pub find_module : List ℕ → Result ℕ Fault
+  unfoldable pub find_module : List ℕ → Result ℕ Fault
   find_module f = module_at None f
 
   abbrev pub find_by_assigner : List ℕ → Sole → Result Found Fault
@@ -130,5 +130,5 @@ module _ (ms : List Module) where
   find_by_assigner w (Two a b) = fault (InTwoModules a b) w None
 
   -- the one assignment of the Name in all modules
-  abbrev pub find_anywhere : List ℕ → Result Found Fault
+  unfoldable pub find_anywhere : List ℕ → Result Found Fault
   find_anywhere w = find_by_assigner w (assigner ms w)

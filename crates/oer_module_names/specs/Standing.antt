@@ -33,13 +33,13 @@ MayLeave (these ss) w = IsAmong (symbol_names ss) w
 pub data StandsFor (ms : List Module) (w : List ℕ) (x : Found) : ℕ → Type 0 where
   own : {m : Module} → IsAt ms x.«module» m → IsOnlyAt (assignment_names m.assignments) x.assignment w → StandsFor ms w x x.«module»
   imported : {k j : ℕ} {m n : Module} {f : List ℕ} → IsAt ms k m → ¬ IsAmong (assignment_names m.assignments) w → ImportsFrom m w f
-    → IsOnlyAt (module_names ms) j f → IsAt ms j n → MayLeave n.exports w → StandsFor ms w x j → StandsFor ms w x k
+      → IsOnlyAt (module_names ms) j f → IsAt ms j n → MayLeave n.exports w → StandsFor ms w x j → StandsFor ms w x k
 
 -- The same of f.w (14.1): f is the module itself, or the one module of that name, from which something is imported.
 pub data StandsForIn (ms : List Module) (f w : List ℕ) (x : Found) : ℕ → Type 0 where
   itself : {k : ℕ} {m : Module} → IsAt ms k m → f ≡ m.name → StandsFor ms w x k → StandsForIn ms f w x k
   other : {k j : ℕ} {m n : Module} → IsAt ms k m → ¬ (f ≡ m.name) → IsAmong (source_names m.imports) f
-    → IsOnlyAt (module_names ms) j f → IsAt ms j n → MayLeave n.exports w → StandsFor ms w x j → StandsForIn ms f w x k
+      → IsOnlyAt (module_names ms) j f → IsAt ms j n → MayLeave n.exports w → StandsFor ms w x j → StandsForIn ms f w x k
 
 -- x assigns w
 abbrev pub Assigns : List Module → Found → List ℕ → Type 0

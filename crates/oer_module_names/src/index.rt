@@ -61,6 +61,7 @@ impl<'t> Index<'t> {
         }
     }
 
+    #[tactic(auto, unfolding(crate::specs::Indexed::held))]
     /// What the Name has.
     pub fn get(&self, name: &str) -> Sole
         ensures { result ≡ held self.now name.now }

@@ -3,6 +3,7 @@
 
 mod error;
 mod index;
+pub mod laws;
 mod names;
 mod part;
 mod way;

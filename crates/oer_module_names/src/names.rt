@@ -8,7 +8,7 @@ use crate::error::{Found, NameError, Place, Why};
 use crate::index::{Index, Sole};
 use crate::part::{Part, assigners_of, named_modules, parts_of};
 use crate::way::{Step, Way};
-use oer_module_syntax::{Assignment, Module};
+use oer_module_syntax::{Assignment, Import, Module};
 use std::alloc::{AllocError, Global};
 
 /// The Names of modules, so kept that each is found at once.
@@ -23,7 +23,7 @@ pub struct Names<'m, 's, 't> {
 
 impl<'m, 's, 't> Names<'m, 's, 't> {
     ghost use Rattle.std.specs.Prelude.{◌≡◌, ◌<◌, IfOk, IfSome, Some, length, map, slice_get};
-    ghost use Rattle.oer_module_syntax.specs.Tree.{assignment_of, module_of};
+    ghost use Rattle.oer_module_syntax.specs.Tree.{assignment_of, import_of, module_of};
     ghost use Rattle.oer_module_names.specs.Finding.{assignment_place, find, find_anywhere, find_in, find_module, follow, from_name, from_place, import_of_name, module_at, module_place, own, own_name, step, through};
     ghost use Rattle.oer_module_names.specs.Tables.{assigned_in, assigner, assignments_in, imported_in, imports_in, is_exported_in, named, source_in};
     ghost use Rattle.oer_module_names.specs.Views.{IsSoleBelow, IsStepWithin, IsWithin, answer_of, modules_in};
@@ -47,6 +47,7 @@ impl<'m, 's, 't> Names<'m, 's, 't> {
         })
     }
 
+    #[tactic(auto, unfolding(crate::specs::Views::modules_in), using(crate::proofs::Readings::modules_count))]
     /// The modules, in the order in which they were given.
     pub fn modules(&self) -> &'m [Module<'s, 't>]
         ensures value { map module_of result.now ≡ modules_in self.now }
@@ -60,9 +61,34 @@ impl<'m, 's, 't> Names<'m, 's, 't> {
         requires { IsWithin (modules_in self.now) found }
         ensures { slice_get (assignments_in (modules_in self.now) found.«module») found.assignment ≡ Some (assignment_of result.now) }
     {
-        &self.modules[found.module].assignments[found.assignment]
+        &self.the_module(found.module).assignments[found.assignment]
     }
 
+    #[tactic(auto, using(crate::proofs::Readings::modules_count))]
+    fn the_module(&self, module: usize) -> &'m Module<'s, 't>
+        requires { «module» < length (modules_in self.now) }
+        ensures { slice_get (modules_in self.now) «module» ≡ Some (module_of result.now) }
+    {
+        &self.modules[module]
+    }
+
+    fn the_import(&self, module: usize, import: usize) -> &'m Import<'s, 't>
+        requires known { «module» < length (modules_in self.now) }
+        requires import { import < length (imports_in (modules_in self.now) «module») }
+        ensures { slice_get (imports_in (modules_in self.now) «module») import ≡ Some (import_of result.now) }
+    {
+        &self.the_module(module).imports[import]
+    }
+
+    /// The indexes of a module.
+    fn part(&self, module: usize) -> &Part<'t>
+        requires { «module» < length (modules_in self.now) }
+        ensures { slice_get self.now.parts.items «module» ≡ Some result.now }
+    {
+        &self.parts[module]
+    }
+
+    #[tactic(auto, unfolding(crate::specs::Finding::find_module))]
     /// The module of this name. NoModule, if none has it; ModuleTwice.
     pub fn find_module<'n>(&self, name: &'n str) -> Result<usize, NameError<'n>>
         ensures answer { answer_of result ≡ find_module (modules_in self.now) name.now }
@@ -71,6 +97,7 @@ impl<'m, 's, 't> Names<'m, 's, 't> {
         self.module_at(None, name)
     }
 
+    #[tactic(auto, unfolding(crate::specs::Finding::find))]
     /// What the Name stands for in this module (X.680, 13.12 to 13.17): the assignment of the module
     /// itself, or else of the module that it imports the Name from, if that module exports it; what a
     /// module imports it may export.
@@ -91,6 +118,7 @@ impl<'m, 's, 't> Names<'m, 's, 't> {
         self.follow(Way { module, place }, name)
     }
 
+    #[tactic(auto, unfolding(crate::specs::Finding::find_in))]
     /// What `of.name` stands for in this module (X.680, 14.1): the same as the Name alone, where `of`
     /// is the module itself; else what the Name stands for in the module `of`, from which something
     /// must be imported, and which must export the Name. NotImported, and then the errors of `find`.
@@ -122,6 +150,7 @@ impl<'m, 's, 't> Names<'m, 's, 't> {
         }
     }
 
+    #[tactic(auto, unfolding(crate::specs::Finding::find_anywhere))]
     /// The assignment of the Name in all modules. Missing, if none assigns it; InTwoModules;
     /// AssignedTwice, if one module assigns it twice.
     pub fn find_anywhere<'n>(&self, name: &'n str) -> Result<Found, NameError<'n>>
@@ -145,6 +174,7 @@ impl<'m, 's, 't> Names<'m, 's, 't> {
         }
     }
 
+    #[tactic(auto, unfolding(crate::specs::Finding::module_place))]
     /// Where a module begins.
     fn module_place(&self, module: usize) -> Place
         requires { «module» < length (modules_in self.now) }
@@ -152,10 +182,11 @@ impl<'m, 's, 't> Names<'m, 's, 't> {
     {
         Place {
             module,
-            at: self.modules[module].at,
+            at: self.the_module(module).at,
         }
     }
 
+    #[tactic(auto, unfolding(crate::specs::Finding::assignment_place))]
     fn assignment_place(&self, module: usize, assignment: usize) -> Place
         requires known { «module» < length (modules_in self.now) }
         requires assignment { assignment < length (assignments_in (modules_in self.now) «module») }
@@ -163,10 +194,11 @@ impl<'m, 's, 't> Names<'m, 's, 't> {
     {
         Place {
             module,
-            at: self.modules[module].assignments[assignment].at,
+            at: self.assignment(Found { module, assignment }).at,
         }
     }
 
+    #[tactic(auto, unfolding(crate::specs::Finding::from_place))]
     /// Where an import names its module.
     fn from_place(&self, module: usize, import: usize) -> Place
         requires known { «module» < length (modules_in self.now) }
@@ -175,24 +207,26 @@ impl<'m, 's, 't> Names<'m, 's, 't> {
     {
         Place {
             module,
-            at: self.modules[module].imports[import].at,
+            at: self.the_import(module, import).at,
         }
     }
 
+    #[tactic(auto, unfolding(crate::specs::Finding::from_name))]
     /// The name of that module.
     fn from_name(&self, module: usize, import: usize) -> &'t str
         requires known { «module» < length (modules_in self.now) }
         requires import { import < length (imports_in (modules_in self.now) «module») }
         ensures { result.now ≡ from_name (modules_in self.now) «module» import }
     {
-        self.modules[module].imports[import].from
+        self.the_import(module, import).from
     }
 
+    #[tactic(auto, unfolding(crate::specs::Finding::own_name))]
     fn own_name(&self, module: usize) -> &'t str
         requires { «module» < length (modules_in self.now) }
         ensures { result.now ≡ own_name (modules_in self.now) «module» }
     {
-        self.modules[module].name
+        self.the_module(module).name
     }
 
     /// Which module has the name.
@@ -217,7 +251,7 @@ impl<'m, 's, 't> Names<'m, 's, 't> {
         ensures value { result ≡ assigned_in (modules_in self.now) «module» name.now }
         ensures below { IsSoleBelow (length (assignments_in (modules_in self.now) «module»)) result }
     {
-        self.parts[module].assigned.get(name)
+        self.part(module).assigned.get(name)
     }
 
     /// Which import of a module has the Name.
@@ -226,7 +260,7 @@ impl<'m, 's, 't> Names<'m, 's, 't> {
         ensures value { result ≡ imported_in (modules_in self.now) «module» name.now }
         ensures below { IsSoleBelow (length (imports_in (modules_in self.now) «module»)) result }
     {
-        self.parts[module].imported.get(name)
+        self.part(module).imported.get(name)
     }
 
     /// Which import of a module is from the module of this name.
@@ -235,7 +269,7 @@ impl<'m, 's, 't> Names<'m, 's, 't> {
         ensures value { result ≡ source_in (modules_in self.now) «module» from.now }
         ensures below { IsSoleBelow (length (imports_in (modules_in self.now) «module»)) result }
     {
-        self.parts[module].sources.get(from)
+        self.part(module).sources.get(from)
     }
 
     /// Whether a module exports the Name.
@@ -243,9 +277,10 @@ impl<'m, 's, 't> Names<'m, 's, 't> {
         requires { «module» < length (modules_in self.now) }
         ensures { result ≡ is_exported_in (modules_in self.now) «module» name.now }
     {
-        self.parts[module].exports(name)
+        self.part(module).exports(name)
     }
 
+    #[tactic(auto, unfolding(crate::specs::Finding::module_at))]
     /// The module of a name that stands at a place.
     fn module_at<'n>(&self, place: Option<Place>, name: &'n str) -> Result<usize, NameError<'n>>
         ensures answer { answer_of result ≡ module_at (modules_in self.now) place name.now }
@@ -266,6 +301,7 @@ impl<'m, 's, 't> Names<'m, 's, 't> {
         }
     }
 
+    #[tactic(auto, unfolding(crate::specs::Finding::own))]
     /// Which of a module's own assignments has the Name, if one has.
     fn own<'n>(&self, module: usize, name: &'n str) -> Result<Option<usize>, NameError<'n>>
         requires { «module» < length (modules_in self.now) }
@@ -283,6 +319,7 @@ impl<'m, 's, 't> Names<'m, 's, 't> {
         }
     }
 
+    #[tactic(auto, unfolding(crate::specs::Finding::import_of_name))]
     /// Which import of a module has the Name.
     fn import_of_name<'n>(&self, way: Way, name: &'n str) -> Result<usize, NameError<'n>>
         requires { way.«module» < length (modules_in self.now) }
@@ -304,6 +341,7 @@ impl<'m, 's, 't> Names<'m, 's, 't> {
         }
     }
 
+    #[tactic(auto, unfolding(crate::specs::Finding::through))]
     /// Through an import to the module that it names, which must export the Name.
     fn through<'n>(&self, module: usize, import: usize, name: &'n str) -> Result<Way, NameError<'n>>
     where
@@ -328,6 +366,7 @@ impl<'m, 's, 't> Names<'m, 's, 't> {
         })
     }
 
+    #[tactic(auto, unfolding(crate::specs::Finding::step))]
     /// The assignment of a module, or the way to the next.
     fn step<'n>(&self, way: Way, name: &'n str) -> Result<Step, NameError<'n>>
     where

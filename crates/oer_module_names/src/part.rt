@@ -93,7 +93,7 @@ fn exported_names<'t>(alloc: Global, exports: &Exports<'t>) -> Result<Option<Ind
 
 /// The indexes of one module.
 fn part_of<'t>(alloc: Global, module: &Module<'_, 't>) -> Result<Part<'t>, AllocError>
-    ensures { IfOk result (λ p. IsPartOf p (module_of module.now)) }
+    ensures { IfOk result (λ p. IsPartOf p (module_of «module».now)) }
 {
     let assignments = assignment_names(alloc, &module.assignments)?;
     let assigned = Index::numbered(alloc, &assignments)?;

@@ -1,0 +1,9 @@
+use Rattle.std.proofs.Common.{◌≡◌, IfOk, map, rules, ap, ◌∙◌}
+use Rattle.std.proofs.iter.runs.Made.{chains}
+use Rattle.oer_module_names.proofs.Indexing.{on_ok, modules_named, texts}
+use Rattle.oer_module_names.proofs.part.module_names.Goals as goal
+
+pub returns : goal.returns
+returns c =
+    let items : IfOk c.collect.result (λ v. v.items ≡ map (λ x. x.name) c.args.modules.now) = search (rules, chains) in
+    on_ok c.collect.result items (λ v same. ap texts same ∙ modules_named c.args.modules.now)
