@@ -146,7 +146,7 @@ module _ (ms : List Module) (w : List ℕ) (x : Found) where
 
   -- a module that assigns the Name has it from no other
   own_only : (k : ℕ) (m : Module) → IsAt ms k m → IsAmong (assignment_names m.assignments) w → StandsFor ms w x k → (k ≡ x.«module») × IsOnlyAt (assignment_names m.assignments) x.assignment w
-  own_only k m at among (own {n} there only) = (refl, subst (λ y. IsOnlyAt (assignment_names y.assignments) x.assignment w) (same_some n m (sym there ∙ at)) only)
+  own_only k m at among (own {m = n} there only) = (refl, subst (λ y. IsOnlyAt (assignment_names y.assignments) x.assignment w) (same_some n m (sym there ∙ at)) only)
   own_only k m at among (imported {m = n} there absent from only next may rest) =
       absurd (absent (subst (λ y. IsAmong (assignment_names y.assignments) w) (same_some m n (sym at ∙ there)) among))
 

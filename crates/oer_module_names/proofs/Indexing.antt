@@ -1,5 +1,5 @@
 -- What an index has after additions.
-use Rattle.std.proofs.Common.{◌≡◌, ◌<◌, ◌≤◌, ◌+◌, ℕ, zero, suc, Bool, true, false, cond, List, [], ◌∷◌, ◌++◌, drop, length, map, get_or, drop-cons, add-one, unwrap_or, Option, None, Some, Result, Ok, Err, IfOk, refl, sym, subst, ap, ◌∙◌, arith}
+use Rattle.std.proofs.Common.{◌≡◌, ◌<◌, ◌≤◌, ◌+◌, ℕ, zero, suc, Bool, true, false, cond, List, [], ◌∷◌, ◌++◌, drop, length, map, get_or, drop-cons, add-one, unwrap_or, Option, None, Some, take, refl, sym, subst, ap, ◌∙◌, arith}
 use Rattle.std.proofs.lemmas.Slice.Eq.{bytes_eq-Decides}
 use Rattle.std.specs.BTreeMap.{get_by, is_at}
 use Rattle.std.specs.Cmp.Lexicographic.{slice_cmp}
@@ -8,6 +8,7 @@ use Rattle.std.specs.Ordering.{nat_cmp}
 use Rattle.std.specs.Str.{bytes_eq}
 use denote.Ref.{Bor}
 use Rattle.std.proofs.Math.ListN.{drop_of_length-le}
+use Rattle.std.proofs.lemmas.List.{take_all}
 use Rattle.oer_module_syntax.specs.Tree.{Import, Module, assignment_of, import_of, module_of, symbol_of}
 use Rattle.oer_module_syntax.specs.declared.tree.Assignment.{Assignment as RawAssignment}
 use Rattle.oer_module_syntax.specs.declared.tree.Import.{Import as RawImport}
@@ -68,6 +69,9 @@ texts xs = map (λ w. w.now) xs
 at_drop : {A : Type 0} (xs : List A) (i : ℕ) (d : A) → i < length xs → drop i xs ≡ get_or xs i d ∷ drop (i + 1) xs
 at_drop xs i d l = drop-cons xs i d l ∙ ap (λ j. get_or xs i d ∷ drop j xs) (sym (add-one i))
 
+item_drop : {A : Type 0} (xs : List A) (i : ℕ) (x : A) → i < length xs → x ≡ get_or xs i x → drop i xs ≡ x ∷ drop (i + 1) xs
+item_drop xs i x l is = at_drop xs i x l ∙ ap (λ y. y ∷ drop (i + 1) xs) (sym is)
+
 past_drop : {A : Type 0} (xs : List A) (i : ℕ) → length xs ≤ i → drop i xs ≡ []
 past_drop xs i l = drop_of_length-le xs l
 
@@ -89,29 +93,29 @@ numbered_over xs i l = ap (λ l. numbered i (texts l)) (past_drop xs i l)
 abbrev pub import_entries : (List ℕ → Sole) → ℕ → Import → List Entry
 import_entries f i x = each (symbol_names x.symbols) (first_of (f x.from) i)
 
-pub imports_left : (f : List ℕ → Sole) (xs : List RawImport) (i : ℕ) (d : RawImport) → i < length xs
-    → imports_from f i (map import_of (drop i xs)) ≡ import_entries f i (import_of (get_or xs i d)) ++ imports_from f (i + 1) (map import_of (drop (i + 1) xs))
-imports_left f xs i d l =
-    ap (λ l. imports_from f i (map import_of l)) (at_drop xs i d l)
-    ∙ ap (λ j. import_entries f i (import_of (get_or xs i d)) ++ imports_from f j (map import_of (drop (i + 1) xs))) (sym (add-one i))
+pub imports_left : (f : List ℕ → Sole) (xs : List RawImport) (i : ℕ) (x : RawImport) → i < length xs → x ≡ get_or xs i x
+    → imports_from f i (map import_of (drop i xs)) ≡ import_entries f i (import_of x) ++ imports_from f (i + 1) (map import_of (drop (i + 1) xs))
+imports_left f xs i x l is =
+    ap (λ l. imports_from f i (map import_of l)) (item_drop xs i x l is)
+    ∙ ap (λ j. import_entries f i (import_of x) ++ imports_from f j (map import_of (drop (i + 1) xs))) (sym (add-one i))
 
 pub imports_over : (f : List ℕ → Sole) (xs : List RawImport) (i : ℕ) → length xs ≤ i → imports_from f i (map import_of (drop i xs)) ≡ []
 imports_over f xs i l = ap (λ l. imports_from f i (map import_of l)) (past_drop xs i l)
 
-pub assigners_left : (xs : List RawModule) (i : ℕ) (d : RawModule) → i < length xs
-    → assigners_from i (map module_of (drop i xs)) ≡ each (assignment_names (module_of (get_or xs i d)).assignments) i ++ assigners_from (i + 1) (map module_of (drop (i + 1) xs))
-assigners_left xs i d l =
-    ap (λ l. assigners_from i (map module_of l)) (at_drop xs i d l)
-    ∙ ap (λ j. each (assignment_names (module_of (get_or xs i d)).assignments) i ++ assigners_from j (map module_of (drop (i + 1) xs))) (sym (add-one i))
+pub assigners_left : (xs : List RawModule) (i : ℕ) (x : RawModule) → i < length xs → x ≡ get_or xs i x
+    → assigners_from i (map module_of (drop i xs)) ≡ each (assignment_names (module_of x).assignments) i ++ assigners_from (i + 1) (map module_of (drop (i + 1) xs))
+assigners_left xs i x l is =
+    ap (λ l. assigners_from i (map module_of l)) (item_drop xs i x l is)
+    ∙ ap (λ j. each (assignment_names (module_of x).assignments) i ++ assigners_from j (map module_of (drop (i + 1) xs))) (sym (add-one i))
 
 pub assigners_over : (xs : List RawModule) (i : ℕ) → length xs ≤ i → assigners_from i (map module_of (drop i xs)) ≡ []
 assigners_over xs i l = ap (λ l. assigners_from i (map module_of l)) (past_drop xs i l)
 
 -- ---- the Names of what the code has
 
-pub on_ok : {T E : Type 0} (r : Result T E) {P Q : T → Type 0} → IfOk r P → ((x : T) → P x → Q x) → IfOk r Q
-on_ok (Ok x) p f = f x p
-on_ok (Err e) p f = tt
+-- all have been pushed
+pub pushed_all : {X : Type 0} (f : X → Bor (List ℕ)) (ns : List (Bor (List ℕ))) (xs : List X) (i : ℕ) → ns ≡ map f (take i xs) → length xs ≤ i → ns ≡ map f xs
+pushed_all f ns xs i h l = h ∙ ap (map f) (take_all i xs l)
 
 pub assignments_named : (xs : List RawAssignment) → texts (map (λ a. a.name) xs) ≡ assignment_names (map assignment_of xs)
 assignments_named [] = refl

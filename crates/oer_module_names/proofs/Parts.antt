@@ -1,5 +1,5 @@
 -- Parts, and the modules that they are of.
-use Rattle.std.proofs.Common.{◌≡◌, ◌<◌, ◌+◌, ℕ, zero, suc, Bool, true, false, List, [], ◌∷◌, ◌++◌, length, map, Option, None, Some, slice_get, take, get_or, add-one, refl, ap, ◌∙◌}
+use Rattle.std.proofs.Common.{◌≡◌, ◌<◌, ◌+◌, ℕ, zero, suc, Bool, true, false, List, [], ◌∷◌, ◌++◌, length, map, Option, None, Some, slice_get, take, get_or, add-one, refl, sym, ap, ◌∙◌}
 use Rattle.std.proofs.lemmas.List.{map-append}
 use Rattle.std.proofs.Math.Seq.{take-suc}
 use Rattle.std.specs.Option.{option_map_or}
@@ -67,6 +67,7 @@ imports_same f g n (i ∷ is) same =
     ∙ ap (λ es. each (symbol_names i.symbols) (first_of (g i.from) n) ++ es) (imports_same f g (suc n) is same)
 
 -- one module more
-pub modules_taken : (xs : List RawModule) (i : ℕ) (d : RawModule) → i < length xs → map module_of (take (i + 1) xs) ≡ map module_of (take i xs) ++ module_of (get_or xs i d) ∷ []
-modules_taken xs i d l =
-    ap (λ j. map module_of (take j xs)) (add-one i) ∙ ap (map module_of) (take-suc xs i d l) ∙ map-append module_of (take i xs) (get_or xs i d ∷ [])
+pub modules_taken : (xs : List RawModule) (i : ℕ) (x : RawModule) → i < length xs → x ≡ get_or xs i x → map module_of (take (i + 1) xs) ≡ map module_of (take i xs) ++ module_of x ∷ []
+modules_taken xs i x l is =
+    ap (λ j. map module_of (take j xs)) (add-one i) ∙ ap (map module_of) (take-suc xs i x l) ∙ map-append module_of (take i xs) (get_or xs i x ∷ [])
+    ∙ ap (λ y. map module_of (take i xs) ++ module_of y ∷ []) (sym is)

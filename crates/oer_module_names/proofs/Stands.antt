@@ -65,10 +65,10 @@ module _ (ms : List Module) (w : List ℕ) where
           let same : way.«module» ≡ j = cc in
           slice_get_within ms j l.next (subst (λ i. IsAt ms i l.next) same l.there)
 
-  stands_chain : (k : ℕ) (x : Found) → StandsFor ms w x k → (n : ℕ) × (chain next n k ≡ Some x)
-  stands_chain k x (own {m} at only) = (1, ap (turned (chain next 0)) (owns_next x.«module» x (record { this = m; at = at; only = only; same = refl })))
-  stands_chain k x (imported {j = j} {m = m} {n = n} {f = f} at absent from only there may rest) =
-      let r = stands_chain j x rest in
+  stands_chain : (x : Found) (k : ℕ) → StandsFor ms w x k → (n : ℕ) × (chain next n k ≡ Some x)
+  stands_chain x k (own {m} at only) = (1, ap (turned (chain next 0)) (owns_next x.«module» x (record { this = m; at = at; only = only; same = refl })))
+  stands_chain x k (imported {j = j} {m = m} {n = n} {f = f} at absent from only there may rest) =
+      let r = stands_chain x j rest in
       (suc r.0, ap (turned (chain next r.0)) (leads_next k j (record { this = m; next = n; name = f; at = at; absent = absent; from = from; only = only; there = there; may = may })) ∙ r.1)
 
   chain_follow : (n k : ℕ) (p : Place) (x : Found) → chain next n k ≡ Some x → follow ms w n (way_at k p) ≡ Ok x
@@ -92,7 +92,7 @@ module _ (ms : List Module) (w : List ℕ) where
 
   pub stands_follow : (k : ℕ) (p : Place) (x : Found) → StandsFor ms w x k → follow ms w (length ms) (way_at k p) ≡ Ok x
   stands_follow k p x h =
-      let c = stands_chain k x h in
+      let c = stands_chain x k h in
       chain_follow (length ms) k p x (chain_within next (length ms) (λ i j l e. next_within i j e) c.0 k x (stands_within k x h) c.1)
 
 pub finds_stands : (ms : List Module) (w : List ℕ) (k : ℕ) (x : Found) → find ms k w ≡ Ok x → StandsFor ms w x k

@@ -40,25 +40,41 @@ fn assignment_names<'t>(
 ) -> Result<Vec<&'t str>, AllocError>
     ensures { IfOk result (λ v. map (λ w. w.now) v.items ≡ assignment_names (map assignment_of assignments.now)) }
 {
-    assignments.iter().map(|a| a.name).collect(alloc)
+    let mut names = Vec::new(alloc);
+    for assignment in assignments {
+        names.push(assignment.name)?;
+    }
+    Ok(names)
 }
 
 fn symbol_names<'t>(alloc: Global, symbols: &[Symbol<'t>]) -> Result<Vec<&'t str>, AllocError>
     ensures { IfOk result (λ v. map (λ w. w.now) v.items ≡ symbol_names (map symbol_of symbols.now)) }
 {
-    symbols.iter().map(|s| s.name).collect(alloc)
+    let mut names = Vec::new(alloc);
+    for symbol in symbols {
+        names.push(symbol.name)?;
+    }
+    Ok(names)
 }
 
 fn source_names<'t>(alloc: Global, imports: &[Import<'_, 't>]) -> Result<Vec<&'t str>, AllocError>
     ensures { IfOk result (λ v. map (λ w. w.now) v.items ≡ source_names (map import_of imports.now)) }
 {
-    imports.iter().map(|i| i.from).collect(alloc)
+    let mut names = Vec::new(alloc);
+    for import in imports {
+        names.push(import.from)?;
+    }
+    Ok(names)
 }
 
 fn module_names<'t>(alloc: Global, modules: &[Module<'_, 't>]) -> Result<Vec<&'t str>, AllocError>
     ensures { IfOk result (λ v. map (λ w. w.now) v.items ≡ module_names (map module_of modules.now)) }
 {
-    modules.iter().map(|m| m.name).collect(alloc)
+    let mut names = Vec::new(alloc);
+    for module in modules {
+        names.push(module.name)?;
+    }
+    Ok(names)
 }
 
 /// Names with the imports that have them.

@@ -1,4 +1,4 @@
-use Rattle.std.proofs.Common.{◌≡◌, ap, ◌∙◌, get_or, map}
+use Rattle.std.proofs.Common.{◌≡◌, ap, ◌∙◌, map}
 use Rattle.oer_module_syntax.specs.Tree.{assignment_of, module_of}
 use Rattle.oer_module_names.proofs.Indexing.{assigners_left, assigners_over, extends_as, index_of_all, leaves_all, leaves_less, texts}
 use Rattle.oer_module_names.specs.Sole.{each}
@@ -13,9 +13,9 @@ loop-place-preserved c =
     let l = c.loop-place in
     let modules = c.args.modules.now in
     let d = c.index-modules-place.result in
-    let entries : each (texts c.deref-in-loop-place.result.now) l.place ≡ each (assignment_names (module_of (get_or modules l.place d)).assignments) l.place =
+    let entries : each (texts c.deref-in-loop-place.result.now) l.place ≡ each (assignment_names (module_of d).assignments) l.place =
     ap (λ ws. each ws l.place) (ap texts c.deref-in-loop-place.ensures.value ∙ c.in_ok-names.ensures ∙ ap (λ xs. assignment_names (map assignment_of xs)) c.deref.ensures.value) in
-    leaves_less _ _ _ _ _ _ _ l.invariant (assigners_left modules l.place d c.loop-place-test.true) (extends_as _ _ _ _ entries c.in_ok-add_each.ensures)
+    leaves_less _ _ _ _ _ _ _ l.invariant (assigners_left modules l.place d c.loop-place-test.true c.index-modules-place.is) (extends_as _ _ _ _ entries c.in_ok-add_each.ensures)
 
 pub returns : goal.returns
 returns c =

@@ -1,9 +1,8 @@
-use Rattle.std.proofs.Common.{◌≡◌, IfOk, map, rules, ap, ◌∙◌}
-use Rattle.std.proofs.iter.runs.Made.{chains}
-use Rattle.oer_module_names.proofs.Indexing.{on_ok, assignments_named, texts}
+use Rattle.std.proofs.Common.{ap, ◌∙◌}
+use Rattle.oer_module_names.proofs.Indexing.{assignments_named, pushed_all, texts}
 use Rattle.oer_module_names.proofs.part.assignment_names.Goals as goal
 
 pub returns : goal.returns
 returns c =
-    let items : IfOk c.collect.result (λ v. v.items ≡ map (λ x. x.name) c.args.assignments.now) = search (rules, chains) in
-    on_ok c.collect.result items (λ v same. ap texts same ∙ assignments_named c.args.assignments.now)
+    let l = c.loop-assignment in
+    ap texts (pushed_all (λ x. x.name) l.names.items c.args.assignments.now l.assignment-index l.invariant c.loop-assignment-test.false) ∙ assignments_named c.args.assignments.now

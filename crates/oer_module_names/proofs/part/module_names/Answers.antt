@@ -1,9 +1,8 @@
-use Rattle.std.proofs.Common.{◌≡◌, IfOk, map, rules, ap, ◌∙◌}
-use Rattle.std.proofs.iter.runs.Made.{chains}
-use Rattle.oer_module_names.proofs.Indexing.{on_ok, modules_named, texts}
+use Rattle.std.proofs.Common.{ap, ◌∙◌}
+use Rattle.oer_module_names.proofs.Indexing.{modules_named, pushed_all, texts}
 use Rattle.oer_module_names.proofs.part.module_names.Goals as goal
 
 pub returns : goal.returns
 returns c =
-    let items : IfOk c.collect.result (λ v. v.items ≡ map (λ x. x.name) c.args.modules.now) = search (rules, chains) in
-    on_ok c.collect.result items (λ v same. ap texts same ∙ modules_named c.args.modules.now)
+    let l = c.loop-module in
+    ap texts (pushed_all (λ x. x.name) l.names.items c.args.modules.now l.module-index l.invariant c.loop-module-test.false) ∙ modules_named c.args.modules.now

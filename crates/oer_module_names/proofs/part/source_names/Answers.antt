@@ -1,9 +1,8 @@
-use Rattle.std.proofs.Common.{◌≡◌, IfOk, map, rules, ap, ◌∙◌}
-use Rattle.std.proofs.iter.runs.Made.{chains}
-use Rattle.oer_module_names.proofs.Indexing.{on_ok, sources_named, texts}
+use Rattle.std.proofs.Common.{ap, ◌∙◌}
+use Rattle.oer_module_names.proofs.Indexing.{sources_named, pushed_all, texts}
 use Rattle.oer_module_names.proofs.part.source_names.Goals as goal
 
 pub returns : goal.returns
 returns c =
-    let items : IfOk c.collect.result (λ v. v.items ≡ map (λ x. x.from) c.args.imports.now) = search (rules, chains) in
-    on_ok c.collect.result items (λ v same. ap texts same ∙ sources_named c.args.imports.now)
+    let l = c.loop-import in
+    ap texts (pushed_all (λ x. x.from) l.names.items c.args.imports.now l.import-index l.invariant c.loop-import-test.false) ∙ sources_named c.args.imports.now

@@ -1,9 +1,8 @@
-use Rattle.std.proofs.Common.{◌≡◌, IfOk, map, rules, ap, ◌∙◌}
-use Rattle.std.proofs.iter.runs.Made.{chains}
-use Rattle.oer_module_names.proofs.Indexing.{on_ok, symbols_named, texts}
+use Rattle.std.proofs.Common.{ap, ◌∙◌}
+use Rattle.oer_module_names.proofs.Indexing.{symbols_named, pushed_all, texts}
 use Rattle.oer_module_names.proofs.part.symbol_names.Goals as goal
 
 pub returns : goal.returns
 returns c =
-    let items : IfOk c.collect.result (λ v. v.items ≡ map (λ x. x.name) c.args.symbols.now) = search (rules, chains) in
-    on_ok c.collect.result items (λ v same. ap texts same ∙ symbols_named c.args.symbols.now)
+    let l = c.loop-symbol in
+    ap texts (pushed_all (λ x. x.name) l.names.items c.args.symbols.now l.symbol-index l.invariant c.loop-symbol-test.false) ∙ symbols_named c.args.symbols.now

@@ -9,8 +9,8 @@ returns-in_err-found-clause-answer c =
     let l = c.loop-turn in
     let ms = modules_in c.args.self.now in
     let more : l.turn < length ms = omega (arith, c.modules-turn-end.ensures.len) in
-    let p = c.from_residual.ensures in
-    ?
+    let p = err_from_is_err_and c.from_residual.result c.from_residual.ensures.1 in
+    rw (p.1, p.2) (turn_err ms c.args.name.now (length ms) l.turn c.args.start l.way l.invariant.same more (fault_of c.in_err-found.field-0.0) c.in_err-found.ensures.answer)
 
 pub returns-in-Here-clause-answer : goal.returns-in-Here-clause-answer
 returns-in-Here-clause-answer c =
