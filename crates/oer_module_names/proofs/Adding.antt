@@ -1,14 +1,12 @@
 -- What Names have as entries are added, and below which number it stays.
-use Rattle.std.proofs.Common.{◌≡◌, ◌<◌, ◌≤◌, ◌+◌, ℕ, zero, suc, Bool, true, false, cond, List, [], ◌∷◌, ◌++◌, length, map, nat_eq, option_map, Option, None, Some, slice_get, refl, sym, subst, ap, ◌∙◌, arith}
+use Rattle.std.proofs.Common.{◌≡◌, ◌<◌, ◌≤◌, ◌+◌, ℕ, suc, Bool, true, false, cond, List, [], ◌∷◌, ◌++◌, length, nat_eq, Option, None, Some, slice_get, refl, arith}
 use Rattle.std.proofs.lemmas.List.{length-map}
 use Rattle.std.specs.Option.{option_map_or}
 use Rattle.std.specs.Str.{bytes_eq}
 use Rattle.oer_module_syntax.specs.Tree.{Import, Module}
-use Rattle.oer_module_names.specs.Indexed.{Extends, IsIndexOf, held}
 use Rattle.oer_module_names.specs.Sole.{Entry, each, first_of, numbered, sole, sole_from, with_entry, with_number}
 use Rattle.oer_module_names.specs.Tables.{assigned, assigned_in, assigner, assigners_from, assignment_names, assignments_in, imported, imported_in, imports_from, imports_in, module_names, named, source, source_in, source_names, symbol_names}
 use Rattle.oer_module_names.specs.Views.{IsSoleBelow}
-use Rattle.oer_module_names.specs.declared.index.Index.{Index}
 use Rattle.oer_module_names.specs.declared.index.Sole.{Sole}
 use Rattle.oer_module_names.specs.declared.index.Sole.TheVariants.{Nothing, One, Two}
 

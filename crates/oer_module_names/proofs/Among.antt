@@ -1,9 +1,9 @@
 -- What stands among others, and what entries tell of a Name.
-use Rattle.std.proofs.Common.{◌≡◌, ◌≢◌, ◌⊎◌, inl, inr, ◌+◌, ◌<◌, ℕ, zero, suc, Bool, true, false, cond, List, [], ◌∷◌, ◌++◌, append_assoc, append-nil, length, map, nat_eq, eqb-true, Option, None, Some, slice_get, unwrap_or, refl, sym, subst, ap, ◌∙◌, arith}
+use Rattle.std.proofs.Common.{◌≡◌, ◌≢◌, ◌⊎◌, inl, inr, ℕ, zero, suc, Bool, true, false, cond, List, [], ◌∷◌, ◌++◌, append_assoc, append-nil, nat_eq, eqb-true, Some, unwrap_or, refl, sym, subst, ap, ◌∙◌, arith}
 use Rattle.std.proofs.lemmas.Slice.Eq.{bytes_eq-Decides}
 use Rattle.std.specs.Str.{bytes_eq}
-use Rattle.oer_module_names.specs.Sole.{Entry, each, first_of, is_there, numbered, sole, sole_from, with_entry, with_number}
-use Rattle.oer_module_names.specs.Standing.{IsAmong, IsAt, IsOnlyAt}
+use Rattle.oer_module_names.specs.Sole.{Entry, sole, sole_from, with_entry, with_number}
+use Rattle.oer_module_names.specs.Standing.{IsAmong}
 use Rattle.oer_module_names.specs.declared.index.Sole.{Sole}
 use Rattle.oer_module_names.specs.declared.index.Sole.TheVariants.{Nothing, One, Two}
 

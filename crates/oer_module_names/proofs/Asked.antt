@@ -1,20 +1,19 @@
 -- What is found for a Name behind that of a module, and for a Name in all modules.
-use Rattle.std.proofs.Common.{◌≡◌, ◌≢◌, ◌+◌, ◌<◌, ◌⊎◌, inl, inr, ℕ, zero, suc, Bool, true, false, cond, List, [], ◌∷◌, ◌++◌, length, map, Option, None, Some, slice_get, Result, Ok, Err, refl, sym, subst, ap, ap₂, ◌∙◌, arith}
+use Rattle.std.proofs.Common.{◌≡◌, ◌+◌, ◌<◌, ◌⊎◌, inl, inr, ℕ, zero, suc, Bool, true, false, cond, List, [], ◌∷◌, length, Option, None, Some, slice_get, Result, Ok, Err, refl, sym, subst, ap, ap₂, ◌∙◌, arith}
 use Rattle.std.proofs.lemmas.Bool.{false_from_ne_true}
 use Rattle.std.proofs.lemmas.Slice.Eq.{bytes_eq-Decides}
 use Rattle.std.specs.Option.{option_map_or}
 use Rattle.std.specs.Str.{bytes_eq}
-use Rattle.oer_module_syntax.specs.Tree.{Import, Module}
+use Rattle.oer_module_syntax.specs.Tree.{Module}
 use Rattle.oer_module_names.proofs.Among.{Gives, Tells, among_either, among_left, among_right, same_some, tells}
 use Rattle.oer_module_names.proofs.Stands.{follow_stands, finds_stands, stands_finds, stands_follow, stands_within}
-use Rattle.oer_module_names.proofs.Steps.{Crosses, name_here, through_crosses, through_is}
+use Rattle.oer_module_names.proofs.Steps.{name_here, through_crosses, through_is}
 use Rattle.oer_module_names.proofs.Tellings.{among_is_there, at_from, each_given, each_gives, first_at, there_is_among}
-use Rattle.oer_module_names.specs.Finding.{Fault, ◌>>=◌, fault, find, find_anywhere, find_by_assigner, find_from, find_in, follow, from_name, from_place, own_name, through}
-use Rattle.oer_module_names.specs.Sole.{Entry, each, first_of, is_there, numbered, sole}
-use Rattle.oer_module_names.specs.Standing.{Assigns, IsAmong, IsAt, IsOnlyAssignment, IsOnlyAt, MayLeave, StandsFor, StandsForIn, imported, itself, other, own}
+use Rattle.oer_module_names.specs.Finding.{Fault, ◌>>=◌, find, find_anywhere, find_by_assigner, find_from, find_in, follow, from_name, from_place, own_name, through}
+use Rattle.oer_module_names.specs.Sole.{each, first_of, is_there, sole}
+use Rattle.oer_module_names.specs.Standing.{IsAmong, IsAt, IsOnlyAssignment, IsOnlyAt, MayLeave, StandsFor, StandsForIn, imported, itself, other, own}
 use Rattle.oer_module_names.specs.Tables.{assigner, assigners_from, assignment_names, module_names, source, source_in, source_names}
 use Rattle.oer_module_names.specs.declared.error.Found.{Found}
-use Rattle.oer_module_names.specs.declared.error.Place.{Place}
 use Rattle.oer_module_names.specs.declared.index.Sole.{Sole}
 use Rattle.oer_module_names.specs.declared.index.Sole.TheVariants.{Nothing, One, Two}
 use Rattle.oer_module_names.specs.declared.way.Way.{Way}

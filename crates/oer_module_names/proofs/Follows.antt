@@ -1,10 +1,9 @@
 -- The turns from one module to the next.
-use Rattle.std.proofs.Common.{◌≡◌, ◌<◌, ◌≤◌, ◌+◌, ◌-◌, ℕ, zero, suc, List, Some, Result, Ok, Err, refl, sym, ap, ◌∙◌, arith}
+use Rattle.std.proofs.Common.{◌≡◌, ◌<◌, ◌≤◌, ◌+◌, ◌-◌, ℕ, suc, List, Some, Ok, Err, sym, ap, ◌∙◌, arith}
 use Rattle.oer_module_syntax.specs.Tree.{Module}
 use Rattle.oer_module_names.specs.Finding.{Fault, ◌>>=◌, after, fault, follow, step}
 use Rattle.oer_module_names.specs.declared.error.Found.{Found}
 use Rattle.oer_module_names.specs.declared.error.Why.TheVariants.{Circular}
-use Rattle.oer_module_names.specs.declared.way.Step.{Step}
 use Rattle.oer_module_names.specs.declared.way.Step.TheVariants.{Here, On}
 use Rattle.oer_module_names.specs.declared.way.Way.{Way}
 

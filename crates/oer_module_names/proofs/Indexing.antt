@@ -1,5 +1,5 @@
 -- What an index has after additions.
-use Rattle.std.proofs.Common.{◌≡◌, ◌<◌, ◌≤◌, ◌+◌, ℕ, zero, suc, Bool, true, false, cond, List, [], ◌∷◌, ◌++◌, drop, length, map, get_or, drop-cons, add-one, unwrap_or, Option, None, Some, take, refl, sym, subst, ap, ◌∙◌, arith}
+use Rattle.std.proofs.Common.{◌≡◌, ◌<◌, ◌≤◌, ◌+◌, ℕ, Bool, true, false, cond, List, [], ◌∷◌, ◌++◌, drop, length, map, get_or, drop-cons, add-one, unwrap_or, Some, take, refl, sym, subst, ap, ◌∙◌}
 use Rattle.std.proofs.lemmas.Slice.Eq.{bytes_eq-Decides}
 use Rattle.std.specs.BTreeMap.{get_by, is_at}
 use Rattle.std.specs.Cmp.Lexicographic.{slice_cmp}
@@ -9,7 +9,7 @@ use Rattle.std.specs.Str.{bytes_eq}
 use denote.Ref.{Bor}
 use Rattle.std.proofs.Math.ListN.{drop_of_length-le}
 use Rattle.std.proofs.lemmas.List.{take_all}
-use Rattle.oer_module_syntax.specs.Tree.{Import, Module, assignment_of, import_of, module_of, symbol_of}
+use Rattle.oer_module_syntax.specs.Tree.{Import, assignment_of, import_of, module_of, symbol_of}
 use Rattle.oer_module_syntax.specs.declared.tree.Assignment.{Assignment as RawAssignment}
 use Rattle.oer_module_syntax.specs.declared.tree.Import.{Import as RawImport}
 use Rattle.oer_module_syntax.specs.declared.tree.Module.{Module as RawModule}

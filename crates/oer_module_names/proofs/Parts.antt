@@ -1,12 +1,12 @@
 -- Parts, and the modules that they are of.
-use Rattle.std.proofs.Common.{◌≡◌, ◌<◌, ◌+◌, ℕ, zero, suc, Bool, true, false, List, [], ◌∷◌, ◌++◌, length, map, Option, None, Some, slice_get, take, get_or, add-one, refl, sym, ap, ◌∙◌}
+use Rattle.std.proofs.Common.{◌≡◌, ◌<◌, ◌+◌, ℕ, zero, suc, false, List, [], ◌∷◌, ◌++◌, length, map, Option, None, Some, slice_get, take, get_or, add-one, refl, sym, ap, ◌∙◌}
 use Rattle.std.proofs.lemmas.List.{map-append}
 use Rattle.std.proofs.Math.Seq.{take-suc}
 use Rattle.std.specs.Option.{option_map_or}
 use Rattle.oer_module_syntax.specs.Tree.{Import, Module, module_of}
 use Rattle.oer_module_syntax.specs.declared.tree.Module.{Module as RawModule}
 use Rattle.oer_module_names.specs.Indexed.{ArePartsOf, IsIndexOf, IsIndexed, IsPartOf, held, leaves}
-use Rattle.oer_module_names.specs.Sole.{Entry, each, first_of, numbered, sole}
+use Rattle.oer_module_names.specs.Sole.{each, first_of, numbered}
 use Rattle.oer_module_names.specs.Tables.{assigned, assigned_in, assigner, assigners_from, imported, imported_in, imports_from, is_exported, is_exported_in, module_names, named, source, source_in, symbol_names}
 use Rattle.oer_module_names.specs.declared.index.Index.{Index}
 use Rattle.oer_module_names.specs.declared.index.Sole.{Sole}

@@ -1,11 +1,9 @@
 -- Modules as the code has them, and as the definitions.
-use Rattle.std.proofs.Common.{◌≡◌, ◌<◌, ℕ, false, List, [], length, map, get_or, Option, Some, slice_get, refl, sym, ap, ◌∙◌, option_map}
+use Rattle.std.proofs.Common.{◌≡◌, ◌<◌, ℕ, false, List, [], length, map, get_or, Some, slice_get, sym, ap, ◌∙◌, option_map}
 use Rattle.std.proofs.lemmas.List.{length-map}
 use Rattle.std.proofs.lemmas.Option.{slice_get-get_or, slice_get-map}
 use Rattle.std.specs.Option.{option_map_or}
 use Rattle.oer_module_syntax.specs.Tree.{Module, assignment_of, import_of, module_of}
-use Rattle.oer_module_syntax.specs.declared.tree.Assignment.{Assignment as RawAssignment}
-use Rattle.oer_module_syntax.specs.declared.tree.Import.{Import as RawImport}
 use Rattle.oer_module_syntax.specs.declared.tree.Module.{Module as RawModule}
 use Rattle.oer_module_names.specs.Indexed.{held, leaves}
 use Rattle.oer_module_names.specs.Tables.{assigned_in, assigner, assignments_in, imported_in, imports_in, is_exported_in, named, source_in}

@@ -1,16 +1,13 @@
 -- What is found is what Names stand for.
-use Rattle.std.proofs.Common.{◌≡◌, ◌+◌, ◌<◌, ℕ, zero, suc, Bool, true, false, cond, List, [], ◌∷◌, length, map, Option, None, Some, slice_get, Result, Ok, Err, refl, sym, subst, ap, ◌∙◌, arith}
-use Rattle.std.proofs.lemmas.Option.{slice_get-map, slice_get_within}
-use Rattle.std.proofs.lemmas.Slice.Eq.{bytes_eq-Decides}
-use Rattle.std.specs.Str.{bytes_eq}
+use Rattle.std.proofs.Common.{◌≡◌, ◌<◌, ℕ, zero, suc, List, length, Some, Result, Ok, Err, refl, sym, subst, ap, ◌∙◌}
+use Rattle.std.proofs.lemmas.Option.{slice_get_within}
 use Rattle.oer_module_syntax.specs.Tree.{Module}
 use Rattle.oer_module_names.proofs.Rounds.{Turn, chain, chain_within, done, on, stuck, turned}
 use Rattle.oer_module_names.proofs.Steps.{Leads, Owns, leads_step, owns_step, step_leads, step_owns}
-use Rattle.oer_module_names.specs.Finding.{Fault, ◌>>=◌, after, fault, find, follow, module_place, step}
+use Rattle.oer_module_names.specs.Finding.{Fault, ◌>>=◌, after, find, follow, module_place, step}
 use Rattle.oer_module_names.specs.Standing.{IsAt, StandsFor, imported, own}
 use Rattle.oer_module_names.specs.declared.error.Found.{Found}
 use Rattle.oer_module_names.specs.declared.error.Place.{Place}
-use Rattle.oer_module_names.specs.declared.error.Why.TheVariants.{Circular}
 use Rattle.oer_module_names.specs.declared.way.Step.{Step}
 use Rattle.oer_module_names.specs.declared.way.Step.TheVariants.{Here, On}
 use Rattle.oer_module_names.specs.declared.way.Way.{Way}

@@ -1,19 +1,17 @@
 -- One step from a module, in the words of the relation.
-use Rattle.std.proofs.Common.{◌≡◌, ◌+◌, ◌<◌, ℕ, zero, suc, Bool, true, false, cond, List, [], ◌∷◌, length, map, Option, None, Some, slice_get, option_map, Result, Ok, Err, refl, sym, subst, ap, ◌∙◌, arith}
+use Rattle.std.proofs.Common.{◌≡◌, ℕ, Bool, true, false, cond, List, [], Option, None, Some, slice_get, Result, Ok, Err, refl, sym, subst, ap, ◌∙◌}
 use Rattle.std.specs.Option.{option_map_or}
 use Rattle.oer_module_syntax.specs.Tree.{Import, Module}
-use Rattle.oer_module_names.proofs.Among.{same_some}
-use Rattle.oer_module_names.proofs.Tellings.{IsSource, absent_is_nothing, leaves_may, may_leave, nothing_is_absent, one_is_only, one_is_source, only_is_one, source_is_one}
+use Rattle.oer_module_names.proofs.Tellings.{absent_is_nothing, leaves_may, may_leave, nothing_is_absent, one_is_only, one_is_source, only_is_one, source_is_one}
 use Rattle.oer_module_names.specs.Finding.{Fault, ◌>>=◌, fault, from_name, from_place, import_of_name, into, module_at, one_assignment, one_import, one_module, own, step, step_by, through}
 use Rattle.oer_module_names.specs.Sole.{numbered, sole}
 use Rattle.oer_module_names.specs.Standing.{ImportsFrom, IsAmong, IsAt, IsOnlyAt, MayLeave}
 use Rattle.oer_module_names.specs.Tables.{assigned, assigned_in, assignment_names, imported, imported_in, imports_in, is_exported, is_exported_in, module_names, named}
 use Rattle.oer_module_names.specs.declared.error.Found.{Found}
 use Rattle.oer_module_names.specs.declared.error.Place.{Place}
-use Rattle.oer_module_names.specs.declared.error.Why.TheVariants.{Missing, NotExported}
+use Rattle.oer_module_names.specs.declared.error.Why.TheVariants.{NotExported}
 use Rattle.oer_module_names.specs.declared.index.Sole.{Sole}
 use Rattle.oer_module_names.specs.declared.index.Sole.TheVariants.{Nothing, One, Two}
-use Rattle.oer_module_names.specs.declared.way.Step.{Step}
 use Rattle.oer_module_names.specs.declared.way.Step.TheVariants.{Here, On}
 use Rattle.oer_module_names.specs.declared.way.Way.{Way}
 

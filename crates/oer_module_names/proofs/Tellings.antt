@@ -1,11 +1,11 @@
 -- What the indexes of modules tell, in the words of the relation.
-use Rattle.std.proofs.Common.{◌≡◌, ◌≢◌, ◌+◌, ◌<◌, ◌⊎◌, inl, inr, ℕ, zero, suc, Bool, true, false, List, [], ◌∷◌, ◌++◌, length, map, Option, None, Some, slice_get, unwrap_or, option_map, refl, sym, subst, ap, ◌∙◌, arith}
+use Rattle.std.proofs.Common.{◌≡◌, ◌+◌, ◌⊎◌, inl, inr, ℕ, zero, suc, true, List, [], ◌∷◌, Option, None, Some, slice_get, option_map, refl, sym, subst, ap, ◌∙◌, arith}
 use Rattle.std.proofs.lemmas.Option.{slice_get-map}
-use Rattle.oer_module_syntax.specs.Tree.{Assignment, Exports, Import, Module, Symbol, all, these}
+use Rattle.oer_module_syntax.specs.Tree.{Exports, Import, Module, all, these}
 use Rattle.oer_module_names.proofs.Among.{Gives, Tells, among_either, among_left, among_right, same_some, tells}
 use Rattle.oer_module_names.specs.Sole.{Entry, each, first_of, is_there, numbered, sole}
 use Rattle.oer_module_names.specs.Standing.{Has, ImportsFrom, IsAmong, IsAt, IsOnlyAt, MayLeave}
-use Rattle.oer_module_names.specs.Tables.{assigned, assigners_from, assignment_names, imported, imports_from, is_exported, module_names, source, source_names, symbol_names}
+use Rattle.oer_module_names.specs.Tables.{imported, imports_from, is_exported, source, source_names, symbol_names}
 use Rattle.oer_module_names.specs.declared.index.Sole.{Sole}
 use Rattle.oer_module_names.specs.declared.index.Sole.TheVariants.{Nothing, One, Two}
 

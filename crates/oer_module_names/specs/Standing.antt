@@ -1,5 +1,5 @@
 -- What a Name stands for, as a relation (X.680, 13.12 to 13.17).
-use Rattle.std.specs.Prelude.{◌≡◌, ℕ, List, map, slice_get, Some}
+use Rattle.std.specs.Prelude.{◌≡◌, ℕ, List, slice_get, Some}
 use Rattle.oer_module_syntax.specs.Tree.{Exports, Import, Module, all, these}
 use Rattle.oer_module_names.specs.Tables.{assignment_names, module_names, source_names, symbol_names}
 use Rattle.oer_module_names.specs.declared.error.Found.{Found}

@@ -1,4 +1,4 @@
-use Rattle.std.proofs.Common.{◌≡◌, ◌+◌, ◌++◌, ◌∷◌, [], map, subst, sym, take}
+use Rattle.std.proofs.Common.{◌+◌, ◌++◌, ◌∷◌, [], map, subst, sym, take}
 use Rattle.oer_module_syntax.specs.Tree.{module_of}
 use Rattle.oer_module_names.proofs.Parts.{modules_taken, parts_push}
 use Rattle.oer_module_names.specs.Indexed.{ArePartsOf}

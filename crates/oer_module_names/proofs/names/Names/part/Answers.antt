@@ -1,6 +1,6 @@
 use Rattle.std.proofs.Common.{arith, length, ◌<◌, refl}
 use Rattle.std.proofs.lemmas.Option.{slice_get_read}
-use Rattle.oer_module_names.proofs.Readings.{modules_count, parts_count}
+use Rattle.oer_module_names.proofs.Readings.{parts_count}
 use Rattle.oer_module_names.proofs.names.Names.part.Goals as goal
 
 pub index-requires : goal.index-requires

@@ -1,5 +1,5 @@
-use Rattle.std.proofs.Common.{arith, get_or, length, ◌≡◌, ◌<◌, subst, Some, slice_get, sym}
-use Rattle.oer_module_syntax.specs.Tree.{import_of, module_of}
+use Rattle.std.proofs.Common.{arith, length, ◌≡◌, ◌<◌, subst, Some, slice_get, sym}
+use Rattle.oer_module_syntax.specs.Tree.{import_of}
 use Rattle.oer_module_names.proofs.Readings.{imports_count, imports_read, item_read}
 use Rattle.oer_module_names.specs.Views.{modules_in}
 use Rattle.oer_module_names.proofs.names.Names.the_import.Goals as goal
