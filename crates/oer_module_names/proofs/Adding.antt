@@ -5,7 +5,8 @@ use Rattle.std.specs.Option.{option_map_or}
 use Rattle.std.specs.Str.{bytes_eq}
 use Rattle.oer_module_syntax.specs.Tree.{Import, Module}
 use Rattle.oer_module_names.specs.Sole.{Entry, each, first_of, numbered, sole, sole_from, with_entry, with_number}
-use Rattle.oer_module_names.specs.Tables.{assigned, assigned_in, assigner, assigners_from, assignment_names, assignments_in, imported, imported_in, imports_from, imports_in, module_names, named, source, source_in, source_names, symbol_names}
+use Rattle.oer_module_names.specs.Tables.{assigned, assigned_in, assigner, assigners_from, assignment_names, assignments_in, imported, imported_in}
+use Rattle.oer_module_names.specs.Tables.{imports_from, imports_in, module_names, named, source, source_in, source_names, symbol_names}
 use Rattle.oer_module_names.specs.Views.{IsSoleBelow}
 use Rattle.oer_module_names.specs.declared.index.Sole.{Sole}
 use Rattle.oer_module_names.specs.declared.index.Sole.TheVariants.{Nothing, One, Two}
@@ -68,7 +69,8 @@ imports_below f m n (i ∷ is) h k =
 assigners_below : (m n : ℕ) (ms : List Module) → n + length ms ≤ m → AllBelow m (assigners_from n ms)
 assigners_below m n [] k = tt
 assigners_below m n (x ∷ ms) k =
-    both_below m (each (assignment_names x.assignments) n) (assigners_from (suc n) ms) (each_below (assignment_names x.assignments) n m (omega (arith, k))) (assigners_below m (suc n) ms (omega (arith, k)))
+    let names = assignment_names x.assignments in
+    both_below m (each names n) (assigners_from (suc n) ms) (each_below names n m (omega (arith, k))) (assigners_below m (suc n) ms (omega (arith, k)))
 
 pub named_below : (ms : List Module) (f : List ℕ) → IsSoleBelow (length ms) (named ms f)
 unfolding named
@@ -87,7 +89,10 @@ assigned_below ms k w = by (slice_get ms k)
   where
     by : (o : Option Module) → IsSoleBelow (length (option_map_or (λ m. m.assignments) o [])) (option_map_or (λ m. assigned m w) o Nothing)
     by None = tt
-    by (Some m) = sole_below (length m.assignments) (numbered 0 (assignment_names m.assignments)) w (numbered_below 0 (length m.assignments) (assignment_names m.assignments) (omega (arith, length-map m.assignments (λ a. a.name))))
+    by (Some m) =
+        let count = length m.assignments in
+        let names = assignment_names m.assignments in
+        sole_below count (numbered 0 names) w (numbered_below 0 count names (omega (arith, length-map m.assignments (λ a. a.name))))
 
 pub source_in_below : (ms : List Module) (k : ℕ) (f : List ℕ) → IsSoleBelow (length (imports_in ms k)) (source_in ms k f)
 unfolding source_in imports_in

@@ -1,5 +1,6 @@
 -- What is found for a Name behind that of a module, and for a Name in all modules.
-use Rattle.std.proofs.Common.{◌≡◌, ◌+◌, ◌<◌, ◌⊎◌, inl, inr, ℕ, zero, suc, Bool, true, false, cond, List, [], ◌∷◌, length, Option, None, Some, slice_get, Result, Ok, Err, refl, sym, subst, ap, ap₂, ◌∙◌, arith}
+use Rattle.std.proofs.Common.{◌≡◌, ◌+◌, ◌<◌, ◌⊎◌, inl, inr, ℕ, zero, suc, Bool, true, false, cond, List, [], ◌∷◌, length, Option}
+use Rattle.std.proofs.Common.{None, Some, slice_get, Result, Ok, Err, refl, sym, subst, ap, ap₂, ◌∙◌, arith}
 use Rattle.std.proofs.lemmas.Bool.{false_from_ne_true}
 use Rattle.std.proofs.lemmas.Slice.Eq.{bytes_eq-Decides}
 use Rattle.std.specs.Option.{option_map_or}
@@ -111,7 +112,8 @@ assigners_give n [] w k m at h = cc
 assigners_give n (x ∷ ms) w zero m at h =
     let here : n ≡ n + 0 = omega arith in
     among_left (each (assignment_names x.assignments) n) (assigners_from (suc n) ms) (record { name = w; number = n + 0 })
-    (subst (Gives (each (assignment_names x.assignments) n) w) here (each_gives (assignment_names x.assignments) w n (subst (λ y. IsAmong (assignment_names y.assignments) w) (sym (same_some x m at)) h)))
+    (subst (Gives (each (assignment_names x.assignments) n) w) here
+    (each_gives (assignment_names x.assignments) w n (subst (λ y. IsAmong (assignment_names y.assignments) w) (sym (same_some x m at)) h)))
 assigners_give n (x ∷ ms) w (suc k) m at h =
     let next : suc n + k ≡ n + suc k = omega arith in
     among_right (each (assignment_names x.assignments) n) (assigners_from (suc n) ms) (record { name = w; number = n + suc k })

@@ -3,13 +3,12 @@ use Rattle.std.proofs.Common.{◌≡◌, ◌<◌, ◌+◌, ℕ, zero, suc, false
 use Rattle.std.proofs.lemmas.List.{map-append}
 use Rattle.std.proofs.Math.Seq.{take-suc}
 use Rattle.std.specs.Option.{option_map_or}
-use Rattle.oer_module_syntax.specs.Tree.{Import, Module, module_of}
+use Rattle.oer_module_syntax.specs.Tree.{Module, module_of}
 use Rattle.oer_module_syntax.specs.declared.tree.Module.{Module as RawModule}
 use Rattle.oer_module_names.specs.Indexed.{ArePartsOf, IsIndexOf, IsIndexed, IsPartOf, held, leaves}
-use Rattle.oer_module_names.specs.Sole.{each, first_of, numbered}
-use Rattle.oer_module_names.specs.Tables.{assigned, assigned_in, assigner, assigners_from, imported, imported_in, imports_from, is_exported, is_exported_in, module_names, named, source, source_in, symbol_names}
+use Rattle.oer_module_names.specs.Sole.{numbered}
+use Rattle.oer_module_names.specs.Tables.{assigned, assigned_in, assigner, assigners_from, imported, imported_in, is_exported, is_exported_in, module_names, named, source, source_in}
 use Rattle.oer_module_names.specs.declared.index.Index.{Index}
-use Rattle.oer_module_names.specs.declared.index.Sole.{Sole}
 use Rattle.oer_module_names.specs.declared.index.Sole.TheVariants.{Nothing}
 use Rattle.oer_module_names.specs.declared.part.Part.{Part}
 
@@ -58,13 +57,6 @@ indexed ms x ps y names parts all = record {
   imported = λ k w. at_each (λ p. held p.imported w) (λ m. imported m w) Nothing (λ p m h. h.imported.at w) (slice_get ps k) (slice_get ms k) (both_at ps ms k parts);
   exported = λ k w. at_each (λ p. leaves p.exported w) (λ m. is_exported m.exports w) false (λ p m h. h.exported w) (slice_get ps k) (slice_get ms k) (both_at ps ms k parts);
 }
-
--- imports are told apart alike by two tables that say the same
-pub imports_same : (f g : List ℕ → Sole) (n : ℕ) (is : List Import) → ((w : List ℕ) → f w ≡ g w) → imports_from f n is ≡ imports_from g n is
-imports_same f g n [] same = refl
-imports_same f g n (i ∷ is) same =
-    ap (λ s. each (symbol_names i.symbols) (first_of s n) ++ imports_from f (suc n) is) (same i.from)
-    ∙ ap (λ es. each (symbol_names i.symbols) (first_of (g i.from) n) ++ es) (imports_same f g (suc n) is same)
 
 -- one module more
 pub modules_taken : (xs : List RawModule) (i : ℕ) (x : RawModule) → i < length xs → x ≡ get_or xs i x → map module_of (take (i + 1) xs) ≡ map module_of (take i xs) ++ module_of x ∷ []

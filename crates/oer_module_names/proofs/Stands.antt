@@ -23,7 +23,8 @@ module _ (ms : List Module) (w : List ℕ) where
   follow_stands zero way x h = cc
   follow_stands (suc n) way x h = by (step ms w way) refl h (follow_stands n)
     where
-      by : (r : Result Step Fault) → step ms w way ≡ r → (r >>= after ms w (follow ms w n)) ≡ Ok x → ((next : Way) (y : Found) → follow ms w n next ≡ Ok y → StandsFor ms w y next.«module») → StandsFor ms w x way.«module»
+      by : (r : Result Step Fault) → step ms w way ≡ r → (r >>= after ms w (follow ms w n)) ≡ Ok x
+          → ((next : Way) (y : Found) → follow ms w n next ≡ Ok y → StandsFor ms w y next.«module») → StandsFor ms w x way.«module»
       by (Err e) s g rest = cc
       by (Ok (Here y)) s g rest =
           let same : y ≡ x = cc in

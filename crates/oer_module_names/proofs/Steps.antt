@@ -213,7 +213,8 @@ module _ (ms : List Module) where
     pub owns_step : (k : ℕ) (p : Place) (x : Found) → Owns k x → step ms w (record { «module» = k; place = p }) ≡ Ok (Here x)
     unfolding step own
     owns_step k p x h =
-        ap (λ s. one_assignment ms w k s >>= step_by ms w (record { «module» = k; place = p })) (assigned_here k h.this h.at w ∙ only_is_one (assignment_names h.this.assignments) w x.assignment h.only)
+        ap (λ s. one_assignment ms w k s >>= step_by ms w (record { «module» = k; place = p }))
+        (assigned_here k h.this h.at w ∙ only_is_one (assignment_names h.this.assignments) w x.assignment h.only)
         ∙ ap (λ i. Ok (Here (record { «module» = i; assignment = x.assignment }))) h.same
 
     -- the place by which the way goes on

@@ -142,9 +142,11 @@ record IsGiven (f : List ℕ → Sole) (n : ℕ) (is : List Import) (w : List �
 
 imports_given : (f : List ℕ → Sole) (n : ℕ) (is : List Import) (w : List ℕ) (b : ℕ) → Gives (imports_from f n is) w b → IsGiven f n is w b
 imports_given f n [] w b (i, h) = cc
-imports_given f n (i ∷ is) w b g = by (among_either (each (symbol_names i.symbols) (first_of (f i.from) n)) (imports_from f (suc n) is) (record { name = w; number = b }) g) (imports_given f (suc n) is w b)
+imports_given f n (i ∷ is) w b g =
+    by (among_either (each (symbol_names i.symbols) (first_of (f i.from) n)) (imports_from f (suc n) is) (record { name = w; number = b }) g) (imports_given f (suc n) is w b)
   where
-    by : Gives (each (symbol_names i.symbols) (first_of (f i.from) n)) w b ⊎ Gives (imports_from f (suc n) is) w b → (Gives (imports_from f (suc n) is) w b → IsGiven f (suc n) is w b) → IsGiven f n (i ∷ is) w b
+    by : Gives (each (symbol_names i.symbols) (first_of (f i.from) n)) w b ⊎ Gives (imports_from f (suc n) is) w b
+        → (Gives (imports_from f (suc n) is) w b → IsGiven f (suc n) is w b) → IsGiven f n (i ∷ is) w b
     by (inl l) rest =
         let r = each_given (symbol_names i.symbols) w (first_of (f i.from) n) b l in
         let here : n ≡ n + 0 = omega arith in

@@ -28,8 +28,10 @@ impl<'m, 's, 't> Names<'m, 's, 't> {
     ghost use Rattle.oer_module_names.specs.Tables.{assigned_in, assigner, assignments_in, imported_in, imports_in, is_exported_in, named, source_in};
     ghost use Rattle.oer_module_names.specs.Views.{IsSoleBelow, IsStepWithin, IsWithin, answer_of, modules_in};
 
-    /// Looks through the modules once. They are in any order, of one text or several; the places of
-    /// their tokens are kept as they are. What is wrong with a Name shows when that Name is looked for.
+    /// Looks through the modules once. They are in any order, of one text or several. What is wrong with
+    /// a Name, as that two assignments have it, shows when that Name is looked for, and not here. A
+    /// module is known by its name alone: identifiers of modules, and the versions that an import
+    /// allows, aren't looked at.
     pub fn new(
         alloc: Global,
         modules: &'m [Module<'s, 't>],
