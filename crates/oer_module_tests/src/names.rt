@@ -1,7 +1,7 @@
 //! What Names in modules stand for.
-use oer_module_lexer::lex;
+use oer_module_lexer::{Tokens, lex};
 use oer_module_names::{Found, NameError, Names, Why};
-use oer_module_syntax::{Cursor, read_modules};
+use oer_module_syntax::{Cursor, Module, read_modules};
 use std::alloc::Global;
 use std::test::Fail;
 
@@ -53,14 +53,19 @@ fn asked<'n>(
     names.find_in(module, of, name)
 }
 
+fn modules_of<'x>(at: Global, tokens: &'x Tokens<'x>) -> Result<Vec<Module<'x, 'x>>, Fail> {
+    let mut cursor = Cursor::new(tokens);
+    match read_modules(at, &mut cursor, 2) {
+        Ok(modules) => Ok(modules),
+        Err(_) => Err(Fail::new("unread")),
+    }
+}
+
 #[test]
 fn finds(rt: HostRuntime) -> Result<(), Fail> {
     let at = rt.alloc();
     let tokens = lex(at, TEXT)?;
-    let mut cursor = Cursor::new(&tokens);
-    let Ok(modules) = read_modules(at, &mut cursor, 2) else {
-        return Err(Fail::new("unread"));
-    };
+    let modules = modules_of(at, &tokens)?;
     let names = Names::new(at, &modules)?;
     for (module, of, name, want) in [
         ("A", "", "Own", "0.0"),
