@@ -1,0 +1,66 @@
+-- Sets of whole numbers as the places at which they begin and end.
+use Rattle.std.specs.Prelude.{◌≡◌, List, [], ◌∷◌, map, Bool, true, false, not, if◌then◌else◌, ⊤, ℤ, pos, ◌-ℤ◌, ◌<ℤ◌, ◌≤ℤ◌, int_le, Option, Some, None}
+use Rattle.std.specs.Ordering.{int_eq}
+use Rattle.std.specs.List.{All}
+use Rattle.oer_module_bounds.specs.Sets.{Span}
+use Rattle.oer_module_bounds.specs.declared.steps.Cut.{Cut}
+use Rattle.oer_module_bounds.specs.declared.steps.Steps.{Steps}
+
+abbrev pub numbers : List Cut → List ℤ
+numbers cs = map (λ c. c.number) cs
+
+-- whether n is in a set that has the numbers before its first cut or not: each cut up to n changes that
+abbrev pub at : Bool → List ℤ → ℤ → Bool
+at inside [] n = inside
+at inside (c ∷ cs) n = at (if int_le c n then not inside else inside) cs n
+
+-- each is below those after it
+abbrev pub Rises : List ℤ → Type 0
+Rises [] = ⊤
+Rises (c ∷ cs) = All (λ d. c <ℤ d) cs × Rises cs
+
+-- the steps are those of the set that p tells
+pub record Gives (s : Steps) (p : ℤ → Bool) : Type 0 where
+  pub rises : Rises (numbers s.cuts.items)
+  pub says : (n : ℤ) → at s.lowest (numbers s.cuts.items) n ≡ p n
+  pub ends : (n : ℤ) → All (λ c. c ≤ℤ n) (numbers s.cuts.items) → p n ≡ s.highest
+
+-- ---- the ends
+
+abbrev pub last_of : List ℤ → Option ℤ
+last_of [] = None
+last_of (c ∷ []) = Some c
+last_of (c ∷ d ∷ cs) = last_of (d ∷ cs)
+
+abbrev pub first_of : List ℤ → Option ℤ
+first_of [] = None
+first_of (c ∷ cs) = Some c
+
+abbrev pub before : Option ℤ → Option ℤ
+before None = None
+before (Some n) = Some (n -ℤ pos 1)
+
+abbrev pub low_end : Bool → List ℤ → Option ℤ
+low_end lowest cs = if lowest then None else first_of cs
+
+abbrev pub high_end : Bool → List ℤ → Option ℤ
+high_end highest cs = if highest then None else before (last_of cs)
+
+-- the ends, none where neither the lowest numbers are in the set nor a cut is there
+abbrev pub ends_of : Bool → Bool → List ℤ → Option Span
+ends_of false highest [] = None
+ends_of false highest (c ∷ cs) = Some (record { low = Some c; high = high_end highest (c ∷ cs) })
+ends_of true highest cs = Some (record { low = None; high = high_end highest cs })
+
+-- ---- cuts that are added at the end
+
+abbrev pub ends_with : List ℤ → ℤ → Bool
+ends_with [] n = false
+ends_with (c ∷ []) n = int_eq c n
+ends_with (c ∷ d ∷ cs) n = ends_with (d ∷ cs) n
+
+-- one more, which is not below the others; two at one place are none
+abbrev pub toggled : List ℤ → ℤ → List ℤ
+toggled [] n = n ∷ []
+toggled (c ∷ []) n = if int_eq c n then [] else c ∷ n ∷ []
+toggled (c ∷ d ∷ cs) n = c ∷ toggled (d ∷ cs) n
