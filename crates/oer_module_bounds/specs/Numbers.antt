@@ -1,7 +1,7 @@
 -- Which numbers sets and constraints allow (X.680, 50 and 51).
 use Rattle.std.specs.Prelude.{◌≡◌, ℕ, List, [], ◌∷◌, ◌⊎◌, ⊤, Bool, true, false, not, ◌&&◌, ◌||◌, if◌then◌else◌, IsTrue, ℤ, ◌≤ℤ◌, int_le, Option, Some, None}
-use Rattle.std.specs.List.{All, count_by}
-use Rattle.oer_module_bounds.specs.Sets.{Span, Set, range, union, intersection, except, unknown, Sets, no_sets, one, Constraint}
+use Rattle.std.specs.List.{count_by}
+use Rattle.oer_module_bounds.specs.Sets.{Each, Span, Set, range, union, intersection, except, unknown, Sets, no_sets, one, Constraint}
 
 -- ---- the relation
 
@@ -36,7 +36,7 @@ abbrev mutual
 
 -- Constraints in a row allow a number: each that has no extension marker does.
 abbrev pub AllowsInAll : List Constraint → ℤ → Type 0
-AllowsInAll cs n = All (λ c. IsTrue c.extensible ⊎ Allows true c.root n) cs
+AllowsInAll cs n = Each (λ c. IsTrue c.extensible ⊎ Allows true c.root n) cs
 
 -- ---- the same as tests
 

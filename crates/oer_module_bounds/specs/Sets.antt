@@ -1,10 +1,16 @@
 -- The trees of constraints that bound whole numbers (X.680, 50 and 51).
-use Rattle.std.specs.Prelude.{◌≡◌, ℕ, ◌-◌, ◌^◌, List, [], ◌∷◌, Bool, false, ◌&&◌, ◌||◌, if◌then◌else◌, ℤ, pos, negsuc, int_le, int_lt, Option, Some, None}
+use Rattle.std.specs.Prelude.{⊤, List, [], ◌∷◌, Bool, false, ◌||◌, if◌then◌else◌, ℤ, int_lt, Option, Some, None}
 use Rattle.std.specs.Ordering.{int_eq}
+use Rattle.std.below.core.specs.declared.int.i128.TheConstants.{MIN, MAX}
 use Rattle.oer_module_bounds.specs.declared.ends.Range.{Range as RawRange}
 use Rattle.oer_module_bounds.specs.declared.tree.Constraint.{Constraint as RawConstraint}
 use Rattle.oer_module_bounds.specs.declared.tree.Set.{Set as RawSet, fold-Set}
 use Rattle.oer_module_bounds.specs.declared.tree.Set.TheOpen.{Set-F}
+
+-- P holds of each of them
+abbrev pub Each : {A : Type 0} → (A → Type 0) → List A → Type 0
+Each P [] = ⊤
+Each P (x ∷ xs) = P x × Each P xs
 
 -- the numbers from low to high; an absent end is no bound
 pub record Span : Type 0 where
@@ -58,11 +64,11 @@ constraint_of c = record { root = set_of c.root; extensible = c.extensible }
 
 abbrev pub is_least : Option ℤ → Bool
 is_least None = false
-is_least (Some n) = int_eq n (negsuc (2 ^ 127 - 1))
+is_least (Some n) = int_eq n MIN
 
 abbrev pub is_greatest : Option ℤ → Bool
 is_greatest None = false
-is_greatest (Some n) = int_eq n (pos (2 ^ 127 - 1))
+is_greatest (Some n) = int_eq n MAX
 
 abbrev pub range_from : Option ℤ → Option ℤ → Option Span
 range_from low high = if is_least low || is_greatest high then None else Some (record { low = low; high = high })

@@ -1,9 +1,8 @@
 -- Sets of whole numbers as the places at which they begin and end.
 use Rattle.std.specs.Prelude.{◌≡◌, List, [], ◌∷◌, map, Bool, true, false, not, if◌then◌else◌, ⊤, ℤ, pos, ◌-ℤ◌, ◌<ℤ◌, ◌≤ℤ◌, int_le, Option, Some, None}
 use Rattle.std.specs.Ordering.{int_eq}
-use Rattle.std.specs.List.{All}
-use Rattle.oer_module_bounds.specs.Sets.{Span}
-use Rattle.oer_module_bounds.specs.declared.steps.Cut.{Cut}
+use Rattle.oer_module_bounds.specs.Sets.{Each, Span}
+use Rattle.oer_module_bounds.specs.declared.ends.Cut.{Cut}
 use Rattle.oer_module_bounds.specs.declared.steps.Steps.{Steps}
 
 abbrev pub numbers : List Cut → List ℤ
@@ -17,13 +16,13 @@ at inside (c ∷ cs) n = at (if int_le c n then not inside else inside) cs n
 -- each is below those after it
 abbrev pub Rises : List ℤ → Type 0
 Rises [] = ⊤
-Rises (c ∷ cs) = All (λ d. c <ℤ d) cs × Rises cs
+Rises (c ∷ cs) = Each (λ d. c <ℤ d) cs × Rises cs
 
 -- the steps are those of the set that p tells
 pub record Gives (s : Steps) (p : ℤ → Bool) : Type 0 where
   pub rises : Rises (numbers s.cuts.items)
   pub says : (n : ℤ) → at s.lowest (numbers s.cuts.items) n ≡ p n
-  pub ends : (n : ℤ) → All (λ c. c ≤ℤ n) (numbers s.cuts.items) → p n ≡ s.highest
+  pub ends : (n : ℤ) → Each (λ c. c ≤ℤ n) (numbers s.cuts.items) → p n ≡ s.highest
 
 -- ---- the ends
 

@@ -2,7 +2,7 @@
 use Rattle.std.specs.Prelude.{◌≡◌, ℕ, ◌+◌, List, [], ◌∷◌, Bool, true, false, not, ◌&&◌, if◌then◌else◌, nat_le, ℤ, int_le}
 use Rattle.std.specs.List.{sum_by}
 use Rattle.oer_module_bounds.specs.Steps.{numbers, toggled}
-use Rattle.oer_module_bounds.specs.declared.steps.Cut.{Cut}
+use Rattle.oer_module_bounds.specs.declared.ends.Cut.{Cut}
 use Rattle.oer_module_bounds.specs.declared.tally.Sweep.{Sweep}
 use Rattle.oer_module_bounds.specs.declared.tally.Tally.{Tally}
 use Rattle.oer_module_bounds.specs.declared.tally.Turn.{Turn}

@@ -1,70 +1,22 @@
-//! Ranges of whole numbers.
-ghost use Rattle.std.specs.Prelude.{◌≡◌, ◌<ℤ◌, Some};
-ghost use Rattle.std.specs.Option.{ForSome, option_map};
-ghost use Rattle.oer_module_bounds.specs.Sets.{everything, is_greatest, is_least, range_from, span_of};
+//! Ends of ranges. None is the least number of 128 bits or the greatest, so that the number before a range and the one past
+//! it have 128 bits, too.
+ghost use Rattle.std.specs.Prelude.{◌<ℤ◌};
+ghost use Rattle.std.specs.Option.{ForSome};
+ghost use Rattle.std.below.core.specs.declared.int.i128.TheConstants.{MAX, MIN};
 
 /// The numbers from `low` to `high`, both included; an absent end is no bound (X.680, 51.4). There are none where
-/// `low` is above `high`. `low` isn't the least number of 128 bits, and `high` isn't the greatest, so that the
-/// number before a range and the one past it have 128 bits, too.
+/// `low` is above `high`. `low` isn't the least number of 128 bits, and `high` isn't the greatest.
 #[derive(Clone, Copy, Debug, PartialEq, Eq)]
 pub struct Range {
     pub(crate) low: Option<i128>,
     pub(crate) high: Option<i128>,
-    ghost above: { ForSome low (λ n. i128.MIN <ℤ n) },
-    ghost below: { ForSome high (λ n. n <ℤ i128.MAX) },
+    ghost above: { ForSome low (λ n. MIN <ℤ n) },
+    ghost below: { ForSome high (λ n. n <ℤ MAX) },
 }
 
-impl Range {
-    /// The numbers from `low` to `high`. None where `low` is the least number of 128 bits, or `high` the greatest: such
-    /// a range isn't read.
-    pub fn new(low: Option<i128>, high: Option<i128>) -> Option<Range>
-        ensures { option_map span_of result ≡ range_from low high }
-    {
-        if is_least(low) || is_greatest(high) {
-            return None;
-        }
-        Some(Range { low, high })
-    }
-
-    /// All numbers.
-    pub fn everything() -> Range
-        ensures { span_of result ≡ everything }
-    {
-        Range {
-            low: None,
-            high: None,
-        }
-    }
-
-    /// The least number, if there is a bound below.
-    pub fn low(self) -> Option<i128>
-        ensures { result ≡ (span_of self).low }
-    {
-        self.low
-    }
-
-    /// The greatest number, if there is a bound above.
-    pub fn high(self) -> Option<i128>
-        ensures { result ≡ (span_of self).high }
-    {
-        self.high
-    }
-}
-
-fn is_least(low: Option<i128>) -> bool
-    ensures { result ≡ is_least low }
-{
-    match low {
-        Some(number) => number == i128::MIN,
-        None => false,
-    }
-}
-
-fn is_greatest(high: Option<i128>) -> bool
-    ensures { result ≡ is_greatest high }
-{
-    match high {
-        Some(number) => number == i128::MAX,
-        None => false,
-    }
+/// The place before a number, which isn't the least of 128 bits.
+#[derive(Clone, Copy)]
+pub struct Cut {
+    pub number: i128,
+    ghost above: { MIN <ℤ number },
 }

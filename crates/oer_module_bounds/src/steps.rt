@@ -5,15 +5,8 @@ ghost use Rattle.oer_module_bounds.specs.Sets.{crossed, span_of};
 ghost use Rattle.oer_module_bounds.specs.Numbers.{within};
 ghost use Rattle.oer_module_bounds.specs.Steps.{Gives, ends_of, high_end, low_end, numbers};
 
-use crate::ends::Range;
+use crate::ends::{Cut, Range};
 use std::alloc::{AllocError, Global};
-
-/// The place before a number, which isn't the least of 128 bits.
-#[derive(Clone, Copy)]
-pub struct Cut {
-    pub number: i128,
-    pub ghost above: { i128.MIN <ℤ number },
-}
 
 /// A set of whole numbers. It begins or ends at each of its cuts, which rise.
 #[derive(Drop)]

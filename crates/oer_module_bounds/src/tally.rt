@@ -5,7 +5,8 @@ ghost use Rattle.std.specs.Ordering.{int_cmp};
 ghost use Rattle.oer_module_bounds.specs.Steps.{Gives, ends_with, numbers, toggled};
 ghost use Rattle.oer_module_bounds.specs.Tally.{number_at, one_if, passed, reached, sweep, sweep_of, turns_of};
 
-use crate::steps::{Cut, Steps};
+use crate::ends::Cut;
+use crate::steps::Steps;
 use std::alloc::{AllocError, Global};
 
 /// A place at which one of the sets begins or ends.
