@@ -39,28 +39,34 @@ none_ended n b (c ∷ cs) h =
     ended_cons n (record { at = c; begins = not b }) (turns_of (not b) cs)
     ∙ ap₂ (λ x y. x + y) (ap (λ t. one_if (not (not b) && t)) (false_le c.number n h.0) ∙ and_false (not (not b))) (none_ended n (not b) cs h.1)
 
-pub turns_counted : (b : Bool) (cs : List Cut) (n : ℤ) → Rises (numbers cs)
-    → one_if (at b (numbers cs) n) + ended_by n (turns_of b cs) ≡ one_if b + begun_by n (turns_of b cs)
+abbrev Counted : Bool → Bool → List Turn → ℤ → Type 0
+Counted inside b ts n = one_if inside + ended_by n ts ≡ one_if b + begun_by n ts
+
+counted_past : (n : ℤ) (c : Cut) (cs : List Cut) (b : Bool) → int_le c.number n ≡ true → Counted (at (not b) (numbers cs) n) (not b) (turns_of (not b) cs) n
+    → Counted (at (not b) (numbers cs) n) b (turns_of b (c ∷ cs)) n
+counted_past n c cs true h k =
+    let e : ended_by n (turns_of true (c ∷ cs)) ≡ 1 + ended_by n (turns_of false cs) = ended_cons n (record { at = c; begins = false }) (turns_of false cs) ∙ rw h refl in
+    let g : begun_by n (turns_of true (c ∷ cs)) ≡ 0 + begun_by n (turns_of false cs) = begun_cons n (record { at = c; begins = false }) (turns_of false cs) in
+    omega arith
+counted_past n c cs false h k =
+    let e : ended_by n (turns_of false (c ∷ cs)) ≡ 0 + ended_by n (turns_of true cs) = ended_cons n (record { at = c; begins = true }) (turns_of true cs) in
+    let g : begun_by n (turns_of false (c ∷ cs)) ≡ 1 + begun_by n (turns_of true cs) = begun_cons n (record { at = c; begins = true }) (turns_of true cs) ∙ rw h refl in
+    omega arith
+
+counted_before : (n : ℤ) (c : Cut) (cs : List Cut) (b : Bool) → n <ℤ c.number → Rises (numbers (c ∷ cs)) → Counted (at b (numbers cs) n) b (turns_of b (c ∷ cs)) n
+counted_before n c cs b h r =
+    let past : Each (λ d. n <ℤ d) (numbers (c ∷ cs)) = (h, each_weaker (λ d. c.number <ℤ d) (λ d. n <ℤ d) (λ d l. omega (arith, ints)) (numbers cs) r.0) in
+    ap₂ (λ x y. x + y) (ap one_if (unmoved b (numbers cs) n past.1)) (none_ended n b (c ∷ cs) past ∙ sym (none_begun n b (c ∷ cs) past))
+
+counted_more : (n : ℤ) (c : Cut) (cs : List Cut) (b t : Bool) → int_le c.number n ≡ t → Rises (numbers (c ∷ cs))
+    → Counted (at (not b) (numbers cs) n) (not b) (turns_of (not b) cs) n
+    → Counted (at (if t then not b else b) (numbers cs) n) b (turns_of b (c ∷ cs)) n
+counted_more n c cs b true h r k = counted_past n c cs b h k
+counted_more n c cs b false h r k = counted_before n c cs b (le_false c.number n h) r
+
+pub turns_counted : (b : Bool) (cs : List Cut) (n : ℤ) → Rises (numbers cs) → Counted (at b (numbers cs) n) b (turns_of b cs) n
 turns_counted b [] n r = refl
-turns_counted b (c ∷ cs) n r = by (int_le c.number n) refl b
-  where
-    by : (t : Bool) → int_le c.number n ≡ t → (b : Bool)
-        → one_if (at (if int_le c.number n then not b else b) (numbers cs) n) + ended_by n (turns_of b (c ∷ cs)) ≡ one_if b + begun_by n (turns_of b (c ∷ cs))
-    by true h true =
-        let e : ended_by n (turns_of true (c ∷ cs)) ≡ 1 + ended_by n (turns_of false cs) = ended_cons n (record { at = c; begins = false }) (turns_of false cs) ∙ rw h refl in
-        let g : begun_by n (turns_of true (c ∷ cs)) ≡ begun_by n (turns_of false cs) = begun_cons n (record { at = c; begins = false }) (turns_of false cs) in
-        let k = turns_counted false cs n r.1 in
-        rw h (omega arith)
-    by true h false =
-        let e : ended_by n (turns_of false (c ∷ cs)) ≡ ended_by n (turns_of true cs) = ended_cons n (record { at = c; begins = true }) (turns_of true cs) in
-        let g : begun_by n (turns_of false (c ∷ cs)) ≡ 1 + begun_by n (turns_of true cs) = begun_cons n (record { at = c; begins = true }) (turns_of true cs) ∙ rw h refl in
-        let k = turns_counted true cs n r.1 in
-        rw h (omega arith)
-    by false h b =
-        let past : Each (λ d. n <ℤ d) (numbers (c ∷ cs)) = (le_false c.number n h, each_weaker (λ d. c.number <ℤ d) (λ d. n <ℤ d) (λ d l. (let q = le_false c.number n h in omega (arith, ints))) (numbers cs) r.0) in
-        let e = none_ended n b (c ∷ cs) past in
-        let g = none_begun n b (c ∷ cs) past in
-        rw h (ap₂ (λ x y. x + y) (ap one_if (unmoved b (numbers cs) n past.1)) (e ∙ sym g))
+turns_counted b (c ∷ cs) n r = counted_more n c cs b (int_le c.number n) refl r (turns_counted (not b) cs n r.1)
 
 -- one more set
 pub counts_more : (holding : ℕ) (ts : List Turn) (f : ℤ → ℕ) (s : Steps) (p : ℤ → Bool) (n : ℤ) → f n + ended_by n ts ≡ holding + begun_by n ts → Gives s p
@@ -87,21 +93,20 @@ reached_count least t f c n = leb_same least (f n) (ended_by n t.turns.items) t.
 count_cons : (all : Bool) (n : ℤ) (s : Set) (ss : List Set) → allowed_by all (s ∷ ss) n ≡ cond (allows all s n) 1 0 + allowed_by all ss n
 count_cons all n s ss = sum_by-cons (λ x. cond (allows all x n) 1 0) s ss
 
+one_more : (t rest : Bool) (count : ℕ) → leb 1 count ≡ rest → leb 1 (cond t 1 0 + count) ≡ (t || rest)
+one_more true rest count h = le-leb 1 (1 + count) (omega arith)
+one_more false rest count h = ap (leb 1) (omega arith) ∙ h
+
 pub one_is : (all : Bool) (ss : List Set) (n : ℤ) → leb 1 (allowed_by all ss n) ≡ allows_one all (sets_from ss) n
 one_is all [] n = refl
-one_is all (s ∷ ss) n = ap (leb 1) (count_cons all n s ss) ∙ by (allows all s n)
-  where
-    by : (t : Bool) → leb 1 (cond t 1 0 + allowed_by all ss n) ≡ (t || allows_one all (sets_from ss) n)
-    by true = le-leb 1 (1 + allowed_by all ss n) (omega arith)
-    by false = one_is all ss n
+one_is all (s ∷ ss) n = ap (leb 1) (count_cons all n s ss) ∙ one_more (allows all s n) (allows_one all (sets_from ss) n) (allowed_by all ss n) (one_is all ss n)
+
+each_more : (t rest : Bool) (k count : ℕ) → count ≤ k → leb k count ≡ rest → leb (suc k) (cond t 1 0 + count) ≡ (t && rest)
+each_more true rest k count few h = ap₂ leb (omega arith) (omega arith) ∙ leb_same k count 1 1 count (omega arith) ∙ h
+each_more false rest k count few h = lt-leb (suc k) (0 + count) (omega arith)
 
 pub each_is : (all : Bool) (ss : List Set) (n : ℤ) → leb (length ss) (allowed_by all ss n) ≡ allows_each all (sets_from ss) n
 each_is all [] n = refl
-each_is all (s ∷ ss) n = ap (leb (length (s ∷ ss))) (count_cons all n s ss) ∙ by (allows all s n)
-  where
-    by : (t : Bool) → leb (length (s ∷ ss)) (cond t 1 0 + allowed_by all ss n) ≡ (t && allows_each all (sets_from ss) n)
-    by true = leb_one (length ss) (allowed_by all ss n) ∙ each_is all ss n
-      where
-        leb_one : (a b : ℕ) → leb (suc a) (1 + b) ≡ leb a b
-        leb_one a b = ?
-    by false = let few = count_by-le-length (λ x. allows all x n) ss in lt-leb (length (s ∷ ss)) (0 + allowed_by all ss n) (omega arith)
+each_is all (s ∷ ss) n =
+    ap (leb (length (s ∷ ss))) (count_cons all n s ss)
+    ∙ each_more (allows all s n) (allows_each all (sets_from ss) n) (length ss) (allowed_by all ss n) (count_by-le-length (λ x. allows all x n) ss) (each_is all ss n)

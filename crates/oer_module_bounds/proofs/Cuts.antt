@@ -3,7 +3,8 @@ use Rattle.std.proofs.Common.{◌≡◌, ℕ, List, [], ◌∷◌, ◌++◌, Boo
 use Rattle.std.specs.Prelude.{ℤ, pos, ◌+ℤ◌, ◌-ℤ◌, ◌≤ℤ◌, ◌<ℤ◌, int_le, int_lt}
 use Rattle.std.specs.Ordering.{int_eq}
 use Rattle.std.specs.Int.{int_max, int_min}
-use Rattle.std.proofs.lemmas.Int.{ints, clamps}
+use Rattle.std.proofs.lemmas.Int.{ints, by_lt_z}
+use Rattle.std.proofs.lemmas.Bool.{both_ways}
 use Rattle.std.proofs.lemmas.Bool.Decides.{Decides-int_eq}
 use Rattle.oer_module_bounds.specs.Sets.{Each}
 use Rattle.oer_module_bounds.specs.Steps.{at, Rises, toggled}
@@ -22,14 +23,14 @@ true_le a b h = sym (omega (arith, ints))
 pub false_le : (a b : ℤ) → b <ℤ a → int_le a b ≡ false
 false_le a b h = sym (omega (arith, ints))
 
-pub eq_true : (a b : ℤ) → int_eq a b ≡ true → a ≡ b
-eq_true a b h = ?
-
-pub eq_false : (a b : ℤ) → int_eq a b ≡ false → a ≤ℤ b → a <ℤ b
-eq_false a b h l = ?
-
 pub same_number : (a b : ℤ) → a ≤ℤ b → b ≤ℤ a → a ≡ b
 same_number a b h k = omega (arith, ints)
+
+pub eq_true : (a b : ℤ) → int_eq a b ≡ true → a ≡ b
+eq_true a b h = (Decides-int_eq a b).0 h
+
+pub eq_false : (a b : ℤ) → int_eq a b ≡ false → a ≤ℤ b → a <ℤ b
+eq_false a b h l = by_lt_z a b (λ k. k) (λ k. absurd (both_ways (int_eq a b) h ((Decides-int_eq a b).1 (same_number a b l k))))
 
 -- ---- each
 
@@ -50,10 +51,6 @@ each_second P [] ys h = h
 each_second P (x ∷ xs) ys h = each_second P xs ys h.1
 
 -- ---- in or not
-
-pub flip : Bool → Bool → Bool
-flip true b = not b
-flip false b = b
 
 not_not : (b : Bool) → not (not b) ≡ b
 not_not true = refl

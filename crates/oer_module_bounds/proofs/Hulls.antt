@@ -51,8 +51,8 @@ module _ (P : ℤ → Type 0) where
   one_hull (Some r) None h k = let w = some_number r.low h.1 in absurd (k w.0 w.1)
   one_hull (Some r) (Some s) h k =
       ap₂ (λ low high. Some (span low high))
-        (same_low r.low s.low (λ n p. (h.0 n p).0) (λ n p. (k.0 n p).0) h.1 k.1)
-        (same_high r.high s.high (λ n p. (h.0 n p).1) (λ n p. (k.0 n p).1) h.2 k.2)
+      (same_low r.low s.low (λ n p. (h.0 n p).0) (λ n p. (k.0 n p).0) h.1 k.1)
+      (same_high r.high s.high (λ n p. (h.0 n p).1) (λ n p. (k.0 n p).1) h.2 k.2)
 
 -- ---- of the same numbers
 

@@ -1,13 +1,14 @@
 -- What is allowed lies in the range as PER reads it.
 use Rattle.std.proofs.Common.{◌≡◌, ◌⊎◌, inl, inr, List, [], ◌∷◌, Bool, true, false, not, if◌then◌else◌, Option, Some, None, refl, sym, ap, subst, ◌∙◌, arith}
-use Rattle.std.specs.Prelude.{ℤ, ◌≤ℤ◌, ◌<ℤ◌, int_lt, int_le}
+use Rattle.std.specs.Prelude.{ℤ, ◌≤ℤ◌, ◌<ℤ◌, int_lt, int_le, map}
 use Rattle.std.specs.Int.{int_max, int_min}
 use Rattle.std.specs.List.{fold}
 use Rattle.std.proofs.lemmas.Int.{ints, clamps}
 use Rattle.oer_module_bounds.specs.Laws.{IsIn, LooseHasAllowed, LooseEffectiveHasAllowed}
 use Rattle.oer_module_bounds.specs.Loose.{outer_end, inner_end, join, meet, loose, loose_each, loose_effective}
 use Rattle.oer_module_bounds.specs.Numbers.{IsFrom, IsTo, Allows, AllowsOne, AllowsEach, bounding}
-use Rattle.oer_module_bounds.specs.Sets.{Span, everything, crossed, filled, Set, range, union, intersection, except, unknown, Sets, no_sets, one, Constraint}
+use Rattle.oer_module_bounds.specs.Sets.{Span, everything, crossed, filled, Set, range, union, intersection, except, unknown, Sets, no_sets, one, Constraint, sets_from, set_of}
+use Rattle.oer_module_bounds.specs.declared.tree.Set.{Set as RawSet}
 use Rattle.oer_module_bounds.proofs.Deciding.{bounded}
 
 Within : Option ℤ → Option ℤ → ℤ → Type 0
@@ -20,6 +21,7 @@ in_filled r n h k = by r.low r.high h k
     not_crossed None high h k = refl
     not_crossed (Some l) None h k = refl
     not_crossed (Some l) (Some m) h k = sym (omega (arith, ints))
+
     by : (low high : Option ℤ) → IsFrom low n → IsTo high n → IsIn (filled r) n
     by low high x y = rw (not_crossed r.low r.high h k) (h, k)
 
@@ -60,7 +62,7 @@ in_meet None b n h k = absurd h
 in_meet (Some r) None n h k = absurd k
 in_meet (Some r) (Some s) n h k =
     in_filled (record { low = inner_end int_max r.low s.low; high = inner_end int_min r.high s.high }) n
-      (inner_from r.low s.low n h.0 k.0) (inner_to r.high s.high n h.1 k.1)
+    (inner_from r.low s.low n h.0 k.0) (inner_to r.high s.high n h.1 k.1)
 
 -- what is joined already stays
 kept : (a : Option Span) (rs : List (Option Span)) (n : ℤ) → IsIn a n → IsIn (fold join a rs) n
@@ -89,3 +91,9 @@ loose_has_allowed s n h = in_loose true s n h
 
 pub loose_effective_has_allowed : LooseEffectiveHasAllowed
 loose_effective_has_allowed cs n h = in_loose true (intersection (bounding cs)) n (bounded cs n h)
+
+-- ---- the members that the code reads
+
+pub loose_listed : (ss : List RawSet) → loose_each (sets_from (map set_of ss)) ≡ map (λ s. loose (set_of s)) ss
+loose_listed [] = refl
+loose_listed (s ∷ ss) = ap (λ rs. loose (set_of s) ∷ rs) (loose_listed ss)

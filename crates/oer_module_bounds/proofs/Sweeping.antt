@@ -1,5 +1,5 @@
 -- What the sweep over turns in order gives.
-use Rattle.std.proofs.Common.{◌≡◌, ◌⊎◌, inl, inr, ℕ, suc, ◌+◌, ◌≤◌, List, [], ◌∷◌, ◌++◌, Bool, true, false, not, ◌&&◌, cond, if◌then◌else◌, leb, get_or, zero-le, Ordering, Less, Equal, Greater, refl, sym, ap, ap₂, subst, ◌∙◌, arith, append_assoc}
+use Rattle.std.proofs.Common.{◌≡◌, ◌⊎◌, inl, inr, ℕ, suc, ◌+◌, ◌≤◌, List, [], ◌∷◌, ◌++◌, Bool, true, false, not, ◌&&◌, cond, if◌then◌else◌, leb, drop, get_or, zero-le, Ordering, Less, Equal, Greater, refl, sym, ap, ap₂, subst, ◌∙◌, arith, append_assoc}
 use Rattle.std.specs.Prelude.{ℤ, pos, ◌+ℤ◌, ◌≤ℤ◌, ◌<ℤ◌, int_le, map, length, slice_index_or, IsPermutation}
 use Rattle.std.specs.List.{All, sum_by}
 use Rattle.std.specs.Int.{int_max}
@@ -130,6 +130,7 @@ module _ (least holding : ℕ) (ts : List Turn) (s : Swept) (t : Turn) (p : Pass
     where
       j : Bool
       j = leb (least + (s.ended + one_if (not t.begins))) (s.begun + one_if t.begins)
+
       by : (b : Bool) → int_le t.at.number n ≡ b → at (leb least holding) (changed s.inside j s.cuts t.at.number) n ≡ reached least holding (ts ++ t ∷ []) n
       by true h = at_changed (leb least holding) s.inside j s.cuts t.at.number n h (here n h) ∙ sym (there n h)
       by false h = at_unchanged (leb least holding) s.inside j s.cuts t.at.number n h ∙ p.says n ∙ sym (same_before n h)
@@ -146,6 +147,7 @@ module _ (least holding : ℕ) (ts : List Turn) (s : Swept) (t : Turn) (p : Pass
     where
       sums : s.begun + one_if t.begins ≡ holding + (beginning ts + one_if t.begins)
       sums = let pb = p.begun in omega arith
+
       lower : (n : ℤ) → Each (λ u. number_at u ≤ℤ n) (ts ++ t ∷ []) → Each (λ c. c ≤ℤ n) (passed least s t).cuts
       lower n h =
           let w = before_last n ts t h in
@@ -171,7 +173,7 @@ swept_from : (least holding : ℕ) (ts us : List Turn) (s : Swept) → Passed le
 swept_from least holding ts [] s p o b = subst (λ xs. Passed least holding xs s) (sym (append-nil ts)) p
 swept_from least holding ts (u ∷ us) s p o b =
     subst (λ xs. Passed least holding xs (sweep least (passed least s u) us)) (append_assoc ts (u ∷ []) us)
-      (swept_from least holding (ts ++ u ∷ []) us (passed least s u) (passed_more least holding ts s u p b.0) o.1 (pushed_before ts us u b.1 o.0))
+    (swept_from least holding (ts ++ u ∷ []) us (passed least s u) (passed_more least holding ts s u p b.0) o.1 (pushed_before ts us u b.1 o.0))
 
 none_before : (us : List Turn) → AllBefore [] us
 none_before [] = tt
@@ -184,10 +186,13 @@ start least holding = record { begun = holding; ended = 0; inside = leb least ho
 pub swept : (least holding : ℕ) (ts : List Turn) → InOrder ts → Passed least holding ts (sweep least (start least holding) ts)
 swept least holding ts o =
     swept_from least holding [] ts (start least holding)
-      (record { begun = omega arith; ended = refl; inside = same; rises = tt; says = λ n. same; low = λ n h. tt }) o (none_before ts)
+    (record { begun = omega arith; ended = refl; inside = begun; rises = tt; says = λ n. nothing; low = λ n h. tt }) o (none_before ts)
   where
-    same : leb least holding ≡ leb (least + 0) (holding + 0)
-    same = ap₂ leb (omega arith) (omega arith)
+    begun : leb least holding ≡ leb (least + 0) holding
+    begun = ap (λ x. leb x holding) (omega arith)
+
+    nothing : leb least holding ≡ leb (least + 0) (holding + 0)
+    nothing = ap₂ leb (omega arith) (omega arith)
 
 -- past the last turn
 bound : (n : ℤ) (ts : List Turn) → (m : ℤ) × (n ≤ℤ m) × Each (λ t. number_at t ≤ℤ m) ts
@@ -223,7 +228,7 @@ abbrev before : Turn → Turn → Bool
 before t u = is_lt (int_cmp (number_at t) (number_at u))
 
 sorted_rest : (t : Turn) (ts : List Turn) → IsSortedBy before (t ∷ ts) → IsSortedBy before ts
-sorted_rest t ts h = λ k d l m. h (suc k) d zero-le (omega arith)
+sorted_rest t ts h = λ k d l m. let next : suc k + 1 ≡ suc (k + 1) = omega arith in rw next at (h (suc k) d zero-le (omega arith))
 
 first_least : (t : Turn) (ts : List Turn) → IsSortedBy before (t ∷ ts) → All (λ u. number_at t ≤ℤ number_at u) ts
 first_least t ts h = λ k d l.
@@ -239,4 +244,12 @@ in_order (t ∷ ts) h = (each_of_all (λ u. number_at t ≤ℤ number_at u) ts (
 pub reached_moved : (least holding : ℕ) (ts us : List Turn) → IsPermutation ts us → (n : ℤ) → reached least holding us n ≡ reached least holding ts n
 reached_moved least holding ts us m n =
     ap₂ (λ x y. leb (least + x) (holding + y)) (sum_by-IsPermutation (λ t. one_if (not t.begins && int_le t.at.number n)) ts us m)
-      (sum_by-IsPermutation (λ t. one_if (t.begins && int_le t.at.number n)) ts us m)
+    (sum_by-IsPermutation (λ t. one_if (t.begins && int_le t.at.number n)) ts us m)
+
+-- ---- the loop
+
+-- what is left gives the same from here as all did from the start; no more than so many have begun and ended
+pub record Turning (least : ℕ) (from now : Swept) (ts : List Turn) (i : ℕ) : Type 0 where
+  pub is : sweep least from ts ≡ sweep least now (drop i ts)
+  pub begun : now.begun ≤ from.begun + i
+  pub ended : now.ended ≤ from.ended + i

@@ -1,12 +1,16 @@
 -- Sets of whole numbers as the places at which they begin and end.
-use Rattle.std.specs.Prelude.{◌≡◌, List, [], ◌∷◌, map, Bool, true, false, not, if◌then◌else◌, ⊤, ℤ, pos, ◌-ℤ◌, ◌<ℤ◌, ◌≤ℤ◌, int_le, Option, Some, None}
+use Rattle.std.specs.Prelude.{◌≡◌, List, [], ◌∷◌, map, Bool, true, false, not, if◌then◌else◌, ⊤, ℤ, pos, ◌+ℤ◌, ◌-ℤ◌, ◌<ℤ◌, ◌≤ℤ◌, int_le, Option, Some, None}
 use Rattle.std.specs.Ordering.{int_eq}
+use Rattle.std.specs.Option.{option_map}
 use Rattle.oer_module_bounds.specs.Sets.{Each, Span}
 use Rattle.oer_module_bounds.specs.declared.ends.Cut.{Cut}
 use Rattle.oer_module_bounds.specs.declared.steps.Steps.{Steps}
 
 abbrev pub numbers : List Cut → List ℤ
 numbers cs = map (λ c. c.number) cs
+
+abbrev pub number_of : Option Cut → Option ℤ
+number_of c = option_map (λ x. x.number) c
 
 -- whether n is in a set that has the numbers before its first cut or not: each cut up to n changes that
 abbrev pub at : Bool → List ℤ → ℤ → Bool
@@ -25,6 +29,10 @@ pub record Gives (s : Steps) (p : ℤ → Bool) : Type 0 where
   pub ends : (n : ℤ) → Each (λ c. c ≤ℤ n) (numbers s.cuts.items) → p n ≡ s.highest
 
 -- ---- the ends
+
+abbrev pub past : Option ℤ → Option ℤ
+past None = None
+past (Some n) = Some (n +ℤ pos 1)
 
 abbrev pub last_of : List ℤ → Option ℤ
 last_of [] = None
@@ -53,10 +61,12 @@ ends_of true highest cs = Some (record { low = None; high = high_end highest cs 
 
 -- ---- cuts that are added at the end
 
+abbrev pub is_it : Option ℤ → ℤ → Bool
+is_it None n = false
+is_it (Some c) n = int_eq c n
+
 abbrev pub ends_with : List ℤ → ℤ → Bool
-ends_with [] n = false
-ends_with (c ∷ []) n = int_eq c n
-ends_with (c ∷ d ∷ cs) n = ends_with (d ∷ cs) n
+ends_with cs n = is_it (last_of cs) n
 
 -- one more, which is not below the others; two at one place are none
 abbrev pub toggled : List ℤ → ℤ → List ℤ

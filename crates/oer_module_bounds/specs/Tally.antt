@@ -8,8 +8,7 @@ use Rattle.oer_module_bounds.specs.declared.tally.Tally.{Tally}
 use Rattle.oer_module_bounds.specs.declared.tally.Turn.{Turn}
 
 abbrev pub one_if : Bool → ℕ
-one_if true = 1
-one_if false = 0
+one_if b = if b then 1 else 0
 
 abbrev pub number_at : Turn → ℤ
 number_at t = t.at.number

@@ -1,9 +1,10 @@
 //! Ranges of whole numbers.
 ghost use Rattle.std.specs.Prelude.{◌≡◌};
 ghost use Rattle.std.specs.Option.{option_map};
+ghost use Rattle.oer_module_bounds.specs.Steps.{number_of, past};
 ghost use Rattle.oer_module_bounds.specs.Sets.{everything, is_greatest as greatest, is_least as least, range_from, span_of};
 
-use crate::ends::Range;
+use crate::ends::{Cut, Range};
 
 impl Range {
     /// The numbers from `low` to `high`. None where `low` is the least number of 128 bits, or `high` the greatest: such
@@ -39,6 +40,26 @@ impl Range {
         ensures { result ≡ (span_of self).high }
     {
         self.high
+    }
+
+    /// The place before the least number.
+    pub(crate) fn begin(self) -> Option<Cut>
+        ensures { number_of result ≡ (span_of self).low }
+    {
+        match self.low {
+            Some(number) => Some(Cut { number }),
+            None => None,
+        }
+    }
+
+    /// The place past the greatest number.
+    pub(crate) fn end(self) -> Option<Cut>
+        ensures { number_of result ≡ past (span_of self).high }
+    {
+        match self.high {
+            Some(number) => Some(Cut { number: number + 1 }),
+            None => None,
+        }
     }
 }
 

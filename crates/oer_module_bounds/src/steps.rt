@@ -1,9 +1,9 @@
 //! Sets of whole numbers as the places at which they begin and end.
-ghost use Rattle.std.specs.Prelude.{◌≡◌, ◌<ℤ◌, IfOk, not};
-ghost use Rattle.std.specs.Option.{ForSome, option_map};
+ghost use Rattle.std.specs.Prelude.{◌≡◌, ◌<ℤ◌, ◌++◌, IfOk, OnOk, not};
+ghost use Rattle.std.specs.Option.{ForSome, option_map, option_to_list};
 ghost use Rattle.oer_module_bounds.specs.Sets.{crossed, span_of};
 ghost use Rattle.oer_module_bounds.specs.Numbers.{within};
-ghost use Rattle.oer_module_bounds.specs.Steps.{Gives, ends_of, high_end, low_end, numbers};
+ghost use Rattle.oer_module_bounds.specs.Steps.{Gives, ends_of, high_end, low_end, number_of, numbers};
 
 use crate::ends::{Cut, Range};
 use std::alloc::{AllocError, Global};
@@ -37,21 +37,15 @@ impl Steps {
     pub fn of_range(alloc: Global, range: Range) -> Result<Steps, AllocError>
         ensures { IfOk result (λ s. Gives s (within (span_of range))) }
     {
-        let low = range.low();
-        let high = range.high();
-        if is_empty(low, high) {
+        if is_empty(range.low, range.high) {
             return Ok(Steps::uniform(alloc, false));
         }
         let mut cuts = Vec::new(alloc);
-        if let Some(number) = low {
-            cuts.push(Cut { number })?;
-        }
-        if let Some(number) = high {
-            cuts.push(Cut { number: number + 1 })?;
-        }
+        push_some(&mut cuts, range.begin())?;
+        push_some(&mut cuts, range.end())?;
         Ok(Steps {
-            lowest: low.is_none(),
-            highest: high.is_none(),
+            lowest: range.low.is_none(),
+            highest: range.high.is_none(),
             cuts,
         })
     }
@@ -94,6 +88,7 @@ impl Steps {
         }
     }
 
+    #[tactic(auto, using(crate::proofs::Giving::high_is))]
     fn high(&self) -> Option<i128>
         ensures is { result ≡ high_end self.now.highest (numbers self.now.cuts.items) }
         ensures below { ForSome result (λ n. n <ℤ i128.MAX) }
@@ -106,6 +101,15 @@ impl Steps {
             None => None,
         }
     }
+}
+
+fn push_some(cuts: &mut Vec<Cut>, cut: Option<Cut>) -> Result<(), AllocError>
+    ensures { OnOk result (numbers cuts.new.items ≡ numbers cuts.old.items ++ option_to_list (number_of cut)) }
+{
+    if let Some(cut) = cut {
+        cuts.push(cut)?;
+    }
+    Ok(())
 }
 
 /// Whether there is no number from `low` to `high`.

@@ -59,15 +59,7 @@ impl Tally {
         ensures turns { OnOk result (self.new.turns.items ≡ self.old.turns.items ++ turns_of set.now.lowest set.now.cuts.items) }
     {
         self.holding += usize::from(set.lowest);
-        let mut inside = set.lowest;
-        for cut in &set.cuts {
-            inside = !inside;
-            self.turns.push(Turn {
-                at: *cut,
-                begins: inside,
-            })?;
-        }
-        Ok(())
+        push_turns(&mut self.turns, set.lowest, set.cuts.as_slice())
     }
 
     /// The numbers that at least so many of the sets have.
@@ -96,6 +88,21 @@ impl Tally {
             cuts: swept.cuts,
         })
     }
+}
+
+/// The turns of a set that has the numbers before its first cut or not.
+fn push_turns(turns: &mut Vec<Turn>, lowest: bool, cuts: &[Cut]) -> Result<(), AllocError>
+    ensures { OnOk result (turns.new.items ≡ turns.old.items ++ turns_of lowest cuts.now) }
+{
+    let mut inside = lowest;
+    for cut in cuts {
+        inside = !inside;
+        turns.push(Turn {
+            at: *cut,
+            begins: inside,
+        })?;
+    }
+    Ok(())
 }
 
 fn sort(turns: &mut [Turn])
@@ -150,6 +157,7 @@ fn toggle(cuts: &mut Vec<Cut>, cut: Cut) -> Result<(), AllocError>
     Ok(())
 }
 
+#[tactic(auto, using(crate::proofs::Giving::last_slice))]
 fn is_last(cuts: &[Cut], number: i128) -> bool
     ensures { result ≡ ends_with (numbers cuts.now) number }
 {
