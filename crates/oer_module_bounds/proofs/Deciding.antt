@@ -145,6 +145,3 @@ pub effective_is_least : EffectiveIsLeast
 effective_is_least cs =
     hull_same (λ n. Allows true (intersection (bounding cs)) n) (λ n. AllowsInAll cs n) (λ n h. each_bounding cs n h) (λ n h. bounding_each cs n h)
     (effective cs) (hull_is_least (intersection (bounding cs)))
-
-pub bounded : (cs : List Constraint) (n : ℤ) → AllowsInAll cs n → Allows true (intersection (bounding cs)) n
-bounded cs n h = bounding_each cs n h

@@ -217,6 +217,9 @@ bounded_more t u k cs i c s h at x b g e f =
       counts = subst (λ xs. Counts u (allowed_by true xs)) (sym same) (counts_added t u true (roots (take i cs)) (set_of c.root) s b.counts g e f);
     }
 
+pub bounded_as : (t u : Tally) (j k : ℕ) (cs : List RawConstraint) (i : ℕ) → u ≡ t → k ≡ j → Bounded t j cs i → Bounded u k cs i
+bounded_as t u j k cs i e f b = subst (λ x. Bounded x k cs i) (sym e) (subst (λ n. Bounded t n cs i) (sym f) b)
+
 pub bounded_all : (t : Tally) (k : ℕ) (cs : List RawConstraint) (i : ℕ) (s : Steps) → length cs ≤ i → Bounded t k cs i
     → Gives s (reached k t.holding t.turns.items) → Gives s (allows true (intersection (bounding (map constraint_of cs))))
 bounded_all t k cs i s h b g =
