@@ -4,6 +4,8 @@
 #[cfg(test)]
 mod lexer;
 #[cfg(test)]
+mod parts;
+#[cfg(test)]
 mod syntax;
 #[cfg(test)]
 mod terms;
