@@ -1,5 +1,6 @@
 -- Automatic tags (X.680, 25.3, 25.7 to 25.9, 29.2 and 29.3).
-use Rattle.std.specs.Prelude.{◌≡◌, ℕ, zero, suc, ◌==◌, List, [], ◌∷◌, ◌++◌, length, Bool, true, false, if◌then◌else◌}
+use Rattle.std.specs.Prelude.{◌≡◌, ℕ, zero, suc, ◌==◌, List, [], ◌∷◌, ◌++◌, length, Bool, true, false, not, if◌then◌else◌}
+use Rattle.std.specs.List.{list_any}
 use Rattle.oer_module_parts.specs.declared.automatic.Mark as raw_mark
 use Rattle.oer_module_parts.specs.declared.automatic.Mark.TheVariants.{Component, ComponentsOf, Marker}
 use Rattle.oer_module_parts.specs.declared.automatic.Place as raw_place
@@ -15,23 +16,25 @@ is_tagged (tagged at tag mode inner) = true
 is_tagged _ = false
 
 -- what stands between commas, with what stands in groups in its place
-mutual
-  abbrev pub marks_in : Element → List raw_mark.Mark
+abbrev mutual
+  pub marks_in : Element → List raw_mark.Mark
   marks_in (marker at exception) = Marker ∷ []
   marks_in (group at es) = marks_of es
   marks_in (components_of at from) = ComponentsOf ∷ []
   marks_in (component at name from need) = Component (is_tagged from) ∷ []
 
-  abbrev pub marks_of : Elements → List raw_mark.Mark
+  pub marks_of : Elements → List raw_mark.Mark
   marks_of no_elements = []
   marks_of (element e es) = marks_in e ++ marks_of es
 
+abbrev pub has_tag : raw_mark.Mark → Bool
+has_tag (Component t) = t
+has_tag ComponentsOf = false
+has_tag Marker = false
+
 -- None has a tag where it is written (25.3, 29.2); what COMPONENTS OF stands for isn't looked at (25.4).
 abbrev pub are_untagged : List raw_mark.Mark → Bool
-are_untagged [] = true
-are_untagged (Component t ∷ ms) = if t then false else are_untagged ms
-are_untagged (ComponentsOf ∷ ms) = are_untagged ms
-are_untagged (Marker ∷ ms) = are_untagged ms
+are_untagged ms = not (list_any has_tag ms)
 
 -- ---- places
 

@@ -80,12 +80,13 @@ abbrev pub unless_too_large : ℕ → Option ℤ → Result ℤ raw.NumberFault
 unless_too_large i (Some n) = Ok n
 unless_too_large i None = Err (TooLarge i)
 
-abbrev pub found_later : List ℤ → Option ℤ → ℕ → Result ℤ raw.NumberFault
-found_later taken last i = unless_too_large i (representable (first_free taken (least_after last)))
+-- what one without gets
+abbrev pub free_later : List ℤ → Option ℤ → Option ℤ
+free_later taken last = representable (first_free taken (least_after last))
 
 abbrev pub later_number : List ℤ → Option ℤ → ℕ → Option ℤ → Result ℤ raw.NumberFault
 later_number taken last i (Some n) = given_later taken last i n
-later_number taken last i None = found_later taken last i
+later_number taken last i None = unless_too_large i (free_later taken last)
 
 -- beside those that were found
 abbrev pub later_numbers : List ℤ → Option ℤ → List (Option ℤ) → List ℤ → Result (List ℤ) raw.NumberFault

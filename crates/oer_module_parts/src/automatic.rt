@@ -1,6 +1,6 @@
 //! Automatic tags (X.680, 25.3, 25.7 to 25.9, 29.2 and 29.3).
 ghost use Rattle.std.specs.Prelude.{◌≡◌, ◌++◌, ◌≤◌, IfOk, OnOk, length, map};
-ghost use Rattle.oer_module_parts.specs.Automatic.{are_untagged, automatic_numbers, is_tagged, marks_in, marks_of, place_behind, places_of, root_count};
+ghost use Rattle.oer_module_parts.specs.Automatic.{are_untagged, automatic_numbers, has_tag, is_tagged, marks_in, marks_of, place_behind, places_of, root_count};
 ghost use Rattle.oer_module_syntax.specs.Tree.{element_of, elements_from, tree_of};
 
 use oer_module_syntax::{Element, TypeSyntax};
@@ -37,6 +37,7 @@ fn is_tagged(of: &TypeSyntax<'_, '_>) -> bool
 }
 
 #[cycle(marks)]
+#[tactic(auto, using(oer_module_syntax::proofs::Trees::trees))]
 fn add_mark(element: &Element<'_, '_>, marks: &mut Vec<Mark>) -> Result<(), AllocError>
     ensures { OnOk result (marks.new.items ≡ marks.old.items ++ marks_in (element_of element.now)) }
 {
@@ -75,13 +76,22 @@ pub fn marks_of(alloc: Global, elements: &[Element<'_, '_>]) -> Result<Vec<Mark>
     Ok(marks)
 }
 
+fn has_tag(mark: Mark) -> bool
+    ensures { result ≡ has_tag mark }
+{
+    match mark {
+        Mark::Component { tagged } => tagged,
+        _ => false,
+    }
+}
+
 /// Whether these get automatic tags in a module with AUTOMATIC TAGS: none of them has a tag where it is written (X.680, 25.3
 /// and 29.2). What COMPONENTS OF stands for isn't looked at, so this is asked before it is written out (X.680, 25.4).
 pub fn are_tagged_automatically(marks: &[Mark]) -> bool
     ensures { result ≡ are_untagged marks.now }
 {
     for mark in marks {
-        if *mark == (Mark::Component { tagged: true }) {
+        if has_tag(*mark) {
             return false;
         }
     }

@@ -1,6 +1,6 @@
 //! The numbers of the items of an ENUMERATED (X.680, 20).
-ghost use Rattle.std.specs.Prelude.{◌≡◌, pos, [], None, Ok, OnOk, not};
-ghost use Rattle.oer_module_parts.specs.Numbering.{IsAnswer, first_free, found_later, given_from, given_later, is_above, is_among, least_after, later_number, later_numbers, number_items, representable, root_numbers, set_of, with_number};
+ghost use Rattle.std.specs.Prelude.{◌≡◌, ◌^◌, ◌+ℤ◌, ◌<ℤ◌, pos, [], None, Ok, OnOk, not};
+ghost use Rattle.oer_module_parts.specs.Numbering.{IsAnswer, first_free, free_later, given_from, given_later, is_above, is_among, least_after, later_number, later_numbers, number_items, representable, root_numbers, set_of, with_number};
 ghost use Rattle.oer_module_parts.specs.declared.numbering.NumberFault.TheVariants.{Memory};
 
 use std::alloc::{AllocError, AllocFailed, Global};
@@ -68,9 +68,10 @@ fn given_numbers(alloc: Global, items: &[Option<i128>]) -> Result<BTreeSet<i128>
     Ok(given)
 }
 
-/// The least number from this one on that isn't taken; none if it is 2^127 or more.
+/// The least number from this one on that isn't taken; none if it is 2^127 or more. Fewer than 2^63 are taken.
 fn first_free(taken: &BTreeSet<i128>, from: i128) -> Option<i128>
-    ensures { result ≡ representable (first_free taken.now.keys from) }
+    ensures is { result ≡ representable (first_free taken.now.keys from) }
+    ensures near { first_free taken.now.keys from <ℤ (from +ℤ pos (2 ^ 63)) }
 {
     let mut number = from;
     for _ in 0..taken.len() {
@@ -155,21 +156,12 @@ fn given_later(
     Ok(number)
 }
 
-/// The number of an additional item that is given none.
-fn found_later(
-    taken: &BTreeSet<i128>,
-    last: Option<i128>,
-    index: usize,
-) -> Result<i128, NumberFault>
-    ensures { result ≡ found_later taken.now.keys last index }
+/// The number that an additional item gets which is given none; none if it is 2^127 or more.
+fn free_later(taken: &BTreeSet<i128>, last: Option<i128>) -> Option<i128>
+    ensures { result ≡ free_later taken.now.keys last }
 {
-    let Some(least) = least_after(last) else {
-        return Err(NumberFault::TooLarge(index));
-    };
-    match first_free(taken, least) {
-        Some(number) => Ok(number),
-        None => Err(NumberFault::TooLarge(index)),
-    }
+    let least = least_after(last)?;
+    first_free(taken, least)
 }
 
 /// The number of an additional item, where the root has those taken and the last additional item has that one.
@@ -183,7 +175,10 @@ fn later_number(
 {
     match item {
         Some(number) => given_later(taken, last, index, number),
-        None => found_later(taken, last, index),
+        None => match free_later(taken, last) {
+            Some(number) => Ok(number),
+            None => Err(NumberFault::TooLarge(index)),
+        },
     }
 }
 
@@ -212,6 +207,7 @@ fn add_later(
 /// # Errors
 /// The first from the left in the root, and then from the left after `...`: `Repeated`, `NotAscending` and `TooLarge`; and
 /// `Memory`.
+#[tactic(auto, unfolding(crate::specs::Numbering::number_items))]
 pub fn number_items(
     alloc: Global,
     root: &[Option<i128>],

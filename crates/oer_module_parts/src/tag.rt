@@ -74,6 +74,7 @@ fn read_named<'s, 't>(cursor: &mut Cursor<'s, 't>, name: &'t str) -> Result<Amou
 }
 
 /// A number without a sign, or the name of one.
+#[tactic(auto, unfolding(oer_module_terms::specs::Values::amount_at))]
 fn read_number<'s, 't>(cursor: &mut Cursor<'s, 't>) -> Result<Amount<'s, 't>, Fault>
     ensures { IsReading (λ a. (amount_of a, state_of cursor.new)) result (amount_at false (state_of cursor.old)) }
 {
@@ -96,6 +97,7 @@ fn read_number<'s, 't>(cursor: &mut Cursor<'s, 't>) -> Result<Amount<'s, 't>, Fa
 /// # Errors
 /// The first fault from the left: `Expected` at a token that can't go on. An instruction for another encoding, as
 /// `[XER: ATTRIBUTE]`, is none: a value was expected at its first word.
+#[tactic(auto, unfolding(crate::specs::Tags::tag_at, crate::specs::Tags::classed_at))]
 pub fn read_tag<'s, 't>(cursor: &mut Cursor<'s, 't>) -> Result<WrittenTag<'s, 't>, Fault>
     ensures { IsReading (λ t. (tag_of t, state_of cursor.new)) result (tag_at (state_of cursor.old)) }
 {
