@@ -33,9 +33,9 @@ IsFree given before n = (¬ IsAmong n given) × (¬ IsAmong n before)
 
 -- The items of the root have these numbers, where some are given, and earlier items without a number have those before.
 pub data RootHas (given : List ℤ) : List ℤ → List (Option ℤ) → List ℤ → Type 0 where
-  none : {before : List ℤ} → RootHas given before [] []
-  its_own : {before : List ℤ} {n : ℤ} {xs : List (Option ℤ)} {ns : List ℤ} → RootHas given before xs ns → RootHas given before (Some n ∷ xs) (n ∷ ns)
-  the_least : {before : List ℤ} {n : ℤ} {xs : List (Option ℤ)} {ns : List ℤ} → IsLeast (IsFree given before) n → RootHas given (n ∷ before) xs ns → RootHas given before (None ∷ xs) (n ∷ ns)
+  root_none : {before : List ℤ} → RootHas given before [] []
+  root_its_own : {before : List ℤ} {n : ℤ} {xs : List (Option ℤ)} {ns : List ℤ} → RootHas given before xs ns → RootHas given before (Some n ∷ xs) (n ∷ ns)
+  root_least : {before : List ℤ} {n : ℤ} {xs : List (Option ℤ)} {ns : List ℤ} → IsLeast (IsFree given before) n → RootHas given (n ∷ before) xs ns → RootHas given before (None ∷ xs) (n ∷ ns)
 
 -- no item of the root has the number, and it is above those of the additional items before
 abbrev pub IsNew : List ℤ → List ℤ → ℤ → Type 0
@@ -43,9 +43,9 @@ IsNew root before n = (¬ IsAmong n root) × AreBelow n before
 
 -- The additional items have these numbers, where the root has some, and earlier additional items have those before.
 pub data LaterHave (root : List ℤ) : List ℤ → List (Option ℤ) → List ℤ → Type 0 where
-  none : {before : List ℤ} → LaterHave root before [] []
-  its_own : {before : List ℤ} {n : ℤ} {xs : List (Option ℤ)} {ns : List ℤ} → IsNew root before n → LaterHave root (n ∷ before) xs ns → LaterHave root before (Some n ∷ xs) (n ∷ ns)
-  the_least : {before : List ℤ} {n : ℤ} {xs : List (Option ℤ)} {ns : List ℤ} → IsLeast (IsNew root before) n → LaterHave root (n ∷ before) xs ns → LaterHave root before (None ∷ xs) (n ∷ ns)
+  later_none : {before : List ℤ} → LaterHave root before [] []
+  later_its_own : {before : List ℤ} {n : ℤ} {xs : List (Option ℤ)} {ns : List ℤ} → IsNew root before n → LaterHave root (n ∷ before) xs ns → LaterHave root before (Some n ∷ xs) (n ∷ ns)
+  later_least : {before : List ℤ} {n : ℤ} {xs : List (Option ℤ)} {ns : List ℤ} → IsLeast (IsNew root before) n → LaterHave root (n ∷ before) xs ns → LaterHave root before (None ∷ xs) (n ∷ ns)
 
 -- The items of the root and the additional ones have these numbers.
 pub record AreNumbered (root more : List (Option ℤ)) (numbers : List ℤ) : Type 0 where

@@ -7,5 +7,5 @@ abbrev pub invariant-loop-place : goal.invariant-loop-place
 invariant-loop-place l = record {
   all : automatic_numbers l.places ≡ l.numbers.items ++ numbers_from l.root l.addition (drop l.place-index l.places);
   root_most : l.root ≤ l.place-index;
-  addition_most : l.addition ≤ length l.places + l.place-index
+  addition_most : l.addition ≤ length l.places + l.place-index;
 }

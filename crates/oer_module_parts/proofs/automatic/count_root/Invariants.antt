@@ -6,5 +6,5 @@ use Rattle.oer_module_parts.proofs.automatic.count_root.Given as goal
 abbrev pub invariant-loop-place : goal.invariant-loop-place
 invariant-loop-place l = record {
   all : l.count + root_count (drop l.place-index l.places) ≡ root_count l.places;
-  most : l.count ≤ l.place-index
+  most : l.count ≤ l.place-index;
 }

@@ -6,5 +6,5 @@ use Rattle.oer_module_parts.proofs.automatic.places_of.Given as goal
 abbrev pub invariant-loop-mark : goal.invariant-loop-mark
 invariant-loop-mark l = record {
   all : places_of 0 l.marks ≡ l.places.items ++ places_of l.markers (drop l.mark-index l.marks);
-  most : l.markers ≤ l.mark-index
+  most : l.markers ≤ l.mark-index;
 }
