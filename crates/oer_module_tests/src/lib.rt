@@ -7,6 +7,7 @@ mod bounds;
 mod lexer;
 #[cfg(test)]
 mod names;
+mod parts;
 #[cfg(test)]
 mod syntax;
 #[cfg(test)]
