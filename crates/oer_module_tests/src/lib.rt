@@ -7,6 +7,7 @@ mod bounds;
 mod lexer;
 #[cfg(test)]
 mod names;
+#[cfg(test)]
 mod parts;
 #[cfg(test)]
 mod syntax;
