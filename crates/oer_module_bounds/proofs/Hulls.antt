@@ -1,15 +1,15 @@
 -- The least range that has some numbers.
-use Rattle.std.proofs.Common.{◌≡◌, ◌⊎◌, inl, inr, ℕ, List, [], ◌∷◌, ◌++◌, Bool, true, false, not, cond, if◌then◌else◌, Option, Some, None, refl, sym, ap, ap₂, subst, ◌∙◌, arith}
-use Rattle.std.specs.Prelude.{ℤ, pos, ◌+ℤ◌, ◌-ℤ◌, ◌≤ℤ◌, ◌<ℤ◌, int_le, int_lt}
+use Rattle.std.proofs.Common.{◌≡◌, ◌⊎◌, inl, inr, List, [], ◌∷◌, Bool, true, false, not, cond, if◌then◌else◌, Option, Some, None, refl, sym, ap, ap₂, subst, ◌∙◌, arith}
+use Rattle.std.specs.Prelude.{ℤ, pos, ◌+ℤ◌, ◌-ℤ◌, ◌≤ℤ◌, ◌<ℤ◌, int_lt}
 use Rattle.std.specs.Int.{int_max, int_min}
 use Rattle.std.specs.List.{filter, fold}
 use Rattle.std.proofs.lemmas.Int.{ints, clamps, by_lt_z}
 use Rattle.std.proofs.lemmas.Bool.{both_ways, cond_both}
-use Rattle.oer_module_bounds.specs.Hull.{IsHull, LowEnd, HighEnd, floor, ceiling, least, before_greatest, low_by, high_by, hull_by, unless_empty}
+use Rattle.oer_module_bounds.specs.Hull.{IsHull, LowEnd, HighEnd, floor, ceiling, least, before_greatest, high_by, hull_by, unless_empty}
 use Rattle.oer_module_bounds.specs.Numbers.{IsFrom, IsTo}
 use Rattle.oer_module_bounds.specs.Sets.{Each, Span}
-use Rattle.oer_module_bounds.specs.Steps.{at, Rises, first_of, last_of, low_end, high_end, ends_of, before}
-use Rattle.oer_module_bounds.proofs.Cuts.{same_number, each_weaker, settled, unmoved, true_le, false_le}
+use Rattle.oer_module_bounds.specs.Steps.{at, Rises, last_of, high_end, ends_of, before}
+use Rattle.oer_module_bounds.proofs.Cuts.{same_number, each_weaker, unmoved, true_le, false_le}
 
 -- ---- there is one
 

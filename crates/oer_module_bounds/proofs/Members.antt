@@ -1,14 +1,13 @@
 -- The members of a union or an intersection, and constraints in a row, one after the other.
-use Rattle.std.proofs.Common.{◌≡◌, ℕ, suc, ◌+◌, ◌≤◌, ◌<◌, List, [], ◌∷◌, ◌++◌, Bool, true, false, not, ◌&&◌, cond, if◌then◌else◌, leb, length, take, drop, Vec, Global, Box, Result, Ok, Err, get_or, refl, sym, ap, ap₂, subst, ◌∙◌, arith, rules}
-use Rattle.std.specs.Prelude.{ℤ, map, IfOk, ⊤}
+use Rattle.std.proofs.Common.{◌≡◌, ℕ, ◌+◌, ◌≤◌, ◌<◌, List, [], ◌∷◌, ◌++◌, Bool, true, false, not, ◌&&◌, cond, if◌then◌else◌, leb, length, take, Vec, Global, Box, Result, Ok, Err, get_or, refl, sym, ap, ap₂, subst, ◌∙◌, arith, rules}
+use Rattle.std.specs.Prelude.{ℤ, map, IfOk}
 use Rattle.std.specs.declared.alloc.AllocError.{AllocError}
 use Rattle.std.proofs.Common.{add-one}
 use Rattle.std.proofs.Math.Seq.{take-suc}
-use Rattle.std.specs.List.{sum_by}
 use Rattle.std.proofs.lemmas.List.{append-nil, length-append, length-map, map-append, take_all}
 use Rattle.std.proofs.lemmas.List.Sums.{sum_by_push}
-use Rattle.oer_module_bounds.specs.Numbers.{allowed_by, allows, allows_one, allows_each, within, bounding}
-use Rattle.oer_module_bounds.specs.Sets.{Set, Sets, no_sets, one, range, union, intersection, except, unknown, sets_from, set_of, span_of, Constraint, constraint_of}
+use Rattle.oer_module_bounds.specs.Numbers.{allowed_by, allows, bounding}
+use Rattle.oer_module_bounds.specs.Sets.{Set, one, range, union, intersection, except, unknown, sets_from, set_of, span_of, constraint_of}
 use Rattle.oer_module_bounds.specs.Steps.{Gives}
 use Rattle.oer_module_bounds.specs.Tally.{one_if, Counts, reached, begun_by, ended_by, turns_of}
 use Rattle.oer_module_bounds.specs.declared.steps.Steps.{Steps}

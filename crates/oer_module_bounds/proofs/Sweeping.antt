@@ -1,6 +1,6 @@
 -- What the sweep over turns in order gives.
-use Rattle.std.proofs.Common.{◌≡◌, ◌⊎◌, inl, inr, ℕ, suc, ◌+◌, ◌≤◌, List, [], ◌∷◌, ◌++◌, Bool, true, false, not, ◌&&◌, cond, if◌then◌else◌, leb, drop, get_or, zero-le, Ordering, Less, Equal, Greater, refl, sym, ap, ap₂, subst, ◌∙◌, arith, append_assoc}
-use Rattle.std.specs.Prelude.{ℤ, pos, ◌+ℤ◌, ◌≤ℤ◌, ◌<ℤ◌, int_le, map, length, slice_index_or, IsPermutation}
+use Rattle.std.proofs.Common.{◌≡◌, ℕ, suc, ◌+◌, ◌≤◌, List, [], ◌∷◌, ◌++◌, Bool, true, false, not, ◌&&◌, leb, drop, get_or, zero-le, Ordering, Less, Equal, Greater, refl, sym, ap, ap₂, subst, ◌∙◌, arith, append_assoc}
+use Rattle.std.specs.Prelude.{ℤ, ◌≤ℤ◌, ◌<ℤ◌, int_le, IsPermutation}
 use Rattle.std.specs.List.{All, sum_by}
 use Rattle.std.specs.Int.{int_max}
 use Rattle.std.specs.List.Sorted.{IsSortedBy, IsSortedByKey}
@@ -12,10 +12,10 @@ use Rattle.std.proofs.lemmas.Int.{ints, clamps}
 use Rattle.std.proofs.lemmas.List.Sums.{sum_by-cons, sum_by_push}
 use Rattle.std.proofs.lemmas.List.Sorted.{sum_by-IsPermutation, sorted_far, ranks_by}
 use Rattle.oer_module_bounds.specs.Sets.{Each}
-use Rattle.oer_module_bounds.specs.Steps.{at, Rises, toggled}
+use Rattle.oer_module_bounds.specs.Steps.{at, Rises}
 use Rattle.oer_module_bounds.specs.Tally.{one_if, number_at, begun_by, ended_by, reached, Swept, changed, passed, sweep}
 use Rattle.oer_module_bounds.specs.declared.tally.Turn.{Turn}
-use Rattle.oer_module_bounds.proofs.Cuts.{settled, le_true, le_false, true_le, false_le, each_weaker, each_append, at_toggled, each_toggled, rises_toggled}
+use Rattle.oer_module_bounds.proofs.Cuts.{settled, le_true, true_le, each_weaker, each_append, at_toggled, each_toggled, rises_toggled}
 
 abbrev beginning : List Turn → ℕ
 beginning ts = sum_by (λ t. one_if t.begins) ts
