@@ -8,7 +8,8 @@ use Rattle.oer_module_bounds.specs.Laws.{IsIn, LooseHasHull, LooseEffectiveHasEf
 use Rattle.oer_module_bounds.specs.Hull.{IsHull, LowEnd, HighEnd, hull}
 use Rattle.oer_module_bounds.specs.Loose.{outer_end, inner_end, join, meet, loose, loose_each}
 use Rattle.oer_module_bounds.specs.Numbers.{IsFrom, IsTo, Allows, AllowsOne, AllowsEach, bounding}
-use Rattle.oer_module_bounds.specs.Sets.{Span, everything, crossed, filled, Set, range, union, intersection, except, unknown, Sets, no_sets, one, sets_from, set_of}
+use Rattle.oer_module_bounds.specs.Sets.{Span, everything, crossed, filled, Set, range, union, intersection, except, unknown}
+use Rattle.oer_module_bounds.specs.Sets.{Sets, no_sets, one, sets_from, set_of}
 use Rattle.oer_module_bounds.specs.declared.tree.Set.{Set as RawSet}
 use Rattle.oer_module_bounds.proofs.Deciding.{hull_is_least}
 
