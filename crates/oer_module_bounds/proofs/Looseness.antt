@@ -1,14 +1,15 @@
 -- What is allowed lies in the range as PER reads it.
-use Rattle.std.proofs.Common.{◌≡◌, ◌⊎◌, inl, inr, List, [], ◌∷◌, Bool, true, false, not, if◌then◌else◌, Option, Some, None, refl, sym, ap, subst, ◌∙◌, arith}
-use Rattle.std.specs.Prelude.{ℤ, ◌≤ℤ◌, ◌<ℤ◌, int_lt, int_le, map}
+use Rattle.std.proofs.Common.{◌≡◌, ◌⊎◌, inl, inr, List, [], ◌∷◌, Bool, true, false, Option, Some, None, refl, sym, ap, arith}
+use Rattle.std.specs.Prelude.{ℤ, ◌≤ℤ◌, ◌<ℤ◌, map}
 use Rattle.std.specs.Int.{int_max, int_min}
 use Rattle.std.specs.List.{fold}
 use Rattle.std.proofs.lemmas.Int.{ints, clamps}
 use Rattle.oer_module_bounds.specs.Laws.{IsIn, LooseHasHull, LooseEffectiveHasEffective}
 use Rattle.oer_module_bounds.specs.Hull.{IsHull, LowEnd, HighEnd, hull}
-use Rattle.oer_module_bounds.specs.Loose.{outer_end, inner_end, join, meet, loose, loose_each, loose_effective}
+use Rattle.oer_module_bounds.specs.Loose.{outer_end, inner_end, join, meet, loose, loose_each}
 use Rattle.oer_module_bounds.specs.Numbers.{IsFrom, IsTo, Allows, AllowsOne, AllowsEach, bounding}
-use Rattle.oer_module_bounds.specs.Sets.{Span, everything, crossed, filled, Set, range, union, intersection, except, unknown, Sets, no_sets, one, Constraint, sets_from, set_of}
+use Rattle.oer_module_bounds.specs.Sets.{Span, everything, crossed, filled, Set, range, union, intersection, except, unknown}
+use Rattle.oer_module_bounds.specs.Sets.{Sets, no_sets, one, sets_from, set_of}
 use Rattle.oer_module_bounds.specs.declared.tree.Set.{Set as RawSet}
 use Rattle.oer_module_bounds.proofs.Deciding.{hull_is_least}
 

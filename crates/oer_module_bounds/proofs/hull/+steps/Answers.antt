@@ -2,7 +2,7 @@ use Rattle.std.proofs.Common.{◌∙◌, not, subst, arith}
 use Rattle.oer_module_bounds.specs.Numbers.{allows}
 use Rattle.oer_module_bounds.specs.Sets.{set_of}
 use Rattle.oer_module_bounds.specs.Steps.{Gives}
-use Rattle.oer_module_bounds.proofs.Members.{union_ok, intersection_ok, except_ok, unknown_ok, tallied_none, tallied_more, tallied_all}
+use Rattle.oer_module_bounds.proofs.Members.{union_ok, intersection_ok, except_ok, unknown_ok, tallied_none, tallied_more}
 use Rattle.oer_module_bounds.proofs.hull.+steps.Goals as goal
 
 pub steps_of-returns-in_ok-tally_of-in-Union : goal.steps_of-returns-in_ok-tally_of-in-Union

@@ -12,7 +12,8 @@ loop-constraint-preserved c =
     let one = c.constraint-item.result in
     elim c.if-not-constraint.branch [
       | then-not-constraint+in_ok-steps+in_ok-add w ↦
-          bounded_as w.add.new.self c.if-not-constraint.tally (l.bounding + 1) c.if-not-constraint.bounding c.args.constraints.now (l.constraint-index + 1) w.tally-is w.bounding-is
+          bounded_as w.add.new.self c.if-not-constraint.tally (l.bounding + 1) c.if-not-constraint.bounding c.args.constraints.now
+          (l.constraint-index + 1) w.tally-is w.bounding-is
           (bounded_more l.tally w.add.new.self l.bounding c.args.constraints.now l.constraint-index one w.in_ok-steps.steps (omega arith) c.constraint-item.is
           w.if-not-constraint.true l.invariant w.in_ok-steps.ensures w.in_ok-add.ensures.holding w.in_ok-add.ensures.turns)
       | else-not-constraint w ↦
