@@ -1,0 +1,7 @@
+pub mod Denoted
+pub mod Items
+pub mod Lists
+pub mod References
+pub mod Turns
+pub mod Walks
+pub mod Wholes
