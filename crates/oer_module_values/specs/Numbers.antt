@@ -75,6 +75,13 @@ pub data Outcome : Type 0 where
   reached : Numeral → Outcome
   wants : Wanted → Outcome
 
+-- tokens that are a number, or the name of a value, and nothing else; values may nest to 64 levels in it
+pub record Writes (ts : List Spot) (a : Amount) : Type 0 where
+  pub begins : ℕ
+  pub rest : State
+  pub is : value_at 64 (kept ts) ≡ Ok (atom begins (amount a), rest)
+  pub done : rest.left ≡ []
+
 module _ (ms : List Module) where
   -- a type in a module is, or stands for, what governs a number (3.8)
   pub data Governs (m : ℕ) (t : Tree) : Governor → Type 0 where
@@ -82,12 +89,6 @@ module _ (ms : List Module) where
         → Governs m t (record { «module» = n; enumerated = false; items = items })
     by_enumerated : (n at : ℕ) (items cs : List Spot) (gs : List Given) → Means ms m t (type_in n (plain at bi.Enumerated items cs)) gs
         → Governs m t (record { «module» = n; enumerated = true; items = items })
-
-  -- tokens that are a number, or the name of a value, and nothing else; values may nest to 64 levels in it
-  pub record Writes (ts : List Spot) (a : Amount) : Type 0 where
-    pub begins : ℕ
-    pub finish : ℕ
-    pub is : value_at 64 (kept ts) ≡ Ok (atom begins (amount a), record { left = []; end = finish; complete = true })
 
   -- The whole number that an amount in a module is under a governor: that of its digits; that of the item which it names;
   -- or else that of the value for which it stands, whose governor is of the same kind. An item's number has no items.
