@@ -4,6 +4,10 @@
 #[cfg(test)]
 mod lexer;
 #[cfg(test)]
+mod names;
+#[cfg(test)]
 mod syntax;
 #[cfg(test)]
 mod terms;
+#[cfg(test)]
+mod values;

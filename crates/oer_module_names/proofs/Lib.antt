@@ -1,0 +1,11 @@
+pub mod Adding
+pub mod Among
+pub mod Asked
+pub mod Follows
+pub mod Indexing
+pub mod Parts
+pub mod Readings
+pub mod Rounds
+pub mod Stands
+pub mod Steps
+pub mod Tellings
