@@ -3,6 +3,8 @@ use Rattle.std.proofs.Common.{◌≡◌, ℕ, zero, suc, ℤ, List, [], ◌∷�
 use Rattle.std.specs.Bool.{beq}
 use Rattle.std.specs.Str.{bytes_eq}
 use Rattle.oer_module_lexer.specs.Token.{Spot}
+use Rattle.oer_module_names.proofs.Asked.{stands_finds_in}
+use Rattle.oer_module_names.proofs.Stands.{stands_finds}
 use Rattle.oer_module_names.specs.Tables.{assignments_in}
 use Rattle.oer_module_names.specs.declared.error.Found.{Found}
 use Rattle.oer_module_names.specs.declared.error.Place.{Place}
@@ -307,8 +309,8 @@ writes_sole ts a b h k =
 
 module _ (ms : List Module) where
   names_sole : (m : ℕ) (w : List ℕ) (q : Path) (f g : Found) → Names ms m w q f → Names ms m w q g → f ≡ g
-  names_sole m w own f g h k = cc
-  names_sole m w (within v) f g h k = cc
+  names_sole m w own f g h k = let a = stands_finds ms w m f h in let b = stands_finds ms w m g k in cc
+  names_sole m w (within v) f g h k = let a = stands_finds_in ms w v m f h in let b = stands_finds_in ms w v m g k in cc
   names_sole m w fields f g h k = absurd h
 
   refers_sole : (m : ℕ) (w : List ℕ) (steps : List Spot) (n k : ℕ) (b c : Body) → Refers ms m w steps n b → Refers ms m w steps k c

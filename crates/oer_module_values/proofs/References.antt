@@ -1,6 +1,8 @@
 -- What a name and the path behind it refer to.
 use Rattle.std.proofs.Common.{◌≡◌, ℕ, List, [], ◌∷◌, Option, Some, None, Result, Ok, Err, slice_get, refl, sym, ap, subst, ◌∙◌, rules, true, false}
 use Rattle.oer_module_lexer.specs.Token.{Spot}
+use Rattle.oer_module_names.proofs.Asked.{finds_stands_in, stands_finds_in}
+use Rattle.oer_module_names.proofs.Stands.{finds_stands, stands_finds}
 use Rattle.oer_module_names.specs.Finding.{Fault as NameFault, find, find_in}
 use Rattle.oer_module_names.specs.Tables.{assignments_in}
 use Rattle.oer_module_names.specs.declared.error.Found.{Found}
@@ -41,9 +43,9 @@ module _ (ms : List Module) (p : Place) where
   refers_by : (w : List ℕ) (steps : List Spot) (q : Path) (r : Referent) → path_of steps ≡ q → referred ms p w q ≡ Ok (Some r)
       → r.assignment.parameters ≡ [] → Refers ms p.«module» w steps r.«module» r.assignment.body
   refers_by w steps own r e h without =
-      answered_refers w w steps (find ms p.«module» w) r (λ f g. subst (λ x. Names ms p.«module» w x f) (sym e) g) h without
+      answered_refers w w steps (find ms p.«module» w) r (λ f g. subst (λ x. Names ms p.«module» w x f) (sym e) (finds_stands ms w p.«module» f g)) h without
   refers_by w steps (within v) r e h without =
-      answered_refers w v steps (find_in ms p.«module» w v) r (λ f g. subst (λ x. Names ms p.«module» w x f) (sym e) g) h without
+      answered_refers w v steps (find_in ms p.«module» w v) r (λ f g. subst (λ x. Names ms p.«module» w x f) (sym e) (finds_stands_in ms w v p.«module» f g)) h without
   refers_by w steps fields r e h without = absurd (cc)
 
   -- an assignment without parameters that the code finds is referred to
@@ -68,8 +70,8 @@ module _ (ms : List Module) (p : Place) where
   referred_by : (w : List ℕ) (q : Path) (f : Found) (a : Assignment) → Names ms p.«module» w q f
       → slice_get (assignments_in ms f.«module») f.assignment ≡ Some a
       → referred ms p w q ≡ Ok (Some (record { «module» = f.«module»; assignment = a }))
-  referred_by w own f a names is = rw (names, is) refl
-  referred_by w (within v) f a names is = rw (names, is) refl
+  referred_by w own f a names is = let found = stands_finds ms w p.«module» f names in rw (found, is) refl
+  referred_by w (within v) f a names is = let found = stands_finds_in ms w v p.«module» f names in rw (found, is) refl
   referred_by w fields f a names is = absurd names
 
   -- what is referred to is found

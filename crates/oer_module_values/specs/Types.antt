@@ -2,6 +2,7 @@
 use Rattle.std.specs.Prelude.{◌≡◌, ℕ, zero, suc, List, [], ◌∷◌, ◌++◌, Option, Some, None, slice_get, Result, Ok, Err, if◌then◌else◌}
 use Rattle.oer_module_lexer.specs.Token.{Spot}
 use Rattle.oer_module_names.specs.Finding.{Fault as NameFault, find, find_in}
+use Rattle.oer_module_names.specs.Standing.{StandsFor, StandsForIn}
 use Rattle.oer_module_names.specs.Tables.{assignments_in}
 use Rattle.oer_module_names.specs.declared.error.Found.{Found}
 use Rattle.oer_module_names.specs.declared.error.Place.{Place}
@@ -46,8 +47,8 @@ IsFinal _ = Unit {0}
 module _ (ms : List Module) where
   -- what a name in a module and the path behind it name
   abbrev pub Names : ℕ → List ℕ → Path → Found → Type 0
-  Names m w own f = find ms m w ≡ Ok f
-  Names m w (within v) f = find_in ms m w v ≡ Ok f
+  Names m w own f = StandsFor ms w f m
+  Names m w (within v) f = StandsForIn ms w v f m
   Names m w fields f = ⊥
 
   -- they name an assignment without parameters, of which this is the body
