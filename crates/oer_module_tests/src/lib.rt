@@ -13,3 +13,5 @@ mod parts;
 mod syntax;
 #[cfg(test)]
 mod terms;
+#[cfg(test)]
+mod values;
