@@ -1,6 +1,6 @@
 -- What is taken as a group matches.
 use Rattle.std.proofs.Common.{◌≡◌, ℕ, suc, ◌+◌, ◌==◌, List, [], ◌∷◌, ◌++◌, take, drop, Bool, true, false, cond, if◌then◌else◌}
-use Rattle.std.proofs.Common.{refl, sym, ap, subst, ◌∙◌, arith, Option, Some, Result, Ok, Err, append_assoc}
+use Rattle.std.proofs.Common.{refl, sym, ap, subst, ◌∙◌, arith, ◌⊎◌, inl, inr, Option, Some, Result, Ok, Err, append_assoc}
 use Rattle.std.proofs.lemmas.Bool.{eqb-true}
 use Rattle.oer_module_lexer.specs.Token.{Token, sign, word, field, number, real, bits, digits, text, Spot}
 use Rattle.oer_module_lexer.specs.declared.token.Sign.{Sign}
@@ -13,15 +13,19 @@ use Rattle.oer_module_syntax.specs.declared.range.Extent.TheVariants.{Group}
 
 -- ---- results
 
-bind_ok : {A B : Type 0} (r : Result A Fault) (f : A → Result B Fault) (b : B) → (r >>= f) ≡ Ok b → (a : A) × (r ≡ Ok a) × (f a ≡ Ok b)
+pub bind_ok : {A B : Type 0} (r : Result A Fault) (f : A → Result B Fault) (b : B) → (r >>= f) ≡ Ok b → (a : A) × (r ≡ Ok a) × (f a ≡ Ok b)
 bind_ok (Ok a) f b h = (a, refl, h)
 bind_ok (Err e) f b h = absurd (cc)
 
-abbrev stack_of : Result (List Sign) Fault → List Sign
+pub chosen : {A : Type 0} (b : Bool) (x y z : A) → cond b x y ≡ z → ((b ≡ true) × (x ≡ z)) ⊎ ((b ≡ false) × (y ≡ z))
+chosen true x y z h = inl (refl, h)
+chosen false x y z h = inr (refl, h)
+
+abbrev pub stack_of : Result (List Sign) Fault → List Sign
 stack_of (Ok cs) = cs
 stack_of (Err e) = []
 
-abbrev count_of : Result ℕ Fault → ℕ
+abbrev pub count_of : Result ℕ Fault → ℕ
 count_of (Ok n) = n
 count_of (Err e) = 0
 
@@ -164,12 +168,12 @@ InGroup o c hs = (inner : List Sign) × (hs ≡ o ∷ (inner ++ (c ∷ []))) × 
 last_closes : (o c : Sign) (hs : List Sign) → CloseAll (c ∷ []) hs → InGroup o c (o ∷ hs)
 last_closes o c _ (close_one {inner = inner} m closed_all) = (inner, refl, m)
 
-opens_alone : (o c : Sign) (at : ℕ) → Closes o c → (nest at (sign o) [] ≡ Ok (c ∷ [])) × (brackets_in (sign o) ≡ o ∷ [])
+pub opens_alone : (o c : Sign) (at : ℕ) → Closes o c → (nest at (sign o) [] ≡ Ok (c ∷ [])) × (brackets_in (sign o) ≡ o ∷ [])
 opens_alone _ _ at brace = (refl, refl)
 opens_alone _ _ at parenthesis = (refl, refl)
 opens_alone _ _ at bracket = (refl, refl)
 
-is_that : (o : Sign) (t : Token) → is_sign o (Some t) ≡ true → t ≡ sign o
+pub is_that : (o : Sign) (t : Token) → is_sign o (Some t) ≡ true → t ≡ sign o
 is_that o (sign g) h = ap sign (sym (same_is o g h))
 is_that o (word w) h = absurd (cc)
 is_that o (field w) h = absurd (cc)
@@ -179,7 +183,7 @@ is_that o (bits w) h = absurd (cc)
 is_that o (digits w) h = absurd (cc)
 is_that o (text w) h = absurd (cc)
 
-in_group : (o c : Sign) (s : State) (l : List Spot) (n : ℕ) → Closes o c → starts_sign o l ≡ true
+pub in_group : (o c : Sign) (s : State) (l : List Spot) (n : ℕ) → Closes o c → starts_sign o l ≡ true
     → (nest_next l [] >>= λ cs. groups_len Group s (drop 1 l) cs >>= λ m. Ok (1 + m)) ≡ Ok n → InGroup o c (brackets (take n l))
 unfolding bind_ok
 in_group o c s [] n cl h g = absurd (cc)

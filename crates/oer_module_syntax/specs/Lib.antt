@@ -1,3 +1,4 @@
+pub mod Grammar
 pub mod Looks
 pub mod Matched
 pub mod Modules

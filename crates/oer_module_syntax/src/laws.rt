@@ -1,8 +1,15 @@
 //! What holds of the syntax. Each function does nothing; its contract is the law.
+ghost use Rattle.oer_module_syntax.specs.Grammar.{ModulesSound};
 ghost use Rattle.oer_module_syntax.specs.Matched.{GroupsMatch};
 
 /// Of the brackets in what is kept as tokens from a bracket on, the last closes the first, and those
 /// between them match: each is closed by one of its kind. `[[` and `]]` are two brackets.
 pub fn groups_match()
     ensures { GroupsMatch }
+{}
+
+/// What is read of a text is what its tokens spell, production by production, from the first to the
+/// last: no token is lost, and none is read twice. No token is left out before the text's end.
+pub fn modules_are_spelled()
+    ensures { ModulesSound }
 {}
