@@ -1,19 +1,19 @@
 -- Where a count of tokens ends: at the bracket that closes the first, or behind several such groups.
-use Rattle.std.proofs.Common.{◌≡◌, ℕ, zero, suc, ◌+◌, ◌≤◌, List, [], ◌∷◌, ◌++◌, take, drop, length, length-drop, Bool, true, false, Option, Some, Result, Ok, Err, ◌⊎◌, inl, inr, refl, sym, ap, subst, ◌∙◌, arith}
+use Rattle.std.proofs.Common.{◌≡◌, ℕ, zero, suc, ◌+◌, ◌≤◌, List, [], ◌∷◌, ◌++◌, take, drop, length, length-drop, true, Result, Ok, inl, inr, refl, sym, ap, subst, ◌∙◌, arith}
 use Rattle.std.proofs.Math.Seq.{take-add}
 use Rattle.oer_module_lexer.specs.Token.{Token, word, field, number, real, bits, digits, text, sign, Spot}
 use Rattle.oer_module_lexer.specs.declared.token.Sign.{Sign}
 use Rattle.oer_module_lexer.specs.declared.token.Sign.TheVariants as sg
-use Rattle.oer_module_syntax.specs.Grammar.{EndsInBracket, Enclosed, InParentheses, nothing_enclosed, one_enclosed}
-use Rattle.oer_module_syntax.specs.Matched.{brackets_in, Closes, parenthesis}
+use Rattle.oer_module_syntax.specs.Grammar.{BeginsInBracket, EndsInBracket, Enclosed, InParentheses, nothing_enclosed, one_enclosed}
+use Rattle.oer_module_syntax.specs.Matched.{brackets_in, brackets, Closes, brace, parenthesis, bracket}
 use Rattle.oer_module_syntax.specs.Ranges.{nest, nest_next, groups_len, starts_sign}
 use Rattle.oer_module_syntax.specs.State.{State, ◌>>=◌}
 use Rattle.oer_module_syntax.specs.declared.fault.Fault.{Fault}
 use Rattle.oer_module_syntax.specs.declared.range.Extent.{Extent}
 use Rattle.oer_module_syntax.specs.declared.range.Extent.TheVariants.{Group, Constraints}
-use Rattle.oer_module_syntax.proofs.Matching.{bind_ok, chosen, count_of, stack_of, in_group, is_that, opens_alone}
+use Rattle.oer_module_syntax.proofs.Matching.{bind_ok, chosen, count_of, stack_of, in_group, is_that, opens_alone, CloseAll, opened, matched_len, last_closes, InGroup}
 
-one_more : (n : ℕ) → 1 + n ≡ suc n
+pub one_more : (n : ℕ) → 1 + n ≡ suc n
 one_more n = omega arith
 
 -- a token behind which all is closed that was open before it
@@ -72,20 +72,72 @@ module _ (s : State) where
       let q = bind_ok (groups_len Group s ts p.0) (λ m. Ok (1 + m)) n p.2 in
       subst (λ k. EndsInBracket (take k (t ∷ ts))) (sym (one_more q.0) ∙ ap count_of q.2) (ends_behind t ts c cs p.0 q.0 p.1 q.1 (λ d ds g. group_ends ts d ds q.0 g))
 
+some_bracket : {g : Sign} {gs : List Sign} → g ∷ gs ≡ [] → ⊥
+some_bracket h = absurd (cc)
+
+all_closed : {cs : List Sign} (d : Sign) (ds hs : List Sign) → ◌≡◌ {A = Result (List Sign) Fault} (Ok cs) (Ok (d ∷ ds)) → CloseAll (d ∷ ds) hs → CloseAll cs hs
+all_closed d ds hs h a = subst (λ l. CloseAll l hs) (sym (ap stack_of h)) a
+
+-- a token that opens something, and the brackets up to where all is closed
+abbrev OpenedBy : Token → List Sign → Type 0
+OpenedBy t hs = (o : Sign) × (c : Sign) × Closes o c × InGroup o c (brackets_in t ++ hs) × (brackets_in t ≡ [] → ⊥)
+
+opened_group : (at : ℕ) (t : Token) (d : Sign) (ds hs : List Sign) → nest at t [] ≡ Ok (d ∷ ds) → CloseAll (d ∷ ds) hs → OpenedBy t hs
+opened_group at (sign sg.OpenBrace) d ds hs h a = (sg.OpenBrace, sg.CloseBrace, brace, last_closes _ _ hs (all_closed d ds hs h a), some_bracket)
+opened_group at (sign sg.OpenParenthesis) d ds hs h a = (sg.OpenParenthesis, sg.CloseParenthesis, parenthesis, last_closes _ _ hs (all_closed d ds hs h a), some_bracket)
+opened_group at (sign sg.OpenBracket) d ds hs h a = (sg.OpenBracket, sg.CloseBracket, bracket, last_closes _ _ hs (all_closed d ds hs h a), some_bracket)
+opened_group at (sign sg.OpenGroup) d ds hs h a =
+    (sg.OpenBracket, sg.CloseBracket, bracket, last_closes _ _ _ (opened _ _ sg.CloseBracket [] hs bracket (all_closed d ds hs h a)), some_bracket)
+opened_group at (sign sg.CloseBrace) d ds hs h a = absurd (cc)
+opened_group at (sign sg.CloseParenthesis) d ds hs h a = absurd (cc)
+opened_group at (sign sg.CloseBracket) d ds hs h a = absurd (cc)
+opened_group at (sign sg.CloseGroup) d ds hs h a = absurd (cc)
+opened_group at (sign sg.Less) d ds hs h a = absurd (cc)
+opened_group at (sign sg.Greater) d ds hs h a = absurd (cc)
+opened_group at (sign sg.Comma) d ds hs h a = absurd (cc)
+opened_group at (sign sg.Semicolon) d ds hs h a = absurd (cc)
+opened_group at (sign sg.Point) d ds hs h a = absurd (cc)
+opened_group at (sign sg.Range) d ds hs h a = absurd (cc)
+opened_group at (sign sg.Ellipsis) d ds hs h a = absurd (cc)
+opened_group at (sign sg.Colon) d ds hs h a = absurd (cc)
+opened_group at (sign sg.Assign) d ds hs h a = absurd (cc)
+opened_group at (sign sg.Equals) d ds hs h a = absurd (cc)
+opened_group at (sign sg.Hyphen) d ds hs h a = absurd (cc)
+opened_group at (sign sg.At) d ds hs h a = absurd (cc)
+opened_group at (sign sg.Bar) d ds hs h a = absurd (cc)
+opened_group at (sign sg.Exclamation) d ds hs h a = absurd (cc)
+opened_group at (sign sg.Caret) d ds hs h a = absurd (cc)
+opened_group at (word w) d ds hs h a = absurd (cc)
+opened_group at (field w) d ds hs h a = absurd (cc)
+opened_group at (number w) d ds hs h a = absurd (cc)
+opened_group at (real w) d ds hs h a = absurd (cc)
+opened_group at (bits w) d ds hs h a = absurd (cc)
+opened_group at (digits w) d ds hs h a = absurd (cc)
+opened_group at (text w) d ds hs h a = absurd (cc)
+
+-- such a token, and what is behind it up to there
+pub group_behind : (s : State) (t : Spot) (ts : List Spot) (d : Sign) (ds : List Sign) (k : ℕ) → nest t.at t.token [] ≡ Ok (d ∷ ds) → groups_len Group s ts (d ∷ ds) ≡ Ok k
+    → (o : Sign) × (c : Sign) × Closes o c × Enclosed o c (take (suc k) (t ∷ ts))
+group_behind s t ts d ds k p h =
+    let g = opened_group t.at t.token d ds (brackets (take k ts)) p (matched_len s ts (d ∷ ds) k h) in
+    let ends = group_ends s ts d ds k h in
+    (g.0, g.1, g.2, record { opens = g.4; closes = (t ∷ ends.0, ends.1, ap (λ l. t ∷ l) ends.2, ends.3); inner = g.3.0; pairs = g.3.1; matched = g.3.2 })
+
 -- what is taken as a group
 pub group_enclosed : (o c : Sign) (s : State) (l : List Spot) (n : ℕ) → Closes o c → starts_sign o l ≡ true
     → (nest_next l [] >>= λ cs. groups_len Group s (drop 1 l) cs >>= λ m. Ok (1 + m)) ≡ Ok n → Enclosed o c (take n l)
 group_enclosed o c s [] n cl h g = absurd (cc)
 group_enclosed o c s (t ∷ ts) n cl h g =
     let that = is_that o t.token h in
+    let alone = opens_alone o c t.at cl in
     let p = bind_ok (nest t.at t.token []) (λ cs. groups_len Group s ts cs >>= λ m. Ok (1 + m)) n g in
     let q = bind_ok (groups_len Group s ts p.0) (λ m. Ok (1 + m)) n p.2 in
-    let stack = ap stack_of (sym p.1 ∙ ap (λ x. nest t.at x []) that ∙ (opens_alone o c t.at cl).0) in
+    let stack : p.0 ≡ c ∷ [] = ap stack_of (sym p.1 ∙ ap (λ x. nest t.at x []) that ∙ alone.0) in
     let ends = group_ends s ts c [] q.0 (subst (λ cs. groups_len Group s ts cs ≡ Ok q.0) stack q.1) in
     let all : suc q.0 ≡ n = sym (one_more q.0) ∙ ap count_of q.2 in
     let pairs = in_group o c s (t ∷ ts) n cl h g in
     record {
-      opens = subst (λ k. starts_sign o (take k (t ∷ ts)) ≡ true) all h;
+      opens = subst (λ k. BeginsInBracket (take k (t ∷ ts))) all (λ e. some_bracket (sym alone.1 ∙ ap brackets_in (sym that) ∙ e));
       closes = subst (λ k. EndsInBracket (take k (t ∷ ts))) all (t ∷ ends.0, ends.1, ap (λ l. t ∷ l) ends.2, ends.3);
       inner = pairs.0;
       pairs = pairs.1;
@@ -95,7 +147,7 @@ group_enclosed o c s (t ∷ ts) n cl h g =
 -- ---- several groups
 
 -- Up to where all is closed for the first time, and from there on.
-abbrev Parted : Extent → State → List Spot → List Sign → ℕ → Type 0
+abbrev pub Parted : Extent → State → List Spot → List Sign → ℕ → Type 0
 Parted x s ts cs n = (k m : ℕ) × (groups_len Group s ts cs ≡ Ok k) × (groups_len x s (drop k ts) [] ≡ Ok m) × (n ≡ k + m)
 
 module _ (x : Extent) (s : State) where
@@ -112,7 +164,7 @@ module _ (x : Extent) (s : State) where
       let sum : n ≡ suc r.0 + r.1 = let f = r.4 in omega arith in
       (suc r.0, r.1, joined t ts c cs (d ∷ ds) r.0 p r.2, r.3, sum)
 
-  parted : (ts : List Spot) (c : Sign) (cs : List Sign) (n : ℕ) → groups_len x s ts (c ∷ cs) ≡ Ok n → Parted x s ts (c ∷ cs) n
+  pub parted : (ts : List Spot) (c : Sign) (cs : List Sign) (n : ℕ) → groups_len x s ts (c ∷ cs) ≡ Ok n → Parted x s ts (c ∷ cs) n
   unfolding groups_len
   parted [] c cs n h = absurd (cc)
   parted (t ∷ ts) c cs n h =

@@ -4,5 +4,6 @@ pub mod Matching
 pub mod Spots
 pub mod SoundModules
 pub mod SoundTypes
+pub mod SoundValues
 pub mod Took
 pub mod Trees

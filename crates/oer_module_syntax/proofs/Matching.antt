@@ -1,13 +1,13 @@
 -- What is taken as a group matches.
 use Rattle.std.proofs.Common.{◌≡◌, ℕ, suc, ◌+◌, ◌==◌, List, [], ◌∷◌, ◌++◌, take, drop, Bool, true, false, cond, if◌then◌else◌}
-use Rattle.std.proofs.Common.{refl, sym, ap, subst, ◌∙◌, arith, ◌⊎◌, inl, inr, Option, Some, Result, Ok, Err, append_assoc}
+use Rattle.std.proofs.Common.{refl, sym, ap, subst, ◌∙◌, arith, ◌⊎◌, inl, inr, Some, Result, Ok, Err, append_assoc}
 use Rattle.std.proofs.lemmas.Bool.{eqb-true}
 use Rattle.oer_module_lexer.specs.Token.{Token, sign, word, field, number, real, bits, digits, text, Spot}
 use Rattle.oer_module_lexer.specs.declared.token.Sign.{Sign}
 use Rattle.oer_module_lexer.specs.declared.token.Sign.TheVariants as sg
 use Rattle.oer_module_syntax.specs.Matched.{brackets_in, brackets, Closes, brace, parenthesis, bracket, Matched, none, pair, GroupsMatch}
 use Rattle.oer_module_syntax.specs.Ranges.{close, nest, nest_next, groups_len, group_len, group_at, starts_sign, unclosed}
-use Rattle.oer_module_syntax.specs.State.{State, same_sign, sign_number, is_sign, at_sign, ◌>>=◌}
+use Rattle.oer_module_syntax.specs.State.{State, same_sign, sign_number, is_sign, ◌>>=◌}
 use Rattle.oer_module_syntax.specs.declared.fault.Fault.{Fault}
 use Rattle.oer_module_syntax.specs.declared.range.Extent.TheVariants.{Group}
 
@@ -89,7 +89,7 @@ same_is a b h = sym (named a) ∙ ap name (eqb-true (sign_number a) (sign_number
 -- ---- what closes all that is open
 
 -- the brackets close all that is open, the innermost first, and nothing follows
-data CloseAll : List Sign → List Sign → Type 0 where
+pub data CloseAll : List Sign → List Sign → Type 0 where
   closed_all : CloseAll [] []
   close_one : {c : Sign} {cs inner rest : List Sign} → Matched inner → CloseAll cs rest → CloseAll (c ∷ cs) (inner ++ (c ∷ rest))
 
@@ -98,7 +98,7 @@ within : (o c d : Sign) (cs inner rest : List Sign) → Closes o c → Matched i
 within o c d cs inner _ cl m (close_one {inner = inner2} {rest = rest2} m2 more) =
     subst (λ l. CloseAll (d ∷ cs) (o ∷ l)) (append_assoc inner (c ∷ inner2) (d ∷ rest2)) (close_one (pair cl m m2) more)
 
-opened : (o c d : Sign) (cs hs : List Sign) → Closes o c → CloseAll (c ∷ d ∷ cs) hs → CloseAll (d ∷ cs) (o ∷ hs)
+pub opened : (o c d : Sign) (cs hs : List Sign) → Closes o c → CloseAll (c ∷ d ∷ cs) hs → CloseAll (d ∷ cs) (o ∷ hs)
 opened o c d cs _ cl (close_one {inner = inner} {rest = rest} m more) = within o c d cs inner rest cl m more
 
 closed_by : (b : Bool) (at : ℕ) (g d : Sign) (ds more hs : List Sign) → same_sign d g ≡ b → cond b (Ok ds) (Err (unclosed at d)) ≡ Ok more
@@ -148,7 +148,7 @@ nested at (bits w) d cs more hs h a = kept _ more hs h a
 nested at (digits w) d cs more hs h a = kept _ more hs h a
 nested at (text w) d cs more hs h a = kept _ more hs h a
 
-matched_len : (s : State) (ts : List Spot) (cs : List Sign) (n : ℕ) → groups_len Group s ts cs ≡ Ok n → CloseAll cs (brackets (take n ts))
+pub matched_len : (s : State) (ts : List Spot) (cs : List Sign) (n : ℕ) → groups_len Group s ts cs ≡ Ok n → CloseAll cs (brackets (take n ts))
 unfolding groups_len
 matched_len s [] [] n h = subst (λ k. CloseAll [] (brackets (take k []))) (ap count_of h) closed_all
 matched_len s [] (c ∷ cs) n h = absurd (cc)
@@ -162,10 +162,10 @@ matched_len s (t ∷ ts) (c ∷ cs) n h =
 
 -- ---- groups
 
-abbrev InGroup : Sign → Sign → List Sign → Type 0
+abbrev pub InGroup : Sign → Sign → List Sign → Type 0
 InGroup o c hs = (inner : List Sign) × (hs ≡ o ∷ (inner ++ (c ∷ []))) × Matched inner
 
-last_closes : (o c : Sign) (hs : List Sign) → CloseAll (c ∷ []) hs → InGroup o c (o ∷ hs)
+pub last_closes : (o c : Sign) (hs : List Sign) → CloseAll (c ∷ []) hs → InGroup o c (o ∷ hs)
 last_closes o c _ (close_one {inner = inner} m closed_all) = (inner, refl, m)
 
 pub opens_alone : (o c : Sign) (at : ℕ) → Closes o c → (nest at (sign o) [] ≡ Ok (c ∷ [])) × (brackets_in (sign o) ≡ o ∷ [])

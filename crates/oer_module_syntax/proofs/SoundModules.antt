@@ -1,20 +1,18 @@
 -- Modules that are read are spelled so.
-use Rattle.std.proofs.Common.{◌≡◌, ℕ, zero, suc, ◌+◌, List, [], ◌∷◌, ◌++◌, take, drop, length, Bool, true, false, not, ◌&&◌, ◌||◌, ◌⊎◌, inl, inr, Option, Some, None, Result, Ok, Err, refl, sym, ap, subst, ◌∙◌, arith}
+use Rattle.std.proofs.Common.{◌≡◌, ℕ, suc, ◌+◌, List, [], ◌∷◌, ◌++◌, take, drop, length, Bool, true, false, not, ◌&&◌, ◌⊎◌, inl, inr, Option, Some, None, Ok, refl, sym, ap, subst, ◌∙◌, arith}
 use Rattle.std.specs.List.{All}
-use Rattle.std.proofs.lemmas.Bool.{and_parts}
 use Rattle.std.proofs.lemmas.List.{append-nil}
 use Rattle.std.proofs.lemmas.List.Elements.{All-nil, All-cons}
 use Rattle.oer_module_lexer.specs.Token.{Token, word, field, number, real, bits, digits, text, sign, Spot}
-use Rattle.oer_module_lexer.specs.declared.token.Sign.TheVariants.{OpenBrace, CloseBrace, Comma, Semicolon, Assign}
-use Rattle.oer_module_syntax.specs.Grammar.{◌▹◌, Nothing, Each, Listed, ASign, AKeyword, AWord, WordAt, NameAt, Kept, Enclosed, Braced, MaybeBraced, Path, SpelledType, SpelledSymbol, Symbols, SpelledExports, SpelledVersions, AssignedIdentifier, SpelledImport, SpelledImports, ClassSyntax, SpelledBody, SpelledAssignment, Instructions, TagDefault, ExtensionDefault, MaybeText, Control, Header, SpelledModule, SpelledModules, ModulesSound}
+use Rattle.oer_module_lexer.specs.declared.token.Sign.TheVariants.{OpenBrace, CloseBrace, Semicolon, Assign}
+use Rattle.oer_module_syntax.specs.Grammar.{◌▹◌, Nothing, Each, Listed, ASign, AKeyword, AWord, WordAt, Enclosed, SpelledSymbol, Symbols, SpelledExports, SpelledVersions, AssignedIdentifier, SpelledImport, SpelledImports, ClassSyntax, SpelledBody, SpelledAssignment, Instructions, TagDefault, ExtensionDefault, MaybeText, Control, Header, SpelledModule, SpelledModules, ModulesSound}
 use Rattle.oer_module_syntax.specs.Looks.{names_value}
-use Rattle.oer_module_syntax.specs.Modules.{many, all_of, is_text, past_text, tags_behind, tags_at, extensible_at, instructions_by, instructions_at, symbol_by, symbol_at, exported_at, exports_at, goes_on_symbols, name_len, id_name_by, id_name_at, id_by, id_at, versions_behind, versions_at, import_at, imports_at, ends_assignments, is_end, control_len, braced_at, syntax_at, class_at, defined_at, set_at, valued_at, body_at, assigned_at, assignment_by, assignment_at, content_at, module_at, none_left, is_last, ended, modules_of}
-use Rattle.oer_module_syntax.specs.Ranges.{pairs_len, front_of, group_at, value_at}
-use Rattle.oer_module_syntax.specs.State.{State, Read, ◌>>=◌, first, first_of, place, place_among, bump, past, at_sign, at_keyword, skip_sign, skip_keyword, reference_at}
-use Rattle.oer_module_syntax.specs.Tree.{Tree, Symbol, Exports, all, these, Import, Body, type_body, class_body, value_body, set_body, Assignment, Module}
+use Rattle.oer_module_syntax.specs.Modules.{many, all_of, is_text, past_text, tags_behind, tags_at, extensible_at, instructions_by, instructions_at, symbol_by, symbol_at, exported_at, exports_at, goes_on_symbols, name_len, id_name_by, id_by, id_at, versions_behind, versions_at, import_at, imports_at, ends_assignments, is_end, control_len, braced_at, syntax_at, class_at, defined_at, set_at, valued_at, body_at, assigned_at, assignment_by, assignment_at, content_at, module_at, none_left, is_last, modules_of}
+use Rattle.oer_module_syntax.specs.Ranges.{pairs_len, group_at, value_at}
+use Rattle.oer_module_syntax.specs.State.{State, first, first_of, place, place_among, bump, past, at_sign, at_keyword, skip_sign, skip_keyword, reference_at}
+use Rattle.oer_module_syntax.specs.Tree.{Symbol, Exports, all, these, Import, Body, type_body, class_body, value_body, set_body, Assignment, Module}
 use Rattle.oer_module_syntax.specs.Types.{listed, type_at}
-use Rattle.oer_module_syntax.specs.Words.{keyword_text, is_identifier, is_reference, is_reserved}
-use Rattle.oer_module_syntax.specs.declared.fault.Fault.{Fault}
+use Rattle.oer_module_syntax.specs.Words.{is_identifier, is_reserved}
 use Rattle.oer_module_syntax.specs.declared.fault.Sought.TheVariants as sought
 use Rattle.oer_module_syntax.specs.declared.range.Pair.TheVariants.{Step}
 use Rattle.oer_module_syntax.specs.declared.tree.Tags.{Tags}
@@ -23,8 +21,9 @@ use Rattle.oer_module_syntax.specs.declared.tree.Versions.{Versions}
 use Rattle.oer_module_syntax.specs.declared.tree.Versions.TheVariants as versions
 use Rattle.oer_module_syntax.specs.declared.word.Keyword.TheVariants as kw
 use Rattle.oer_module_syntax.proofs.Matching.{bind_ok, chosen}
-use Rattle.oer_module_syntax.proofs.SoundTypes.{type_took, value_took}
-use Rattle.oer_module_syntax.proofs.Took.{Took, ◌▸◌, stay, turned, both, answered, same_ok, take_first, sign_took, word_took, keyword_took, skip_sign_took, skip_keyword_took, reference_took, front_took, kept_took, braces_took, braced_took, listed_took, each_onto, many_took, path_took, steps}
+use Rattle.oer_module_syntax.proofs.SoundTypes.{type_took}
+use Rattle.oer_module_syntax.proofs.SoundValues.{value_took}
+use Rattle.oer_module_syntax.proofs.Took.{Took, ◌▸◌, stay, turned, answered, same_ok, take_first, sign_took, word_took, keyword_took, skip_sign_took, skip_keyword_took, reference_took, front_took, braces_took, braced_took, listed_took, each_onto, many_took, steps}
 
 -- ---- the header
 

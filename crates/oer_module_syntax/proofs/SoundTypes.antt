@@ -1,22 +1,20 @@
 -- Types that are read are spelled so.
-use Rattle.std.proofs.Common.{◌≡◌, ℕ, zero, suc, ◌+◌, List, [], ◌∷◌, ◌++◌, take, drop, length, ◌==◌, Bool, true, false, not, ◌&&◌, ◌||◌, ◌⊎◌, inl, inr, Option, Some, None, Result, Ok, Err, refl, sym, ap, subst, ◌∙◌, arith}
+use Rattle.std.proofs.Common.{◌≡◌, ℕ, zero, suc, List, [], ◌∷◌, ◌++◌, take, length, Bool, true, false, not, ◌&&◌, inl, inr, Option, Some, None, Ok, refl, sym, ap, subst, ◌∙◌, arith}
 use Rattle.std.proofs.lemmas.Bool.{and_parts}
-use Rattle.std.proofs.lemmas.List.{drop-drop}
 use Rattle.std.specs.Str.{bytes_eq}
 use Rattle.oer_module_lexer.specs.Token.{Token, word, field, number, real, bits, digits, text, sign, Spot}
 use Rattle.oer_module_lexer.specs.declared.token.Sign.{Sign}
-use Rattle.oer_module_lexer.specs.declared.token.Sign.TheVariants.{OpenBrace, CloseBrace, OpenParenthesis, OpenBracket, CloseBracket, OpenGroup, CloseGroup, Less, Comma, Point, Ellipsis, Colon, Exclamation}
-use Rattle.oer_module_syntax.specs.Grammar.{◌▹◌, Nothing, Each, Listed, ASign, AKeyword, WordAt, NameAt, AName, Kept, InParentheses, Constraints as AreConstraints, BeginsAt, Path, SecondWord, TypeWords, Items, HasElements, TagMode, TagAt, Size, ItemName, IsNeed, Exception, Version, NamesType, SpelledType, SpelledElement, SpelledElements, MoreElements, MaybeElements}
+use Rattle.oer_module_lexer.specs.declared.token.Sign.TheVariants.{OpenBrace, CloseBrace, OpenParenthesis, OpenBracket, CloseBracket, OpenGroup, CloseGroup, Less, Comma, Point, Ellipsis, Colon}
+use Rattle.oer_module_syntax.specs.Grammar.{◌▹◌, Nothing, Each, Listed, ASign, WordAt, NameAt, AName, InParentheses, Constraints as AreConstraints, BeginsAt, BeginsInBracket, SecondWord, Items, HasElements, TagMode, TagAt, Size, ItemName, IsNeed, Version, NamesType, SpelledType, SpelledElement, SpelledElements, MoreElements, MaybeElements}
 use Rattle.oer_module_syntax.specs.Looks.{at_any_defined, at_field_step, begins_type, is_field}
 use Rattle.oer_module_syntax.specs.Matched.{bracket}
-use Rattle.oer_module_syntax.specs.Ranges.{pairs_len, front_of, group_at, group_len, groups_len, constraints_at, value_at, exception_at, starts_sign, prefix_at, prefix_by, base_at, atom_at, atom_len, parameters_len, is_type_word, is_some_word}
-use Rattle.oer_module_syntax.specs.State.{State, Read, ◌>>=◌, first, first_of, place, place_among, bump, past, at_sign, at_keyword, skip_sign, skip_keyword, identifier_at}
-use Rattle.oer_module_syntax.specs.Tree.{Tree, Element, Elements, Need, must, may, default, plain, named, tagged, structure, list_of, selection, instance_of, any_defined_by, marker, group, components_of, component, elements_from}
+use Rattle.oer_module_syntax.specs.Ranges.{pairs_len, group_at, groups_len, constraints_at, value_at, exception_at, starts_sign}
+use Rattle.oer_module_syntax.specs.State.{State, Read, first, first_of, place, place_among, bump, past, is_sign, at_sign, at_keyword, skip_sign, skip_keyword, identifier_at}
+use Rattle.oer_module_syntax.specs.Tree.{Tree, Element, Need, must, may, default, plain, named, tagged, structure, list_of, selection, instance_of, any_defined_by, marker, group, components_of, component, elements_from}
 use Rattle.oer_module_syntax.specs.Types.{form_of, skip_second, items_at, plain_at, named_at, is_class, class_by, class_at, instance_at, any_defined_at, mode_at, need_at, is_number, version_at, size_at, item_name_by, item_name_at, marker_at, component_at, components_of_at, member_at, members_at, element_at, one_at, braces_at, structure_at, list_at, sequence_at, choice_at, tagged_at, formed_at, selection_at, small_at, unbuilt_at, worded_at, begun_at, any_type_at, type_at, listed}
-use Rattle.oer_module_syntax.specs.Words.{keyword_text, builtin_first, builtin_second, builtin_among, builtin_of, builtins, is_identifier}
-use Rattle.oer_module_syntax.specs.declared.fault.Fault.{Fault}
+use Rattle.oer_module_syntax.specs.Words.{builtin_first, builtin_second, builtin_among, builtin_of, builtins, is_identifier}
 use Rattle.oer_module_syntax.specs.declared.range.Extent.TheVariants.{Constraints}
-use Rattle.oer_module_syntax.specs.declared.range.Pair.TheVariants.{Step, Choice}
+use Rattle.oer_module_syntax.specs.declared.range.Pair.TheVariants.{Step}
 use Rattle.oer_module_syntax.specs.declared.tree.Mode.{Mode}
 use Rattle.oer_module_syntax.specs.declared.tree.Mode.TheVariants.{Unsaid, Implicit, Explicit}
 use Rattle.oer_module_syntax.specs.declared.types.Form.{Form}
@@ -25,8 +23,9 @@ use Rattle.oer_module_syntax.specs.declared.word.Builtin.{Builtin}
 use Rattle.oer_module_syntax.specs.declared.word.Keyword.{Keyword}
 use Rattle.oer_module_syntax.specs.declared.word.Keyword.TheVariants as kw
 use Rattle.oer_module_syntax.proofs.Groups.{in_parentheses}
-use Rattle.oer_module_syntax.proofs.Matching.{bind_ok, chosen, is_that}
-use Rattle.oer_module_syntax.proofs.Took.{Took, ◌▸◌, stay, turned, answered, same_ok, not_true, take_first, same_bytes, sign_took, sign_took_at, word_took, keyword_took, keyword_took_at, skip_sign_took, skip_keyword_took, name_took, identifier_took, front_took, kept_took, group_took_here, braces_took, braced_took, listed_took, path_took, field_first}
+use Rattle.oer_module_syntax.proofs.Matching.{bind_ok, chosen}
+use Rattle.oer_module_syntax.proofs.SoundValues.{value_took, exception_took}
+use Rattle.oer_module_syntax.proofs.Took.{Took, ◌▸◌, stay, turned, answered, same_ok, take_first, same_bytes, sign_took, sign_took_at, word_took, keyword_took, keyword_took_at, skip_sign_took, skip_keyword_took, name_took, identifier_took, kept_took, group_took_here, braces_took, braced_took, listed_took, path_took, field_first}
 
 -- ---- what is kept
 
@@ -37,64 +36,6 @@ constraints_took s r h =
     let e = ap (λ x. x.0) (same_ok (take n.0 s.left, past n.0 s) r n.2) in
     turned (AreConstraints r.0) (kept_took n.0 s r n.2)
     (λ a i. (i, subst InParentheses (e ∙ sym i) (in_parentheses s (length s.left) s.left n.0 (omega arith) n.1)))
-
-past_past : (m n : ℕ) (s : State) → past n (past m s) ≡ past (m + n) s
-past_past m n s = ap (λ l. record { left = l; end = s.end; complete = s.complete }) (drop-drop n m s.left)
-
--- so many tokens are passed
-abbrev Moves : State → ℕ × State → Type 0
-Moves s r = r.1 ≡ past r.0 s
-
-moved : (s : State) (x r : ℕ × State) → ◌≡◌ {A = Read ℕ} (Ok x) (Ok r) → Moves s x → Moves s r
-moved s x r e m = subst (Moves s) (same_ok x r e) m
-
-prefix_moves : (s : State) (r : ℕ × State) → prefix_at s ≡ Ok r → Moves s r
-unfolding prefix_at
-prefix_moves s r h = elim (chosen (is_type_word (first s)) _ _ _ h) [
-  | inl p ↦ (
-      let n = bind_ok (groups_len _ s s.left []) _ r p.1 in
-      moved s (prefix_by n.0 s) r n.2 (by_colon n.0 (prefix_by n.0 s) refl))
-  | inr p ↦ moved s (0, s) r p.1 refl
-]
-  where
-    by_colon : (n : ℕ) (x : ℕ × State) → prefix_by n s ≡ x → Moves s x
-    by_colon n x e = elim (chosen {A = ℕ × State} (at_sign Colon (past n s)) (n + 1, past (n + 1) s) (0, s) x e) [
-      | inl p ↦ subst (Moves s) p.1 refl
-      | inr p ↦ subst (Moves s) p.1 refl
-    ]
-
-atom_moves : (s : State) (r : ℕ × State) → atom_at s ≡ Ok r → Moves s r
-unfolding atom_at
-atom_moves s r h = elim (chosen (atom_len s.left == 0) _ _ _ h) [
-  | inl p ↦ absurd (cc)
-  | inr p ↦ (
-      let n = bind_ok (parameters_len (is_some_word (first s)) (past (atom_len s.left) s)) _ r p.1 in
-      moved s (atom_len s.left + n.0, past n.0 (past (atom_len s.left) s)) r n.2 (past_past (atom_len s.left) n.0 s))
-]
-
-base_moves : (s : State) (r : ℕ × State) → base_at s ≡ Ok r → Moves s r
-base_moves s r h = elim (chosen (at_sign OpenBrace s) _ _ _ h) [
-  | inl p ↦ (
-      let n = bind_ok (group_len s) _ r p.1 in
-      moved s (n.0, past n.0 s) r n.2 refl)
-  | inr p ↦ atom_moves s r p.1
-]
-
-pub value_took : (s : State) (r : List Spot × State) → value_at s ≡ Ok r → Took s r.1 (Kept r.0)
-unfolding value_at
-value_took s r h =
-    let k = pairs_len Choice s.left in
-    let p = bind_ok (prefix_at (past k s)) _ r h in
-    let b = bind_ok (base_at p.0.1) _ r p.2 in
-    let there = base_moves p.0.1 b.0 b.1 ∙ ap (past b.0.0) (prefix_moves (past k s) p.0 p.1 ∙ past_past k p.0.0 s) ∙ past_past (k + p.0.0) b.0.0 s in
-    answered Kept (take (k + p.0.0 + b.0.0) s.left, b.0.1) r b.2
-    (subst (λ t. Took s t (Kept (take (k + p.0.0 + b.0.0) s.left))) (sym there) (front_took (k + p.0.0 + b.0.0) s))
-
-pub exception_took : (s : State) (r : List Spot × State) → exception_at s ≡ Ok r → Took s r.1 (Exception r.0)
-exception_took s r h = elim (chosen (at_sign Exclamation s) _ _ _ h) [
-  | inl p ↦ turned (Exception r.0) (sign_took Exclamation s p.0 ▸ value_took (bump s) r p.1) (λ a e. inr e)
-  | inr p ↦ answered Exception ([], s) r p.1 (stay s (Exception []) (inl (refl, refl)))
-]
 
 -- ---- types that hold no other
 
@@ -299,9 +240,9 @@ builtin_is : (w : List ℕ) (b : Builtin) → builtin_of w ≡ Some b → w ≡ 
 unfolding builtin_of
 builtin_is w b h = among_is w builtins b h
 
-begins : (g : Sign) (ts rest : List Spot) (s : State) → s.left ≡ ts ++ rest → starts_sign g ts ≡ true → BeginsAt (place s) ts
-begins g [] rest s e h = absurd (cc)
-begins g (t ∷ ts) rest s e h = sym (ap (λ l. place_among l s.end) e)
+begins : (g : Sign) (ts rest : List Spot) (s : State) → s.left ≡ ts ++ rest → BeginsInBracket ts → at_sign g s ≡ true → (starts_sign g ts ≡ true) × BeginsAt (place s) ts
+begins g [] rest s e b h = absurd b
+begins g (t ∷ ts) rest s e b h = (sym (ap (λ l. is_sign g (first_of l)) e) ∙ h, sym (ap (λ l. place_among l s.end) e))
 
 -- ---- parts of types, where a type is read so
 
@@ -427,8 +368,8 @@ module _ (type : State → Read Tree) (sound : (s : State) (r : Tree × State) �
       let mode = mode_at tag.0.1 in
       let inner = bind_ok (type mode.1) _ r tag.2 in
       let g = group_took_here OpenBracket CloseBracket s tag.0 bracket k tag.1 in
-      let t : Took s tag.0.1 (TagAt (place s) tag.0.0) =
-      record { used = g.used; is = g.is; stop = g.stop; holds = (g.holds.0, g.holds.1, begins OpenBracket g.used tag.0.1.left s g.is g.holds.1.opens) } in
+      let b = begins OpenBracket g.used tag.0.1.left s g.is g.holds.1.opens k in
+      let t : Took s tag.0.1 (TagAt (place s) tag.0.0) = record { used = g.used; is = g.is; stop = g.stop; holds = (g.holds.0, g.holds.1, b.0, b.1) } in
       answered SpelledType (tagged (place s) tag.0.0 mode.0 inner.0.0, inner.0.1) r inner.2 (t ▸ mode_took tag.0.1 ▸ sound mode.1 inner.0 inner.1)
 
   selection_took : (w : List ℕ) (s : State) (r : Tree × State) → first s ≡ Some (word w) → is_identifier w ≡ true → at_sign Less (bump s) ≡ true

@@ -1,5 +1,5 @@
 -- Tokens that were taken, from one state to another.
-use Rattle.std.proofs.Common.{◌≡◌, arith, ℕ, zero, suc, ◌+◌, List, [], ◌∷◌, ◌++◌, take, drop, length, Bool, true, false, not, cond, ◌⊎◌, inl, inr, Option, Some, None, Result, Ok, Err, refl, sym, ap, subst, ◌∙◌, append_assoc}
+use Rattle.std.proofs.Common.{◌≡◌, arith, ℕ, zero, suc, ◌+◌, List, [], ◌∷◌, ◌++◌, take, drop, length, Bool, true, false, not, ◌⊎◌, inl, inr, Option, Some, None, Result, Ok, refl, sym, ap, subst, ◌∙◌, append_assoc}
 use Rattle.std.proofs.lemmas.Bool.{and_parts}
 use Rattle.std.proofs.lemmas.List.{append-nil, take-append-drop}
 use Rattle.std.specs.Str.{bytes_eq}
@@ -7,12 +7,12 @@ use Rattle.std.proofs.lemmas.Slice.Eq.{bytes_eq-Decides}
 use Rattle.oer_module_lexer.specs.Token.{Token, word, field, number, real, bits, digits, text, sign, Spot}
 use Rattle.oer_module_lexer.specs.declared.token.Sign.{Sign}
 use Rattle.oer_module_lexer.specs.declared.token.Sign.TheVariants.{OpenBrace, CloseBrace, Comma, Point}
-use Rattle.oer_module_syntax.specs.Grammar.{Splits, ◌▹◌, Nothing, ASign, AKeyword, WordAt, NameAt, AName, Kept, Enclosed, Braced, MaybeBraced, Each, Listed, AreSteps, Path}
+use Rattle.oer_module_syntax.specs.Grammar.{◌▹◌, Nothing, ASign, AKeyword, WordAt, NameAt, Enclosed, Braced, MaybeBraced, Each, Listed, AreSteps, Path}
 use Rattle.oer_module_syntax.specs.Looks.{is_field}
 use Rattle.oer_module_syntax.specs.Matched.{Closes, brace}
 use Rattle.oer_module_syntax.specs.Modules.{braced_at, many}
 use Rattle.oer_module_syntax.specs.Ranges.{front_of, group_at, group_len, starts_sign, is_pair, is_step, pairs_len}
-use Rattle.oer_module_syntax.specs.State.{State, Read, ◌>>=◌, first, first_of, bump, past, place, place_among, is_sign, at_sign, is_word, at_keyword, skip_sign, skip_keyword, identifier_by, identifier_at, reference_by, reference_at}
+use Rattle.oer_module_syntax.specs.State.{State, Read, first, first_of, bump, past, place, place_among, is_sign, at_sign, is_word, at_keyword, skip_sign, skip_keyword, identifier_by, identifier_at, reference_by, reference_at}
 use Rattle.oer_module_syntax.specs.Types.{more_listed, listed}
 use Rattle.oer_module_syntax.specs.Words.{keyword_text, is_identifier, is_reference}
 use Rattle.oer_module_syntax.specs.declared.fault.Fault.{Fault}
@@ -164,8 +164,8 @@ reference_took x s r h = reference_by_took x (first s) s r refl h
 pub front_took : (n : ℕ) (s : State) → Took s (past n s) (λ ts. ts ≡ take n s.left)
 front_took n s = record { used = take n s.left; is = sym (take-append-drop n s.left); stop = refl; holds = refl }
 
-pub kept_took : (n : ℕ) (s : State) (r : List Spot × State) → front_of n s ≡ Ok r → Took s r.1 (Kept r.0)
-kept_took n s r h = answered Kept (take n s.left, past n s) r h (front_took n s)
+pub kept_took : (n : ℕ) (s : State) (r : List Spot × State) → front_of n s ≡ Ok r → Took s r.1 (λ ts. ts ≡ r.0)
+kept_took n s r h = answered (λ kept ts. ts ≡ kept) (take n s.left, past n s) r h (front_took n s)
 
 -- what stands in brackets of a kind, or nothing
 abbrev pub MaybeEnclosed : Sign → Sign → List Spot → List Spot → Type 0
@@ -275,7 +275,7 @@ module _ {A : Type 0} (P : A → List Spot → Type 0) (R : List A → List Spot
 
 -- ---- steps behind a name
 
-two_more : (n : ℕ) → 2 + n ≡ suc (suc n)
+pub two_more : (n : ℕ) → 2 + n ≡ suc (suc n)
 two_more n = omega arith
 
 pub steps : (l : List Spot) → AreSteps (take (pairs_len Step l) l)

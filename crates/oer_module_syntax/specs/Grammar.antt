@@ -2,15 +2,15 @@
 -- tokens that split into those of P and those of Q behind them. What a tree keeps as tokens stands in the text as these.
 use Rattle.std.specs.Prelude.{◌≡◌, ℕ, List, [], ◌∷◌, ◌++◌, drop, Bool, true, false, ◌⊎◌, Option, Some, None, Ok}
 use Rattle.std.specs.List.{All}
-use Rattle.oer_module_lexer.specs.Token.{Token, word, number, text, sign, Spot}
+use Rattle.oer_module_lexer.specs.Token.{Token, word, field, number, real, bits, digits, text, sign, Spot}
 use Rattle.oer_module_lexer.specs.declared.token.Sign.{Sign}
 use Rattle.oer_module_lexer.specs.declared.token.Sign.TheVariants.{OpenBrace, CloseBrace, OpenParenthesis, CloseParenthesis, OpenBracket, CloseBracket, OpenGroup, CloseGroup}
-use Rattle.oer_module_lexer.specs.declared.token.Sign.TheVariants.{Less, Comma, Semicolon, Point, Ellipsis, Colon, Assign, Exclamation}
+use Rattle.oer_module_lexer.specs.declared.token.Sign.TheVariants.{Less, Comma, Semicolon, Point, Ellipsis, Colon, Hyphen, Assign, Exclamation}
 use Rattle.oer_module_syntax.specs.Looks.{is_field}
-use Rattle.oer_module_syntax.specs.Matched.{brackets_in, brackets, Matched}
+use Rattle.oer_module_syntax.specs.Matched.{brackets_in, brackets, Closes, Matched}
 use Rattle.oer_module_syntax.specs.Modules.{is_end, modules_of}
-use Rattle.oer_module_syntax.specs.Ranges.{starts_sign, is_step}
-use Rattle.oer_module_syntax.specs.State.{State, first_of, is_sign}
+use Rattle.oer_module_syntax.specs.Ranges.{starts_sign, is_step, is_any_word, is_amount, is_value_word, ends_prefix}
+use Rattle.oer_module_syntax.specs.State.{State, first_of, is_sign, same_sign}
 use Rattle.oer_module_syntax.specs.Tree.{Need, must, may, default, Tree, plain, named, tagged, structure, list_of, selection, instance_of, any_defined_by}
 use Rattle.oer_module_syntax.specs.Tree.{Element, marker, group, components_of, component, Elements, no_elements, element}
 use Rattle.oer_module_syntax.specs.Tree.{Symbol, Exports, all, these, Import, Body, type_body, class_body, value_body, set_body, Assignment, Module}
@@ -76,10 +76,6 @@ NameAt allows at w ts = WordAt at w ts × (allows w ≡ true)
 abbrev pub AName : (List ℕ → Bool) → List ℕ → List Spot → Type 0
 AName allows w ts = (at : ℕ) × NameAt allows at w ts
 
--- these very tokens
-abbrev pub Kept : List Spot → List Spot → Type 0
-Kept kept ts = ts ≡ kept
-
 abbrev pub BeginsAt : ℕ → List Spot → Type 0
 BeginsAt at [] = ⊥
 BeginsAt at (t ∷ ts) = t.at ≡ at
@@ -93,13 +89,18 @@ AreSteps (t ∷ u ∷ us) = (is_sign Point (Some t.token) ≡ true) × (is_step 
 abbrev pub Path : List Spot → List Spot → Type 0
 Path path ts = (ts ≡ path) × AreSteps ts
 
+-- the first token is a bracket
+abbrev pub BeginsInBracket : List Spot → Type 0
+BeginsInBracket [] = ⊥
+BeginsInBracket (t ∷ ts) = brackets_in t.token ≡ [] → ⊥
+
 -- the last token is a bracket
 abbrev pub EndsInBracket : List Spot → Type 0
 EndsInBracket ts = (front : List Spot) × (t : Spot) × (ts ≡ front ++ t ∷ []) × (brackets_in t.token ≡ [] → ⊥)
 
 -- what begins with a bracket and ends with the one that closes it; the brackets between them match
 pub record Enclosed (o c : Sign) (ts : List Spot) : Type 0 where
-  pub opens : starts_sign o ts ≡ true
+  pub opens : BeginsInBracket ts
   pub closes : EndsInBracket ts
   pub inner : List Sign
   pub pairs : brackets ts ≡ o ∷ (inner ++ (c ∷ []))
@@ -121,6 +122,49 @@ MaybeBraced kept ts = (ts ≡ kept) × (Nothing ts ⊎ Enclosed OpenBrace CloseB
 -- these tokens, which are constraints (49.6)
 abbrev pub Constraints : List Spot → List Spot → Type 0
 Constraints kept ts = (ts ≡ kept) × InParentheses ts
+
+-- ---- values, which the tree keeps as tokens (17.7; X.681, 14.6)
+
+-- the names of alternatives, each with a colon behind it (29.11)
+abbrev pub AreChoices : List Spot → Type 0
+AreChoices [] = Unit {0}
+AreChoices (t ∷ []) = ⊥
+AreChoices (t ∷ u ∷ us) = (is_any_word t.token ≡ true) × (is_sign Colon (Some u.token) ≡ true) × AreChoices us
+
+-- tokens, and groups in brackets; none outside of brackets is a comma, a colon, `::=` or a semicolon
+pub data Outside : List Spot → Type 0 where
+  nothing_outside : Outside []
+  a_token : {t : Spot} {ts : List Spot} → brackets_in t.token ≡ [] → ends_prefix (t ∷ []) ≡ false → Outside ts → Outside (t ∷ ts)
+  a_group : {o c : Sign} {ts us : List Spot} → Closes o c → Enclosed o c ts → Outside us → Outside (ts ++ us)
+
+-- a type and a colon, or nothing (X.681, 14.6)
+abbrev pub MaybePrefix : List Spot → Type 0
+MaybePrefix ts = Nothing ts ⊎ (Outside ▹ ASign Colon) ts
+
+-- a value of one token, of a name with steps, or of a hyphen and an amount
+abbrev pub AtomBy : Token → List Spot → Type 0
+AtomBy (word w) ts = (is_value_word w ≡ true) × AreSteps ts
+AtomBy (field w) ts = ⊥
+AtomBy (number w) ts = Nothing ts
+AtomBy (real w) ts = Nothing ts
+AtomBy (bits w) ts = Nothing ts
+AtomBy (digits w) ts = Nothing ts
+AtomBy (text w) ts = Nothing ts
+AtomBy (sign g) ts = (same_sign Hyphen g ≡ true) × (t : Spot) × (ts ≡ t ∷ []) × (is_amount (Some t.token) ≡ true)
+
+abbrev pub IsAtom : List Spot → Type 0
+IsAtom [] = ⊥
+IsAtom (t ∷ ts) = AtomBy t.token ts
+
+abbrev pub MaybeEnclosed : List Spot → Type 0
+MaybeEnclosed ts = Nothing ts ⊎ Enclosed OpenBrace CloseBrace ts
+
+-- what stands in braces, or an atom, perhaps with actual parameters (X.683, 9.1)
+abbrev pub Base : List Spot → Type 0
+Base ts = Enclosed OpenBrace CloseBrace ts ⊎ (IsAtom ▹ MaybeEnclosed) ts
+
+abbrev pub SpelledValue : List Spot → List Spot → Type 0
+SpelledValue kept ts = (ts ≡ kept) × (AreChoices ▹ MaybePrefix ▹ Base) ts
 
 -- ---- types
 
@@ -154,7 +198,7 @@ TagMode Explicit = AKeyword kw.Explicit
 
 -- a tag, which begins at a place (31.2)
 abbrev pub TagAt : ℕ → List Spot → List Spot → Type 0
-TagAt at tag ts = (ts ≡ tag) × Enclosed OpenBracket CloseBracket ts × BeginsAt at ts
+TagAt at tag ts = (ts ≡ tag) × Enclosed OpenBracket CloseBracket ts × (starts_sign OpenBracket ts ≡ true) × BeginsAt at ts
 
 -- before OF: SIZE and a constraint, a constraint alone, or nothing (49: TypeWithConstraint)
 abbrev pub Size : Bool → List Spot → List Spot → Type 0
@@ -170,11 +214,11 @@ ItemName (Some w) = AName is_identifier w
 abbrev pub IsNeed : Bool → Need → List Spot → Type 0
 IsNeed alternatives must ts = Nothing ts
 IsNeed alternatives may ts = (alternatives ≡ false) × AKeyword kw.Optional ts
-IsNeed alternatives (default value) ts = (alternatives ≡ false) × (AKeyword kw.Default ▹ Kept value) ts
+IsNeed alternatives (default value) ts = (alternatives ≡ false) × (AKeyword kw.Default ▹ SpelledValue value) ts
 
 -- an exception (53.1)
 abbrev pub Exception : List Spot → List Spot → Type 0
-Exception exception ts = ((exception ≡ []) × Nothing ts) ⊎ (ASign Exclamation ▹ Kept exception) ts
+Exception exception ts = ((exception ≡ []) × Nothing ts) ⊎ (ASign Exclamation ▹ SpelledValue exception) ts
 
 -- the number of a group, if it has one (25.1)
 abbrev pub Version : List Spot → Type 0
@@ -266,7 +310,7 @@ ClassSyntax syntax ts = ((syntax ≡ []) × Nothing ts) ⊎ (AKeyword kw.With �
 abbrev pub SpelledBody : Bool → Body → List Spot → Type 0
 SpelledBody small (type_body t) ts = (small ≡ false) × (ASign Assign ▹ SpelledType t) ts
 SpelledBody small (class_body fields syntax) ts = (small ≡ false) × (ASign Assign ▹ AKeyword kw.Class ▹ Braced fields ▹ ClassSyntax syntax) ts
-SpelledBody small (value_body governor value) ts = (small ≡ true) × (SpelledType governor ▹ ASign Assign ▹ Kept value) ts
+SpelledBody small (value_body governor value) ts = (small ≡ true) × (SpelledType governor ▹ ASign Assign ▹ SpelledValue value) ts
 SpelledBody small (set_body governor set) ts = (small ≡ false) × (SpelledType governor ▹ ASign Assign ▹ Braced set) ts
 
 -- a name, its parameters, and what it stands for (13.1; X.683, 8.1)
