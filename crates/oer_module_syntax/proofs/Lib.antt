@@ -2,6 +2,8 @@ pub mod Groups
 pub mod Loops
 pub mod Matching
 pub mod Spots
+pub mod SameTurns
+pub mod Shorter
 pub mod SoundModules
 pub mod SoundTypes
 pub mod SoundValues

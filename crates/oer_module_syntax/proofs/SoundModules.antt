@@ -1,18 +1,18 @@
 -- Modules that are read are spelled so.
-use Rattle.std.proofs.Common.{◌≡◌, ℕ, suc, ◌+◌, List, [], ◌∷◌, ◌++◌, take, drop, length, Bool, true, false, not, ◌&&◌, ◌⊎◌, inl, inr, Option, Some, None, Ok, refl, sym, ap, subst, ◌∙◌, arith}
+use Rattle.std.proofs.Common.{◌≡◌, ℕ, suc, ◌+◌, List, [], ◌∷◌, ◌++◌, take, drop, length, Bool, true, false, not, ◌&&◌, ◌⊎◌, inl, inr, Option, Some, None, Ok, refl, sym, ap, subst, ◌∙◌, arith, ◌||◌}
 use Rattle.std.specs.List.{All}
 use Rattle.std.proofs.lemmas.List.{append-nil}
 use Rattle.std.proofs.lemmas.List.Elements.{All-nil, All-cons}
 use Rattle.oer_module_lexer.specs.Token.{Token, word, field, number, real, bits, digits, text, sign, Spot}
 use Rattle.oer_module_lexer.specs.declared.token.Sign.TheVariants.{OpenBrace, CloseBrace, Semicolon, Assign}
-use Rattle.oer_module_syntax.specs.Grammar.{◌▹◌, Nothing, Each, Listed, ASign, AKeyword, AWord, WordAt, Enclosed, SpelledSymbol, Symbols, SpelledExports, SpelledVersions, AssignedIdentifier, SpelledImport, SpelledImports, ClassSyntax, SpelledBody, SpelledAssignment, Instructions, TagDefault, ExtensionDefault, MaybeText, Control, Header, SpelledModule, SpelledModules, ModulesSound}
+use Rattle.oer_module_syntax.specs.Grammar.{◌▹◌, Nothing, Each, Listed, ASign, AKeyword, AWord, WordAt, Enclosed, SpelledSymbol, Symbols, SpelledExports, SpelledVersions, AssignedIdentifier, SpelledImport, SpelledImports, ClassSyntax, SpelledBody, SpelledAssignment, Instructions, TagDefault, ExtensionDefault, MaybeText, Control, Header, SpelledModule, SpelledModules, ModulesSound, UnreservedAt, MaybeEnclosed}
 use Rattle.oer_module_syntax.specs.Looks.{names_value}
 use Rattle.oer_module_syntax.specs.Modules.{many, all_of, is_text, past_text, tags_behind, tags_at, extensible_at, instructions_by, instructions_at, symbol_by, symbol_at, exported_at, exports_at, goes_on_symbols, name_len, id_name_by, id_by, id_at, versions_behind, versions_at, import_at, imports_at, ends_assignments, is_end, control_len, braced_at, syntax_at, class_at, defined_at, set_at, valued_at, body_at, assigned_at, assignment_by, assignment_at, content_at, module_at, none_left, is_last, modules_of}
 use Rattle.oer_module_syntax.specs.Ranges.{pairs_len, group_at, value_at}
-use Rattle.oer_module_syntax.specs.State.{State, first, first_of, place, place_among, bump, past, at_sign, at_keyword, skip_sign, skip_keyword, reference_at}
+use Rattle.oer_module_syntax.specs.State.{State, first, first_of, place, place_among, bump, past, at_sign, at_keyword, skip_sign, skip_keyword, reference_at, is_word}
 use Rattle.oer_module_syntax.specs.Tree.{Symbol, Exports, all, these, Import, Body, type_body, class_body, value_body, set_body, Assignment, Module}
 use Rattle.oer_module_syntax.specs.Types.{listed, type_at}
-use Rattle.oer_module_syntax.specs.Words.{is_identifier, is_reserved}
+use Rattle.oer_module_syntax.specs.Words.{is_identifier, is_reserved, keyword_text}
 use Rattle.oer_module_syntax.specs.declared.fault.Sought.TheVariants as sought
 use Rattle.oer_module_syntax.specs.declared.range.Pair.TheVariants.{Step}
 use Rattle.oer_module_syntax.specs.declared.tree.Tags.{Tags}
@@ -101,8 +101,8 @@ instructions_took s = instructions_by_took (first s) s refl
 -- ---- EXPORTS and IMPORTS
 
 -- a word that isn't reserved
-unreserved_took : (w : List ℕ) (s : State) → first s ≡ Some (word w) → is_reserved w ≡ false → Took s (bump s) (λ ts. WordAt (place s) w ts × (is_reserved w ≡ false))
-unreserved_took w s e h = turned (λ ts. WordAt (place s) w ts × (is_reserved w ≡ false)) (word_took w s e) (λ a i. (i, h))
+unreserved_took : (w : List ℕ) (s : State) → first s ≡ Some (word w) → is_reserved w ≡ false → Took s (bump s) (UnreservedAt (place s) w)
+unreserved_took w s e h = turned (UnreservedAt (place s) w) (word_took w s e) (λ a i. (i, h))
 
 symbol_by_took : (o : Option Token) (s : State) (r : Symbol × State) → first s ≡ o → symbol_by o s ≡ Ok r → Took s r.1 (SpelledSymbol r.0)
 symbol_by_took None s r e h = absurd (cc)
@@ -110,7 +110,7 @@ symbol_by_took (Some (word w)) s r e h = elim (chosen (is_reserved w) _ _ _ h) [
   | inl p ↦ absurd (cc)
   | inr p ↦ (
       let g = bind_ok (group_at OpenBrace (bump s)) _ r p.1 in
-      let braces = turned (λ ts. Nothing ts ⊎ Enclosed OpenBrace CloseBrace ts) (braces_took (bump s) g.0 g.1) (λ a i. i.1) in
+      let braces = turned MaybeEnclosed (braces_took (bump s) g.0 g.1) (λ a i. i.1) in
       answered SpelledSymbol (record { at = place s; name = w }, g.0.1) r g.2 (unreserved_took w s e p.0 ▸ braces))
 ]
 symbol_by_took (Some (field w)) s r e h = absurd (cc)
@@ -121,7 +121,7 @@ symbol_by_took (Some (digits w)) s r e h = absurd (cc)
 symbol_by_took (Some (text w)) s r e h = absurd (cc)
 symbol_by_took (Some (sign g)) s r e h = absurd (cc)
 
-symbol_took : (s : State) (r : Symbol × State) → symbol_at s ≡ Ok r → Took s r.1 (SpelledSymbol r.0)
+pub symbol_took : (s : State) (r : Symbol × State) → symbol_at s ≡ Ok r → Took s r.1 (SpelledSymbol r.0)
 unfolding symbol_at
 symbol_took s r h = symbol_by_took (first s) s r refl h
 
@@ -217,7 +217,7 @@ versions_took s r h = elim (chosen (at_keyword kw.With s) _ _ _ h) [
   | inr p ↦ answered SpelledVersions (versions.Same, s) r p.1 (stay s Nothing refl)
 ]
 
-import_took : (s : State) (r : Import × State) → import_at s ≡ Ok r → Took s r.1 (SpelledImport r.0)
+pub import_took : (s : State) (r : Import × State) → import_at s ≡ Ok r → Took s r.1 (SpelledImport r.0)
 unfolding import_at
 import_took s r h =
     let symbols = bind_ok (listed symbol_at s) _ r h in
@@ -318,7 +318,7 @@ module _ (levels : ℕ) where
   assignment_by_took (Some (text w)) s r e h = absurd (cc)
   assignment_by_took (Some (sign g)) s r e h = absurd (cc)
 
-  assignment_took : (s : State) (r : Assignment × State) → assignment_at levels s ≡ Ok r → Took s r.1 (SpelledAssignment r.0)
+  pub assignment_took : (s : State) (r : Assignment × State) → assignment_at levels s ≡ Ok r → Took s r.1 (SpelledAssignment r.0)
   unfolding assignment_at
   assignment_took s r h = assignment_by_took (first s) s r refl h
 
@@ -332,10 +332,25 @@ no_end (t ∷ ts) = elim (chosen {A = ℕ} (is_end t.token) 0 (suc (control_len 
   | inr p ↦ subst (λ n. All (λ t. is_end t.token ≡ false) (take n (t ∷ ts))) p.1 (All-cons (λ t. is_end t.token ≡ false) t (take (control_len ts) ts) p.0 (no_end ts))
 ]
 
-control_took : (s : State) → Took s (past (control_len s.left) s) (Control (take (control_len s.left) s.left))
-control_took s =
+control_begins : (l : List Spot) → (is_word (keyword_text kw.End) (first_of l) || is_word (keyword_text kw.EncodingControl) (first_of l)) ≡ true
+    → Nothing (take (control_len l) l) ⊎ (is_word (keyword_text kw.EncodingControl) (first_of (take (control_len l) l)) ≡ true)
+unfolding control_len
+control_begins [] h = inl refl
+control_begins (t ∷ ts) h = elim (chosen {A = ℕ} (is_end t.token) 0 (suc (control_len ts)) (control_len (t ∷ ts)) refl) [
+  | inl p ↦ inl (ap (λ n. take n (t ∷ ts)) (sym p.1))
+  | inr p ↦ inr (subst (λ n. is_word (keyword_text kw.EncodingControl) (first_of (take n (t ∷ ts))) ≡ true) p.1 (other (is_end t.token) _ p.0 h))
+]
+  where
+    other : (a b : Bool) → a ≡ false → (a || b) ≡ true → b ≡ true
+    other true b e h = absurd (cc)
+    other false b e h = h
+
+control_took : (s : State) → ends_assignments s ≡ true → Took s (past (control_len s.left) s) (Control (take (control_len s.left) s.left))
+control_took s h =
     let kept = take (control_len s.left) s.left in
-    turned (Control kept) (front_took (control_len s.left) s) (λ a e. (e, subst (All (λ t. is_end t.token ≡ false)) (sym e) (no_end s.left)))
+    let Begins = λ (ts : List Spot). Nothing ts ⊎ (is_word (keyword_text kw.EncodingControl) (first_of ts) ≡ true) in
+    turned (Control kept) (front_took (control_len s.left) s)
+    (λ a e. (e, subst Begins (sym e) (control_begins s.left h), subst (All (λ t. is_end t.token ≡ false)) (sym e) (no_end s.left)))
 
 module _ (levels : ℕ) where
   content_took : (at : ℕ) (name : List ℕ) (id : List Spot) (instructions : Option (List ℕ)) (tag : Tags) (extensible : Bool) (s t : State) (r : Module × State)
@@ -366,9 +381,9 @@ module _ (levels : ℕ) where
       )
       r end.2
       (header ▸ exports_took t exports.0 exports.1 ▸ imports_took exports.0.1 imports.0 imports.1 ▸ many.0
-      ▸ control_took before ▸ skip_keyword_took kw.End behind end.0 end.1)
+      ▸ control_took before many.1 ▸ skip_keyword_took kw.End behind end.0 end.1)
 
-  module_took : (s : State) (r : Module × State) → module_at levels s ≡ Ok r → Took s r.1 (SpelledModule r.0)
+  pub module_took : (s : State) (r : Module × State) → module_at levels s ≡ Ok r → Took s r.1 (SpelledModule r.0)
   unfolding module_at
   module_took s r h =
       let name = bind_ok (reference_at sought.Reference s) _ r h in

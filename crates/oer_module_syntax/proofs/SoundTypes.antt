@@ -5,7 +5,7 @@ use Rattle.std.specs.Str.{bytes_eq}
 use Rattle.oer_module_lexer.specs.Token.{Token, word, field, number, real, bits, digits, text, sign, Spot}
 use Rattle.oer_module_lexer.specs.declared.token.Sign.{Sign}
 use Rattle.oer_module_lexer.specs.declared.token.Sign.TheVariants.{OpenBrace, CloseBrace, OpenParenthesis, OpenBracket, CloseBracket, OpenGroup, CloseGroup, Less, Comma, Point, Ellipsis, Colon}
-use Rattle.oer_module_syntax.specs.Grammar.{◌▹◌, Nothing, Each, Listed, ASign, WordAt, NameAt, AName, InParentheses, Constraints as AreConstraints, BeginsAt, BeginsInBracket, SecondWord, Items, HasElements, TagMode, TagAt, Size, ItemName, IsNeed, Version, NamesType, SpelledType, SpelledElement, SpelledElements, MoreElements, MaybeElements}
+use Rattle.oer_module_syntax.specs.Grammar.{◌▹◌, Nothing, Each, Listed, ASign, WordAt, NameAt, AName, InParentheses, Constraints as AreConstraints, BeginsAt, BeginsInBracket, SecondWord, Items, HasElements, TagMode, TagAt, Size, ItemName, IsNeed, Version, NamesType, SpelledType, SpelledElement, SpelledElements, MoreElements, MaybeElements, ANumber}
 use Rattle.oer_module_syntax.specs.Looks.{at_any_defined, at_field_step, begins_type, is_field}
 use Rattle.oer_module_syntax.specs.Matched.{bracket}
 use Rattle.oer_module_syntax.specs.Ranges.{pairs_len, group_at, groups_len, constraints_at, value_at, exception_at, starts_sign}
@@ -161,9 +161,6 @@ number_first (Some (bits w)) h = absurd (cc)
 number_first (Some (digits w)) h = absurd (cc)
 number_first (Some (text w)) h = absurd (cc)
 number_first (Some (sign g)) h = absurd (cc)
-
-abbrev ANumber : List Spot → Type 0
-ANumber us = (at : ℕ) × (w : List ℕ) × (us ≡ record { at = at; token = number w } ∷ [])
 
 version_took : (s : State) (r : Unit {0} × State) → version_at s ≡ Ok r → Took s r.1 Version
 unfolding version_at
@@ -434,3 +431,8 @@ pub type_took : (levels : ℕ) (s : State) (r : Tree × State) → type_at level
 unfolding type_at
 type_took zero s r h = absurd (cc)
 type_took (suc levels) s r h = any_type_took (type_at levels) (type_took levels) s r h
+
+-- what stands between two commas, in a group or not
+pub one_took : (levels : ℕ) (grouped alternatives : Bool) (s : State) (r : Element × State) → one_at (type_at levels) grouped alternatives s ≡ Ok r → Took s r.1 (SpelledElement alternatives grouped r.0)
+one_took levels true alternatives s r h = member_took (type_at levels) (type_took levels) alternatives true s r h
+one_took levels false alternatives s r h = element_took (type_at levels) (type_took levels) alternatives s r h

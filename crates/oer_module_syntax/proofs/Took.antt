@@ -7,7 +7,7 @@ use Rattle.std.proofs.lemmas.Slice.Eq.{bytes_eq-Decides}
 use Rattle.oer_module_lexer.specs.Token.{Token, word, field, number, real, bits, digits, text, sign, Spot}
 use Rattle.oer_module_lexer.specs.declared.token.Sign.{Sign}
 use Rattle.oer_module_lexer.specs.declared.token.Sign.TheVariants.{OpenBrace, CloseBrace, Comma, Point}
-use Rattle.oer_module_syntax.specs.Grammar.{◌▹◌, Nothing, ASign, AKeyword, WordAt, NameAt, Enclosed, Braced, MaybeBraced, Each, Listed, AreSteps, Path}
+use Rattle.oer_module_syntax.specs.Grammar.{◌▹◌, Nothing, ASign, AKeyword, WordAt, NameAt, Enclosed, Braced, MaybeBraced, Each, Listed, AreSteps, Path, SignAt}
 use Rattle.oer_module_syntax.specs.Looks.{is_field}
 use Rattle.oer_module_syntax.specs.Matched.{Closes, brace}
 use Rattle.oer_module_syntax.specs.Modules.{braced_at, many}
@@ -59,9 +59,6 @@ answered {A} {s} P x r e h = subst (λ v. Took s v.1 (P v.0)) (same_ok x r e) h
 
 -- ---- a token
 
-pub One : ℕ → Token → List Spot → Type 0
-One at k ts = ts ≡ record { at = at; token = k } ∷ []
-
 take_among : (l : List Spot) (s : State) (k : Token) → s.left ≡ l → first_of l ≡ Some k → Took s (bump s) (λ ts. ts ≡ record { at = place_among l s.end; token = k } ∷ [])
 take_among [] s k e h = absurd (cc)
 take_among (x ∷ xs) s k e h = record { used = x ∷ []; is = e ∙ ap (λ y. x ∷ drop 1 y) (sym e); stop = refl; holds = ap (λ u. record { at = x.at; token = u } ∷ []) (some x.token k h) }
@@ -90,7 +87,7 @@ word_first v (Some (digits w)) h = absurd (cc)
 word_first v (Some (text w)) h = absurd (cc)
 word_first v (Some (sign u)) h = absurd (cc)
 
-pub sign_took_at : (g : Sign) (s : State) → at_sign g s ≡ true → Took s (bump s) (λ ts. ts ≡ record { at = place s; token = sign g } ∷ [])
+pub sign_took_at : (g : Sign) (s : State) → at_sign g s ≡ true → Took s (bump s) (SignAt (place s) g)
 sign_took_at g s h = take_first s (sign g) (sign_first g (first s) h)
 
 pub sign_took : (g : Sign) (s : State) → at_sign g s ≡ true → Took s (bump s) (ASign g)
@@ -175,10 +172,6 @@ MaybeEnclosed o c kept ts = (ts ≡ kept) × (Nothing ts ⊎ Enclosed o c ts)
 abbrev pub InBrackets : Sign → Sign → List Spot → List Spot → Type 0
 InBrackets o c kept ts = (ts ≡ kept) × Enclosed o c ts
 
--- the same, or nothing
-abbrev pub MaybeInBrackets : Sign → Sign → List Spot → List Spot → Type 0
-MaybeInBrackets o c kept ts = (ts ≡ kept) × (Nothing ts ⊎ Enclosed o c ts)
-
 pub group_took_here : (o c : Sign) (s : State) (r : List Spot × State) → Closes o c → at_sign o s ≡ true → group_at o s ≡ Ok r → Took s r.1 (InBrackets o c r.0)
 unfolding group_at
 group_took_here o c s r cl a h = elim (chosen (at_sign o s) _ _ _ h) [
@@ -189,15 +182,12 @@ group_took_here o c s r cl a h = elim (chosen (at_sign o s) _ _ _ h) [
   | inr p ↦ absurd (cc)
 ]
 
-pub group_took : (o c : Sign) (s : State) (r : List Spot × State) → Closes o c → group_at o s ≡ Ok r → Took s r.1 (MaybeInBrackets o c r.0)
-unfolding group_at
-group_took o c s r cl h = elim (chosen (at_sign o s) _ _ _ h) [
-  | inl p ↦ turned (MaybeInBrackets o c r.0) (group_took_here o c s r cl p.0 h) (λ a i. (i.0, inr i.1))
-  | inr p ↦ answered (MaybeInBrackets o c) ([], s) r p.1 (stay s (MaybeInBrackets o c []) (refl, inl refl))
-]
-
 pub braces_took : (s : State) (r : List Spot × State) → group_at OpenBrace s ≡ Ok r → Took s r.1 (MaybeBraced r.0)
-braces_took s r h = group_took OpenBrace CloseBrace s r brace h
+unfolding group_at
+braces_took s r h = elim (chosen (at_sign OpenBrace s) _ _ _ h) [
+  | inl p ↦ turned (MaybeBraced r.0) (group_took_here OpenBrace CloseBrace s r brace p.0 h) (λ a i. (i.0, inr i.1))
+  | inr p ↦ answered MaybeBraced ([], s) r p.1 (stay s (MaybeBraced []) (refl, inl refl))
+]
 
 pub braced_took : (s : State) (r : List Spot × State) → braced_at s ≡ Ok r → Took s r.1 (Braced r.0)
 braced_took s r h = elim (chosen (at_sign OpenBrace s) _ _ _ h) [

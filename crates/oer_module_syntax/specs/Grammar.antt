@@ -1,5 +1,6 @@
 -- The grammar of modules (X.680, X.681, X.683): which tokens spell which tree, with a line for each production. `P ▹ Q` are
 -- tokens that split into those of P and those of Q behind them. What a tree keeps as tokens stands in the text as these.
+-- A tree doesn't keep keywords, signs, the text in a header, braces behind a symbol, and the number of a group.
 use Rattle.std.specs.Prelude.{◌≡◌, ℕ, List, [], ◌∷◌, ◌++◌, drop, Bool, true, false, ◌⊎◌, Option, Some, None, Ok}
 use Rattle.std.specs.List.{All}
 use Rattle.oer_module_lexer.specs.Token.{Token, word, field, number, real, bits, digits, text, sign, Spot}
@@ -10,7 +11,7 @@ use Rattle.oer_module_syntax.specs.Looks.{is_field}
 use Rattle.oer_module_syntax.specs.Matched.{brackets_in, brackets, Closes, Matched}
 use Rattle.oer_module_syntax.specs.Modules.{is_end, modules_of}
 use Rattle.oer_module_syntax.specs.Ranges.{starts_sign, is_step, is_any_word, is_amount, is_value_word, ends_prefix}
-use Rattle.oer_module_syntax.specs.State.{State, first_of, is_sign, same_sign}
+use Rattle.oer_module_syntax.specs.State.{State, first_of, is_sign, same_sign, is_word}
 use Rattle.oer_module_syntax.specs.Tree.{Need, must, may, default, Tree, plain, named, tagged, structure, list_of, selection, instance_of, any_defined_by}
 use Rattle.oer_module_syntax.specs.Tree.{Element, marker, group, components_of, component, Elements, no_elements, element}
 use Rattle.oer_module_syntax.specs.Tree.{Symbol, Exports, all, these, Import, Body, type_body, class_body, value_body, set_body, Assignment, Module}
@@ -50,9 +51,18 @@ abbrev pub Each : {A : Type 0} → (A → List Spot → Type 0) → List A → L
 Each P [] = Nothing
 Each P (x ∷ xs) = P x ▹ Each P xs
 
--- this sign
+-- this sign, which begins at a place
+abbrev pub SignAt : ℕ → Sign → List Spot → Type 0
+SignAt at g ts = ts ≡ record { at = at; token = sign g } ∷ []
+
 abbrev pub ASign : Sign → List Spot → Type 0
-ASign g ts = (at : ℕ) × (ts ≡ record { at = at; token = sign g } ∷ [])
+ASign g ts = (at : ℕ) × SignAt at g ts
+
+abbrev pub ANumber : List Spot → Type 0
+ANumber ts = (at : ℕ) × (w : List ℕ) × (ts ≡ record { at = at; token = number w } ∷ [])
+
+abbrev pub AText : List Spot → Type 0
+AText ts = (at : ℕ) × (w : List ℕ) × (ts ≡ record { at = at; token = text w } ∷ [])
 
 -- one or more of these, joined by commas
 abbrev pub Listed : {A : Type 0} → (A → List Spot → Type 0) → List A → List Spot → Type 0
@@ -72,6 +82,10 @@ AKeyword k = AWord (keyword_text k)
 -- a word that the test allows
 abbrev pub NameAt : (List ℕ → Bool) → ℕ → List ℕ → List Spot → Type 0
 NameAt allows at w ts = WordAt at w ts × (allows w ≡ true)
+
+-- a word that isn't reserved (12.38)
+abbrev pub UnreservedAt : ℕ → List ℕ → List Spot → Type 0
+UnreservedAt at w ts = WordAt at w ts × (is_reserved w ≡ false)
 
 abbrev pub AName : (List ℕ → Bool) → List ℕ → List Spot → Type 0
 AName allows w ts = (at : ℕ) × NameAt allows at w ts
@@ -111,13 +125,17 @@ pub data InParentheses : List Spot → Type 0 where
   nothing_enclosed : InParentheses []
   one_enclosed : {ts us : List Spot} → Enclosed OpenParenthesis CloseParenthesis ts → InParentheses us → InParentheses (ts ++ us)
 
+-- something in braces, or nothing
+abbrev pub MaybeEnclosed : List Spot → Type 0
+MaybeEnclosed ts = Nothing ts ⊎ Enclosed OpenBrace CloseBrace ts
+
 -- these tokens, which stand in braces
 abbrev pub Braced : List Spot → List Spot → Type 0
 Braced kept ts = (ts ≡ kept) × Enclosed OpenBrace CloseBrace ts
 
 -- the same, or nothing
 abbrev pub MaybeBraced : List Spot → List Spot → Type 0
-MaybeBraced kept ts = (ts ≡ kept) × (Nothing ts ⊎ Enclosed OpenBrace CloseBrace ts)
+MaybeBraced kept ts = (ts ≡ kept) × MaybeEnclosed ts
 
 -- these tokens, which are constraints (49.6)
 abbrev pub Constraints : List Spot → List Spot → Type 0
@@ -156,9 +174,6 @@ abbrev pub IsAtom : List Spot → Type 0
 IsAtom [] = ⊥
 IsAtom (t ∷ ts) = AtomBy t.token ts
 
-abbrev pub MaybeEnclosed : List Spot → Type 0
-MaybeEnclosed ts = Nothing ts ⊎ Enclosed OpenBrace CloseBrace ts
-
 -- what stands in braces, or an atom, perhaps with actual parameters (X.683, 9.1)
 abbrev pub Base : List Spot → Type 0
 Base ts = Enclosed OpenBrace CloseBrace ts ⊎ (IsAtom ▹ MaybeEnclosed) ts
@@ -184,7 +199,7 @@ Items form.Nothing items ts = (items ≡ []) × Nothing ts
 Items form.Components items ts = ⊥
 Items form.Alternatives items ts = ⊥
 
--- SEQUENCE, SET and CHOICE have elements in braces; whether those of a CHOICE
+-- the types with elements in braces (25.1, 27.1, 29.1), and whether these are alternatives of a CHOICE
 abbrev pub HasElements : Form → Bool → Type 0
 HasElements form.Components alternatives = alternatives ≡ false
 HasElements form.Alternatives alternatives = alternatives ≡ true
@@ -222,7 +237,7 @@ Exception exception ts = ((exception ≡ []) × Nothing ts) ⊎ (ASign Exclamati
 
 -- the number of a group, if it has one (25.1)
 abbrev pub Version : List Spot → Type 0
-Version ts = Nothing ts ⊎ ((λ us. (at : ℕ) × (w : List ℕ) × (us ≡ record { at = at; token = number w } ∷ [])) ▹ ASign Colon) ts
+Version ts = Nothing ts ⊎ (ANumber ▹ ASign Colon) ts
 
 -- A type's name, with the steps behind it: of a type or class (14.1; X.681, 14), or of an object and its field (X.681, 15).
 abbrev pub NamesType : List ℕ → List Spot → Type 0
@@ -232,25 +247,35 @@ NamesType w path =
 abbrev mutual
   -- a type (17.1)
   pub SpelledType : Tree → List Spot → Type 0
+  -- words, perhaps items, and constraints (17.2, 17.3)
   SpelledType (plain at b items constraints) = TypeWords at b ▹ Items (form_of b) items ▹ Constraints constraints
+  -- a name, perhaps actual parameters (X.683, 9.1), and constraints
   SpelledType (named at name path parameters constraints) = λ ts. NamesType name path
       × (WordAt at name ▹ Path path ▹ MaybeBraced parameters ▹ Constraints constraints) ts
+  -- a tag and a type (31.1)
   SpelledType (tagged at tag mode inner) = TagAt at tag ▹ TagMode mode ▹ SpelledType inner
+  -- SEQUENCE (25.1), SET (27.1) or CHOICE (29.1)
   SpelledType (structure at b elements constraints) = λ ts. (alternatives : Bool) × HasElements (form_of b) alternatives
       × (WordAt at (builtin_first b) ▹ ASign OpenBrace ▹ MaybeElements alternatives elements ▹ ASign CloseBrace ▹ Constraints constraints) ts
+  -- SEQUENCE OF (26.1) or SET OF (28.1)
   SpelledType (list_of at b sized size name item) = λ ts. (form_of b ≡ form.Components)
       × (WordAt at (builtin_first b) ▹ Size sized size ▹ AKeyword kw.Of ▹ ItemName name ▹ SpelledType item) ts
+  -- the type of an alternative (30.1)
   SpelledType (selection at name inner) = NameAt is_identifier at name ▹ ASign Less ▹ SpelledType inner
+  -- INSTANCE OF (X.681, annex C)
   SpelledType (instance_of at class path constraints) =
       WordAt at (keyword_text kw.Instance) ▹ AKeyword kw.Of ▹ AName is_class class ▹ Path path ▹ Constraints constraints
+  -- ANY DEFINED BY (X.208, 28)
   SpelledType (any_defined_by at by) = WordAt at (keyword_text kw.Any) ▹ AKeyword kw.Defined ▹ AKeyword kw.By ▹ AName is_identifier by
 
-  -- what stands between the commas, of a CHOICE or not, in a group or not
+  -- What stands between the commas (25.1, 29.1), of a CHOICE or not, in a group or not. How many markers there may be, and on
+  -- which side of them a group, isn't asked here.
   pub SpelledElement : Bool → Bool → Element → List Spot → Type 0
-  SpelledElement alternatives grouped (marker at exception) = λ ts. (grouped ≡ false) × ((λ us. us ≡ record { at = at; token = sign Ellipsis } ∷ []) ▹ Exception exception) ts
+  SpelledElement alternatives grouped (marker at exception) = λ ts. (grouped ≡ false) × (SignAt at Ellipsis ▹ Exception exception) ts
   SpelledElement alternatives grouped (group at elements) = λ ts. (grouped ≡ false)
-      × ((λ us. us ≡ record { at = at; token = sign OpenGroup } ∷ []) ▹ Version ▹ SpelledElements alternatives true elements ▹ ASign CloseGroup) ts
-  SpelledElement alternatives grouped (components_of at from) = λ ts. (alternatives ≡ false) × (WordAt at (keyword_text kw.Components) ▹ AKeyword kw.Of ▹ SpelledType from) ts
+      × (SignAt at OpenGroup ▹ Version ▹ SpelledElements alternatives true elements ▹ ASign CloseGroup) ts
+  SpelledElement alternatives grouped (components_of at from) = λ ts. (alternatives ≡ false)
+      × (WordAt at (keyword_text kw.Components) ▹ AKeyword kw.Of ▹ SpelledType from) ts
   SpelledElement alternatives grouped (component at name from need) = NameAt is_identifier at name ▹ SpelledType from ▹ IsNeed alternatives need
 
   -- one or more, joined by commas
@@ -272,7 +297,7 @@ abbrev mutual
 
 -- a name, perhaps with braces behind it (13.1)
 abbrev pub SpelledSymbol : Symbol → List Spot → Type 0
-SpelledSymbol s = (λ ts. WordAt s.at s.name ts × (is_reserved s.name ≡ false)) ▹ (λ ts. Nothing ts ⊎ Enclosed OpenBrace CloseBrace ts)
+SpelledSymbol s = UnreservedAt s.at s.name ▹ MaybeEnclosed
 
 -- none or more, joined by commas
 abbrev pub Symbols : List Symbol → List Spot → Type 0
@@ -315,8 +340,7 @@ SpelledBody small (set_body governor set) ts = (small ≡ false) × (SpelledType
 
 -- a name, its parameters, and what it stands for (13.1; X.683, 8.1)
 abbrev pub SpelledAssignment : Assignment → List Spot → Type 0
-SpelledAssignment a =
-    (λ ts. WordAt a.at a.name ts × (is_reserved a.name ≡ false)) ▹ MaybeBraced a.parameters ▹ SpelledBody (is_identifier a.name) a.body
+SpelledAssignment a = UnreservedAt a.at a.name ▹ MaybeBraced a.parameters ▹ SpelledBody (is_identifier a.name) a.body
 
 -- ---- modules
 
@@ -338,13 +362,14 @@ ExtensionDefault true = AKeyword kw.Extensibility ▹ AKeyword kw.Implied
 
 -- the name of a module in the tree of the world, which the tree of tokens doesn't keep (13.1)
 abbrev pub MaybeText : List Spot → Type 0
-MaybeText ts = Nothing ts ⊎ ((at : ℕ) × (w : List ℕ) × (ts ≡ record { at = at; token = text w } ∷ []))
+MaybeText ts = Nothing ts ⊎ AText ts
 
--- encoding control: no word END is among its tokens (54.1)
+-- The sections for encodings, if there are any: they begin with ENCODING-CONTROL, and no word END is among their tokens (54.1).
 abbrev pub Control : List Spot → List Spot → Type 0
-Control control ts = (ts ≡ control) × All (λ t. is_end t.token ≡ false) ts
+Control control ts =
+    (ts ≡ control) × (Nothing ts ⊎ (is_word (keyword_text kw.EncodingControl) (first_of ts) ≡ true)) × All (λ t. is_end t.token ≡ false) ts
 
--- what stands before BEGIN, and that word (13.1)
+-- up to BEGIN (13.1)
 abbrev pub Header : ℕ → List ℕ → List Spot → Option (List ℕ) → Tags → Bool → List Spot → Type 0
 Header at name id instructions tags extensible =
     NameAt is_reference at name ▹ MaybeBraced id ▹ MaybeText ▹ AKeyword kw.Definitions ▹ Instructions instructions ▹ TagDefault tags
@@ -361,6 +386,6 @@ abbrev pub SpelledModules : List Module → List Spot → Type 0
 SpelledModules [] ts = ⊥
 SpelledModules (m ∷ ms) ts = Each SpelledModule (m ∷ ms) ts
 
--- What is read of a text is what its tokens spell, all of them; and the text's end is where they end.
+-- The modules that are read of a text are spelled by its tokens, by all of them, and the text goes on behind none.
 abbrev pub ModulesSound : Type 0
 ModulesSound = (levels : ℕ) (s : State) (ms : List Module) → modules_of levels s ≡ Ok ms → SpelledModules ms s.left × (s.complete ≡ true)

@@ -5,5 +5,6 @@ pub mod Modules
 pub mod Ranges
 pub mod State
 pub mod Tree
+pub mod Turns
 pub mod Types
 pub mod Words
