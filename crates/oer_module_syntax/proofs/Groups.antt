@@ -50,7 +50,7 @@ closes_all at (digits w) c cs h b = absurd (cc)
 closes_all at (text w) c cs h b = absurd (cc)
 
 -- where all is closed a group ends
-at_end : (s : State) (ts : List Spot) → groups_len Group s ts [] ≡ Ok 0
+pub at_end : (s : State) (ts : List Spot) → groups_len Group s ts [] ≡ Ok 0
 unfolding groups_len
 at_end s [] = refl
 at_end s (t ∷ ts) = refl
@@ -72,7 +72,7 @@ module _ (s : State) where
       let q = bind_ok (groups_len Group s ts p.0) (λ m. Ok (1 + m)) n p.2 in
       subst (λ k. EndsInBracket (take k (t ∷ ts))) (sym (one_more q.0) ∙ ap count_of q.2) (ends_behind t ts c cs p.0 q.0 p.1 q.1 (λ d ds g. group_ends ts d ds q.0 g))
 
-some_bracket : {g : Sign} {gs : List Sign} → g ∷ gs ≡ [] → ⊥
+pub some_bracket : {g : Sign} {gs : List Sign} → g ∷ gs ≡ [] → ⊥
 some_bracket h = absurd (cc)
 
 all_closed : {cs : List Sign} (d : Sign) (ds hs : List Sign) → ◌≡◌ {A = Result (List Sign) Fault} (Ok cs) (Ok (d ∷ ds)) → CloseAll (d ∷ ds) hs → CloseAll cs hs

@@ -9,3 +9,4 @@ pub mod SoundTypes
 pub mod SoundValues
 pub mod Took
 pub mod Trees
+pub mod Whole

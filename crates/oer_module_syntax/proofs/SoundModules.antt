@@ -4,8 +4,8 @@ use Rattle.std.specs.List.{All}
 use Rattle.std.proofs.lemmas.List.{append-nil}
 use Rattle.std.proofs.lemmas.List.Elements.{All-nil, All-cons}
 use Rattle.oer_module_lexer.specs.Token.{Token, word, field, number, real, bits, digits, text, sign, Spot}
-use Rattle.oer_module_lexer.specs.declared.token.Sign.TheVariants.{OpenBrace, CloseBrace, Semicolon, Assign}
-use Rattle.oer_module_syntax.specs.Grammar.{◌▹◌, Nothing, Each, Listed, ASign, AKeyword, AWord, WordAt, Enclosed, SpelledSymbol, Symbols, SpelledExports, SpelledVersions, AssignedIdentifier, SpelledImport, SpelledImports, ClassSyntax, SpelledBody, SpelledAssignment, Instructions, TagDefault, ExtensionDefault, MaybeText, Control, Header, SpelledModule, SpelledModules, ModulesSound, UnreservedAt, MaybeEnclosed}
+use Rattle.oer_module_lexer.specs.declared.token.Sign.TheVariants.{OpenBrace, Semicolon, Assign}
+use Rattle.oer_module_syntax.specs.Grammar.{◌▹◌, Nothing, Listed, ASign, AKeyword, AWord, SpelledSymbol, Symbols, SpelledExports, SpelledVersions, AssignedIdentifier, SpelledImport, SpelledImports, ClassSyntax, SpelledBody, SpelledAssignment, Instructions, TagDefault, ExtensionDefault, MaybeText, Control, Header, SpelledModule, SpelledModules, ModulesSound, UnreservedAt, MaybeEnclosed}
 use Rattle.oer_module_syntax.specs.Looks.{names_value}
 use Rattle.oer_module_syntax.specs.Modules.{many, all_of, is_text, past_text, tags_behind, tags_at, extensible_at, instructions_by, instructions_at, symbol_by, symbol_at, exported_at, exports_at, goes_on_symbols, name_len, id_name_by, id_by, id_at, versions_behind, versions_at, import_at, imports_at, ends_assignments, is_end, control_len, braced_at, syntax_at, class_at, defined_at, set_at, valued_at, body_at, assigned_at, assignment_by, assignment_at, content_at, module_at, none_left, is_last, modules_of}
 use Rattle.oer_module_syntax.specs.Ranges.{pairs_len, group_at, value_at}
@@ -23,7 +23,7 @@ use Rattle.oer_module_syntax.specs.declared.word.Keyword.TheVariants as kw
 use Rattle.oer_module_syntax.proofs.Matching.{bind_ok, chosen}
 use Rattle.oer_module_syntax.proofs.SoundTypes.{type_took}
 use Rattle.oer_module_syntax.proofs.SoundValues.{value_took}
-use Rattle.oer_module_syntax.proofs.Took.{Took, ◌▸◌, stay, turned, answered, same_ok, take_first, sign_took, word_took, keyword_took, skip_sign_took, skip_keyword_took, reference_took, front_took, braces_took, braced_took, listed_took, each_onto, many_took, steps}
+use Rattle.oer_module_syntax.proofs.Took.{Took, ◌▸◌, stay, turned, answered, same_ok, take_first, sign_took, word_took, keyword_took, skip_sign_took, skip_keyword_took, reference_took, front_took, braces_took, braced_took, listed_took, each_onto, many_took, all_took, steps}
 
 -- ---- the header
 
@@ -182,13 +182,22 @@ module _ (w : List ℕ) where
       let path = take (pairs_len Step (bump s).left) (bump s).left in
       let Id = AssignedIdentifier (take (name_len s) s.left) in
       turned Id (front_took (name_len s) s)
-      (λ a i. inr (i, w, path, record { front = record { at = place s; token = word w } ∷ []; behind = path; is = i ∙ name_is s.left s.end e; first = (place s, refl); last = (refl, steps (bump s).left) }))
+      (
+      λ a i. inr (
+        i,
+        w,
+        path,
+        record { front = record { at = place s; token = word w } ∷ []; behind = path; is = i ∙ name_is s.left s.end e; first = (place s, refl); last = (refl, steps (bump s).left) },
+      )
+      )
 
 id_by_took : (o : Option Token) (s : State) (r : List Spot × State) → first s ≡ o → id_by (id_name_by o s) ≡ Ok r → Took s r.1 (AssignedIdentifier r.0)
-id_by_took (Some (word w)) s r e h = elim (chosen {A = Option (List Spot) × State} (names_value w s && not (goes_on_symbols (past (name_len s) s))) (Some (take (name_len s) s.left), past (name_len s) s) (None, s) (id_name_by (Some (word w)) s) refl) [
-  | inl p ↦ answered AssignedIdentifier (take (name_len s) s.left, past (name_len s) s) r (ap id_by p.1 ∙ h) (value_name_took w s e)
-  | inr p ↦ in_braces s r (ap id_by p.1 ∙ h)
-]
+id_by_took (Some (word w)) s r e h =
+    let named = names_value w s && not (goes_on_symbols (past (name_len s) s)) in
+    elim (chosen {A = Option (List Spot) × State} named (Some (take (name_len s) s.left), past (name_len s) s) (None, s) (id_name_by (Some (word w)) s) refl) [
+      | inl p ↦ answered AssignedIdentifier (take (name_len s) s.left, past (name_len s) s) r (ap id_by p.1 ∙ h) (value_name_took w s e)
+      | inr p ↦ in_braces s r (ap id_by p.1 ∙ h)
+    ]
   where
     in_braces : (s : State) (r : List Spot × State) → group_at OpenBrace s ≡ Ok r → Took s r.1 (AssignedIdentifier r.0)
     in_braces s r h = turned (AssignedIdentifier r.0) (braces_took s r h) (λ a i. inl i)
@@ -234,7 +243,7 @@ unfolding imports_at
 imports_took s r h = elim (chosen (at_keyword kw.Imports s) _ _ _ h) [
   | inl p ↦ (
       let x = bind_ok (all_of (at_sign Semicolon) import_at (bump s)) _ r p.1 in
-      let m = many_took SpelledImport (Each SpelledImport) (each_onto SpelledImport) import_at import_took (at_sign Semicolon) (suc (length (bump s).left)) [] (bump s) (bump s) x.0 (stay (bump s) Nothing refl) x.1 in
+      let m = all_took SpelledImport import_at import_took (at_sign Semicolon) (bump s) x.0 x.1 in
       answered SpelledImports (x.0.0, bump x.0.1) r x.2
       (turned (SpelledImports x.0.0) (keyword_took kw.Imports s p.0 ▸ m.0 ▸ sign_took Semicolon x.0.1 m.1) (λ a i. inr i)))
   | inr p ↦ answered SpelledImports ([], s) r p.1 (stay s (SpelledImports []) (inl (refl, refl)))
@@ -363,7 +372,7 @@ module _ (levels : ℕ) where
       let before = assignments.0.1 in
       let behind = past (control_len before.left) before in
       let end = bind_ok (skip_keyword kw.End behind) _ r assignments.2 in
-      let many = many_took SpelledAssignment (Each SpelledAssignment) (each_onto SpelledAssignment) (assignment_at levels) (assignment_took levels) ends_assignments (suc (length imports.0.1.left)) [] imports.0.1 imports.0.1 assignments.0 (stay imports.0.1 Nothing refl) assignments.1 in
+      let many = all_took SpelledAssignment (assignment_at levels) (assignment_took levels) ends_assignments imports.0.1 assignments.0 assignments.1 in
       answered SpelledModule (
         record {
           at = at;

@@ -287,7 +287,8 @@ module _ (type : State → Read Tree) (sound : (s : State) (r : Tree × State) �
       let l = listed_took (SpelledElement alternatives true) (member_at type alternatives) (member_took alternatives true) version.0.1 found.0 found.1 in
       let es = turned (SpelledElements alternatives true (elements_from found.0.0)) l (λ a i. elements_spelled alternatives true found.0.0 a i) in
       answered (SpelledElement alternatives false) (e, over.0.1) r over.2
-      (turned (SpelledElement alternatives false e) (sign_took_at OpenGroup s k ▸ version_took (bump s) version.0 version.1 ▸ es ▸ skip_sign_took CloseGroup found.0.1 over.0 over.1) (λ a i. (refl, i)))
+      (turned (SpelledElement alternatives false e) (sign_took_at OpenGroup s k ▸ version_took (bump s) version.0 version.1 ▸ es ▸ skip_sign_took CloseGroup found.0.1 over.0 over.1)
+      (λ a i. (refl, i)))
 
   element_took : (alternatives : Bool) (s : State) (r : Element × State) → element_at type alternatives s ≡ Ok r → Took s r.1 (SpelledElement alternatives false r.0)
   unfolding element_at
@@ -433,6 +434,7 @@ type_took zero s r h = absurd (cc)
 type_took (suc levels) s r h = any_type_took (type_at levels) (type_took levels) s r h
 
 -- what stands between two commas, in a group or not
-pub one_took : (levels : ℕ) (grouped alternatives : Bool) (s : State) (r : Element × State) → one_at (type_at levels) grouped alternatives s ≡ Ok r → Took s r.1 (SpelledElement alternatives grouped r.0)
+pub one_took : (levels : ℕ) (grouped alternatives : Bool) (s : State) (r : Element × State) → one_at (type_at levels) grouped alternatives s ≡ Ok r
+    → Took s r.1 (SpelledElement alternatives grouped r.0)
 one_took levels true alternatives s r h = member_took (type_at levels) (type_took levels) alternatives true s r h
 one_took levels false alternatives s r h = element_took (type_at levels) (type_took levels) alternatives s r h

@@ -10,7 +10,7 @@ use Rattle.oer_module_lexer.specs.declared.token.Sign.TheVariants.{OpenBrace, Cl
 use Rattle.oer_module_syntax.specs.Grammar.{◌▹◌, Nothing, ASign, AKeyword, WordAt, NameAt, Enclosed, Braced, MaybeBraced, Each, Listed, AreSteps, Path, SignAt}
 use Rattle.oer_module_syntax.specs.Looks.{is_field}
 use Rattle.oer_module_syntax.specs.Matched.{Closes, brace}
-use Rattle.oer_module_syntax.specs.Modules.{braced_at, many}
+use Rattle.oer_module_syntax.specs.Modules.{braced_at, many, all_of}
 use Rattle.oer_module_syntax.specs.Ranges.{front_of, group_at, group_len, starts_sign, is_pair, is_step, pairs_len}
 use Rattle.oer_module_syntax.specs.State.{State, Read, first, first_of, bump, past, place, place_among, is_sign, at_sign, is_word, at_keyword, skip_sign, skip_keyword, identifier_by, identifier_at, reference_by, reference_at}
 use Rattle.oer_module_syntax.specs.Types.{more_listed, listed}
@@ -262,6 +262,11 @@ module _ {A : Type 0} (P : A → List Spot → Type 0) (R : List A → List Spot
         let e = bind_ok (one t) _ r c.1 in
         many_took n (found ++ e.0.0 ∷ []) s e.0.1 r (both (R (found ++ e.0.0 ∷ [])) p (sound t e.0 e.1) (λ a b p q. onto found e.0.0 a b p q)) e.2)
   ]
+
+-- all up to where it is done
+pub all_took : {A : Type 0} (P : A → List Spot → Type 0) (one : State → Read A) → ((s : State) (r : A × State) → one s ≡ Ok r → Took s r.1 (P r.0))
+    → (done : State → Bool) (s : State) (r : List A × State) → all_of done one s ≡ Ok r → Took s r.1 (Each P r.0) × (done r.1 ≡ true)
+all_took P one sound done s r h = many_took P (Each P) (each_onto P) one sound done (suc (length s.left)) [] s s r (stay s Nothing refl) h
 
 -- ---- steps behind a name
 

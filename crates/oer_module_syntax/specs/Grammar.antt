@@ -10,7 +10,7 @@ use Rattle.oer_module_lexer.specs.declared.token.Sign.TheVariants.{Less, Comma, 
 use Rattle.oer_module_syntax.specs.Looks.{is_field}
 use Rattle.oer_module_syntax.specs.Matched.{brackets_in, brackets, Closes, Matched}
 use Rattle.oer_module_syntax.specs.Modules.{is_end, modules_of}
-use Rattle.oer_module_syntax.specs.Ranges.{starts_sign, is_step, is_any_word, is_amount, is_value_word, ends_prefix}
+use Rattle.oer_module_syntax.specs.Ranges.{group_at, starts_sign, is_step, is_any_word, is_amount, is_value_word, ends_prefix}
 use Rattle.oer_module_syntax.specs.State.{State, first_of, is_sign, same_sign, is_word}
 use Rattle.oer_module_syntax.specs.Tree.{Need, must, may, default, Tree, plain, named, tagged, structure, list_of, selection, instance_of, any_defined_by}
 use Rattle.oer_module_syntax.specs.Tree.{Element, marker, group, components_of, component, Elements, no_elements, element}
@@ -389,3 +389,9 @@ SpelledModules (m ∷ ms) ts = Each SpelledModule (m ∷ ms) ts
 -- The modules that are read of a text are spelled by its tokens, by all of them, and the text goes on behind none.
 abbrev pub ModulesSound : Type 0
 ModulesSound = (levels : ℕ) (s : State) (ms : List Module) → modules_of levels s ≡ Ok ms → SpelledModules ms s.left × (s.complete ≡ true)
+
+-- What stands in brackets is taken whole, and nothing behind it.
+abbrev pub GroupsWhole : Type 0
+GroupsWhole =
+    (o c : Sign) (s : State) (rest ts : List Spot) → Closes o c → starts_sign o ts ≡ true → Enclosed o c ts → s.left ≡ ts ++ rest
+    → group_at o s ≡ Ok (ts, record { left = rest; end = s.end; complete = s.complete })

@@ -1,5 +1,5 @@
 //! What holds of the syntax. Each function does nothing; its contract is the law.
-ghost use Rattle.oer_module_syntax.specs.Grammar.{ModulesSound};
+ghost use Rattle.oer_module_syntax.specs.Grammar.{GroupsWhole, ModulesSound};
 ghost use Rattle.oer_module_syntax.specs.Matched.{GroupsMatch};
 ghost use Rattle.oer_module_syntax.specs.Turns.{TurnsSuffice};
 
@@ -7,6 +7,12 @@ ghost use Rattle.oer_module_syntax.specs.Turns.{TurnsSuffice};
 /// between them match: each is closed by one of its kind. `[[` and `]]` are two brackets.
 pub fn groups_match()
     ensures { GroupsMatch }
+{}
+
+/// What stands in brackets, from one that opens to the one that closes it, is taken whole, and nothing
+/// behind it.
+pub fn groups_are_whole()
+    ensures { GroupsWhole }
 {}
 
 /// What is read of a text is what its tokens spell, production by production, from the first to the
