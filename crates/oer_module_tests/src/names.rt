@@ -37,12 +37,15 @@ fn draw_error(at: Global, error: NameError<'_>) -> Result<String, Fail> {
 }
 
 /// What `of.name`, or the Name alone, stands for in the module; in all modules, where none is given.
-fn asked<'n>(
+fn asked<'n, 'q>(
     names: &Names<'n, 'n, 'n>,
-    module: &'n str,
-    of: &'n str,
-    name: &'n str,
-) -> Result<Found, NameError<'n>> {
+    module: &'q str,
+    of: &'q str,
+    name: &'q str,
+) -> Result<Found, NameError<'q>>
+where
+    'n: 'q,
+{
     if module.is_empty() {
         return names.find_anywhere(name);
     }
@@ -51,6 +54,24 @@ fn asked<'n>(
         return names.find(module, name);
     }
     names.find_in(module, of, name)
+}
+
+fn answers<'n>(
+    at: Global,
+    names: &Names<'n, 'n, 'n>,
+    module: &str,
+    of: &str,
+    name: &str,
+    want: &str,
+) -> Result<(), Fail> {
+    let answer = match asked(names, module, of, name) {
+        Ok(found) => format!(in at; "{}.{}", found.module, found.assignment)?,
+        Err(error) => draw_error(at, error)?,
+    };
+    if answer.as_str() == want {
+        return Ok(());
+    }
+    Err(Fail::new(answer.as_str()))
 }
 
 fn modules_of<'x>(at: Global, tokens: &'x Tokens<'x>) -> Result<Vec<Module<'x, 'x>>, Fail> {
@@ -92,13 +113,7 @@ fn finds(rt: HostRuntime) -> Result<(), Fail> {
         ("", "", "Two", "AssignedTwice 1 2 Two 0:178"),
         ("", "", "None", "Missing None"),
     ] {
-        let answer = match asked(&names, module, of, name) {
-            Ok(found) => format!(in at; "{}.{}", found.module, found.assignment)?,
-            Err(error) => draw_error(at, error)?,
-        };
-        if answer.as_str() != want {
-            return Err(Fail::new(answer.as_str()));
-        }
+        answers(at, &names, module, of, name, want)?;
     }
     Ok(())
 }
