@@ -4,8 +4,6 @@
 #[cfg(test)]
 mod lexer;
 #[cfg(test)]
-mod names;
-#[cfg(test)]
 mod syntax;
 #[cfg(test)]
 mod terms;
