@@ -1,8 +1,8 @@
-use Rattle.std.proofs.Common.{◌≡◌, ◌+◌, ◌-◌, ◌^◌, pos, ◌+ℤ◌, ◌<ℤ◌, List, ◌<◌, ◌≤◌, ℤ, length, FitsSigned, to_z, of_z, sym, ◌∙◌, ap, ap₂, subst, arith}
+use Rattle.std.proofs.Common.{◌≡◌, ◌+◌, ◌-◌, ◌^◌, pos, ◌+ℤ◌, ◌<ℤ◌, List, ◌<◌, ◌≤◌, ℤ, length, FitsSigned, to_z, sym, ◌∙◌, ap₂, subst, arith}
 use Rattle.std.specs.Int.{w128}
 use Rattle.std.proofs.lemmas.Int.{ints, to_z-of_z}
 use Rattle.std.proofs.Math.Facts.{sfits_to_z}
-use Rattle.oer_module_parts.specs.Numbering.{first_free, free_within, representable}
+use Rattle.oer_module_parts.specs.Numbering.{first_free, free_within}
 use Rattle.oer_module_parts.proofs.NumberSteps.{free_to, found, found_last, not_found, goes_on}
 use Rattle.oer_module_parts.proofs.numbering.first_free.Goals as goal
 

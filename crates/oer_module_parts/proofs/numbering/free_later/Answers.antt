@@ -1,4 +1,4 @@
-use Rattle.std.proofs.Common.{rules, ◌≡◌, ℤ, FitsSigned, ◌∙◌, ap}
+use Rattle.std.proofs.Common.{rules, FitsSigned, ◌∙◌, ap}
 use Rattle.std.proofs.lemmas.Int.{to_z-of_z}
 use Rattle.std.specs.Int.{w128}
 use Rattle.oer_module_parts.specs.Numbering.{first_free, least_after, representable}
