@@ -310,7 +310,8 @@ not_found n ns new = by (is_among n ns) refl
 given_next : (i : ℕ) (n : ℤ) (xs : List (Option ℤ)) (found : List ℤ) → ¬ IsAmong n found → given_from i (Some n ∷ xs) found ≡ given_from (suc i) xs (with_number found n)
 given_next i n xs found new = rw (not_found n found new) refl
 
-given_complete : (i : ℕ) (xs : List (Option ℤ)) (found : List ℤ) → AreDistinct (given_in xs) → ((q : ℤ) → IsAmong q (given_in xs) → ¬ IsAmong q found) → (keys : List ℤ) × (given_from i xs found ≡ Ok keys)
+given_complete : (i : ℕ) (xs : List (Option ℤ)) (found : List ℤ) → AreDistinct (given_in xs) → ((q : ℤ) → IsAmong q (given_in xs) → ¬ IsAmong q found)
+    → (keys : List ℤ) × (given_from i xs found ≡ Ok keys)
 given_complete i [] found distinct fresh = (found, refl)
 given_complete i (None ∷ xs) found distinct fresh = given_complete (suc i) xs found distinct fresh
 given_complete i (Some n ∷ xs) found distinct fresh =

@@ -16,7 +16,8 @@ returns-in_err-number-clause-is c =
     let l = c.loop in
     let some : 0 < length c.args.taken.now.keys - l.counter = let more = c.loop-test.true in let len = c.len-end.ensures.len in omega arith in
     c.from_residual.ensures
-    ∙ not_found c.args.taken.now.keys c.args.from (to_z w128 l.number-bits) (length c.args.taken.now.keys - l.counter) c.ranges.from l.invariant some (sym c.if-not-is_among.ensures) (sfits_to_z l.auto.number) c.in_err-number.ensures
+    ∙ not_found c.args.taken.now.keys c.args.from (to_z w128 l.number-bits) (length c.args.taken.now.keys - l.counter) c.ranges.from l.invariant some
+    (sym c.if-not-is_among.ensures) (sfits_to_z l.auto.number) c.in_err-number.ensures
 
 pub loop-preserved : goal.loop-preserved
 loop-preserved c =
