@@ -1,5 +1,5 @@
 -- Automatic tags are in order.
-use Rattle.std.proofs.Common.{◌≡◌, ℕ, zero, suc, ◌+◌, List, [], ◌∷◌, ◌++◌, length, refl, sym, ap, ap₂, ◌∙◌, arith}
+use Rattle.std.proofs.Common.{◌≡◌, ℕ, zero, suc, ◌+◌, List, [], ◌∷◌, ◌++◌, length, refl, ap, ap₂, ◌∙◌, arith}
 use Rattle.oer_module_parts.specs.Automatic.{AreAutomatic, automatic_numbers, counting_from, in_additions, in_root, numbers_from, root_count}
 use Rattle.oer_module_parts.specs.declared.automatic.Place.{Place}
 use Rattle.oer_module_parts.specs.declared.automatic.Place.TheVariants.{Root, Addition}

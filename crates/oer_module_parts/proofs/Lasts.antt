@@ -1,5 +1,5 @@
 -- The last of some tokens.
-use Rattle.std.proofs.Common.{◌≡◌, ℕ, suc, ◌-◌, List, [], ◌∷◌, length, Option, Some, None, refl, ap, ◌∙◌, sub-one, slice_get}
+use Rattle.std.proofs.Common.{◌≡◌, ℕ, ◌-◌, List, [], ◌∷◌, length, Option, Some, None, refl, ap, ◌∙◌, sub-one, slice_get}
 use Rattle.oer_module_lexer.specs.Token.{spots_of}
 use Rattle.oer_module_lexer.specs.declared.token.Spot.{Spot}
 use Rattle.oer_module_parts.specs.Kept.{last_place}

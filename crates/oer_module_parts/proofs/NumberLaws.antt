@@ -1,12 +1,12 @@
 -- The numbers that are found are those of the items, and they have no others.
-use Rattle.std.proofs.Common.{◌≡◌, ℤ, pos, ◌+ℤ◌, ◌<ℤ◌, ◌≤ℤ◌, ◌^◌, ℕ, zero, suc, List, [], ◌∷◌, ◌++◌, length, Bool, true, false, Option, Some, None, Result, Ok, Err, ◌⊎◌, inl, inr}
+use Rattle.std.proofs.Common.{◌≡◌, ℤ, pos, ◌+ℤ◌, ◌<ℤ◌, ◌≤ℤ◌, ◌^◌, ℕ, suc, List, [], ◌∷◌, ◌++◌, length, Bool, true, false, Option, Some, None, Result, Ok, Err, ◌⊎◌, inl, inr}
 use Rattle.std.proofs.Common.{refl, sym, ap, subst, ◌∙◌, arith, append_assoc}
 use Rattle.std.proofs.lemmas.List.{append-nil}
 use Rattle.std.specs.Prelude.{int_lt, if◌then◌else◌}
 use Rattle.std.proofs.lemmas.Int.{ints, by_lt_z}
 use Rattle.oer_module_parts.specs.Numbered.{AreBelow, AreDistinct, AreNumbered, IsAmong, IsFree, IsLeast, IsNew, LaterHave, RootHas, given_in}
 use Rattle.oer_module_parts.specs.Numbered.{root_none, root_its_own, root_least, later_none, later_its_own, later_least}
-use Rattle.oer_module_parts.specs.Numbering.{behind_root, first_free, free_later, given_from, given_later, is_above, is_among, later_number, later_numbers, least_after, number_items}
+use Rattle.oer_module_parts.specs.Numbering.{behind_root, first_free, free_later, given_from, given_later, is_above, is_among, later_numbers, least_after, number_items}
 use Rattle.oer_module_parts.specs.Numbering.{representable, root_numbers, set_of, unless_too_large, with_number, ◌>>=◌}
 use Rattle.oer_module_parts.specs.declared.numbering.NumberFault.{NumberFault}
 use Rattle.oer_module_parts.specs.declared.numbering.NumberFault.TheVariants.{Repeated, NotAscending}
@@ -238,28 +238,34 @@ later_sound root taken same before last so_far (None ∷ xs) found ns h =
 
 -- ---- all
 
+-- nothing is numbered yet
+root_start : (given : List ℤ) → RootSoFar given [] (pos 0)
+root_start given = record { from = omega (arith, ints); below = tt; passed = λ m low less. absurd (omega (arith, ints)) }
+
+-- the root's numbers, where those that are given were found
+root_found : (root : List (Option ℤ)) (keys : List ℤ) → given_from 0 root [] ≡ Ok keys → RootHas (given_in root) [] root (root_numbers keys (pos 0) root)
+root_found root keys h =
+    let given = given_sound 0 root [] keys h in
+    root_sound (given_in root) keys (record { there = λ q is. only q (given.there q is); back = λ q is. given.back q (inr is) }) [] (pos 0) (root_start (given_in root)) root
+  where
+    only : (q : ℤ) → IsAmong q [] ⊎ IsAmong q (given_in root) → IsAmong q (given_in root)
+    only q (inl is) = absurd is
+    only q (inr is) = is
+
 pub numbers_sound : (root more : List (Option ℤ)) (ns : List ℤ) → number_items root more ≡ Ok ns → AreNumbered root more ns
 unfolding number_items LaterFound
 numbers_sound root more ns h =
     let step = bind_ok (given_from 0 root []) (λ given. behind_root (root_numbers given (pos 0) root) more) ns h in
-    let keys = step.0 in
-    let given = given_sound 0 root [] keys step.1 in
-    let same : AreSame keys (given_in root) = record { there = λ q is. only_given q (given.there q is); back = λ q is. given.back q (inr is) } in
-    let rs = root_numbers keys (pos 0) root in
-    let start : RootSoFar (given_in root) [] (pos 0) = record { from = omega (arith, ints); below = tt; passed = λ m low less. absurd (omega (arith, ints)) } in
+    let rs = root_numbers step.0 (pos 0) root in
     let later = later_sound rs (set_of [] rs) (set_same rs) [] None none_so_far more rs ns step.2 in
     record {
-      distinct = given.distinct;
+      distinct = (given_sound 0 root [] step.0 step.1).distinct;
       of_root = rs;
       of_more = later.0;
       split = later.1;
-      root_has = root_sound (given_in root) keys same [] (pos 0) start root;
+      root_has = root_found root step.0 step.1;
       more_have = later.2;
     }
-  where
-    only_given : (q : ℤ) → IsAmong q [] ⊎ IsAmong q (given_in root) → IsAmong q (given_in root)
-    only_given q (inl is) = absurd is
-    only_given q (inr is) = is
 
 -- ---- no others
 
@@ -291,3 +297,69 @@ numbers_unique root more ms ns a b =
     let roots = root_same (given_in root) [] root a.of_root b.of_root a.root_has b.root_has in
     let laters = later_same b.of_root [] more a.of_more b.of_more (subst (λ rs. LaterHave rs [] more a.of_more) roots a.more_have) b.more_have in
     a.split ∙ ap (λ rs. rs ++ a.of_more) roots ∙ ap (λ ks. b.of_root ++ ks) laters ∙ sym b.split
+
+-- ---- they are found
+
+not_found : (n : ℤ) (ns : List ℤ) → ¬ IsAmong n ns → is_among n ns ≡ false
+not_found n ns new = by (is_among n ns) refl
+  where
+    by : (b : Bool) → is_among n ns ≡ b → b ≡ false
+    by true e = absurd (new (among_true n ns e))
+    by false e = refl
+
+given_next : (i : ℕ) (n : ℤ) (xs : List (Option ℤ)) (found : List ℤ) → ¬ IsAmong n found → given_from i (Some n ∷ xs) found ≡ given_from (suc i) xs (with_number found n)
+given_next i n xs found new = rw (not_found n found new) refl
+
+given_complete : (i : ℕ) (xs : List (Option ℤ)) (found : List ℤ) → AreDistinct (given_in xs) → ((q : ℤ) → IsAmong q (given_in xs) → ¬ IsAmong q found)
+    → (keys : List ℤ) × (given_from i xs found ≡ Ok keys)
+given_complete i [] found distinct fresh = (found, refl)
+given_complete i (None ∷ xs) found distinct fresh = given_complete (suc i) xs found distinct fresh
+given_complete i (Some n ∷ xs) found distinct fresh =
+    let rest = given_complete (suc i) xs (with_number found n) distinct.1 (λ q is there. later q is (added_from q n found there)) in
+    (rest.0, given_next i n xs found (fresh n (inl refl)) ∙ rest.1)
+  where
+    later : (q : ℤ) → IsAmong q (given_in xs) → OneMore q n found → ⊥
+    later q is (inl e) = distinct.0 (subst (λ k. IsAmong k (given_in xs)) e is)
+    later q is (inr there) = fresh q (inr is) there
+
+representable_below : (n : ℤ) → n <ℤ pos (2 ^ 127) → representable n ≡ Some n
+unfolding representable
+representable_below n less = rw (is_less n (pos (2 ^ 127)) less) refl
+
+given_ok : (root taken : List ℤ) → AreSame taken root → (before : List ℤ) (last : Option ℤ) → LaterSoFar before last → (i : ℕ) (n : ℤ) → IsNew root before n → given_later taken last i n ≡ Ok n
+given_ok root taken same before last so_far i n new = rw (not_found n taken (λ is. new.0 (same.there n is)), so_far.back n new.1) refl
+
+free_ok : (root taken : List ℤ) → AreSame taken root → (before : List ℤ) (last : Option ℤ) → LaterSoFar before last → (i : ℕ) (n : ℤ) → IsLeast (IsNew root before) n → n <ℤ pos (2 ^ 127)
+    → unless_too_large i (free_later taken last) ≡ Ok n
+free_ok root taken same before last so_far i n new less =
+    let is = least_same (IsNew root before) (first_free taken (least_after last)) n (free_new root taken same before last so_far) new in
+    ap (λ k. unless_too_large i (representable k)) is ∙ ap (unless_too_large i) (representable_below n less)
+
+later_complete : (root taken : List ℤ) → AreSame taken root → (before : List ℤ) (last : Option ℤ) → LaterSoFar before last → (xs : List (Option ℤ)) (found ms : List ℤ)
+    → LaterHave root before xs ms → AreBelow (pos (2 ^ 127)) ms → later_numbers taken last xs found ≡ Ok (found ++ ms)
+later_complete root taken same before last so_far [] found ms later_none below = ap Ok (sym (append-nil found))
+later_complete root taken same before last so_far (Some n ∷ xs) found ms (later_its_own {ns = ns} new has) below =
+    ap (λ r. r >>= λ k. later_numbers taken (Some k) xs (found ++ k ∷ [])) (given_ok root taken same before last so_far (length found) n new)
+    ∙ later_complete root taken same (n ∷ before) (Some n) (one_so_far before n new.1) xs (found ++ n ∷ []) ns has below.1
+    ∙ ap Ok (append_assoc found (n ∷ []) ns)
+later_complete root taken same before last so_far (None ∷ xs) found [] has below = elim has [ ]
+later_complete root taken same before last so_far (None ∷ xs) found (n ∷ ns) (later_least new has) below =
+    ap (λ r. r >>= λ k. later_numbers taken (Some k) xs (found ++ k ∷ [])) (free_ok root taken same before last so_far (length found) n new below.0)
+    ∙ later_complete root taken same (n ∷ before) (Some n) (one_so_far before n new.holds.1) xs (found ++ n ∷ []) ns has below.1
+    ∙ ap Ok (append_assoc found (n ∷ []) ns)
+
+below_behind : (n : ℤ) (ms ks : List ℤ) → AreBelow n (ms ++ ks) → AreBelow n ks
+below_behind n [] ks h = h
+below_behind n (m ∷ ms) ks h = below_behind n ms ks h.1
+
+pub numbers_complete : (root more : List (Option ℤ)) (ns : List ℤ) → AreNumbered root more ns → AreBelow (pos (2 ^ 127)) ns → number_items root more ≡ Ok ns
+unfolding number_items
+numbers_complete root more ns has below =
+    let found = given_complete 0 root [] has.distinct (λ q is there. there) in
+    let keys = found.0 in
+    let rs = root_numbers keys (pos 0) root in
+    let roots : has.of_root ≡ rs = root_same (given_in root) [] root has.of_root rs has.root_has (root_found root keys found.1) in
+    let more_below = below_behind (pos (2 ^ 127)) has.of_root has.of_more (subst (λ ks. AreBelow (pos (2 ^ 127)) ks) has.split below) in
+    ap (λ r. r >>= λ given. behind_root (root_numbers given (pos 0) root) more) found.1
+    ∙ later_complete rs (set_of [] rs) (set_same rs) [] None none_so_far more rs has.of_more (subst (λ ks. LaterHave ks [] more has.of_more) roots has.more_have) more_below
+    ∙ ap Ok (ap (λ ks. ks ++ has.of_more) (sym roots) ∙ sym has.split)

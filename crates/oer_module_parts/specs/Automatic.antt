@@ -5,7 +5,7 @@ use Rattle.oer_module_parts.specs.declared.automatic.Mark as raw_mark
 use Rattle.oer_module_parts.specs.declared.automatic.Mark.TheVariants.{Component, ComponentsOf, Marker}
 use Rattle.oer_module_parts.specs.declared.automatic.Place as raw_place
 use Rattle.oer_module_parts.specs.declared.automatic.Place.TheVariants.{Root, Addition}
-use Rattle.oer_module_syntax.specs.Tree.{Tree, plain, named, tagged, structure, list_of, selection, instance_of, any_defined_by}
+use Rattle.oer_module_syntax.specs.Tree.{Tree, tagged}
 use Rattle.oer_module_syntax.specs.Tree.{Element, marker, group, components_of, component, Elements, no_elements, element}
 
 -- ---- marks

@@ -1,8 +1,8 @@
-use Rattle.std.proofs.Common.{◌≡◌, ◌+◌, ◌-◌, ◌^◌, pos, ◌+ℤ◌, ◌<ℤ◌, List, ◌<◌, ◌≤◌, ℤ, length, FitsSigned, to_z, of_z, sym, ◌∙◌, ap, ap₂, subst, arith}
+use Rattle.std.proofs.Common.{◌≡◌, ◌+◌, ◌-◌, ◌^◌, pos, ◌+ℤ◌, ◌<ℤ◌, List, ◌<◌, ◌≤◌, ℤ, length, FitsSigned, to_z, sym, ◌∙◌, ap₂, subst, arith}
 use Rattle.std.specs.Int.{w128}
 use Rattle.std.proofs.lemmas.Int.{ints, to_z-of_z}
 use Rattle.std.proofs.Math.Facts.{sfits_to_z}
-use Rattle.oer_module_parts.specs.Numbering.{first_free, free_within, representable}
+use Rattle.oer_module_parts.specs.Numbering.{first_free, free_within}
 use Rattle.oer_module_parts.proofs.NumberSteps.{free_to, found, found_last, not_found, goes_on}
 use Rattle.oer_module_parts.proofs.numbering.first_free.Goals as goal
 
@@ -16,7 +16,8 @@ returns-in_err-number-clause-is c =
     let l = c.loop in
     let some : 0 < length c.args.taken.now.keys - l.counter = let more = c.loop-test.true in let len = c.len-end.ensures.len in omega arith in
     c.from_residual.ensures
-    ∙ not_found c.args.taken.now.keys c.args.from (to_z w128 l.number-bits) (length c.args.taken.now.keys - l.counter) c.ranges.from l.invariant some (sym c.if-not-is_among.ensures) (sfits_to_z l.auto.number) c.in_err-number.ensures
+    ∙ not_found c.args.taken.now.keys c.args.from (to_z w128 l.number-bits) (length c.args.taken.now.keys - l.counter) c.ranges.from l.invariant some
+    (sym c.if-not-is_among.ensures) (sfits_to_z l.auto.number) c.in_err-number.ensures
 
 pub loop-preserved : goal.loop-preserved
 loop-preserved c =

@@ -1,5 +1,5 @@
 use Rattle.std.proofs.Common.{◌≡◌, ◌-◌, length}
-use Rattle.oer_module_parts.specs.Numbering.{first_free, free_within, representable}
+use Rattle.oer_module_parts.specs.Numbering.{first_free, free_within}
 use Rattle.oer_module_parts.proofs.numbering.first_free.Given as goal
 
 -- none of those before is free

@@ -1,4 +1,4 @@
-use Rattle.std.proofs.Common.{rules, ◌≡◌, ℤ, FitsSigned, ◌∙◌, ap}
+use Rattle.std.proofs.Common.{rules, FitsSigned, ◌∙◌, ap}
 use Rattle.std.proofs.lemmas.Int.{to_z-of_z}
 use Rattle.std.specs.Int.{w128}
 use Rattle.oer_module_parts.specs.Numbering.{first_free, least_after, representable}
@@ -11,4 +11,6 @@ returns-in_err-least c = c.from_residual.ensures ∙ none_free c.args.taken.now.
 pub returns : goal.returns
 returns c =
     let fits : FitsSigned w128 c.in_ok-least.least = search rules in
-    c.first_free.ensures.is ∙ ap (λ n. representable (first_free c.args.taken.now.keys n)) (to_z-of_z w128 c.in_ok-least.least fits ∙ representable_same (least_after c.args.last) c.in_ok-least.least c.in_ok-least.ensures)
+    c.first_free.ensures.is
+    ∙ ap (λ n. representable (first_free c.args.taken.now.keys n))
+    (to_z-of_z w128 c.in_ok-least.least fits ∙ representable_same (least_after c.args.last) c.in_ok-least.least c.in_ok-least.ensures)

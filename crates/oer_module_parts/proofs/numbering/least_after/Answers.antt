@@ -1,4 +1,4 @@
-use Rattle.std.proofs.Common.{rules, ◌≡◌, pos, Some, FitsSigned, sym, ◌∙◌, ap}
+use Rattle.std.proofs.Common.{rules, pos, FitsSigned, sym, ◌∙◌, ap}
 use Rattle.std.proofs.lemmas.Int.{to_z-of_z}
 use Rattle.std.proofs.Math.Facts.{sfits_lit}
 use Rattle.std.specs.Int.{w128}

@@ -28,7 +28,8 @@ overflow_add-next c =
     let fits : FitsSigned w128 c.in-Some-first_free.number = search rules in
     let few : l.item-index < 2 ^ 63 = let less = c.loop-item-test.true in omega arith in
     let is = representable_same (first_free c.args.given.now.keys (to_z w128 l.next-bits)) c.in-Some-first_free.number c.in-Some-first_free.ensures.is in
-    rw (to_z-of_z w128 c.in-Some-first_free.number fits) (behind_fits c.args.given.now.keys (to_z w128 l.next-bits) c.in-Some-first_free.number l.item-index few l.invariant.near fits is c.first_free.ensures.near)
+    rw (to_z-of_z w128 c.in-Some-first_free.number fits)
+    (behind_fits c.args.given.now.keys (to_z w128 l.next-bits) c.in-Some-first_free.number l.item-index few l.invariant.near fits is c.first_free.ensures.near)
 
 pub loop-item-preserved : goal.loop-item-preserved
 loop-item-preserved c =
