@@ -6,8 +6,6 @@ mod bounds;
 #[cfg(test)]
 mod lexer;
 #[cfg(test)]
-mod names;
-#[cfg(test)]
 mod parts;
 #[cfg(test)]
 mod syntax;
