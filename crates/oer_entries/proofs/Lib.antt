@@ -1,5 +1,6 @@
 pub mod Again
 pub mod Chains
+pub mod Digits
 pub mod Floats
 pub mod Nexts
 pub mod Parts
