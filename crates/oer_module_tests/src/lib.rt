@@ -9,5 +9,3 @@ mod names;
 mod syntax;
 #[cfg(test)]
 mod terms;
-#[cfg(test)]
-mod values;
