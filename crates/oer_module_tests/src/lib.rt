@@ -9,3 +9,5 @@ mod names;
 mod syntax;
 #[cfg(test)]
 mod terms;
+#[cfg(test)]
+mod values;
