@@ -1,0 +1,5 @@
+use Rattle.oer_module_bounds.proofs.Deciding.{hull_is_one}
+use Rattle.oer_module_bounds.proofs.laws.hull_is_one.Goals as goal
+
+pub returns : goal.returns
+returns c = hull_is_one
