@@ -1,7 +1,7 @@
 -- How many sets have a number.
-use Rattle.std.proofs.Common.{◌≡◌, ℕ, suc, ◌+◌, ◌≤◌, List, [], ◌∷◌, ◌++◌, Bool, true, false, not, ◌&&◌, ◌||◌, cond, if◌then◌else◌, leb, length, refl, sym, ap, ap₂, subst, ◌∙◌, arith}
-use Rattle.std.specs.Prelude.{ℤ, ◌≤ℤ◌, ◌<ℤ◌, int_le, map}
-use Rattle.std.specs.List.{count_by, sum_by}
+use Rattle.std.proofs.Common.{◌≡◌, ℕ, suc, ◌+◌, ◌≤◌, List, [], ◌∷◌, ◌++◌, Bool, true, false, not, ◌&&◌, ◌||◌, cond, if◌then◌else◌}
+use Rattle.std.proofs.Common.{leb, length, refl, sym, ap, ap₂, ◌∙◌, arith}
+use Rattle.std.specs.Prelude.{ℤ, ◌<ℤ◌, int_le}
 use Rattle.std.proofs.lemmas.Bool.{le-leb, lt-leb, leb-true, leb-false}
 use Rattle.std.proofs.lemmas.Int.{ints}
 use Rattle.std.proofs.lemmas.List.Sums.{sum_by-cons, sum_by-append, count_by-le-length}
@@ -13,7 +13,7 @@ use Rattle.oer_module_bounds.specs.declared.ends.Cut.{Cut}
 use Rattle.oer_module_bounds.specs.declared.steps.Steps.{Steps}
 use Rattle.oer_module_bounds.specs.declared.tally.Tally.{Tally}
 use Rattle.oer_module_bounds.specs.declared.tally.Turn.{Turn}
-use Rattle.oer_module_bounds.proofs.Cuts.{true_le, false_le, le_false, each_weaker, unmoved}
+use Rattle.oer_module_bounds.proofs.Cuts.{false_le, le_false, each_weaker, unmoved}
 
 -- ---- the turns of one set
 

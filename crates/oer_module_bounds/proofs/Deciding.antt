@@ -1,14 +1,16 @@
 -- What is allowed, as a relation and as a test; where it changes.
-use Rattle.std.proofs.Common.{◌≡◌, ◌⊎◌, inl, inr, ℕ, List, [], ◌∷◌, ◌++◌, Bool, true, false, not, ◌&&◌, ◌||◌, cond, if◌then◌else◌, Option, Some, None, refl, sym, ap, ap₂, subst, ◌∙◌, arith}
+use Rattle.std.proofs.Common.{◌≡◌, ◌⊎◌, inl, inr, List, [], ◌∷◌, Bool, true, false, not, ◌&&◌, ◌||◌, if◌then◌else◌, Option, Some}
+use Rattle.std.proofs.Common.{None, refl, sym, ap₂, ◌∙◌, arith}
 use Rattle.std.specs.Prelude.{ℤ, pos, ◌+ℤ◌, ◌≤ℤ◌, ◌<ℤ◌, int_le}
 use Rattle.std.proofs.lemmas.Int.{ints}
 use Rattle.std.proofs.lemmas.Bool.{and_parts, and_from, or_cases, or_left, or_right, both_ways, not_from_false, not-true, false_from_ne_true}
 use Rattle.oer_module_bounds.specs.Hull.{IsHull, edges, edges_of, low_edges, high_edges, hull, effective}
 use Rattle.oer_module_bounds.specs.Laws.{EffectiveIsLeast, HullIsLeast, OneHull}
-use Rattle.oer_module_bounds.specs.Numbers.{IsFrom, IsTo, Allows, AllowsOne, AllowsEach, AllowsInAll, is_from, is_to, within, allows, allows_one, allows_each, bounding}
-use Rattle.oer_module_bounds.specs.Sets.{Each, Span, Set, range, union, intersection, except, unknown, Sets, no_sets, one, Constraint}
+use Rattle.oer_module_bounds.specs.Numbers.{IsFrom, IsTo, Allows, AllowsOne, AllowsEach, AllowsInAll, is_from, is_to, allows}
+use Rattle.oer_module_bounds.specs.Numbers.{allows_one, allows_each, bounding}
+use Rattle.oer_module_bounds.specs.Sets.{Each, Set, range, union, intersection, except, unknown, Sets, no_sets, one, Constraint}
 use Rattle.oer_module_bounds.proofs.Cuts.{each_first, each_second, le_true, true_le, false_le}
-use Rattle.oer_module_bounds.proofs.Hulls.{Told, Steady, edges_are_hull, hull_same, one_hull}
+use Rattle.oer_module_bounds.proofs.Hulls.{Told, edges_are_hull, hull_same, one_hull}
 
 -- ---- the test decides the relation
 
@@ -145,6 +147,3 @@ pub effective_is_least : EffectiveIsLeast
 effective_is_least cs =
     hull_same (λ n. Allows true (intersection (bounding cs)) n) (λ n. AllowsInAll cs n) (λ n h. each_bounding cs n h) (λ n h. bounding_each cs n h)
     (effective cs) (hull_is_least (intersection (bounding cs)))
-
-pub bounded : (cs : List Constraint) (n : ℤ) → AllowsInAll cs n → Allows true (intersection (bounding cs)) n
-bounded cs n h = bounding_each cs n h

@@ -1,8 +1,9 @@
 -- Steps and the set that they give.
-use Rattle.std.proofs.Common.{◌≡◌, ◌⊎◌, inl, inr, ℕ, suc, ◌+◌, ◌-◌, ◌<◌, List, [], ◌∷◌, ◌++◌, Bool, true, false, not, ◌&&◌, cond, if◌then◌else◌, leb, length, Option, Some, None, is_none, is_some, drop, take, refl, sym, ap, ap₂, subst, ◌∙◌, arith}
-use Rattle.std.specs.Prelude.{ℤ, pos, ◌+ℤ◌, ◌-ℤ◌, ◌≤ℤ◌, ◌<ℤ◌, int_le, int_lt, map, IfOk, IsPermutation, MatchOption, ⊤, slice_get}
+use Rattle.std.proofs.Common.{◌≡◌, ℕ, suc, ◌-◌, List, [], ◌∷◌, ◌++◌, Bool, true, false, not, ◌&&◌, if◌then◌else◌, leb, length}
+use Rattle.std.proofs.Common.{Option, Some, None, is_none, is_some, drop, take, refl, sym, ap, ap₂, subst, ◌∙◌, arith}
+use Rattle.std.specs.Prelude.{ℤ, pos, ◌+ℤ◌, ◌-ℤ◌, ◌≤ℤ◌, ◌<ℤ◌, int_le, IsPermutation, MatchOption, slice_get}
 use Rattle.std.specs.List.Sorted.{IsSortedByKey}
-use Rattle.std.specs.Option.{option_map, option_to_list}
+use Rattle.std.specs.Option.{option_to_list}
 use Rattle.std.specs.Ordering.{int_cmp, int_eq}
 use Rattle.std.proofs.lemmas.Int.{ints, by_lt_z}
 use Rattle.std.proofs.lemmas.List.{append-nil, drop_all, map-append, take_all}
@@ -10,15 +11,15 @@ use Rattle.std.proofs.lemmas.List.Sorted.{length_permutation}
 use Rattle.oer_module_bounds.specs.Hull.{hull}
 use Rattle.oer_module_bounds.specs.Numbers.{is_from, is_to, within, allows}
 use Rattle.oer_module_bounds.specs.Sets.{Each, Span, Set, crossed}
-use Rattle.oer_module_bounds.specs.Steps.{numbers, number_of, at, Rises, Gives, first_of, last_of, is_it, ends_with, ends_of, high_end, past, toggled}
-use Rattle.oer_module_bounds.specs.Tally.{number_at, reached, sweep, Swept}
+use Rattle.oer_module_bounds.specs.Steps.{numbers, number_of, at, Rises, Gives, last_of, is_it, ends_with, ends_of, high_end, past, toggled}
+use Rattle.oer_module_bounds.specs.Tally.{number_at, reached, sweep}
 use Rattle.oer_module_bounds.specs.declared.ends.Cut.{Cut}
 use Rattle.oer_module_bounds.specs.declared.steps.Steps.{Steps}
 use Rattle.oer_module_bounds.specs.declared.tally.Turn.{Turn}
 use Rattle.oer_module_bounds.proofs.Cuts.{le_true, le_false, true_le, false_le}
 use Rattle.oer_module_bounds.proofs.Deciding.{hull_is_told}
 use Rattle.oer_module_bounds.proofs.Hulls.{Told, Cutting, cuts_are_hull, one_hull}
-use Rattle.oer_module_bounds.proofs.Sweeping.{Passed, start, swept, past_cuts, in_order, reached_moved}
+use Rattle.oer_module_bounds.proofs.Sweeping.{start, swept, past_cuts, in_order, reached_moved}
 
 -- ---- the last cut
 

@@ -1,15 +1,16 @@
 -- The least range that has some numbers.
-use Rattle.std.proofs.Common.{◌≡◌, ◌⊎◌, inl, inr, ℕ, List, [], ◌∷◌, ◌++◌, Bool, true, false, not, cond, if◌then◌else◌, Option, Some, None, refl, sym, ap, ap₂, subst, ◌∙◌, arith}
-use Rattle.std.specs.Prelude.{ℤ, pos, ◌+ℤ◌, ◌-ℤ◌, ◌≤ℤ◌, ◌<ℤ◌, int_le, int_lt}
+use Rattle.std.proofs.Common.{◌≡◌, ◌⊎◌, inl, inr, List, [], ◌∷◌, Bool, true, false, not, cond, if◌then◌else◌, Option, Some, None}
+use Rattle.std.proofs.Common.{refl, sym, ap, ap₂, subst, ◌∙◌, arith}
+use Rattle.std.specs.Prelude.{ℤ, pos, ◌+ℤ◌, ◌-ℤ◌, ◌≤ℤ◌, ◌<ℤ◌, int_lt}
 use Rattle.std.specs.Int.{int_max, int_min}
 use Rattle.std.specs.List.{filter, fold}
 use Rattle.std.proofs.lemmas.Int.{ints, clamps, by_lt_z}
 use Rattle.std.proofs.lemmas.Bool.{both_ways, cond_both}
-use Rattle.oer_module_bounds.specs.Hull.{IsHull, LowEnd, HighEnd, floor, ceiling, least, before_greatest, low_by, high_by, hull_by, unless_empty}
+use Rattle.oer_module_bounds.specs.Hull.{IsHull, LowEnd, HighEnd, floor, ceiling, least, before_greatest, high_by, hull_by, unless_empty}
 use Rattle.oer_module_bounds.specs.Numbers.{IsFrom, IsTo}
 use Rattle.oer_module_bounds.specs.Sets.{Each, Span}
-use Rattle.oer_module_bounds.specs.Steps.{at, Rises, first_of, last_of, low_end, high_end, ends_of, before}
-use Rattle.oer_module_bounds.proofs.Cuts.{same_number, each_weaker, settled, unmoved, true_le, false_le}
+use Rattle.oer_module_bounds.specs.Steps.{at, Rises, last_of, high_end, ends_of, before}
+use Rattle.oer_module_bounds.proofs.Cuts.{same_number, each_weaker, unmoved, true_le, false_le}
 
 -- ---- there is one
 
@@ -217,7 +218,13 @@ record Above (n : ℤ) (es : List ℤ) : Type 0 where
 below_more : (n x : ℤ) (es : List ℤ) → x ≤ℤ n → Below n es → Below n (x ∷ es)
 below_more n x es h b =
     by_lt_z b.edge x
-    (λ l. record { edge = x; low = h; among = inl refl; clear = (inl (itself x), each_weaker (λ y. (y ≤ℤ b.edge) ⊎ (n <ℤ y)) (λ y. (y ≤ℤ x) ⊎ (n <ℤ y)) (λ y k. rise l y k) es b.clear) })
+    (λ l. record {
+      edge = x;
+      low = h;
+      among = inl refl;
+      clear =
+          (inl (itself x), each_weaker (λ y. (y ≤ℤ b.edge) ⊎ (n <ℤ y)) (λ y. (y ≤ℤ x) ⊎ (n <ℤ y)) (λ y k. rise l y k) es b.clear);
+    })
     (λ l. record { edge = b.edge; low = b.low; among = inr b.among; clear = (inl l, b.clear) })
   where
     rise : b.edge <ℤ x → (y : ℤ) → (y ≤ℤ b.edge) ⊎ (n <ℤ y) → (y ≤ℤ x) ⊎ (n <ℤ y)
@@ -227,7 +234,13 @@ below_more n x es h b =
 above_more : (n x : ℤ) (es : List ℤ) → n <ℤ x → Above n es → Above n (x ∷ es)
 above_more n x es h b =
     by_lt_z x b.edge
-    (λ l. record { edge = x; high = h; among = inl refl; clear = (inr (itself x), each_weaker (λ y. (y ≤ℤ n) ⊎ (b.edge ≤ℤ y)) (λ y. (y ≤ℤ n) ⊎ (x ≤ℤ y)) (λ y k. fall l y k) es b.clear) })
+    (λ l. record {
+      edge = x;
+      high = h;
+      among = inl refl;
+      clear =
+          (inr (itself x), each_weaker (λ y. (y ≤ℤ n) ⊎ (b.edge ≤ℤ y)) (λ y. (y ≤ℤ n) ⊎ (x ≤ℤ y)) (λ y k. fall l y k) es b.clear);
+    })
     (λ l. record { edge = b.edge; high = b.high; among = inr b.among; clear = (inr l, b.clear) })
   where
     fall : x <ℤ b.edge → (y : ℤ) → (y ≤ℤ n) ⊎ (b.edge ≤ℤ y) → (y ≤ℤ n) ⊎ (x ≤ℤ y)
@@ -340,7 +353,8 @@ module _ (p : ℤ → Bool) (es : List ℤ) (s : Steady p es) where
       before_it : (b : Above n es) → p (b.edge -ℤ pos 1) ≡ true
       before_it b =
           let high : n <ℤ b.edge = b.high in
-          sym (s.steady n (b.edge -ℤ pos 1) (omega (arith, ints)) (each_weaker (λ x. (x ≤ℤ n) ⊎ (b.edge ≤ℤ x)) (λ x. (x ≤ℤ n) ⊎ ((b.edge -ℤ pos 1) <ℤ x)) (λ x k. apart x k) es b.clear)) ∙ h
+          sym (s.steady n (b.edge -ℤ pos 1) (omega (arith, ints))
+          (each_weaker (λ x. (x ≤ℤ n) ⊎ (b.edge ≤ℤ x)) (λ x. (x ≤ℤ n) ⊎ ((b.edge -ℤ pos 1) <ℤ x)) (λ x k. apart x k) es b.clear)) ∙ h
         where
           apart : (x : ℤ) → (x ≤ℤ n) ⊎ (b.edge ≤ℤ x) → (x ≤ℤ n) ⊎ ((b.edge -ℤ pos 1) <ℤ x)
           apart x (inl k) = inl k
@@ -367,11 +381,20 @@ module _ (p : ℤ → Bool) (es : List ℤ) (s : Steady p es) where
   high_is : (t : Bool) → p (ceiling es) ≡ t → (n : ℤ) → p n ≡ true
       → ((m : ℤ) → p m ≡ true → IsTo (if t then None else before_greatest (filter (λ e. p (e -ℤ pos 1)) es)) m)
       × HighEnd (Told p) (if t then None else before_greatest (filter (λ e. p (e -ℤ pos 1)) es))
-  high_is true f n h = ((λ m q. tt), (λ m. let w = top_of (int_max m (ceiling es)) es in (w.0, (let up : int_max m (ceiling es) <ℤ w.0 = w.1 in omega (arith, ints, clamps)), at_ceiling w.0 w.2 ∙ f)))
+  high_is true f n h = (
+    (λ m q. tt),
+    (λ m. let w = top_of (int_max m (ceiling es)) es in
+        (w.0, (let up : int_max m (ceiling es) <ℤ w.0 = w.1 in omega (arith, ints, clamps)), at_ceiling w.0 w.2 ∙ f)),
+  )
   high_is false f n h = high_some (filter (λ e. p (e -ℤ pos 1)) es) refl f n h
 
   low_open : p (floor es) ≡ true → LowEnd (Told p) None
-  low_open f = λ m. (int_min m (floor es) -ℤ pos 1, omega (arith, ints, clamps), at_floor (int_min m (floor es) -ℤ pos 1) (each_weaker (λ e. floor es <ℤ e) (λ e. (int_min m (floor es) -ℤ pos 1) <ℤ e) (λ e k. omega (arith, ints, clamps)) es low_floor) ∙ f)
+  low_open f = λ m. (
+    int_min m (floor es) -ℤ pos 1,
+    omega (arith, ints, clamps),
+    at_floor (int_min m (floor es) -ℤ pos 1)
+        (each_weaker (λ e. floor es <ℤ e) (λ e. (int_min m (floor es) -ℤ pos 1) <ℤ e) (λ e k. omega (arith, ints, clamps)) es low_floor) ∙ f,
+  )
 
   hull_is : (t : Bool) (fs : List ℤ) → p (floor es) ≡ t → filter p es ≡ fs
       → IsHull (Told p) (unless_empty t fs (record { low = if t then None else least fs; high = high_by p es }))

@@ -1,18 +1,17 @@
 -- What is allowed lies in the range as PER reads it.
-use Rattle.std.proofs.Common.{◌≡◌, ◌⊎◌, inl, inr, List, [], ◌∷◌, Bool, true, false, not, if◌then◌else◌, Option, Some, None, refl, sym, ap, subst, ◌∙◌, arith}
-use Rattle.std.specs.Prelude.{ℤ, ◌≤ℤ◌, ◌<ℤ◌, int_lt, int_le, map}
+use Rattle.std.proofs.Common.{◌≡◌, ◌⊎◌, inl, inr, List, [], ◌∷◌, Bool, true, false, Option, Some, None, refl, sym, ap, arith}
+use Rattle.std.specs.Prelude.{ℤ, ◌≤ℤ◌, ◌<ℤ◌, map}
 use Rattle.std.specs.Int.{int_max, int_min}
 use Rattle.std.specs.List.{fold}
 use Rattle.std.proofs.lemmas.Int.{ints, clamps}
-use Rattle.oer_module_bounds.specs.Laws.{IsIn, LooseHasAllowed, LooseEffectiveHasAllowed}
-use Rattle.oer_module_bounds.specs.Loose.{outer_end, inner_end, join, meet, loose, loose_each, loose_effective}
+use Rattle.oer_module_bounds.specs.Laws.{IsIn, LooseHasHull, LooseEffectiveHasEffective}
+use Rattle.oer_module_bounds.specs.Hull.{IsHull, LowEnd, HighEnd, hull}
+use Rattle.oer_module_bounds.specs.Loose.{outer_end, inner_end, join, meet, loose, loose_each}
 use Rattle.oer_module_bounds.specs.Numbers.{IsFrom, IsTo, Allows, AllowsOne, AllowsEach, bounding}
-use Rattle.oer_module_bounds.specs.Sets.{Span, everything, crossed, filled, Set, range, union, intersection, except, unknown, Sets, no_sets, one, Constraint, sets_from, set_of}
+use Rattle.oer_module_bounds.specs.Sets.{Span, everything, crossed, filled, Set, range, union, intersection, except, unknown}
+use Rattle.oer_module_bounds.specs.Sets.{Sets, no_sets, one, sets_from, set_of}
 use Rattle.oer_module_bounds.specs.declared.tree.Set.{Set as RawSet}
-use Rattle.oer_module_bounds.proofs.Deciding.{bounded}
-
-Within : Option ℤ → Option ℤ → ℤ → Type 0
-Within low high n = IsFrom low n × IsTo high n
+use Rattle.oer_module_bounds.proofs.Deciding.{hull_is_least}
 
 in_filled : (r : Span) (n : ℤ) → IsFrom r.low n → IsTo r.high n → IsIn (filled r) n
 in_filled r n h k = by r.low r.high h k
@@ -86,11 +85,41 @@ mutual
   in_each all no_sets n a k h = k
   in_each all (one s ss) n a k h = in_each all ss n (meet a (loose s)) (in_meet a (loose s) n k (in_loose all s n h.0)) h.1
 
-pub loose_has_allowed : LooseHasAllowed
-loose_has_allowed s n h = in_loose true s n h
+-- ---- what has all numbers has their hull
 
-pub loose_effective_has_allowed : LooseEffectiveHasAllowed
-loose_effective_has_allowed cs n h = in_loose true (intersection (bounding cs)) n (bounded cs n h)
+from_below : (l : Option ℤ) (m n : ℤ) → m ≤ℤ n → IsFrom l m → IsFrom l n
+from_below None m n h k = tt
+from_below (Some l) m n h k = omega (arith, ints)
+
+to_above : (h : Option ℤ) (m n : ℤ) → n ≤ℤ m → IsTo h m → IsTo h n
+to_above None m n h k = tt
+to_above (Some l) m n h k = omega (arith, ints)
+
+between : (b : Option Span) (m k n : ℤ) → m ≤ℤ n → n ≤ℤ k → IsIn b m → IsIn b k → IsIn b n
+between None m k n h l x y = x
+between (Some r) m k n h l x y = (from_below r.low m n h x.0, to_above r.high k n l y.1)
+
+module _ (P : ℤ → Type 0) where
+  one_up_to : (l : Option ℤ) (n : ℤ) → LowEnd P l → IsFrom l n → (m : ℤ) × (m ≤ℤ n) × P m
+  one_up_to None n h k = let w = h n in let low : w.0 <ℤ n = w.1 in (w.0, omega (arith, ints), w.2)
+  one_up_to (Some l) n h k = (l, k, h)
+
+  one_from : (u : Option ℤ) (n : ℤ) → HighEnd P u → IsTo u n → (m : ℤ) × (n ≤ℤ m) × P m
+  one_from None n h k = let w = h n in let high : n <ℤ w.0 = w.1 in (w.0, omega (arith, ints), w.2)
+  one_from (Some u) n h k = (u, k, h)
+
+  hull_in : (a b : Option Span) → IsHull P a → ((n : ℤ) → P n → IsIn b n) → (n : ℤ) → IsIn a n → IsIn b n
+  hull_in None b h f n k = absurd k
+  hull_in (Some r) b h f n k =
+      let low = one_up_to r.low n h.1 k.0 in
+      let high = one_from r.high n h.2 k.1 in
+      between b low.0 high.0 n low.1 high.1 (f low.0 low.2) (f high.0 high.2)
+
+pub loose_has_hull : LooseHasHull
+loose_has_hull s n h = hull_in (λ m. Allows true s m) (hull s) (loose s) (hull_is_least s) (λ m k. in_loose true s m k) n h
+
+pub loose_effective_has_effective : LooseEffectiveHasEffective
+loose_effective_has_effective cs n h = loose_has_hull (intersection (bounding cs)) n h
 
 -- ---- the members that the code reads
 

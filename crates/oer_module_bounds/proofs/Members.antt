@@ -1,14 +1,15 @@
 -- The members of a union or an intersection, and constraints in a row, one after the other.
-use Rattle.std.proofs.Common.{◌≡◌, ℕ, suc, ◌+◌, ◌≤◌, ◌<◌, List, [], ◌∷◌, ◌++◌, Bool, true, false, not, ◌&&◌, cond, if◌then◌else◌, leb, length, take, drop, Vec, Global, Box, Result, Ok, Err, get_or, refl, sym, ap, ap₂, subst, ◌∙◌, arith, rules}
-use Rattle.std.specs.Prelude.{ℤ, map, IfOk, ⊤}
+use Rattle.std.proofs.Common.{◌≡◌, ℕ, ◌+◌, ◌≤◌, ◌<◌, List, [], ◌∷◌, ◌++◌, Bool, true, false, not, ◌&&◌, cond, if◌then◌else◌, leb}
+use Rattle.std.proofs.Common.{length, take, Vec, Global, Box, Result, Ok, Err, get_or, refl, sym, ap, ap₂, subst, ◌∙◌, arith}
+use Rattle.std.proofs.Common.{rules}
+use Rattle.std.specs.Prelude.{ℤ, map, IfOk}
 use Rattle.std.specs.declared.alloc.AllocError.{AllocError}
 use Rattle.std.proofs.Common.{add-one}
 use Rattle.std.proofs.Math.Seq.{take-suc}
-use Rattle.std.specs.List.{sum_by}
 use Rattle.std.proofs.lemmas.List.{append-nil, length-append, length-map, map-append, take_all}
 use Rattle.std.proofs.lemmas.List.Sums.{sum_by_push}
-use Rattle.oer_module_bounds.specs.Numbers.{allowed_by, allows, allows_one, allows_each, within, bounding}
-use Rattle.oer_module_bounds.specs.Sets.{Set, Sets, no_sets, one, range, union, intersection, except, unknown, sets_from, set_of, span_of, Constraint, constraint_of}
+use Rattle.oer_module_bounds.specs.Numbers.{allowed_by, allows, bounding}
+use Rattle.oer_module_bounds.specs.Sets.{Set, one, range, union, intersection, except, unknown, sets_from, set_of, span_of, constraint_of}
 use Rattle.oer_module_bounds.specs.Steps.{Gives}
 use Rattle.oer_module_bounds.specs.Tally.{one_if, Counts, reached, begun_by, ended_by, turns_of}
 use Rattle.oer_module_bounds.specs.declared.steps.Steps.{Steps}
@@ -87,7 +88,8 @@ tallied_more t u all ss i m s h at k g e f = record {
 
 pub of_one : (t : Tally) (all : Bool) (ss : List Set) (r : Result Steps AllocError) → Counts t (allowed_by all ss)
     → IfOk r (λ s. Gives s (reached 1 t.holding t.turns.items)) → IfOk r (λ s. Gives s (allows all (union (sets_from ss))))
-of_one t all ss (Ok s) c g = gives_same s (reached 1 t.holding t.turns.items) (allows all (union (sets_from ss))) g (λ n. reached_count 1 t (allowed_by all ss) c n ∙ one_is all ss n)
+of_one t all ss (Ok s) c g = gives_same s (reached 1 t.holding t.turns.items) (allows all (union (sets_from ss))) g
+    (λ n. reached_count 1 t (allowed_by all ss) c n ∙ one_is all ss n)
 of_one t all ss (Err e) c g = g
 
 pub of_each : (t : Tally) (all : Bool) (ss : List Set) (least : ℕ) (r : Result Steps AllocError) → Counts t (allowed_by all ss) → least ≡ length ss
@@ -166,7 +168,8 @@ roots_are [] = refl
 roots_are (c ∷ cs) = by c.extensible (roots_are cs)
   where
     by : (t : Bool) → sets_from (roots cs) ≡ bounding (map constraint_of cs)
-        → sets_from (if t then roots cs else set_of c.root ∷ roots cs) ≡ (if t then bounding (map constraint_of cs) else one (set_of c.root) (bounding (map constraint_of cs)))
+        → sets_from (if t then roots cs else set_of c.root ∷ roots cs) ≡
+        (if t then bounding (map constraint_of cs) else one (set_of c.root) (bounding (map constraint_of cs)))
     by true e = e
     by false e = ap (one (set_of c.root)) e
 
@@ -192,7 +195,8 @@ pub bounded_skips : (t : Tally) (k : ℕ) (cs : List RawConstraint) (i : ℕ) (c
     → Bounded t k cs i → Bounded t k cs (i + 1)
 bounded_skips t k cs i c h at x b =
     let same : roots (take (i + 1) cs) ≡ roots (take i cs) =
-    ap roots (taken cs i c h at) ∙ roots_append (take i cs) (c ∷ []) ∙ ap (λ b. roots (take i cs) ++ (if b then [] else set_of c.root ∷ [])) x ∙ append-nil (roots (take i cs)) in
+    ap roots (taken cs i c h at) ∙ roots_append (take i cs) (c ∷ []) ∙ ap
+    (λ b. roots (take i cs) ++ (if b then [] else set_of c.root ∷ [])) x ∙ append-nil (roots (take i cs)) in
     let few = b.few in let below = b.below in
     record {
       few = omega arith;
@@ -216,6 +220,9 @@ bounded_more t u k cs i c s h at x b g e f =
       count = ap (λ n. n + 1) so_far ∙ sym size ∙ ap length (sym same);
       counts = subst (λ xs. Counts u (allowed_by true xs)) (sym same) (counts_added t u true (roots (take i cs)) (set_of c.root) s b.counts g e f);
     }
+
+pub bounded_as : (t u : Tally) (j k : ℕ) (cs : List RawConstraint) (i : ℕ) → u ≡ t → k ≡ j → Bounded t j cs i → Bounded u k cs i
+bounded_as t u j k cs i e f b = subst (λ x. Bounded x k cs i) (sym e) (subst (λ n. Bounded t n cs i) (sym f) b)
 
 pub bounded_all : (t : Tally) (k : ℕ) (cs : List RawConstraint) (i : ℕ) (s : Steps) → length cs ≤ i → Bounded t k cs i
     → Gives s (reached k t.holding t.turns.items) → Gives s (allows true (intersection (bounding (map constraint_of cs))))

@@ -1,6 +1,7 @@
 -- What the sweep over turns in order gives.
-use Rattle.std.proofs.Common.{◌≡◌, ◌⊎◌, inl, inr, ℕ, suc, ◌+◌, ◌≤◌, List, [], ◌∷◌, ◌++◌, Bool, true, false, not, ◌&&◌, cond, if◌then◌else◌, leb, drop, get_or, zero-le, Ordering, Less, Equal, Greater, refl, sym, ap, ap₂, subst, ◌∙◌, arith, append_assoc}
-use Rattle.std.specs.Prelude.{ℤ, pos, ◌+ℤ◌, ◌≤ℤ◌, ◌<ℤ◌, int_le, map, length, slice_index_or, IsPermutation}
+use Rattle.std.proofs.Common.{◌≡◌, ℕ, suc, ◌+◌, ◌≤◌, List, [], ◌∷◌, ◌++◌, Bool, true, false, not, ◌&&◌, leb, drop, get_or}
+use Rattle.std.proofs.Common.{zero-le, Ordering, Less, Equal, Greater, refl, sym, ap, ap₂, subst, ◌∙◌, arith, append_assoc}
+use Rattle.std.specs.Prelude.{ℤ, ◌≤ℤ◌, ◌<ℤ◌, int_le, IsPermutation}
 use Rattle.std.specs.List.{All, sum_by}
 use Rattle.std.specs.Int.{int_max}
 use Rattle.std.specs.List.Sorted.{IsSortedBy, IsSortedByKey}
@@ -12,10 +13,10 @@ use Rattle.std.proofs.lemmas.Int.{ints, clamps}
 use Rattle.std.proofs.lemmas.List.Sums.{sum_by-cons, sum_by_push}
 use Rattle.std.proofs.lemmas.List.Sorted.{sum_by-IsPermutation, sorted_far, ranks_by}
 use Rattle.oer_module_bounds.specs.Sets.{Each}
-use Rattle.oer_module_bounds.specs.Steps.{at, Rises, toggled}
+use Rattle.oer_module_bounds.specs.Steps.{at, Rises}
 use Rattle.oer_module_bounds.specs.Tally.{one_if, number_at, begun_by, ended_by, reached, Swept, changed, passed, sweep}
 use Rattle.oer_module_bounds.specs.declared.tally.Turn.{Turn}
-use Rattle.oer_module_bounds.proofs.Cuts.{settled, le_true, le_false, true_le, false_le, each_weaker, each_append, at_toggled, each_toggled, rises_toggled}
+use Rattle.oer_module_bounds.proofs.Cuts.{settled, le_true, true_le, each_weaker, each_append, at_toggled, each_toggled, rises_toggled}
 
 abbrev beginning : List Turn → ℕ
 beginning ts = sum_by (λ t. one_if t.begins) ts
@@ -116,8 +117,10 @@ module _ (least holding : ℕ) (ts : List Turn) (s : Swept) (t : Turn) (p : Pass
   there : (n : ℤ) → int_le t.at.number n ≡ true → reached least holding (ts ++ t ∷ []) n ≡ leb (least + (s.ended + one_if (not t.begins))) (s.begun + one_if t.begins)
   there n h =
       let all = all_before n h in
-      let b : begun_by n (ts ++ t ∷ []) ≡ beginning ts + one_if t.begins = begun_push n ∙ ap₂ (λ x y. x + one_if y) (all_begun n ts all) (ap (λ b. t.begins && b) h ∙ and_true t.begins) in
-      let e : ended_by n (ts ++ t ∷ []) ≡ ending ts + one_if (not t.begins) = ended_push n ∙ ap₂ (λ x y. x + one_if y) (all_ended n ts all) (ap (λ b. not t.begins && b) h ∙ and_true (not t.begins)) in
+      let b : begun_by n (ts ++ t ∷ []) ≡ beginning ts + one_if t.begins = begun_push n ∙ ap₂ (λ x y. x + one_if y) (all_begun n ts all)
+      (ap (λ b. t.begins && b) h ∙ and_true t.begins) in
+      let e : ended_by n (ts ++ t ∷ []) ≡ ending ts + one_if (not t.begins) = ended_push n ∙ ap₂ (λ x y. x + one_if y) (all_ended n ts all)
+      (ap (λ b. not t.begins && b) h ∙ and_true (not t.begins)) in
       let pb = p.begun in
       let pe = p.ended in
       ap₂ leb (ap (λ x. least + x) (e ∙ ap (λ x. x + one_if (not t.begins)) (sym pe))) (ap (λ x. holding + x) b ∙ sums ∙ ap (λ x. x + one_if t.begins) (sym pb))
@@ -125,7 +128,8 @@ module _ (least holding : ℕ) (ts : List Turn) (s : Swept) (t : Turn) (p : Pass
       sums : holding + (beginning ts + one_if t.begins) ≡ (holding + beginning ts) + one_if t.begins
       sums = omega arith
 
-  says_next : (n : ℤ) → at (leb least holding) (changed s.inside (leb (least + (s.ended + one_if (not t.begins))) (s.begun + one_if t.begins)) s.cuts t.at.number) n ≡ reached least holding (ts ++ t ∷ []) n
+  says_next : (n : ℤ) → at (leb least holding) (changed s.inside
+      (leb (least + (s.ended + one_if (not t.begins))) (s.begun + one_if t.begins)) s.cuts t.at.number) n ≡ reached least holding (ts ++ t ∷ []) n
   says_next n = by (int_le t.at.number n) refl
     where
       j : Bool
@@ -200,13 +204,21 @@ bound n [] = (n, omega (arith, ints), tt)
 bound n (t ∷ ts) =
     let w = bound n ts in
     let m : ℤ = int_max t.at.number w.0 in
-    let low : n ≤ℤ w.0 = w.1 in
-    (m, omega (arith, ints, clamps), (omega (arith, ints, clamps), each_weaker (λ u. number_at u ≤ℤ w.0) (λ u. number_at u ≤ℤ m) (λ u h. omega (arith, ints, clamps)) ts w.2))
+    let low : n ≤ℤ w.0 = w.1 in (
+      m,
+      omega (arith, ints, clamps),
+      (
+        omega (arith, ints, clamps),
+        each_weaker (λ u. number_at u ≤ℤ w.0) (λ u. number_at u ≤ℤ m)
+            (λ u h. omega (arith, ints, clamps)) ts w.2,
+      ),
+    )
 
 module _ (least holding : ℕ) (ts : List Turn) (s : Swept) (p : Passed least holding ts s) where
   -- where all turns are passed
   at_end : (n : ℤ) → Each (λ t. number_at t ≤ℤ n) ts → reached least holding ts n ≡ s.inside
-  at_end n h = ap₂ (λ x y. leb (least + x) (holding + y)) (all_ended n ts h) (all_begun n ts h) ∙ ap₂ (λ x y. leb (least + x) y) (sym p.ended) (sym p.begun) ∙ sym p.inside
+  at_end n h = ap₂ (λ x y. leb (least + x) (holding + y)) (all_ended n ts h) (all_begun n ts h) ∙ ap₂ (λ x y. leb (least + x) y)
+      (sym p.ended) (sym p.begun) ∙ sym p.inside
 
   pub past_cuts : (n : ℤ) → Each (λ c. c ≤ℤ n) s.cuts → reached least holding ts n ≡ s.inside
   past_cuts n h =

@@ -1,5 +1,5 @@
 -- The least range that has all numbers of a set.
-use Rattle.std.specs.Prelude.{◌≡◌, List, [], ◌∷◌, ◌++◌, Bool, true, false, if◌then◌else◌, ℤ, pos, ◌+ℤ◌, ◌-ℤ◌, ◌<ℤ◌, Option, Some, None}
+use Rattle.std.specs.Prelude.{List, [], ◌∷◌, ◌++◌, Bool, true, false, if◌then◌else◌, ℤ, pos, ◌+ℤ◌, ◌-ℤ◌, ◌<ℤ◌, Option, Some, None}
 use Rattle.std.specs.Int.{int_max, int_min}
 use Rattle.std.specs.List.{filter, fold}
 use Rattle.oer_module_bounds.specs.Numbers.{IsFrom, IsTo, allows, bounding}

@@ -1,5 +1,5 @@
 -- What holds of hulls.
-use Rattle.std.specs.Prelude.{◌≡◌, ◌↔◌, List, ⊤, Bool, true, IsTrue, ℤ, Option, Some, None}
+use Rattle.std.specs.Prelude.{◌≡◌, List, true, ℤ, Option, Some, None}
 use Rattle.oer_module_bounds.specs.Hull.{IsHull, hull, effective}
 use Rattle.oer_module_bounds.specs.Loose.{loose, loose_effective}
 use Rattle.oer_module_bounds.specs.Numbers.{IsFrom, IsTo, Allows, AllowsInAll}
@@ -17,13 +17,14 @@ EffectiveIsLeast = (cs : List Constraint) → IsHull (λ n. AllowsInAll cs n) (e
 abbrev pub OneHull : Type 0
 OneHull = (s : Set) (a b : Option Span) → IsHull (λ n. Allows true s n) a → IsHull (λ n. Allows true s n) b → a ≡ b
 
+-- n lies in the range, if there is one
 abbrev pub IsIn : Option Span → ℤ → Type 0
 IsIn None n = ⊥
 IsIn (Some r) n = IsFrom r.low n × IsTo r.high n
 
--- What is allowed is in the range as PER reads it, too.
-abbrev pub LooseHasAllowed : Type 0
-LooseHasAllowed = (s : Set) (n : ℤ) → Allows true s n → IsIn (loose s) n
+-- What lies in the hull lies in the range as PER reads it, too.
+abbrev pub LooseHasHull : Type 0
+LooseHasHull = (s : Set) (n : ℤ) → IsIn (hull s) n → IsIn (loose s) n
 
-abbrev pub LooseEffectiveHasAllowed : Type 0
-LooseEffectiveHasAllowed = (cs : List Constraint) (n : ℤ) → AllowsInAll cs n → IsIn (loose_effective cs) n
+abbrev pub LooseEffectiveHasEffective : Type 0
+LooseEffectiveHasEffective = (cs : List Constraint) (n : ℤ) → IsIn (effective cs) n → IsIn (loose_effective cs) n

@@ -1,5 +1,5 @@
 -- The range of a set as PER reads it (X.691, 10.3).
-use Rattle.std.specs.Prelude.{◌≡◌, List, [], ◌∷◌, Bool, if◌then◌else◌, ℤ, Option, Some, None}
+use Rattle.std.specs.Prelude.{List, [], ◌∷◌, ℤ, Option, Some, None}
 use Rattle.std.specs.Int.{int_max, int_min}
 use Rattle.std.specs.List.{fold}
 use Rattle.oer_module_bounds.specs.Sets.{Span, everything, filled, Set, range, union, intersection, except, unknown, Sets, no_sets, one, Constraint}

@@ -1,5 +1,6 @@
 -- Which numbers sets and constraints allow (X.680, 50 and 51).
-use Rattle.std.specs.Prelude.{◌≡◌, ℕ, List, [], ◌∷◌, ◌⊎◌, ⊤, Bool, true, false, not, ◌&&◌, ◌||◌, if◌then◌else◌, IsTrue, ℤ, ◌≤ℤ◌, int_le, Option, Some, None}
+use Rattle.std.specs.Prelude.{ℕ, List, [], ◌∷◌, ◌⊎◌, ⊤, Bool, true, false, not, ◌&&◌, ◌||◌, if◌then◌else◌, IsTrue, ℤ, ◌≤ℤ◌}
+use Rattle.std.specs.Prelude.{int_le, Option, Some, None}
 use Rattle.std.specs.List.{count_by}
 use Rattle.oer_module_bounds.specs.Sets.{Each, Span, Set, range, union, intersection, except, unknown, Sets, no_sets, one, Constraint}
 

@@ -69,7 +69,7 @@ pub fn hull_of(alloc: Global, set: &Set) -> Result<Option<Range>, AllocError>
 }
 
 /// The least range that has all numbers that each of the constraints allows, the parent's first; none where they
-/// allow none. A constraint that is extensible bounds nothing (X.680, 50.8; X.696, 8.2).
+/// allow none. A constraint that is extensible bounds nothing (X.696, 8.2).
 ///
 /// # Errors
 /// An allocation failed.

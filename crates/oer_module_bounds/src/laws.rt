@@ -1,5 +1,5 @@
 //! What holds of ranges of sets. Each function does nothing; its contract is the law.
-ghost use Rattle.oer_module_bounds.specs.Laws.{EffectiveIsLeast, HullIsLeast, LooseEffectiveHasAllowed, LooseHasAllowed, OneHull};
+ghost use Rattle.oer_module_bounds.specs.Laws.{EffectiveIsLeast, HullIsLeast, LooseEffectiveHasEffective, LooseHasHull, OneHull};
 
 /// The hull of a set has all numbers that the set allows, and each of its ends is one of these. It is none where the set
 /// allows none, and an end is absent where there is no bound.
@@ -17,12 +17,12 @@ pub fn hull_is_one()
     ensures { OneHull }
 {}
 
-/// The range as PER reads it has all numbers that the set allows, so the hull lies in it.
-pub fn loose_has_allowed()
-    ensures { LooseHasAllowed }
+/// The hull of a set lies in the range as PER reads it.
+pub fn loose_has_hull()
+    ensures { LooseHasHull }
 {}
 
 /// The same of constraints in a row.
-pub fn loose_effective_has_allowed()
-    ensures { LooseEffectiveHasAllowed }
+pub fn loose_effective_has_effective()
+    ensures { LooseEffectiveHasEffective }
 {}

@@ -1,9 +1,8 @@
-use Rattle.std.proofs.Common.{◌∙◌, not, subst, arith, rules}
-use Rattle.std.proofs.lemmas.List.{get_or_default}
+use Rattle.std.proofs.Common.{◌∙◌, not, subst, arith}
 use Rattle.oer_module_bounds.specs.Numbers.{allows}
 use Rattle.oer_module_bounds.specs.Sets.{set_of}
 use Rattle.oer_module_bounds.specs.Steps.{Gives}
-use Rattle.oer_module_bounds.proofs.Members.{union_ok, intersection_ok, except_ok, unknown_ok, tallied_none, tallied_more, tallied_all}
+use Rattle.oer_module_bounds.proofs.Members.{union_ok, intersection_ok, except_ok, unknown_ok, tallied_none, tallied_more}
 use Rattle.oer_module_bounds.proofs.hull.+steps.Goals as goal
 
 pub steps_of-returns-in_ok-tally_of-in-Union : goal.steps_of-returns-in_ok-tally_of-in-Union
@@ -36,4 +35,4 @@ tally_of-loop-member-init t c = tallied_none c.new-tally.result c.args.unknown c
 pub tally_of-loop-member-preserved : goal.tally_of-loop-member-preserved
 tally_of-loop-member-preserved t c =
     tallied_more c.loop-member.tally c.add.new.self c.args.unknown c.args.members.now c.loop-member.member-index c.member-item.result c.in_ok-steps.steps
-    (omega arith) (search (rules, get_or_default)) c.loop-member.invariant c.in_ok-steps.ensures c.in_ok-add.ensures.holding c.in_ok-add.ensures.turns
+    (omega arith) c.member-item.is c.loop-member.invariant c.in_ok-steps.ensures c.in_ok-add.ensures.holding c.in_ok-add.ensures.turns

@@ -1,4 +1,4 @@
-use Rattle.std.proofs.Common.{◌≡◌, None, Some, map, sym, ap, ◌∙◌}
+use Rattle.std.proofs.Common.{None, Some, map, sym, ap, ◌∙◌}
 use Rattle.std.specs.List.{fold}
 use Rattle.oer_module_bounds.specs.Loose.{join, loose, meet}
 use Rattle.oer_module_bounds.specs.Sets.{everything, set_of}

@@ -1,5 +1,4 @@
-use Rattle.std.proofs.Common.{◌≡◌, ◌≤◌, ◌+◌, drop}
-use Rattle.oer_module_bounds.specs.Tally.{sweep, sweep_of}
+use Rattle.oer_module_bounds.specs.Tally.{sweep_of}
 use Rattle.oer_module_bounds.proofs.Sweeping.{Turning}
 use Rattle.oer_module_bounds.proofs.tally.Sweep.pass_all.Given as goal
 
