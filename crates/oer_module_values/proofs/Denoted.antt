@@ -1,5 +1,5 @@
 -- What amounts denote.
-use Rattle.std.proofs.Common.{◌≡◌, ℕ, zero, suc, ℤ, List, [], ◌∷◌, append-nil, Option, Some, None, Result, Ok, Err, Bool, true, false, cond, if◌then◌else◌, refl, sym, ap, subst, ◌∙◌, slice_get}
+use Rattle.std.proofs.Common.{◌≡◌, ℕ, zero, suc, ℤ, List, [], ◌∷◌, Option, Some, None, Result, Ok, Err, Bool, true, false, cond, if◌then◌else◌, refl, sym, ap, subst, ◌∙◌, slice_get}
 use Rattle.std.specs.Bool.{beq}
 use Rattle.std.specs.Str.{bytes_eq}
 use Rattle.oer_module_lexer.specs.Token.{Spot}
@@ -13,7 +13,7 @@ use Rattle.oer_module_syntax.specs.Tree.{Module, Assignment, Body, type_body, se
 use Rattle.oer_module_syntax.specs.Tree.{Tree, plain, named, tagged, structure, list_of, selection, instance_of, any_defined_by}
 use Rattle.oer_module_syntax.specs.declared.word.Builtin.{Builtin}
 use Rattle.oer_module_syntax.specs.declared.word.Builtin.TheVariants as bi
-use Rattle.oer_module_terms.specs.Trees.{Amount, number, named as by_name, Atom, amount, real, fixed, bits, digits as some_digits, text, Value, atom, numbered as numbered_value, choice, braces, Item}
+use Rattle.oer_module_terms.specs.Trees.{Amount, number, named as by_name, amount, real, fixed, bits, digits as some_digits, text, Value, atom, numbered as numbered_value, choice, braces, Item}
 use Rattle.oer_module_values.proofs.References.{none_left-nil, refers}
 use Rattle.oer_module_terms.specs.Items.{enumeration_at, items_at}
 use Rattle.oer_module_terms.specs.Values.{value_at}
@@ -22,14 +22,14 @@ use Rattle.oer_module_syntax.specs.State.{State, place}
 use Rattle.oer_module_syntax.specs.declared.fault.Fault.{Fault}
 use Rattle.std.proofs.lemmas.Slice.Eq.{bytes_eq-Decides}
 use Rattle.oer_module_values.proofs.Wholes.{whole_written}
-use Rattle.oer_module_values.proofs.Walks.{found, IsFound, sole}
-use Rattle.oer_module_values.specs.Digits.{IsWritten, whole_of}
+use Rattle.oer_module_values.proofs.Walks.{found, sole}
+use Rattle.oer_module_values.specs.Digits.{IsWritten}
 use Rattle.oer_module_values.specs.Errors.{Error, error, place_in, in_module, not_a_number, unsettled, ◌>>=◌}
 use Rattle.oer_module_values.specs.Kept.{kept}
 use Rattle.oer_module_values.specs.Looks.{Path, own, within, fields, path_of}
-use Rattle.oer_module_values.specs.Numbers.{Governor, bare, items_of, all_items, Has, nothing, here, later, IsItem, Governs, by_integer, by_enumerated, Writes, Denotes, digits, item, value}
+use Rattle.oer_module_values.specs.Numbers.{Governor, bare, all_items, Has, nothing, here, later, IsItem, Governs, by_integer, by_enumerated, Writes, Denotes, digits, item, value}
 use Rattle.oer_module_values.specs.Numbers.{Wanted, Numeral, Outcome, reached, wants, governor_by, governor, item_named, named_number, enumeration_item, own_item, item_by, written, numbered, amount_by, amount_read}
-use Rattle.oer_module_values.specs.Numbers.{place_of_first, amount_in, value_in, defined_by, defined, same_kind, valued_by, valued, named_by, step_by, step, after, numeral, whole, count, number_at}
+use Rattle.oer_module_values.specs.Numbers.{place_of_first, amount_in, value_in, defined_by, same_kind, valued_by, valued, named_by, step_by, step, after, numeral, whole, count, number_at}
 use Rattle.oer_module_values.specs.Types.{TypeIn, type_in, Referent, Given, Meaning, Means, Names, Refers, meaning, referred}
 
 -- ---- governors

@@ -1,4 +1,5 @@
 pub mod Denoted
+pub mod GivenNumbers
 pub mod Items
 pub mod Lists
 pub mod References

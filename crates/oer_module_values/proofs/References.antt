@@ -1,5 +1,5 @@
 -- What a name and the path behind it refer to.
-use Rattle.std.proofs.Common.{◌≡◌, ℕ, List, [], ◌∷◌, Option, Some, None, Result, Ok, Err, slice_get, refl, sym, ap, subst, ◌∙◌, rules, true, false}
+use Rattle.std.proofs.Common.{◌≡◌, ℕ, List, [], ◌∷◌, Option, Some, None, Result, Ok, Err, slice_get, refl, sym, ap, subst, ◌∙◌, true}
 use Rattle.oer_module_lexer.specs.Token.{Spot}
 use Rattle.oer_module_names.proofs.Asked.{finds_stands_in, stands_finds_in}
 use Rattle.oer_module_names.proofs.Stands.{finds_stands, stands_finds}
@@ -9,7 +9,6 @@ use Rattle.oer_module_names.specs.declared.error.Found.{Found}
 use Rattle.oer_module_names.specs.declared.error.Place.{Place}
 use Rattle.oer_module_syntax.specs.Modules.{none_left}
 use Rattle.oer_module_syntax.specs.Tree.{Module, Assignment, Body}
-use Rattle.oer_module_values.specs.Errors.{Error}
 use Rattle.oer_module_values.specs.Looks.{Path, own, within, fields, path_of}
 use Rattle.oer_module_values.specs.Types.{Referent, Names, Refers, held, answered, referred}
 

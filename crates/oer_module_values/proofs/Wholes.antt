@@ -1,14 +1,13 @@
 -- Digits, and the number that they write.
-use Rattle.std.proofs.Common.{◌≡◌, ℕ, ◌^◌, ◌<◌, ◌≤◌, List, length, Result, Ok, Err, Option, Some, None, Bool, true, false, ◌&&◌, arith, ℤ, pos, nat_lt, nat_le, cond, ◌∙◌, ap, sym, refl, lt-ltb}
+use Rattle.std.proofs.Common.{◌≡◌, ℕ, ◌^◌, ◌<◌, List, length, Result, Ok, Err, Option, Some, None, Bool, true, false, arith, ℤ, pos, nat_lt, nat_le, cond, ◌∙◌, ap, sym, refl, lt-ltb}
 use Rattle.std.specs.Prelude.{FitsSigned, neg_ℤ}
 use Rattle.std.proofs.lemmas.Bool.{ltb-true, leb-true, and_parts}
 use Rattle.std.proofs.lemmas.Str.Parse.{tells_all_ascii_digits, numerals_by_value, IsNumeralModel}
 use Rattle.std.specs.Int.{w128}
 use Rattle.std.specs.Str.Parse.{ParsesUnsigned, IsNumeral, digits_value, without_leading_plus}
 use Rattle.std.specs.Str.{all_ascii_digits}
-use Rattle.oer_module_values.specs.Digits.{IsWritten, signed, is_numeral, below_zero, above_zero, in_range, whole_of}
+use Rattle.oer_module_values.specs.Digits.{IsWritten, signed, is_numeral, above_zero, in_range, whole_of}
 use Rattle.oer_module_names.specs.declared.error.Place.{Place}
-use Rattle.oer_module_values.specs.Errors.{Error}
 use Rattle.oer_module_values.specs.Numbers.{Numeral, fitting, whole}
 
 tells_numerals : IsNumeralModel (λ ds. all_ascii_digits ds ≡ true) (digits_value 10)

@@ -1,5 +1,5 @@
 -- Where a type stands, and what the steps behind a name are.
-use Rattle.std.specs.Prelude.{ℕ, List, [], ◌∷◌, Option, Some, if◌then◌else◌}
+use Rattle.std.specs.Prelude.{ℕ, List, [], ◌∷◌, Some, if◌then◌else◌}
 use Rattle.oer_module_lexer.specs.Token.{Token, word, Spot}
 use Rattle.oer_module_lexer.specs.declared.token.Sign.TheVariants.{Point}
 use Rattle.oer_module_syntax.specs.State.{is_sign}

@@ -1,23 +1,23 @@
 -- Which whole number a value is (X.680, 14.1, 19.9 to 19.12).
-use Rattle.std.specs.Prelude.{◌≡◌, ℕ, zero, suc, ℤ, List, [], ◌∷◌, ◌++◌, Bool, true, false, Option, Some, None, Result, Ok, Err, if◌then◌else◌}
+use Rattle.std.specs.Prelude.{◌≡◌, ℕ, zero, suc, ℤ, List, [], ◌∷◌, ◌++◌, Bool, true, false, Option, Some, None, Result, Ok, if◌then◌else◌}
 use Rattle.std.specs.Bool.{beq}
 use Rattle.std.specs.Str.{bytes_eq}
 use Rattle.oer_module_lexer.specs.Token.{Spot}
 use Rattle.oer_module_names.specs.declared.error.Place.{Place}
 use Rattle.oer_module_syntax.specs.Modules.{none_left}
 use Rattle.oer_module_syntax.specs.State.{State, place}
-use Rattle.oer_module_syntax.specs.Tree.{Module, Assignment, Body, type_body, set_body, value_body, class_body}
-use Rattle.oer_module_syntax.specs.Tree.{Tree, plain, named, tagged, structure, list_of, selection, instance_of, any_defined_by}
+use Rattle.oer_module_syntax.specs.Tree.{Module, Body, type_body, set_body, value_body, class_body}
+use Rattle.oer_module_syntax.specs.Tree.{Tree, plain, named}
 use Rattle.oer_module_syntax.specs.declared.word.Builtin.TheVariants as bi
 use Rattle.oer_module_terms.specs.Items.{enumeration_at, items_at}
-use Rattle.oer_module_terms.specs.Trees.{Amount, number, named as by_name, Atom, amount, Value, atom, Item, More, Enumeration}
+use Rattle.oer_module_terms.specs.Trees.{Amount, number, named as by_name, amount, Value, atom, Item, More, Enumeration}
 use Rattle.oer_module_terms.specs.Values.{value_at}
 use Rattle.oer_module_terms.specs.declared.item.Numbering.TheVariants.{Signed}
 use Rattle.oer_module_values.specs.Digits.{IsWritten, whole_of}
 use Rattle.oer_module_values.specs.Errors.{Error, error, place_in, in_module, circular, not_a_value, not_a_number, unnumbered, unsettled, too_large, ◌>>=◌}
 use Rattle.oer_module_values.specs.Kept.{kept}
 use Rattle.oer_module_values.specs.Looks.{Path, own, within, fields, path_of, place_of}
-use Rattle.oer_module_values.specs.Types.{TypeIn, type_in, Referent, Given, Meaning, Refers, Means, meaning, referred}
+use Rattle.oer_module_values.specs.Types.{TypeIn, type_in, Referent, Given, Refers, Means, meaning, referred}
 
 -- what governs a number: an INTEGER, or an ENUMERATED, with the items in braces, in a module
 pub record Governor : Type 0 where
@@ -220,3 +220,16 @@ module _ (ms : List Module) where
   -- and under the governor that a type is
   unfoldable pub number_at : TypeIn → Place → Amount → Result ℤ Error
   number_at t p a = governor t >>= λ g. count (record { place = p; governor = g; amount = a })
+
+  abbrev pub given_by : Place → Option Amount → Result (Option ℤ) Error
+  given_by p None = Ok None
+  given_by p (Some a) = integer_at p a >>= λ z. Ok (Some z)
+
+  -- the number that an item of an ENUMERATED is given, if it is given one
+  abbrev pub given_number : ℕ → Item → Result (Option ℤ) Error
+  given_number m i = given_by (place_in m i.at) i.number
+
+  -- the numbers that items are given
+  abbrev pub given_numbers : ℕ → List Item → Result (List (Option ℤ)) Error
+  given_numbers m [] = Ok []
+  given_numbers m (i ∷ more) = given_number m i >>= λ n. given_numbers m more >>= λ ns. Ok (n ∷ ns)

@@ -9,7 +9,7 @@ use Rattle.oer_module_names.specs.declared.error.Place.{Place}
 use Rattle.oer_module_names.specs.declared.error.Why.TheVariants.{Missing}
 use Rattle.oer_module_syntax.specs.Modules.{none_left}
 use Rattle.oer_module_syntax.specs.Tree.{Module, Assignment, Body, type_body, set_body, value_body, class_body}
-use Rattle.oer_module_syntax.specs.Tree.{Tree, plain, named, tagged, structure, list_of, selection, instance_of, any_defined_by}
+use Rattle.oer_module_syntax.specs.Tree.{Tree, named, tagged}
 use Rattle.oer_module_syntax.specs.declared.tree.Mode.{Mode}
 use Rattle.oer_module_values.specs.Errors.{Error, error, place_in, unnamed, circular, not_a_type, unsettled, ◌>>=◌}
 use Rattle.oer_module_values.specs.Looks.{Path, own, within, fields, path_of, place_of}

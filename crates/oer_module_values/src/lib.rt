@@ -11,5 +11,5 @@ mod numbers;
 mod types;
 
 pub use error::{Error, Why};
-pub use numbers::{integer, number};
+pub use numbers::{given_numbers, integer, number};
 pub use types::{Given, Meaning, TypeIn, resolve};

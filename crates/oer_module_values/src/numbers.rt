@@ -1,12 +1,12 @@
 //! Which whole number a value is.
-ghost use Rattle.std.specs.Prelude.{◌≡◌, ◌<◌, IfOk, length, option_map};
+ghost use Rattle.std.specs.Prelude.{◌≡◌, ◌<◌, IfOk, length, map, option_map};
 ghost use Rattle.oer_module_lexer.specs.Token.{spots_of};
 ghost use Rattle.oer_module_names.specs.Views.{modules_in};
 ghost use Rattle.oer_module_syntax.specs.Tree.{tree_of};
 ghost use Rattle.oer_module_terms.specs.Trees.{amount_of, item_of, value_of};
 ghost use Rattle.oer_module_values.specs.Errors.{Gives, seen};
 ghost use Rattle.oer_module_values.specs.Looks.{path_seen};
-ghost use Rattle.oer_module_values.specs.Numbers.{amount_by, amount_in, count, defined, integer_at, item_by, number_at, numbered, numeral, same_kind, step, value_in, valued, whole, written};
+ghost use Rattle.oer_module_values.specs.Numbers.{amount_by, amount_in, count, defined, given_number, given_numbers, integer_at, item_by, number_at, numbered, numeral, same_kind, step, value_in, valued, whole, written};
 ghost use Rattle.oer_module_values.specs.Views.{IsOutcomeWithin, IsWantedWithin, governor_of, numeral_of, referent_of, outcome_of, type_in, wanted_of};
 
 use crate::digits::whole_of;
@@ -332,7 +332,10 @@ fn count<'m, 's, 't>(
 }
 
 /// The whole number that an amount at a place is: that of its digits, or of the value for which its name stands. It is a
-/// size, the number of a tag, or another where no items have names (X.680, 19.9).
+/// size, the number of a tag, or another where no items have names (X.680, 14.1 and 19.9).
+///
+/// # Errors
+/// Those of `number`, of an INTEGER without items.
 pub fn integer<'m, 's, 't>(
     alloc: Global,
     names: &Names<'m, 's, 't>,
@@ -354,7 +357,15 @@ pub fn integer<'m, 's, 't>(
 }
 
 /// The whole number that an amount at a place is, where a type governs it (X.680, 19.9 to 19.12): that of its digits; of
-/// the item of that name, of an INTEGER or an ENUMERATED; or else of the value for which its name stands.
+/// the item of that name, of an INTEGER or an ENUMERATED; or else of the value for which its name stands, whose type must
+/// be of the same kind. It is looked up where it stands. A name in the parentheses of an item is that of a value.
+///
+/// # Errors
+/// First those of the type: what `resolve` returns; Unsettled and NotANumber, at the type that it stands for. Then from
+/// step to step the first of these: NotANumber, at digits of an ENUMERATED; Unread, of the items; Unnumbered, at the item;
+/// Unsettled, at a name with the field of an object; Unnamed; Unsettled, at the name of an assignment with parameters;
+/// NotAValue; the errors of the value's type; Unread, Unsettled (where more follows, as parameters) and NotANumber, of the
+/// value; NotANumber, at the name of a value of the other kind. Circular comes after 255 steps, and TooLarge last.
 #[tactic(auto, unfolding(crate::specs::Numbers::number_at))]
 pub fn number<'m, 's, 't>(
     alloc: Global,
@@ -377,4 +388,47 @@ pub fn number<'m, 's, 't>(
             amount,
         },
     )
+}
+
+/// The number in the parentheses of an item, if it has one.
+fn given_number<'m, 's, 't>(
+    alloc: Global,
+    names: &Names<'m, 's, 't>,
+    module: usize,
+    item: &Item<'s, 't>,
+) -> Result<Option<i128>, Error<'t>>
+    requires { «module» < length (modules_in names.now) }
+    ensures { Gives (λ o. o) result (given_number (modules_in names.now) «module» (item_of item.now)) }
+{
+    let Some(amount) = item.number else {
+        return Ok(None);
+    };
+    let place = Place {
+        module,
+        at: item.at,
+    };
+    let whole = integer(alloc, names, place, amount)?;
+    Ok(Some(whole))
+}
+
+/// The number that each item of an ENUMERATED is given in parentheses, in the order written; none where it is given none
+/// (X.680, 20.1). The items are those of the root, or those after `...`.
+///
+/// # Errors
+/// The first from the left of those of `integer`.
+pub fn given_numbers<'m, 's, 't>(
+    alloc: Global,
+    names: &Names<'m, 's, 't>,
+    module: usize,
+    items: &[Item<'s, 't>],
+) -> Result<Vec<Option<i128>>, Error<'t>>
+    requires { «module» < length (modules_in names.now) }
+    ensures { Gives (λ v. v.items) result (given_numbers (modules_in names.now) «module» (map item_of items.now)) }
+{
+    let mut numbers = Vec::new(alloc);
+    for item in items {
+        let number = given_number(alloc, names, module, item)?;
+        numbers.push(number)?;
+    }
+    Ok(numbers)
 }

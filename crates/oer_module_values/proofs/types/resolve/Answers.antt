@@ -1,4 +1,4 @@
-use Rattle.std.proofs.Common.{◌∙◌, sym, ap, map, reverse, Ok, Err}
+use Rattle.std.proofs.Common.{◌∙◌, sym, ap, map, Ok}
 use Rattle.oer_module_values.proofs.Lists.{map_reversed}
 use Rattle.std.proofs.lemmas.Result.{err_from_is_err_and}
 use Rattle.oer_module_names.specs.Views.{modules_in}
