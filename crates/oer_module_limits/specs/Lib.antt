@@ -1,0 +1,5 @@
+pub mod Ends
+pub mod Errors
+pub mod Limits
+pub mod Sets
+pub mod Views
