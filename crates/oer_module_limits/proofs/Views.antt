@@ -1,6 +1,5 @@
 -- Elements and sets, level by level, beside what they stand for.
 use Rattle.std.proofs.Common.{◌≡◌, List, [], ◌∷◌, refl, ap}
-use Rattle.std.proofs.lemmas.List.{map-append}
 use Rattle.oer_module_bounds.proofs.Members.{set_of-Range, set_of-Union, set_of-Intersection, set_of-Except, set_of-Unknown}
 use Rattle.oer_module_terms.proofs.Views.{constraint_of-Subtype, constraint_of-General, extension_of-Closed, extension_of-Open, extension_of-Extended}
 use Rattle.oer_module_terms.proofs.Views.{elements_of-Union, elements_of-Intersection, elements_of-Except, elements_of-AllExcept, elements_of-Size}
@@ -31,5 +30,3 @@ pub ruleset levels = (
   elements_of-Simple,
   listed-sets_from,
 )
-
-pub ruleset joins = (map-append)

@@ -126,12 +126,13 @@ module _ (found : Measure → Place → Elements → Read Set) where
   abbrev pub given_rows : Measure → List Given → Read (List Constraint)
   given_rows k gs = joined (given_row k) gs
 
+  -- a type's own constraints
+  unfoldable pub own_rows : Measure → TypeIn → Read (List Constraint)
+  own_rows k t = own k t >>= λ mine. row mine.0 t.«module» mine.1
+
   -- the constraints of what a type stands for, the nearest last
   unfoldable pub rows : Measure → Meaning → Read (List Constraint)
-  rows k r = do
-    mine ← own k r.of
-    first ← row mine.0 r.of.«module» mine.1
-    added first (given_rows (measure_of k r.of) r.given)
+  rows k r = own_rows k r.of >>= λ first. added first (given_rows (measure_of k r.of) r.given)
 
   -- SIZE (51.5)
   abbrev pub sized_by : Measure → Place → terms.Constraint → Read Set

@@ -6,9 +6,9 @@ ghost use Rattle.oer_module_bounds.specs.Sets.{constraint_of as bounding_of, set
 ghost use Rattle.oer_module_lexer.specs.Token.{spots_of};
 ghost use Rattle.oer_module_names.specs.Views.{modules_in};
 ghost use Rattle.oer_module_terms.specs.Trees.{constraint_of, elements_of, extension_of, simple_of, value_of};
-ghost use Rattle.oer_module_values.specs.Views.{given_of, meaning_of};
+ghost use Rattle.oer_module_values.specs.Views.{given_of, meaning_of, type_in};
 ghost use Rattle.oer_module_limits.specs.Errors.{Gives};
-ghost use Rattle.oer_module_limits.specs.Sets.{constraint, constraints, each, given_row, given_rows, is_extensible, row, rows, set_at, set_by, simple_by, single_by, sized_by, size_of, unseen_by};
+ghost use Rattle.oer_module_limits.specs.Sets.{constraint, constraints, each, given_row, given_rows, is_extensible, own_rows, row, rows, set_at, set_by, simple_by, single_by, sized_by, size_of, unseen_by};
 ghost use Rattle.oer_module_limits.specs.Views.{IsGivenWithin, IsMeasureWithin, IsWithin, measure_seen};
 
 use crate::ends::{ranged, single};
@@ -19,7 +19,7 @@ use oer_module_bounds::{Constraint, Range, Set};
 use oer_module_lexer::Spot;
 use oer_module_names::{Names, Place};
 use oer_module_terms::{Elements, Extension, Simple, Value};
-use oer_module_values::{Given, Meaning};
+use oer_module_values::{Given, Meaning, TypeIn};
 use std::alloc::Global;
 
 fn is_extensible(extension: &Extension<'_, '_>) -> bool
@@ -298,8 +298,23 @@ fn given_rows<'m, 's, 't>(
     Ok(found)
 }
 
+/// A type's own constraints.
+#[tactic(auto, unfolding(crate::specs::Sets::own_rows))]
+fn own_rows<'m, 's, 't>(
+    alloc: Global,
+    names: &Names<'m, 's, 't>,
+    levels: u8,
+    measure: Measure<'m, 's, 't>,
+    of: TypeIn<'m, 's, 't>,
+) -> Result<Vec<Constraint>, Error<'t>>
+    requires { of.«module» < length (modules_in names.now) }
+    ensures { Gives (λ v. map bounding_of v.items) result (own_rows (set_at (modules_in names.now) levels) (measure_seen measure.entry) (type_in of.entry)) }
+{
+    let (mine, spots) = own(measure, of)?;
+    row(alloc, names, levels, mine, of.module, spots)
+}
+
 /// The constraints of what a type stands for, the nearest last.
-#[tactic(auto, unfolding(crate::specs::Sets::rows), using(crate::proofs::Views::joins))]
 pub fn constraints_of<'m, 's, 't>(
     alloc: Global,
     names: &Names<'m, 's, 't>,
@@ -311,8 +326,7 @@ pub fn constraints_of<'m, 's, 't>(
     ensures { Gives (λ v. map bounding_of v.items) result (rows (set_at (modules_in names.now) levels) (measure_seen measure.entry) (meaning_of meaning.now)) }
 {
     let of = meaning.of;
-    let (mine, spots) = own(measure, of)?;
-    let mut found = row(alloc, names, levels, mine, of.module, spots)?;
+    let mut found = own_rows(alloc, names, levels, measure, of)?;
     let mut more = given_rows(
         alloc,
         names,
