@@ -315,6 +315,7 @@ fn own_rows<'m, 's, 't>(
 }
 
 /// The constraints of what a type stands for, the nearest last.
+#[tactic(auto, unfolding(crate::specs::Sets::rows))]
 pub fn constraints_of<'m, 's, 't>(
     alloc: Global,
     names: &Names<'m, 's, 't>,

@@ -9,7 +9,7 @@ use Rattle.oer_module_names.specs.Views.{modules_in}
 use Rattle.oer_module_names.specs.declared.error.Place.{Place}
 use Rattle.oer_module_terms.specs.Trees.{Elements}
 use Rattle.oer_module_values.specs.Types.{Meaning}
-use Rattle.oer_module_values.specs.Views.{meaning_of}
+use Rattle.oer_module_values.specs.Views.{given_of, meaning_of}
 use Rattle.oer_module_limits.proofs.sets.constraints_of.Goals as goal
 
 rows_after : (told : Measure → Place → Elements → Read Set) (k : Measure) (r : Meaning) (first : List Constraint) (more : Read (List Constraint))
@@ -24,6 +24,8 @@ returns-in_err-more c =
     rw (p.1, p.2) (λ not_memory. rows_after (set_at (modules_in c.args.names.now) c.args.levels) (measure_seen c.args.measure)
     (meaning_of c.args.meaning.now) _ _ c.in_ok-found.ensures
     (ap (λ k. given_rows (set_at (modules_in c.args.names.now) c.args.levels) k (meaning_of c.args.meaning.now).given) (sym c.measure_of.ensures.value)
+    ∙ ap (λ gs. given_rows (set_at (modules_in c.args.names.now) c.args.levels) (measure_seen c.measure_of.result) (map given_of gs))
+    (sym c.deref.ensures.value)
     ∙ c.in_err-more.ensures not_memory))
 
 pub returns : goal.returns
@@ -31,6 +33,8 @@ returns c =
     rows_after (set_at (modules_in c.args.names.now) c.args.levels) (measure_seen c.args.measure) (meaning_of c.args.meaning.now) _ _
     c.in_ok-found.ensures
     (ap (λ k. given_rows (set_at (modules_in c.args.names.now) c.args.levels) k (meaning_of c.args.meaning.now).given) (sym c.measure_of.ensures.value)
+    ∙ ap (λ gs. given_rows (set_at (modules_in c.args.names.now) c.args.levels) (measure_seen c.measure_of.result) (map given_of gs))
+    (sym c.deref.ensures.value)
     ∙ c.in_ok-more.ensures)
     ∙ ap (λ xs. let r : Read (List Constraint) = Ok xs in r)
     (sym (ap (map bounding_of) c.in_ok-append.ensures.items ∙ map-append bounding_of c.in_ok-found.found.items c.in_ok-more.more.items))
