@@ -76,7 +76,7 @@ enum oer_status {
                                one to an addition that the type doesn't know and that isn't there; or it
                                goes on from a part that the type doesn't know */
     OER_ABSENT = 8,         /* the path leads to a component or a known addition that is absent */
-    OER_NO_JSON = 9,        /* the text is not JSON, or not UTF-8 */
+    OER_NO_JSON = 9,        /* the text is not JSON, or not UTF-8: `octets` says where */
     OER_OUTSIDE = 10,       /* the message is not all in the octets */
     OER_NOT_CANONICAL = 11, /* the octets are an encoding, but not the canonical one */
     OER_FOLLOWS = 12        /* an encoding is at the front of the octets, and others follow it */
@@ -184,7 +184,8 @@ typedef struct oer_written {
     uint32_t why;     /* at OER_REJECTED the reason; else 0 */
     uint64_t octets;  /* at OER_OK, OER_ROOM, OER_NO_STEP and OER_ABSENT how many octets the encoding has
                          that was read; at OER_REJECTED how many had been looked at; else 0.
-                         oer_from_json always answers 0 */
+                         oer_from_json reads no encoding: at OER_NO_JSON it answers the place in the
+                         text at which reading stopped, and else 0 */
     uint64_t written; /* at OER_OK how many octets were written; at OER_ROOM how many are needed; else
                          0 */
 } oer_written;
@@ -292,6 +293,11 @@ oer_written oer_to_json(oer_types *types, const char *name, size_t name_length,
                         char *out, size_t room) OER_NO_NULL;
 
 /* Writes the canonical octets of the value that the JSON stands for.
+ * At OER_NO_JSON `octets` of the answer is a place in the text. Where this isn't UTF-8, it is the octet from
+ * which on it isn't: the octets before it are, and no longer front is. Else it is the octet at which reading
+ * stopped, at the fault or soon after it; where the text ends too soon, it is its length. So of "[1, x]" it is
+ * 4, and of "[1," 3. That it is within the text or at its end is proved; which octet it is, is only tested.
+ * At OER_REJECTED no place is known.
  * OER_OK, OER_REJECTED, OER_NO_TYPES, OER_UNNAMED, OER_MEMORY, OER_ROOM, OER_NO_JSON. */
 oer_written oer_from_json(oer_types *types, const char *name, size_t name_length,
                           const char *text, size_t text_length,

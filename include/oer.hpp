@@ -106,8 +106,9 @@ struct error {
     std::uint32_t why;
     /* At OER_REJECTED the place. Of octets: how many had been looked at. Of definitions: the octet of
      * the text at which the token or type begins that shows the fault, or from which on it is not UTF-8.
-     * Of JSON: 0. At OER_NO_STEP, OER_ABSENT, OER_NOT_CANONICAL and OER_FOLLOWS how many octets the
-     * encoding has. With any other status 0. */
+     * Of JSON: 0. At OER_NO_JSON the octet of the text at which reading stopped, or from which on it is
+     * not UTF-8, as oer_from_json says (oer.h). At OER_NO_STEP, OER_ABSENT, OER_NOT_CANONICAL and
+     * OER_FOLLOWS how many octets the encoding has. With any other status 0. */
     std::uint64_t place;
     /* At OER_ROOM how many octets the buffer has to have. Else 0. */
     std::uint64_t needed;
@@ -654,7 +655,7 @@ public:
     }
 
     /* The canonical octets of the value that the JSON stands for.
-     *   OER_NO_JSON  the text is not JSON, or not UTF-8
+     *   OER_NO_JSON  the text is not JSON, or not UTF-8: `place` says where
      *   OER_REJECTED  the JSON is no value of the type: `why` is an oer_json_reason, `place` is 0
      *   OER_MEMORY   an allocation failed, here or in the library */
     result<octets> from_json(text_in name, text_in json) noexcept {

@@ -133,7 +133,19 @@ static const struct vector vectors[] = {
     { FROM_JSON, "INTEGER", "\"170141183460469231731687303715884105728\"", 0, ALL, OER_REJECTED, OER_JSON_RANGE, 0, 0, 0 },
     { FROM_JSON, "INTEGER (0..5)", "6", 0, ALL, OER_REJECTED, OER_JSON_MISFIT, 0, 0, 0 },
     { FROM_JSON, "INTEGER", "five", 0, ALL, OER_NO_JSON, 0, 0, 0, 0 },
-    { FROM_JSON, "INTEGER", "\377", 0, ALL, OER_NO_JSON, 0, 0, 0, 0 }
+    { FROM_JSON, "INTEGER", "\377", 0, ALL, OER_NO_JSON, 0, 0, 0, 0 },
+
+    /* What is no JSON, is so at a place: octets and not characters are counted, from 0. */
+    { FROM_JSON, "INTEGER", "", 0, ALL, OER_NO_JSON, 0, 0, 0, 0 },
+    { FROM_JSON, BOOLEANS, "[true, five]", 0, ALL, OER_NO_JSON, 0, 7, 0, 0 },
+    { FROM_JSON, BOOLEANS, "[\n  true,\n  five\n]", 0, ALL, OER_NO_JSON, 0, 12, 0, 0 },
+    { FROM_JSON, BOOLEANS, "[\"\303\244\", five]", 0, ALL, OER_NO_JSON, 0, 7, 0, 0 },
+    { FROM_JSON, BOOLEANS, "[true] ]", 0, ALL, OER_NO_JSON, 0, 7, 0, 0 },
+    { FROM_JSON, BOOLEANS, "\n5 5", 0, ALL, OER_NO_JSON, 0, 3, 0, 0 },
+    { FROM_JSON, BOOLEANS, "[true,", 0, ALL, OER_NO_JSON, 0, 6, 0, 0 },
+    { FROM_JSON, BOOLEANS, "[true, fal", 0, ALL, OER_NO_JSON, 0, 10, 0, 0 },
+    { FROM_JSON, BOOLEANS, "[true,\n", 0, ALL, OER_NO_JSON, 0, 7, 0, 0 },
+    { FROM_JSON, BOOLEANS, "[five, \377]", 0, ALL, OER_NO_JSON, 0, 7, 0, 0 }
 };
 
 /* Where a part lies: the definition of the type A, octets in hexadecimal digits, the path, and the

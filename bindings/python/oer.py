@@ -146,7 +146,7 @@ class DefinitionsRejected(Rejected):
 
 class JsonRejected(Rejected):
     """The JSON is no value of the type. `reason` is a JsonReason. `place` is None, as the library says no place
-    of JSON, and the message names none."""
+    of it, and the message names none."""
 
     what = "JSON"
 
@@ -213,6 +213,15 @@ class Absent(Error):
 
 class NotJson(Error):
     """The text is not JSON, or not UTF-8."""
+
+    def __init__(self, place: int) -> None:
+        super().__init__(f"the text is not JSON, place {place}")
+        self.place = place
+        """The octet of the text, counted from 0, at which reading stopped, at the fault or soon after it, or from
+        which on it is not UTF-8; and its length where it ends too soon."""
+
+    def __reduce__(self) -> Tuple[Any, ...]:
+        return (type(self), (self.place,))
 
 
 class Outside(Error):
@@ -379,14 +388,13 @@ def version() -> int:
 _ERRORS: Dict[int, Tuple[Type[Error], str]] = {
     _NO_TYPES: (NoTypes, "there are no types"),
     _MEMORY: (OutOfMemory, "an allocation failed"),
-    _NO_JSON: (NotJson, "the text is not JSON"),
     _OUTSIDE: (Outside, "the message is not all in the octets"),
     _NOT_CANONICAL: (NotCanonical, "the octets are not the canonical encoding"),
 }
 
 
 def _error(status: int, name: bytes = b"", path: bytes = b"") -> Error:
-    """The exception of a status other than OK, REJECTED, NO_STEP, ABSENT and FOLLOWS."""
+    """The exception of a status other than OK, REJECTED, NO_STEP, ABSENT, NO_JSON and FOLLOWS."""
     if status == _UNNAMED:
         return Unnamed(_readable(name))
     if status == _NO_PATH:
@@ -604,6 +612,8 @@ class Types:
         answer, made = self._gather(_library.oer_from_json, (named, len(named), given, len(given)), len(given))
         if answer.status == _REJECTED:
             raise JsonRejected(JsonReason(answer.why), None)
+        if answer.status == _NO_JSON:
+            raise NotJson(answer.octets)
         if answer.status != _OK:
             raise _error(answer.status, named)
         return made

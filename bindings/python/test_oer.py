@@ -94,7 +94,9 @@ class Vector(NamedTuple):
             if self.task == "from_json":
                 return (oer.JsonRejected, self.why, None)
             return (oer.OctetsRejected, self.why, self.octets)
-        errors = {6: oer.NoPath, 7: oer.NoStep, 8: oer.Absent, 9: oer.NotJson, 11: oer.NotCanonical, 12: oer.Follows}
+        if self.status == 9:
+            return (oer.NotJson, None, self.octets)
+        errors = {6: oer.NoPath, 7: oer.NoStep, 8: oer.Absent, 11: oer.NotCanonical, 12: oer.Follows}
         return (errors[self.status], None, None)
 
 
@@ -413,7 +415,8 @@ class Calls(unittest.TestCase):
             (lambda: types.part("A", b"\x00", "c0"), "the part is absent"),
             (lambda: types.check_whole("A", b"\x80\x01"), "the octets are not the canonical encoding"),
             (lambda: types.check_whole("A", b"\x00\x01"), "octets follow the encoding, which has 1"),
-            (lambda: types.from_json("A", "{"), "the text is not JSON"),
+            (lambda: types.from_json("A", "{"), "the text is not JSON, place 1"),
+            (lambda: types.from_json("A", '{"a": yes}'), "the text is not JSON, place 6"),
         )
         for call, message in table:
             problem = self.problem(call)

@@ -54,7 +54,11 @@ pub enum Error {
         read: u64,
     },
     /// The text is not JSON, or not UTF-8.
-    NoJson,
+    NoJson {
+        /// The octet of the text, counted from 0, at which reading stopped, at the fault or soon after it, or
+        /// from which on it is not UTF-8; and its length where it ends too soon.
+        place: u64,
+    },
     /// The message is not all in the octets.
     Outside,
     /// The octets are an encoding, but not the canonical one. Only [`Types::check_whole`](crate::Types::check_whole)
@@ -86,18 +90,17 @@ impl Error {
         }
     }
 
-    /// The place, where octets or definitions are rejected: how many octets had been looked at, or the
-    /// octet of the text at which the token or type begins that shows the fault, or from which on it is not
-    /// UTF-8.
+    /// The place, where octets or definitions are rejected, or a text is not JSON: how many octets had been
+    /// looked at, or the octet of the text that the error names.
     pub fn place(&self) -> Option<u64> {
         match self {
-            Error::Octets { place, .. } | Error::Definitions { place, .. } => Some(*place),
+            Error::Octets { place, .. } | Error::Definitions { place, .. } | Error::NoJson { place } => Some(*place),
             _ => None,
         }
     }
 
-    /// The error of a status that is neither OK nor REJECTED. `read` is how many octets the encoding has, and
-    /// `needed` is of ROOM.
+    /// The error of a status that is neither OK nor REJECTED. `read` is how many octets the encoding has, or of
+    /// NO_JSON the place, and `needed` is of ROOM.
     fn of_status(status: u32, why: u32, read: u64, needed: u64) -> Error {
         match status {
             sys::NO_TYPES => Error::NoTypes,
@@ -107,7 +110,7 @@ impl Error {
             sys::NO_PATH => Error::NoPath,
             sys::NO_STEP => Error::NoStep { read },
             sys::ABSENT => Error::Absent { read },
-            sys::NO_JSON => Error::NoJson,
+            sys::NO_JSON => Error::NoJson { place: read },
             sys::OUTSIDE => Error::Outside,
             sys::NOT_CANONICAL => Error::NotCanonical,
             sys::FOLLOWS => Error::Follows { read },
@@ -132,10 +135,10 @@ impl Error {
     }
 
     /// The error of a call that reads JSON.
-    pub(crate) fn of_json(status: u32, why: u32, needed: u64) -> Error {
+    pub(crate) fn of_json(status: u32, why: u32, place: u64, needed: u64) -> Error {
         match JsonReason::from_number(why) {
             Some(reason) if status == sys::REJECTED => Error::Json { reason },
-            _ => Error::of_status(status, why, 0, needed),
+            _ => Error::of_status(status, why, place, needed),
         }
     }
 }
@@ -153,7 +156,7 @@ impl fmt::Display for Error {
             Error::NoPath => out.write_str("not a path"),
             Error::NoStep { .. } => out.write_str("the type has no such step"),
             Error::Absent { .. } => out.write_str("the part is absent"),
-            Error::NoJson => out.write_str("not JSON"),
+            Error::NoJson { place } => write!(out, "not JSON at octet {place}"),
             Error::Outside => out.write_str("the message is not all in the octets"),
             Error::NotCanonical => out.write_str("not the canonical encoding"),
             Error::Follows { read } => write!(out, "octets follow the encoding, which has {read}"),
@@ -175,14 +178,15 @@ mod tests {
         for row in &table::rows("number")[2..13] {
             let wanted = row[0].strip_prefix("OER_").unwrap().replace('_', "").to_lowercase();
             let status = row[1].parse().unwrap();
-            for error in [
-                Error::of_octets(status, 3, 5, 7),
-                Error::of_definitions(status, 3, 5),
-                Error::of_json(status, 3, 7),
+            for (error, place) in [
+                (Error::of_octets(status, 3, 5, 7), 5),
+                (Error::of_definitions(status, 3, 5), 0),
+                (Error::of_json(status, 3, 5, 7), 5),
             ] {
                 let found = format!("{error:?}").to_lowercase();
                 assert_eq!(found.split(' ').next(), Some(&wanted[..]));
-                assert_eq!((error.reason(), error.place()), (None, None));
+                let place = if status == sys::NO_JSON { Some(place) } else { None };
+                assert_eq!((error.reason(), error.place()), (None, place));
             }
         }
         assert_eq!(Error::of_octets(sys::ROOM, 0, 0, 7), Error::Room { needed: 7 });
@@ -193,7 +197,7 @@ mod tests {
         ] {
             assert_eq!(Error::of_octets(status, 0, 5, 0), wanted);
         }
-        assert_eq!(Error::of_json(sys::REJECTED, 99, 0), Error::Unknown { status: 1, why: 99 });
+        assert_eq!(Error::of_json(sys::REJECTED, 99, 0, 0), Error::Unknown { status: 1, why: 99 });
         assert_eq!(Error::of_octets(99, 3, 0, 0), Error::Unknown { status: 99, why: 3 });
     }
 }

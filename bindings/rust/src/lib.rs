@@ -557,6 +557,7 @@ impl Types {
     /// let types = oer::Types::parse("A ::= INTEGER (0..5)")?;
     /// let rejected = types.from_json("A", "6").unwrap_err();
     /// assert_eq!(rejected, oer::Error::Json { reason: oer::JsonReason::Misfit });
+    /// assert_eq!(types.from_json("A", "[1, x]"), Err(oer::Error::NoJson { place: 4 }));
     /// # Ok::<(), oer::Error>(())
     /// ```
     pub fn from_json(&self, name: impl AsRef<[u8]>, json: impl AsRef<[u8]>) -> Result<Vec<u8>, Error> {
@@ -591,7 +592,7 @@ impl Types {
         };
         match answer.status {
             sys::OK => written(answer),
-            status => Err(Error::of_json(status, answer.why, answer.written)),
+            status => Err(Error::of_json(status, answer.why, answer.octets, answer.written)),
         }
     }
 }

@@ -94,7 +94,7 @@ impl Vector {
             6 => Err(Error::NoPath),
             7 => Err(Error::NoStep { read: self.octets }),
             8 => Err(Error::Absent { read: self.octets }),
-            9 => Err(Error::NoJson),
+            9 => Err(Error::NoJson { place: self.octets }),
             11 => Err(Error::NotCanonical),
             12 => Err(Error::Follows { read: self.octets }),
             status => panic!("no row has status {status}"),
@@ -256,6 +256,9 @@ fn errors_are_errors() {
     assert_eq!((absent.reason(), absent.place()), (None, None));
     let rejected = types.from_json("A", "true").unwrap_err();
     assert_eq!((rejected.reason(), rejected.place()), (Some("Kind"), None));
+    let rejected = types.from_json("A", "[true, yes]").unwrap_err();
+    assert_eq!((rejected.reason(), rejected.place()), (None, Some(7)));
+    assert_eq!(rejected.to_string(), "not JSON at octet 7");
 }
 
 #[test]

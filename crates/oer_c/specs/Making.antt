@@ -1,6 +1,6 @@
 -- What the call that makes octets of JSON answers.
-use Rattle.std.specs.Prelude.{◌≡◌, ℕ, List, Some, None, Err, ◌⊎◌}
-use Rattle.std.specs.Str.{IsUtf8}
+use Rattle.std.specs.Prelude.{◌≡◌, ◌≤◌, ℕ, List, length, Some, None, Err, ◌⊎◌}
+use Rattle.std.specs.Str.{IsUtf8, IsValidUpTo}
 use Rattle.serde_json.specs.Data.{Data}
 use Rattle.serde_json.specs.Read.{read}
 use Rattle.oer_model.specs.AsnType.{AsnType}
@@ -21,9 +21,21 @@ IsOctetsOf T text c = (j : Data) × (v : AsnValue) × (read text ≡ Some j) × 
 abbrev pub json_rejection : JsonFault → Written
 json_rejection fault = record { status = 1; why = json_number fault; octets = 0; written = 0 }
 
--- The text is not JSON, or an allocation failed.
+-- the text is not JSON, and reading it stopped at the place
+abbrev pub no_json : ℕ → Written
+no_json place = record { status = 9; why = 0; octets = place; written = 0 }
+
+-- The text is not UTF-8, and so many octets are its longest front that is.
+abbrev pub IsNotUtf8 : List ℕ → Written → Type 0
+IsNotUtf8 text a = (place : ℕ) × (IsUtf8 text → ⊥) × IsValidUpTo text place × (a ≡ no_json place)
+
+-- The text is UTF-8 and not JSON, and the place is in it or at its end.
+abbrev pub IsNotJson : List ℕ → Written → Type 0
+IsNotJson text a = (place : ℕ) × IsUtf8 text × (read text ≡ None) × (place ≤ length text) × (a ≡ no_json place)
+
+-- The text is not UTF-8, or not JSON, or an allocation failed.
 abbrev pub IsUnread : List ℕ → Written → Type 0
-IsUnread text a = (a ≡ only_written 4) ⊎ ((a ≡ only_written 9) × (IsUtf8 text → read text ≡ None))
+IsUnread text a = (a ≡ only_written 4) ⊎ (IsNotUtf8 text a ⊎ IsNotJson text a)
 
 -- The JSON stands for no value, and this is its first fault; or an allocation failed.
 abbrev pub IsUntaken : AsnType → Data → Written → Type 0

@@ -1,14 +1,17 @@
 //! The octets of the value for which JSON stands.
-ghost use Rattle.std.specs.Prelude.{◌≡◌, Some, IfErr, IfOk};
+ghost use Rattle.std.specs.Prelude.{◌≡◌, ◌≤◌, length, Some, IfErr, IfOk};
+ghost use Rattle.std.specs.Str.{IsUtf8};
+ghost use Rattle.serde_json.specs.Errors.{category};
 ghost use Rattle.serde_json.specs.Read.{read};
 ghost use Rattle.serde_json.specs.View.{view};
+ghost use Rattle.serde_json.specs.declared.error.Category.TheVariants.{Eof};
 ghost use Rattle.oer_model.specs.Fits.{Fits};
 ghost use Rattle.oer_types.specs.Schema.{the_type};
 ghost use Rattle.oer_model.specs.Strict.{IsCanonical};
 ghost use Rattle.oer_values.specs.ValueView.{value_of};
 ghost use Rattle.oer_json.specs.Denotes.{IsJsonOf};
 ghost use Rattle.oer_c.specs.Buffers.{IsUndone, only_written};
-ghost use Rattle.oer_c.specs.Making.{IsOctetsOf, IsUnmade, IsUnread, IsUntaken, Makes, json_rejection};
+ghost use Rattle.oer_c.specs.Making.{IsNotUtf8, IsOctetsOf, IsUnmade, IsUnread, IsUntaken, Makes, json_rejection, no_json};
 ghost use Rattle.oer_c.specs.Naming.{ByName};
 ghost use Rattle.oer_c.specs.Sharing.{types_of};
 
@@ -21,7 +24,7 @@ use oer_text::{JsonFault, Types, from_json};
 use oer_types::{Schema, Value};
 use oer_units::Metered;
 use oer_writer::write;
-use serde_json::Value as Json;
+use serde_json::{Error as JsonError, Value as Json};
 use std::alloc::Global;
 
 // An error of JSON.
@@ -62,21 +65,73 @@ fn octets_of(alloc: Global, schema: &Schema, value: &Value) -> Result<Vec<u8>, W
     }
 }
 
+// A text that is not JSON, where reading stopped at the place.
+fn no_json(place: usize) -> Written
+    ensures { result ≡ no_json place }
+{
+    Written {
+        status: NO_JSON,
+        why: 0,
+        octets: place as u64,
+        written: 0,
+    }
+}
+
+// Where a line of the text begins. Lines are counted from 1, and end with a line feed.
+fn line_start(text: &[u8], line: usize) -> usize
+    ensures { result ≤ length text.now }
+{
+    let mut before = line.saturating_sub(1);
+    for at in 0..text.len() {
+        if before == 0 {
+            return at;
+        }
+        if text[at] == b'\n' {
+            before -= 1;
+        }
+    }
+    text.len()
+}
+
+// The octet of the text at which reading stopped: that of the error's line and column, which count from
+// 1; and the text's length where it ends too soon.
+fn stop(text: &[u8], error: &JsonError) -> usize
+    ensures within { result ≤ length text.now }
+    ensures end { category error.now ≡ Eof → result ≡ length text.now }
+{
+    if error.is_eof() {
+        return text.len();
+    }
+    line_start(text, error.line())
+        .saturating_add(error.column())
+        .saturating_sub(1)
+        .min(text.len())
+}
+
+// The text, if it is UTF-8.
+fn utf8(text: &[u8]) -> Result<&str, Written>
+    ensures same { IfOk result (λ s. s.now ≡ text.now) }
+    ensures is { IfOk result (λ s. IsUtf8 text.now) }
+    ensures rejected { IfErr result (IsNotUtf8 text.now) }
+{
+    match std::str::from_utf8(text) {
+        Ok(text) => Ok(text),
+        Err(fault) => Err(no_json(fault.valid_up_to())),
+    }
+}
+
 // The JSON that the text is.
 fn json_of(alloc: Global, text: &[u8]) -> Result<Json, Written>
     ensures json { IfOk result (λ json. read text.now ≡ Some (view json)) }
     ensures rejected { IfErr result (IsUnread text.now) }
 {
-    let Ok(text) = std::str::from_utf8(text) else {
-        return Err(only_status(NO_JSON));
-    };
-    match Json::from_str(alloc, text) {
+    match Json::from_str(alloc, utf8(text)?) {
         Ok(json) => Ok(json),
         Err(error) => {
             if error.is_memory() {
                 Err(only_status(MEMORY))
             } else {
-                Err(only_status(NO_JSON))
+                Err(no_json(stop(text, &error)))
             }
         }
     }
@@ -117,7 +172,8 @@ fn named(alloc: Global, types: &Types, name: &[u8], text: &[u8], out: &mut [u8])
 /// - `OK`: `written` octets are in the buffer;
 /// - `ROOM`: the buffer has room for fewer than these `written` octets;
 /// - `REJECTED`: the JSON stands for no value of the type, for the reason `why`, a `JsonFault`;
-/// - `NO_JSON`: the text is not JSON, or not UTF-8;
+/// - `NO_JSON`: the text is not JSON, and reading it stopped at the octet `octets`, or it is not UTF-8, and
+///   `octets` octets are its longest front that is;
 /// - `NO_TYPES`: the handle has no types;
 /// - `UNNAMED`: no definition has the Name, or it is not UTF-8;
 /// - `MEMORY`: an allocation failed.

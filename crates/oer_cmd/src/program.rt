@@ -25,7 +25,7 @@ use clap::error::ErrorKind;
 use oer_options::{Options, Task, parsed};
 use oer_types::Schema;
 use oer_units::Metered;
-use std::alloc::Global;
+use std::alloc::{AllocError, Global};
 use std::io::{Read, Write};
 
 // The line of the task.
@@ -201,7 +201,19 @@ pub fn report<E: Write>(alloc: Global, fault: Fault<'_>, errors: &mut E) -> u8
     }
 }
 
-/// Writes in one call what `clap` says where it takes no words: help to the output with status 0, and all
+// What is said where `clap` takes no words: its text. Where it doesn't know one of them, this may be the
+// argument to an option, since it takes each word that begins with a hyphen for an option: a line says how
+// such an argument is given.
+fn refusal_text(alloc: Global, error: &clap::Error) -> Result<String, AllocError> {
+    if error.kind() == ErrorKind::UnknownArgument {
+        return format!(in alloc;
+            "{error}\nAn argument to an option that begins with - needs =, as --types=\"$(cat FILE)\".\n"
+        );
+    }
+    format!(in alloc; "{error}")
+}
+
+/// Writes in one call what is said where `clap` takes no words: help to the output with status 0, and all
 /// else to the errors with status 2. Where memory was refused, or the output fails, it writes the line of
 /// that fault. Returns the status.
 pub fn refused<W: Write, E: Write>(
@@ -228,7 +240,7 @@ pub fn refused<W: Write, E: Write>(
     if error.kind() == ErrorKind::OutOfMemory {
         return report(alloc, Fault::Memory, errors);
     }
-    let Ok(text) = format!(in alloc; "{error}") else {
+    let Ok(text) = refusal_text(alloc, error) else {
         return report(alloc, Fault::Memory, errors);
     };
     if error.use_stderr() {

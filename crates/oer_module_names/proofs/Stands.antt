@@ -100,3 +100,6 @@ finds_stands ms w k x h = follow_stands ms w (length ms) (way_at ms w k (module_
 pub stands_finds : (ms : List Module) (w : List ℕ) (k : ℕ) (x : Found) → StandsFor ms w x k → find ms k w ≡ Ok x
 unfolding find
 stands_finds ms w k x h = stands_follow ms w k (module_place ms k) x h
+
+pub stand_for_one : (ms : List Module) (w : List ℕ) (k : ℕ) (x y : Found) → StandsFor ms w x k → StandsFor ms w y k → x ≡ y
+stand_for_one ms w k x y a b = let p = stands_finds ms w k x a in let q = stands_finds ms w k y b in cc

@@ -9,6 +9,9 @@ use Rattle.oer_module_names.specs.declared.error.Found.{Found}
 abbrev pub FindsWhatStands : Type 0
 FindsWhatStands = (ms : List Module) (w : List ℕ) (k : ℕ) (x : Found) → (find ms k w ≡ Ok x) ↔ StandsFor ms w x k
 
+abbrev pub StandsForOne : Type 0
+StandsForOne = (ms : List Module) (w : List ℕ) (k : ℕ) (x y : Found) → StandsFor ms w x k → StandsFor ms w y k → x ≡ y
+
 abbrev pub FindsWhatStandsIn : Type 0
 FindsWhatStandsIn = (ms : List Module) (f w : List ℕ) (k : ℕ) (x : Found) → (find_in ms k f w ≡ Ok x) ↔ StandsForIn ms f w x k
 

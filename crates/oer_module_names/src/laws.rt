@@ -1,12 +1,17 @@
 //! What holds of finding. Each function does nothing; its contract is the law.
-ghost use Rattle.oer_module_names.specs.Laws.{FindsTheOnlyAssignment, FindsTheOnlyModule, FindsWhatStands, FindsWhatStandsIn};
+ghost use Rattle.oer_module_names.specs.Laws.{FindsTheOnlyAssignment, FindsTheOnlyModule, FindsWhatStands, FindsWhatStandsIn, StandsForOne};
 
 /// An assignment is found for a Name in a module exactly where the Name stands for it there.
 pub fn finds_what_stands()
     ensures { FindsWhatStands }
 {}
 
-/// The same of a Name behind that of a module.
+/// A Name stands for one assignment.
+pub fn stands_for_one()
+    ensures { StandsForOne }
+{}
+
+/// The same as the first of a Name behind that of a module.
 pub fn finds_what_stands_in()
     ensures { FindsWhatStandsIn }
 {}

@@ -1,4 +1,12 @@
+pub mod Groups
 pub mod Loops
 pub mod Matching
 pub mod Spots
+pub mod SameTurns
+pub mod Shorter
+pub mod SoundModules
+pub mod SoundTypes
+pub mod SoundValues
+pub mod Took
 pub mod Trees
+pub mod Whole

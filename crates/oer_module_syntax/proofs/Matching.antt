@@ -1,27 +1,31 @@
 -- What is taken as a group matches.
 use Rattle.std.proofs.Common.{◌≡◌, ℕ, suc, ◌+◌, ◌==◌, List, [], ◌∷◌, ◌++◌, take, drop, Bool, true, false, cond, if◌then◌else◌}
-use Rattle.std.proofs.Common.{refl, sym, ap, subst, ◌∙◌, arith, Option, Some, Result, Ok, Err, append_assoc}
+use Rattle.std.proofs.Common.{refl, sym, ap, subst, ◌∙◌, arith, ◌⊎◌, inl, inr, Some, Result, Ok, Err, append_assoc}
 use Rattle.std.proofs.lemmas.Bool.{eqb-true}
 use Rattle.oer_module_lexer.specs.Token.{Token, sign, word, field, number, real, bits, digits, text, Spot}
 use Rattle.oer_module_lexer.specs.declared.token.Sign.{Sign}
 use Rattle.oer_module_lexer.specs.declared.token.Sign.TheVariants as sg
 use Rattle.oer_module_syntax.specs.Matched.{brackets_in, brackets, Closes, brace, parenthesis, bracket, Matched, none, pair, GroupsMatch}
 use Rattle.oer_module_syntax.specs.Ranges.{close, nest, nest_next, groups_len, group_len, group_at, starts_sign, unclosed}
-use Rattle.oer_module_syntax.specs.State.{State, same_sign, sign_number, is_sign, at_sign, ◌>>=◌}
+use Rattle.oer_module_syntax.specs.State.{State, same_sign, sign_number, is_sign, ◌>>=◌}
 use Rattle.oer_module_syntax.specs.declared.fault.Fault.{Fault}
 use Rattle.oer_module_syntax.specs.declared.range.Extent.TheVariants.{Group}
 
 -- ---- results
 
-bind_ok : {A B : Type 0} (r : Result A Fault) (f : A → Result B Fault) (b : B) → (r >>= f) ≡ Ok b → (a : A) × (r ≡ Ok a) × (f a ≡ Ok b)
+pub bind_ok : {A B : Type 0} (r : Result A Fault) (f : A → Result B Fault) (b : B) → (r >>= f) ≡ Ok b → (a : A) × (r ≡ Ok a) × (f a ≡ Ok b)
 bind_ok (Ok a) f b h = (a, refl, h)
 bind_ok (Err e) f b h = absurd (cc)
 
-abbrev stack_of : Result (List Sign) Fault → List Sign
+pub chosen : {A : Type 0} (b : Bool) (x y z : A) → cond b x y ≡ z → ((b ≡ true) × (x ≡ z)) ⊎ ((b ≡ false) × (y ≡ z))
+chosen true x y z h = inl (refl, h)
+chosen false x y z h = inr (refl, h)
+
+abbrev pub stack_of : Result (List Sign) Fault → List Sign
 stack_of (Ok cs) = cs
 stack_of (Err e) = []
 
-abbrev count_of : Result ℕ Fault → ℕ
+abbrev pub count_of : Result ℕ Fault → ℕ
 count_of (Ok n) = n
 count_of (Err e) = 0
 
@@ -85,7 +89,7 @@ same_is a b h = sym (named a) ∙ ap name (eqb-true (sign_number a) (sign_number
 -- ---- what closes all that is open
 
 -- the brackets close all that is open, the innermost first, and nothing follows
-data CloseAll : List Sign → List Sign → Type 0 where
+pub data CloseAll : List Sign → List Sign → Type 0 where
   closed_all : CloseAll [] []
   close_one : {c : Sign} {cs inner rest : List Sign} → Matched inner → CloseAll cs rest → CloseAll (c ∷ cs) (inner ++ (c ∷ rest))
 
@@ -94,7 +98,7 @@ within : (o c d : Sign) (cs inner rest : List Sign) → Closes o c → Matched i
 within o c d cs inner _ cl m (close_one {inner = inner2} {rest = rest2} m2 more) =
     subst (λ l. CloseAll (d ∷ cs) (o ∷ l)) (append_assoc inner (c ∷ inner2) (d ∷ rest2)) (close_one (pair cl m m2) more)
 
-opened : (o c d : Sign) (cs hs : List Sign) → Closes o c → CloseAll (c ∷ d ∷ cs) hs → CloseAll (d ∷ cs) (o ∷ hs)
+pub opened : (o c d : Sign) (cs hs : List Sign) → Closes o c → CloseAll (c ∷ d ∷ cs) hs → CloseAll (d ∷ cs) (o ∷ hs)
 opened o c d cs _ cl (close_one {inner = inner} {rest = rest} m more) = within o c d cs inner rest cl m more
 
 closed_by : (b : Bool) (at : ℕ) (g d : Sign) (ds more hs : List Sign) → same_sign d g ≡ b → cond b (Ok ds) (Err (unclosed at d)) ≡ Ok more
@@ -144,7 +148,7 @@ nested at (bits w) d cs more hs h a = kept _ more hs h a
 nested at (digits w) d cs more hs h a = kept _ more hs h a
 nested at (text w) d cs more hs h a = kept _ more hs h a
 
-matched_len : (s : State) (ts : List Spot) (cs : List Sign) (n : ℕ) → groups_len Group s ts cs ≡ Ok n → CloseAll cs (brackets (take n ts))
+pub matched_len : (s : State) (ts : List Spot) (cs : List Sign) (n : ℕ) → groups_len Group s ts cs ≡ Ok n → CloseAll cs (brackets (take n ts))
 unfolding groups_len
 matched_len s [] [] n h = subst (λ k. CloseAll [] (brackets (take k []))) (ap count_of h) closed_all
 matched_len s [] (c ∷ cs) n h = absurd (cc)
@@ -158,18 +162,18 @@ matched_len s (t ∷ ts) (c ∷ cs) n h =
 
 -- ---- groups
 
-abbrev InGroup : Sign → Sign → List Sign → Type 0
+abbrev pub InGroup : Sign → Sign → List Sign → Type 0
 InGroup o c hs = (inner : List Sign) × (hs ≡ o ∷ (inner ++ (c ∷ []))) × Matched inner
 
-last_closes : (o c : Sign) (hs : List Sign) → CloseAll (c ∷ []) hs → InGroup o c (o ∷ hs)
+pub last_closes : (o c : Sign) (hs : List Sign) → CloseAll (c ∷ []) hs → InGroup o c (o ∷ hs)
 last_closes o c _ (close_one {inner = inner} m closed_all) = (inner, refl, m)
 
-opens_alone : (o c : Sign) (at : ℕ) → Closes o c → (nest at (sign o) [] ≡ Ok (c ∷ [])) × (brackets_in (sign o) ≡ o ∷ [])
+pub opens_alone : (o c : Sign) (at : ℕ) → Closes o c → (nest at (sign o) [] ≡ Ok (c ∷ [])) × (brackets_in (sign o) ≡ o ∷ [])
 opens_alone _ _ at brace = (refl, refl)
 opens_alone _ _ at parenthesis = (refl, refl)
 opens_alone _ _ at bracket = (refl, refl)
 
-is_that : (o : Sign) (t : Token) → is_sign o (Some t) ≡ true → t ≡ sign o
+pub is_that : (o : Sign) (t : Token) → is_sign o (Some t) ≡ true → t ≡ sign o
 is_that o (sign g) h = ap sign (sym (same_is o g h))
 is_that o (word w) h = absurd (cc)
 is_that o (field w) h = absurd (cc)
@@ -179,7 +183,7 @@ is_that o (bits w) h = absurd (cc)
 is_that o (digits w) h = absurd (cc)
 is_that o (text w) h = absurd (cc)
 
-in_group : (o c : Sign) (s : State) (l : List Spot) (n : ℕ) → Closes o c → starts_sign o l ≡ true
+pub in_group : (o c : Sign) (s : State) (l : List Spot) (n : ℕ) → Closes o c → starts_sign o l ≡ true
     → (nest_next l [] >>= λ cs. groups_len Group s (drop 1 l) cs >>= λ m. Ok (1 + m)) ≡ Ok n → InGroup o c (brackets (take n l))
 unfolding bind_ok
 in_group o c s [] n cl h g = absurd (cc)

@@ -1,8 +1,10 @@
+pub mod Grammar
 pub mod Looks
 pub mod Matched
 pub mod Modules
 pub mod Ranges
 pub mod State
 pub mod Tree
+pub mod Turns
 pub mod Types
 pub mod Words

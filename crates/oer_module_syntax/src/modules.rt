@@ -133,7 +133,7 @@ fn read_more_symbols<'s, 't>(
         let symbol = read_symbol(alloc, cursor)?;
         found.push(symbol)?;
     }
-    Err(cursor.fault(Why::Expected(Sought::Closing)))
+    unreachable!()
 }
 
 /// What follows EXPORTS, up to the semicolon.
@@ -268,7 +268,7 @@ fn read_import_list<'s, 't>(
         let import = read_import(alloc, cursor)?;
         found.push(import)?;
     }
-    Err(cursor.fault(Why::Expected(Sought::Closing)))
+    unreachable!()
 }
 
 #[tactic(auto, unfolding(crate::specs::Modules::imports_at))]
@@ -447,7 +447,7 @@ fn read_assignments<'s, 't>(
         let assignment = read_assignment(alloc, cursor, levels)?;
         found.push(assignment)?;
     }
-    Err(cursor.fault(Why::Expected(Sought::Closing)))
+    unreachable!()
 }
 
 fn is_end(token: Token<'_>) -> bool
@@ -566,7 +566,7 @@ fn read_more_modules<'s, 't>(
         let made = read_module(alloc, cursor, levels)?;
         found.push(made)?;
     }
-    Err(cursor.fault(Why::Expected(Sought::Closing)))
+    unreachable!()
 }
 
 fn is_last(cursor: &Cursor<'_, '_>) -> bool

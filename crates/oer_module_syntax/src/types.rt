@@ -574,7 +574,7 @@ fn read_more<'s, 't>(
         let element = read_one(alloc, cursor, levels, grouped, alternatives)?;
         found.push(element)?;
     }
-    Err(cursor.fault(Why::Expected(Sought::Closing)))
+    unreachable!()
 }
 
 /// One of what stands between commas.

@@ -8,7 +8,7 @@ mod lexer;
 #[cfg(test)]
 mod limits;
 #[cfg(test)]
-mod names;
+mod parts;
 #[cfg(test)]
 mod syntax;
 #[cfg(test)]

@@ -2,11 +2,13 @@
 ghost use Rattle.std.specs.Prelude.{◌<◌, length};
 ghost use Rattle.oer_module_names.specs.Views.{modules_in};
 
-use oer_module_lexer::lex;
+use oer_module_lexer::{Spot, Tokens, lex};
 use oer_module_names::{Names, Place};
-use oer_module_syntax::{Body, Cursor, TypeSyntax, read_modules};
-use oer_module_terms::Amount;
-use oer_module_values::{Error, Given, Meaning, TypeIn, Why, integer, number, resolve};
+use oer_module_syntax::{Body, Cursor, Module, TypeSyntax, read_modules};
+use oer_module_terms::{Amount, read_enumeration};
+use oer_module_values::{
+    Error, Given, Meaning, TypeIn, Why, given_numbers, integer, number, resolve,
+};
 use std::alloc::Global;
 use std::test::Fail;
 
@@ -92,6 +94,10 @@ fn draw_type<'n>(
     }
 }
 
+fn no_path<'n>() -> &'n [Spot<'n>] {
+    &[]
+}
+
 /// The number of a name, where this type governs it, if there is one.
 fn draw_number<'n>(
     at: Global,
@@ -103,7 +109,10 @@ fn draw_number<'n>(
     requires { «module» < length (modules_in names.now) }
 {
     let place = Place { module, at: 0 };
-    let amount = Amount::Named { name, path: &[] };
+    let amount = Amount::Named {
+        name,
+        path: no_path(),
+    };
     let answer = match type_named(names, module, of) {
         Some(syntax) => number(at, names, TypeIn { module, syntax }, place, amount),
         None => integer(at, names, place, amount),
@@ -114,18 +123,87 @@ fn draw_number<'n>(
     }
 }
 
+/// The numbers that the items of the root of an enumeration are given.
+fn draw_given<'n>(
+    at: Global,
+    names: &Names<'n, 'n, 'n>,
+    module: usize,
+    name: &'n str,
+) -> Result<String, Fail>
+    requires { «module» < length (modules_in names.now) }
+{
+    let Some(TypeSyntax::Plain { items, .. }) = type_named(names, module, name) else {
+        return Err(Fail::new(name));
+    };
+    let mut cursor = Cursor {
+        spots: items,
+        end: 0,
+        complete: true,
+    };
+    let Ok(enumeration) = read_enumeration(at, &mut cursor) else {
+        return Err(Fail::new(name));
+    };
+    match given_numbers(at, names, module, &enumeration.root) {
+        Ok(numbers) => draw_numbers(at, &numbers),
+        Err(error) => draw_error(at, error),
+    }
+}
+
+fn draw_numbers(at: Global, numbers: &[Option<i128>]) -> Result<String, Fail> {
+    let mut out = String::new(at);
+    for number in numbers {
+        match number {
+            Some(whole) => out.push_str(&format!(in at; "{whole} ")?)?,
+            None => out.push_str("- ")?,
+        }
+    }
+    Ok(out)
+}
+
+/// What is asked of a name.
+#[derive(Clone, Copy)]
+enum Question<'n> {
+    Type,
+    Given,
+    /// Under the type of this name, if there is one.
+    Number(&'n str),
+}
+
+fn answers<'n>(
+    at: Global,
+    names: &Names<'n, 'n, 'n>,
+    question: Question<'n>,
+    name: &'n str,
+    want: &str,
+) -> Result<(), Fail> {
+    let Ok(module) = names.find_module("A") else {
+        return Err(Fail::new("module"));
+    };
+    let answer = match question {
+        Question::Type => draw_type(at, names, module, name)?,
+        Question::Given => draw_given(at, names, module, name)?,
+        Question::Number(of) => draw_number(at, names, module, of, name)?,
+    };
+    if answer.as_str() == want {
+        return Ok(());
+    }
+    Err(Fail::new(answer.as_str()))
+}
+
+fn modules_of<'x>(at: Global, tokens: &'x Tokens<'x>) -> Result<Vec<Module<'x, 'x>>, Fail> {
+    let mut cursor = Cursor::new(tokens);
+    match read_modules(at, &mut cursor, 3) {
+        Ok(modules) => Ok(modules),
+        Err(_) => Err(Fail::new("unread")),
+    }
+}
+
 #[test]
 fn types(rt: HostRuntime) -> Result<(), Fail> {
     let at = rt.alloc();
     let tokens = lex(at, TEXT)?;
-    let mut cursor = Cursor::new(&tokens);
-    let Ok(modules) = read_modules(at, &mut cursor, 3) else {
-        return Err(Fail::new("unread"));
-    };
+    let modules = modules_of(at, &tokens)?;
     let names = Names::new(at, &modules)?;
-    let Ok(module) = names.find_module("A") else {
-        return Err(Fail::new("module"));
-    };
     for (name, want) in [
         ("T", "0:76"),
         ("U", "0:76 c0:5"),
@@ -138,26 +216,17 @@ fn types(rt: HostRuntime) -> Result<(), Fail> {
         ("K", "NotAType 0:309"),
         ("C", "Circular 0:333"),
     ] {
-        let answer = draw_type(at, &names, module, name)?;
-        if answer.as_str() != want {
-            return Err(Fail::new(answer.as_str()));
-        }
+        answers(at, &names, Question::Type, name, want)?;
     }
-    Ok(())
+    answers(at, &names, Question::Given, "Color", "- 5 ")
 }
 
 #[test]
 fn numbers(rt: HostRuntime) -> Result<(), Fail> {
     let at = rt.alloc();
     let tokens = lex(at, TEXT)?;
-    let mut cursor = Cursor::new(&tokens);
-    let Ok(modules) = read_modules(at, &mut cursor, 3) else {
-        return Err(Fail::new("unread"));
-    };
+    let modules = modules_of(at, &tokens)?;
     let names = Names::new(at, &modules)?;
-    let Ok(module) = names.find_module("A") else {
-        return Err(Fail::new("module"));
-    };
     for (of, name, want) in [
         ("", "max", "255"),
         ("", "zero", "0"),
@@ -190,10 +259,7 @@ fn numbers(rt: HostRuntime) -> Result<(), Fail> {
         ("", "parameters", "Unsettled 0:923"),
         ("Z", "a", "Unread 0:351"),
     ] {
-        let answer = draw_number(at, &names, module, of, name)?;
-        if answer.as_str() != want {
-            return Err(Fail::new(answer.as_str()));
-        }
+        answers(at, &names, Question::Number(of), name, want)?;
     }
     Ok(())
 }

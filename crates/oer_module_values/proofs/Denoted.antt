@@ -1,5 +1,6 @@
 -- What amounts denote.
-use Rattle.std.proofs.Common.{◌≡◌, ℕ, zero, suc, ℤ, List, [], ◌∷◌, Option, Some, None, Result, Ok, Err, Bool, true, false, cond, if◌then◌else◌, refl, sym, ap, subst, ◌∙◌, slice_get}
+use Rattle.std.proofs.Common.{◌≡◌, ℕ, zero, suc, ℤ, List, [], ◌∷◌, Option, Some, None, Result, Ok, Err, Bool, true, false, cond}
+use Rattle.std.proofs.Common.{if◌then◌else◌, refl, sym, ap, subst, ◌∙◌, slice_get}
 use Rattle.std.specs.Bool.{beq}
 use Rattle.std.specs.Str.{bytes_eq}
 use Rattle.oer_module_lexer.specs.Token.{Spot}
@@ -13,7 +14,8 @@ use Rattle.oer_module_syntax.specs.Tree.{Module, Assignment, Body, type_body, se
 use Rattle.oer_module_syntax.specs.Tree.{Tree, plain, named, tagged, structure, list_of, selection, instance_of, any_defined_by}
 use Rattle.oer_module_syntax.specs.declared.word.Builtin.{Builtin}
 use Rattle.oer_module_syntax.specs.declared.word.Builtin.TheVariants as bi
-use Rattle.oer_module_terms.specs.Trees.{Amount, number, named as by_name, amount, real, fixed, bits, digits as some_digits, text, Value, atom, numbered as numbered_value, choice, braces, Item}
+use Rattle.oer_module_terms.specs.Trees.{Amount, number, named as by_name, amount, real, fixed, bits, digits as some_digits, text}
+use Rattle.oer_module_terms.specs.Trees.{Value, atom, numbered as numbered_value, choice, braces, Item}
 use Rattle.oer_module_values.proofs.References.{none_left-nil, refers}
 use Rattle.oer_module_terms.specs.Items.{enumeration_at, items_at}
 use Rattle.oer_module_terms.specs.Values.{value_at}
@@ -27,9 +29,12 @@ use Rattle.oer_module_values.specs.Digits.{IsWritten}
 use Rattle.oer_module_values.specs.Errors.{Error, error, place_in, in_module, not_a_number, unsettled, ◌>>=◌}
 use Rattle.oer_module_values.specs.Kept.{kept}
 use Rattle.oer_module_values.specs.Looks.{Path, own, within, fields, path_of}
-use Rattle.oer_module_values.specs.Numbers.{Governor, bare, all_items, Has, nothing, here, later, IsItem, Governs, by_integer, by_enumerated, Writes, Denotes, digits, item, value}
-use Rattle.oer_module_values.specs.Numbers.{Wanted, Numeral, Outcome, reached, wants, governor_by, governor, item_named, named_number, enumeration_item, own_item, item_by, written, numbered, amount_by, amount_read}
-use Rattle.oer_module_values.specs.Numbers.{place_of_first, amount_in, value_in, defined_by, same_kind, valued_by, valued, named_by, step_by, step, after, numeral, whole, count, number_at}
+use Rattle.oer_module_values.specs.Numbers.{Governor, bare, all_items, integer_items, enumeration_items, Has, nothing, here, later, IsItem, Governs, by_integer}
+use Rattle.oer_module_values.specs.Numbers.{by_enumerated, Writes, Denotes, digits, item, value}
+use Rattle.oer_module_values.specs.Numbers.{Wanted, Numeral, Outcome, reached, wants, governor_by, governor, item_named, named_number}
+use Rattle.oer_module_values.specs.Numbers.{enumeration_item, own_item, item_by, written, numbered, amount_by, amount_read}
+use Rattle.oer_module_values.specs.Numbers.{place_of_first, amount_in, value_in, defined_by, same_kind, valued_by, valued, named_by}
+use Rattle.oer_module_values.specs.Numbers.{step_by, step, after, numeral, whole, count, number_at}
 use Rattle.oer_module_values.specs.Types.{TypeIn, type_in, Referent, Given, Meaning, Means, Names, Refers, meaning, referred}
 
 -- ---- governors
@@ -90,12 +95,12 @@ among (Ok a) f w o h = (f a, refl, has w (f a) o (cc))
 
 module _ (g : Governor) (w : List ℕ) (o : Option Item) where
   kind_item : (b : Bool) → (if b then enumeration_item g w else named_number g w) ≡ Ok o
-      → Among w o (if b then (in_module g.«module» (enumeration_at (kept g.items)) >>= λ e. Ok (all_items e.0)) else (in_module g.«module» (items_at Signed (kept g.items)) >>= λ is. Ok is.0))
+      → Among w o (if b then enumeration_items g else integer_items g)
   kind_item true h = among (in_module g.«module» (enumeration_at (kept g.items))) (λ e. all_items e.0) w o h
   kind_item false h = among (in_module g.«module» (items_at Signed (kept g.items))) (λ is. is.0) w o h
 
   any_item : (b c : Bool) → (if b then Ok None else if c then enumeration_item g w else named_number g w) ≡ Ok o
-      → Among w o (if b then Ok [] else if c then (in_module g.«module» (enumeration_at (kept g.items)) >>= λ e. Ok (all_items e.0)) else (in_module g.«module» (items_at Signed (kept g.items)) >>= λ is. Ok is.0))
+      → Among w o (if b then Ok [] else if c then enumeration_items g else integer_items g)
   any_item true c h = ([], refl, subst (Has w []) (cc) nothing)
   any_item false c h = kind_item c h
 
@@ -302,7 +307,8 @@ item_sole g w fields o p h k = h ∙ sym k
 
 writes_sole : (ts : List Spot) (a b : Amount) → Writes ts a → Writes ts b → a ≡ b
 writes_sole ts a b h k =
-    let e : ◌≡◌ {A = Result (Value × State) Fault} (Ok (atom h.begins (amount a), h.rest)) (Ok (atom k.begins (amount b), k.rest)) = sym h.is ∙ k.is in
+    let e : ◌≡◌ {A = Result (Value × State) Fault} (Ok (atom h.begins (amount a), h.rest)) (Ok (atom k.begins (amount b), k.rest)) =
+    sym h.is ∙ k.is in
     let p : ◌≡◌ {A = Value × State} (atom h.begins (amount a), h.rest) (atom k.begins (amount b), k.rest) = cc in
     let v : atom h.begins (amount a) ≡ atom k.begins (amount b) = ap (λ x. x.0) p in
     cc

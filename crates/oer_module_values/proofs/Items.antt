@@ -1,5 +1,6 @@
 -- The search for an item by its name.
-use Rattle.std.proofs.Common.{◌≡◌, ℕ, zero, suc, ◌≤◌, ◌<◌, List, [], ◌∷◌, ◌++◌, length, drop, get_or, drop-cons, map, Some, None, Bool, true, false, cond, refl, arith}
+use Rattle.std.proofs.Common.{◌≡◌, ℕ, zero, suc, ◌≤◌, ◌<◌, List, [], ◌∷◌, ◌++◌, length, drop, get_or, drop-cons, map, Some, None, Bool}
+use Rattle.std.proofs.Common.{true, false, cond, refl, arith}
 use Rattle.std.specs.Str.{bytes_eq}
 use Rattle.oer_module_terms.specs.Trees.{Item, item_of}
 use Rattle.oer_module_terms.specs.declared.tree.Item.{Item as RawItem}

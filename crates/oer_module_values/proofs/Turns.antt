@@ -1,5 +1,6 @@
 -- The turns of the loops that go from reference to reference.
-use Rattle.std.proofs.Common.{◌≡◌, ℕ, zero, suc, ◌+◌, ◌-◌, ◌≤◌, ◌<◌, List, Option, Some, None, Result, Ok, Err, refl, ap, ◌∙◌, arith, sub-one}
+use Rattle.std.proofs.Common.{◌≡◌, ℕ, zero, suc, ◌+◌, ◌-◌, ◌≤◌, ◌<◌, List, Option, Some, None, Result, Ok, Err, refl, ap, ◌∙◌, arith}
+use Rattle.std.proofs.Common.{sub-one}
 use Rattle.oer_module_syntax.specs.Tree.{Module}
 use Rattle.oer_module_values.specs.Errors.{Error, error, place_in, circular, ◌>>=◌}
 use Rattle.oer_module_values.specs.Looks.{place_of}

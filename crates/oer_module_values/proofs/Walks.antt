@@ -1,5 +1,6 @@
 -- The way from a type to what it stands for.
-use Rattle.std.proofs.Common.{◌≡◌, ℕ, zero, suc, List, [], ◌∷◌, ◌++◌, append_assoc, append-nil, Option, Some, None, Result, Ok, Err, refl, sym, ap, subst, ◌∙◌, Bool, true, false, if◌then◌else◌}
+use Rattle.std.proofs.Common.{◌≡◌, ℕ, zero, suc, List, [], ◌∷◌, ◌++◌, append_assoc, append-nil, Option, Some, None, Result, Ok, Err}
+use Rattle.std.proofs.Common.{refl, sym, ap, subst, ◌∙◌, Bool, true, false, if◌then◌else◌}
 use Rattle.oer_module_lexer.specs.Token.{Spot}
 use Rattle.oer_module_syntax.specs.Modules.{none_left}
 use Rattle.oer_module_syntax.specs.Tree.{Module, Body, type_body, set_body, value_body, class_body}
@@ -8,7 +9,8 @@ use Rattle.oer_module_syntax.specs.declared.tree.Mode.{Mode}
 use Rattle.oer_module_values.proofs.References.{none_left-nil, refers, only_fields, is_referred}
 use Rattle.oer_module_values.specs.Errors.{Error, error, place_in, unsettled, ◌>>=◌}
 use Rattle.oer_module_values.specs.Looks.{fields, path_of}
-use Rattle.oer_module_values.specs.Types.{TypeIn, type_in, Referent, Given, constraints, set, Meaning, IsFinal, Refers, Means, itself, tag, type, values}
+use Rattle.oer_module_values.specs.Types.{TypeIn, type_in, Referent, Given, constraints, set, Meaning, IsFinal, Refers, Means, itself}
+use Rattle.oer_module_values.specs.Types.{tag, type, values}
 use Rattle.oer_module_values.specs.Types.{Step, entered_by, entered, followed, after, referred, follow, step_by, step, walk}
 
 -- ---- what one step says

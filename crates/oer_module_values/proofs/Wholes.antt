@@ -1,5 +1,6 @@
 -- Digits, and the number that they write.
-use Rattle.std.proofs.Common.{◌≡◌, ℕ, ◌^◌, ◌<◌, List, length, Result, Ok, Err, Option, Some, None, Bool, true, false, arith, ℤ, pos, nat_lt, nat_le, cond, ◌∙◌, ap, sym, refl, lt-ltb}
+use Rattle.std.proofs.Common.{◌≡◌, ℕ, ◌^◌, ◌<◌, List, length, Result, Ok, Err, Option, Some, None, Bool, true, false, arith, ℤ, pos}
+use Rattle.std.proofs.Common.{nat_lt, nat_le, cond, ◌∙◌, ap, sym, refl, lt-ltb}
 use Rattle.std.specs.Prelude.{FitsSigned, neg_ℤ}
 use Rattle.std.proofs.lemmas.Bool.{ltb-true, leb-true, and_parts}
 use Rattle.std.proofs.lemmas.Str.Parse.{tells_all_ascii_digits, numerals_by_value, IsNumeralModel}

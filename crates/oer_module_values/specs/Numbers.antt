@@ -14,7 +14,8 @@ use Rattle.oer_module_terms.specs.Trees.{Amount, number, named as by_name, amoun
 use Rattle.oer_module_terms.specs.Values.{value_at}
 use Rattle.oer_module_terms.specs.declared.item.Numbering.TheVariants.{Signed}
 use Rattle.oer_module_values.specs.Digits.{IsWritten, whole_of}
-use Rattle.oer_module_values.specs.Errors.{Error, error, place_in, in_module, circular, not_a_value, not_a_number, unnumbered, unsettled, too_large, ◌>>=◌}
+use Rattle.oer_module_values.specs.Errors.{Error, error, place_in, in_module, circular, not_a_value, not_a_number, unnumbered}
+use Rattle.oer_module_values.specs.Errors.{unsettled, too_large, ◌>>=◌}
 use Rattle.oer_module_values.specs.Kept.{kept}
 use Rattle.oer_module_values.specs.Looks.{Path, own, within, fields, path_of, place_of}
 use Rattle.oer_module_values.specs.Types.{TypeIn, type_in, Referent, Given, Refers, Means, meaning, referred}
@@ -38,12 +39,16 @@ more_items (Some m) = m.items
 abbrev pub all_items : Enumeration → List Item
 all_items e = e.root ++ more_items e.more
 
+-- the items of an INTEGER (19.1), and those of an ENUMERATED (20.1)
+abbrev pub integer_items : Governor → Result (List Item) Error
+integer_items g = in_module g.«module» (items_at Signed (kept g.items)) >>= λ is. Ok is.0
+
+abbrev pub enumeration_items : Governor → Result (List Item) Error
+enumeration_items g = in_module g.«module» (enumeration_at (kept g.items)) >>= λ e. Ok (all_items e.0)
+
 -- the items of a governor, in their order
 abbrev pub items_of : Governor → Result (List Item) Error
-items_of g =
-    if none_left g.items then Ok []
-    else if g.enumerated then (in_module g.«module» (enumeration_at (kept g.items)) >>= λ e. Ok (all_items e.0))
-    else (in_module g.«module» (items_at Signed (kept g.items)) >>= λ is. Ok is.0)
+items_of g = if none_left g.items then Ok [] else if g.enumerated then enumeration_items g else integer_items g
 
 -- ---- the relation
 
@@ -96,7 +101,8 @@ module _ (ms : List Module) where
     digits : (m : ℕ) (g : Governor) (negative : Bool) (w : List ℕ) (z : ℤ) → g.enumerated ≡ false → IsWritten negative w z
         → Denotes m g (number negative w) z
     item : (m : ℕ) (g : Governor) (w : List ℕ) (steps : List Spot) (i : Item) (a : Amount) (z : ℤ)
-        → IsItem g w (path_of steps) (Some i) → i.number ≡ Some a → Denotes g.«module» (bare g.«module») a z → Denotes m g (by_name w steps) z
+        → IsItem g w (path_of steps) (Some i) → i.number ≡ Some a → Denotes g.«module» (bare g.«module») a z
+        → Denotes m g (by_name w steps) z
     value : (m : ℕ) (g h : Governor) (w : List ℕ) (steps ts : List Spot) (n : ℕ) (t : Tree) (a : Amount) (z : ℤ)
         → IsItem g w (path_of steps) None → Refers ms m w steps n (value_body t ts) → Governs n t h → h.enumerated ≡ g.enumerated
         → Writes ts a → Denotes n h a z → Denotes m g (by_name w steps) z

@@ -41,10 +41,12 @@ Exit status:
   1  The octets are no encoding of the type within --limit, the path leads to
      no part of them, or the JSON is longer than --limit.
   2  The arguments, the type, the digits, the path or the JSON are rejected.
-  3  Standard input or output failed, or an allocation did.
+  3  Standard input or output failed, or an allocation did, or an argument is
+     not UTF-8.
 
-Documents, in the source: docs/COMMAND.md (this program), docs/NOTATION.md
-(types), docs/JSON.md (the JSON of a value), docs/ENCODING.md (octets)."
+Documents, in the source, and in share/doc/oer where this is installed:
+docs/COMMAND.md (this program), docs/NOTATION.md (types), docs/JSON.md (the
+JSON of a value), docs/ENCODING.md (octets)."
             ),
         }
     };

@@ -1,6 +1,6 @@
 //! What the arguments of the program ask for.
-ghost use Rattle.std.specs.Prelude.{◌≡◌, ◌≢◌, codes, List, Option, Some, None, false, true, IfOk, IfErr, IfSome, map, option_map, string_bytes};
-ghost use Rattle.clap.specs.Words.{HasKind, fault_of, first_value, found_of, kind_of, new_app, one_text, rule_of, takes};
+ghost use Rattle.std.specs.Prelude.{◌≡◌, ◌≢◌, [], ◌∷◌, codes, List, Option, Some, None, false, true, IfOk, IfErr, IfSome, map, option_map, string_bytes};
+ghost use Rattle.clap.specs.Words.{HasKind, items_of, fault_of, first_value, found_of, kind_of, new_app, one_text, rule_of, takes};
 ghost use Rattle.clap.specs.declared.error.kind.ErrorKind.TheVariants.{OutOfMemory};
 ghost use Rattle.oer_options.specs.Words.{Asks, HasShape, IsTask, ascii_rule, behind, hex_app, limit_rule, make_app, oer, option_rule, part_app, show_app, source_text, task_app};
 
@@ -70,6 +70,7 @@ pub struct Options<'a> {
 pub fn option<'a>(alloc: Global, id: &'a str, value_name: &'a str, help: &'a str) -> Arg<'a>
     ensures rule { rule_of result ≡ option_rule id.entry.now }
     ensures local { result.global ≡ false }
+    ensures shown { (items_of result.val_names ≡ value_name.entry ∷ []) × (result.help ≡ Some help.entry) }
 {
     Arg::new(alloc, id)
         .long(id)

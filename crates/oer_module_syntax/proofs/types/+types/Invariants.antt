@@ -1,4 +1,4 @@
-use Rattle.std.proofs.Common.{◌≡◌, ◌+◌, ◌*◌, ◌-◌, suc, length, map, cond}
+use Rattle.std.proofs.Common.{◌≡◌, ◌≤◌, ◌+◌, ◌*◌, ◌-◌, suc, length, map, cond}
 use Rattle.oer_module_syntax.specs.State.{state_of}
 use Rattle.oer_module_syntax.specs.Tree.{element_of}
 use Rattle.oer_module_syntax.specs.Types.{more_listed, one_at, type_at}
@@ -64,8 +64,9 @@ decreases-read_components_of l = 30 * l.levels + 2
 abbrev pub decreases-read_component : goal.decreases-read_component
 decreases-read_component l = 30 * l.levels + 2
 
--- those found and those of what is left are all of them
+-- those found and those of what is left are all of them; each turn took a token
 abbrev pub invariant-read_more-more : goal.invariant-read_more-more
 invariant-read_more-more l =
-    more_listed (one_at (type_at l.levels) l.grouped l.alternatives) (suc (length (state_of l.fn.cursor).left)) (map element_of l.fn.found.items) (state_of l.fn.cursor)
-    ≡ more_listed (one_at (type_at l.levels) l.grouped l.alternatives) (suc (length (state_of l.fn.cursor).left) - l.turn) (map element_of l.found.items) (state_of l.cursor)
+    (more_listed (one_at (type_at l.levels) l.grouped l.alternatives) (suc (length (state_of l.fn.cursor).left)) (map element_of l.fn.found.items) (state_of l.fn.cursor)
+    ≡ more_listed (one_at (type_at l.levels) l.grouped l.alternatives) (suc (length (state_of l.fn.cursor).left) - l.turn) (map element_of l.found.items) (state_of l.cursor))
+    × (length (state_of l.cursor).left + l.turn ≤ length (state_of l.fn.cursor).left)
