@@ -28,7 +28,7 @@ pub enum Why<'n> {
     Contained,
     /// No value is allowed.
     Empty,
-    /// The octets depend on whether EXCEPT bounds, where readers differ.
+    /// Readers differ on whether EXCEPT bounds, or a constraint that is followed by another and has an extension marker.
     Differs,
 }
 

@@ -1,16 +1,15 @@
 //! The range of an INTEGER, and that of sizes.
-ghost use Rattle.std.specs.Prelude.{◌≡◌, ◌<◌, length};
-ghost use Rattle.std.specs.Option.{option_map};
-ghost use Rattle.oer_module_bounds.specs.Sets.{span_of};
+ghost use Rattle.std.specs.Prelude.{◌≡◌, ◌<◌, length, false, map};
+ghost use Rattle.oer_module_bounds.specs.Sets.{constraint_of, span_of};
 ghost use Rattle.oer_module_names.specs.Views.{modules_in};
 ghost use Rattle.oer_module_values.specs.Views.{type_in};
-ghost use Rattle.oer_module_limits.specs.Errors.{Gives, seen};
-ghost use Rattle.oer_module_limits.specs.Limits.{integer_limits, is_fixed, is_from, is_to, judged, same_form, same_sizes, signed_octets, size_limits, type_place, unsigned_octets};
+ghost use Rattle.oer_module_limits.specs.Errors.{Gives};
+ghost use Rattle.oer_module_limits.specs.Limits.{integer_limits, is_fixed, is_followed, is_from, is_to, same_form, same_sizes, signed_octets, size_limits, type_place, unsigned_octets};
 
 use crate::error::{Error, Why};
 use crate::measure::{Measure, place_of};
 use crate::sets::constraints_of;
-use oer_module_bounds::{Range, effective_range, loose_effective_range};
+use oer_module_bounds::{Constraint, Range, effective_range, loose_effective_range};
 use oer_module_names::{Names, Place};
 use oer_module_values::{TypeIn, resolve};
 use std::alloc::Global;
@@ -107,6 +106,20 @@ fn same_sizes(one: Range, other: Range) -> bool
     !is_fixed(other.low(), other.high())
 }
 
+/// Whether a constraint with an extension marker is followed by another, which sees it without its marker (X.680, 50.8).
+fn is_followed(constraints: &[Constraint]) -> bool
+    ensures { result ≡ is_followed false (map constraint_of constraints.now) }
+{
+    let mut extended = false;
+    for constraint in constraints {
+        if extended {
+            return true;
+        }
+        extended = constraint.extensible;
+    }
+    false
+}
+
 fn type_place(of: TypeIn<'_, '_, '_>) -> Place
     ensures { result ≡ type_place (type_in of.entry) }
 {
@@ -123,8 +136,10 @@ fn type_place(of: TypeIn<'_, '_, '_>) -> Place
 /// # Errors
 /// Unresolved, where a name stands for nothing, tokens can't be read, or an allocation failed. Inapplicable, if the type is none, or at
 /// elements that an INTEGER hasn't: SIZE, FROM, PATTERN, SETTINGS and WITH COMPONENTS (X.680, 51.1). NotANumber and TooLarge at a
-/// value, OpenEnd at `<` beside MIN or MAX. TooDeep, Contained and ValueSet at what isn't read. Empty, if no number is
-/// allowed, and Differs, if the sign or the width of the octets depends on whether EXCEPT bounds (X.696, 10).
+/// value, OpenEnd at `<` beside MIN or MAX. TooDeep, Contained and ValueSet at what isn't read. Then Empty, if no number is
+/// allowed. Then Differs, if the sign or the width of the octets depends on whether EXCEPT bounds (X.696, 10), or if a
+/// constraint with an extension marker is followed by another, whatever both say: X.680 (50.8) takes the first one without
+/// its marker, other readers ignore it.
 #[tactic(auto, unfolding(crate::specs::Limits::integer_limits))]
 pub fn integer_limits<'m, 's, 't>(
     alloc: Global,
@@ -143,7 +158,7 @@ pub fn integer_limits<'m, 's, 't>(
         });
     };
     match loose_effective_range(&constraints) {
-        Some(loose) if same_form(range, loose) => Ok(range),
+        Some(loose) if !is_followed(&constraints) && same_form(range, loose) => Ok(range),
         _ => Err(Error {
             place: type_place(of),
             why: Why::Differs,
@@ -156,8 +171,9 @@ pub fn integer_limits<'m, 's, 't>(
 /// nothing away behind EXCEPT.
 ///
 /// # Errors
-/// Those of `integer_limits`. Inapplicable, if the values of the type have no sizes, or at a range of texts. Differs, if
-/// it depends on whether EXCEPT bounds that there is one size alone (X.696, 13, 14, 17 and 27).
+/// Those of `integer_limits`, in the same order. Inapplicable, if the values of the type have no sizes, or at a range of
+/// texts. Differs, if it depends on whether EXCEPT bounds that there is one size alone (X.696, 13, 14, 17 and 27), or if a
+/// constraint with an extension marker is followed by another, also where one of them is not about sizes, as FROM.
 #[tactic(auto, unfolding(crate::specs::Limits::size_limits))]
 pub fn size_limits<'m, 's, 't>(
     alloc: Global,
@@ -176,7 +192,7 @@ pub fn size_limits<'m, 's, 't>(
         });
     };
     match loose_effective_range(&constraints) {
-        Some(loose) if same_sizes(range, loose) => Ok(range),
+        Some(loose) if !is_followed(&constraints) && same_sizes(range, loose) => Ok(range),
         _ => Err(Error {
             place: type_place(of),
             why: Why::Differs,
