@@ -23,12 +23,14 @@ const TEXT: &str =
     X8 ::= INTEGER (MIN<..5) X9 ::= INTEGER (CONSTRAINED BY {}) (0..9) X10 ::= BOOLEAN X11 ::= INTEGER (missing)\n\
     X12 ::= INTEGER (0..170141183460469231731687303715884105727) X13 ::= INTEGER (ALL EXCEPT 1..5) X14 ::= Values\n\
     Values INTEGER ::= {1 | 2} X15 ::= INTEGER ((0..9 | 20) ^ (0..30)) X16 ::= INTEGER (PATTERN \"a\")\n\
-    X17 ::= INTEGER (0..255, ..., 256..70000)\n\
+    X17 ::= INTEGER (0..255, ..., 256..70000) X18 ::= INTEGER (0..255, ...) (1..MAX)\n\
+    X19 ::= INTEGER (0..9, ...) (0..5) (6..9)\n\
     S4 ::= SEQUENCE (SIZE(0..small)) OF Uint8 S5 ::= SEQUENCE SIZE(1..4) OF Uint8 S6 ::= Bytes S7 ::= Id\n\
     B1 ::= BIT STRING {x(0), y(3)} (SIZE(8)) T1 ::= IA5String (SIZE(1..4) ^ FROM(\"a\"..\"z\"))\n\
     T2 ::= IA5String (SIZE(1..4) | FROM(\"a\"..\"z\")) T3 ::= IA5String (SIZE(1..4, ...)) T4 ::= Id (SIZE(4..9))\n\
     T5 ::= OCTET STRING (CONTAINING Uint8) (SIZE(2)) T6 ::= IA5String (\"abc\") T7 ::= IA5String (SIZE(1..8 EXCEPT 2..8))\n\
-    T8 ::= UTF8String T9 ::= SEQUENCE OF Uint8 T10 ::= Uint8 T11 ::= OCTET STRING (SIZE(1 | 3..small)) END\n\
+    T8 ::= UTF8String T9 ::= SEQUENCE OF Uint8 T10 ::= Uint8 T11 ::= OCTET STRING (SIZE(1 | 3..small))\n\
+    T12 ::= IA5String (SIZE(1..4), ...) (SIZE(4..MAX)) T13 ::= IA5String (FROM(\"a\"), ...) (SIZE(4)) END\n\
     B DEFINITIONS ::= BEGIN max INTEGER ::= 255 small INTEGER ::= 10 Uint8 ::= INTEGER (0..max) Uint16 ::= INTEGER (0..65535)\n\
     Temperature ::= INTEGER {freezing(0), boiling(100)} (-50..150) Bytes ::= OCTET STRING (SIZE(1..small))\n\
     Id ::= OCTET STRING (SIZE(4)) END\n";
@@ -128,7 +130,7 @@ fn limits(rt: HostRuntime) -> Result<(), Fail> {
         ("A12", false, "0..255"),
         ("A13", false, "-1..*"),
         ("A14", false, "*..255"),
-        ("A15", false, "0..5"),
+        ("A15", false, "Differs"),
         ("A16", false, "10..255"),
         ("A17", false, "0..20"),
         ("X1", false, "Differs"),
@@ -148,6 +150,8 @@ fn limits(rt: HostRuntime) -> Result<(), Fail> {
         ("X15", false, "0..20"),
         ("X16", false, "Inapplicable"),
         ("X17", false, "*..*"),
+        ("X18", false, "Differs"),
+        ("X19", false, "Empty"),
         ("S4", true, "0..10"),
         ("S5", true, "1..4"),
         ("S6", true, "1..10"),
@@ -164,6 +168,8 @@ fn limits(rt: HostRuntime) -> Result<(), Fail> {
         ("T9", true, "*..*"),
         ("T10", true, "Inapplicable"),
         ("T11", true, "1..10"),
+        ("T12", true, "Differs"),
+        ("T13", true, "Differs"),
     ] {
         let got = limits_of(at, &names, name, sizes)?;
         if !got.as_str().starts_with(want) {
