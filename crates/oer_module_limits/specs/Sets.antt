@@ -7,7 +7,7 @@ use Rattle.oer_module_syntax.specs.Tree.{Module, Tree, plain, named, tagged, str
 use Rattle.oer_module_syntax.specs.declared.word.Builtin.{Builtin}
 use Rattle.oer_module_syntax.specs.declared.word.Builtin.TheVariants as bi
 use Rattle.oer_module_terms.specs.Constraints.{constraints_at}
-use Rattle.oer_module_terms.specs.Trees.{Value, Bound, Elements, Simple, Extension, closed, opened, extended, Sets, no_sets, set}
+use Rattle.oer_module_terms.specs.Trees.{Value, Bound, Elements, Simple, Sets, no_sets, set}
 use Rattle.oer_module_terms.specs.Trees as terms
 use Rattle.oer_module_values.specs.Errors.{place_in, in_module}
 use Rattle.oer_module_values.specs.Kept.{kept}
@@ -16,16 +16,12 @@ use Rattle.oer_module_values.specs.Types.{TypeIn, Given, Meaning}
 use Rattle.oer_module_values.specs.Types as values
 use Rattle.oer_module_limits.specs.Ends.{single, ranged}
 use Rattle.oer_module_limits.specs.Errors.{Read, refused, ◌>>=◌, told_by, too_deep, inapplicable, contained, value_set}
+use Rattle.oer_module_limits.specs.Marks.{is_extensible}
 
 -- what the numbers of a set are: those of an INTEGER, which governs them, or of SIZE; or the sizes of values
 pub data Measure : Type 0 where
   number : Option TypeIn → Measure
   size : Measure
-
-abbrev pub is_extensible : Extension → Bool
-is_extensible closed = false
-is_extensible opened = true
-is_extensible (extended e) = true
 
 -- What a type of a kind has: strings and lists have sizes (51.1).
 abbrev pub has_size : Builtin → Bool
@@ -109,7 +105,8 @@ module _ (found : Measure → Place → Elements → Read Set) where
 
   -- a constraint in a module (49.6, 50.1)
   abbrev pub constraint : Measure → ℕ → terms.Constraint → Read Constraint
-  constraint k m (terms.subtype at root more exception) = found k (place_in m at) root >>= λ s. Ok (record { root = s; extensible = is_extensible more })
+  constraint k m (terms.subtype at root more exception) =
+      found k (place_in m at) root >>= λ s. Ok (record { root = s; extensible = is_extensible (terms.subtype at root more exception) })
   constraint k m (terms.general at kind ts) = Ok (record { root = unknown; extensible = false })
 
   abbrev pub constraints : Measure → ℕ → List terms.Constraint → Read (List Constraint)

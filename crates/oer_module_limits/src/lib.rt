@@ -6,6 +6,7 @@ mod ends;
 mod error;
 mod kept;
 mod limits;
+mod marks;
 mod measure;
 mod sets;
 

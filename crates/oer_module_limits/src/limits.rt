@@ -131,7 +131,7 @@ fn type_place(of: TypeIn<'_, '_, '_>) -> Place
 
 /// The range of the numbers that an INTEGER allows, or one that a type stands for (X.680, 49 to 51): of all constraints on the way
 /// together. An absent end is no bound. A constraint with an extension marker bounds nothing (X.696, 8.2), nor does a
-/// general one.
+/// general one. A marker behind SIZE is the constraint's.
 ///
 /// # Errors
 /// Unresolved, where a name stands for nothing, tokens can't be read, or an allocation failed. Inapplicable, if the type is none, or at

@@ -5,31 +5,23 @@ ghost use Rattle.oer_module_bounds.specs.Sets as bounds;
 ghost use Rattle.oer_module_bounds.specs.Sets.{constraint_of as bounding_of, set_of};
 ghost use Rattle.oer_module_lexer.specs.Token.{spots_of};
 ghost use Rattle.oer_module_names.specs.Views.{modules_in};
-ghost use Rattle.oer_module_terms.specs.Trees.{constraint_of, elements_of, extension_of, simple_of, value_of};
+ghost use Rattle.oer_module_terms.specs.Trees.{constraint_of, elements_of, simple_of, value_of};
 ghost use Rattle.oer_module_values.specs.Views.{given_of, meaning_of, type_in};
 ghost use Rattle.oer_module_limits.specs.Errors.{Gives};
-ghost use Rattle.oer_module_limits.specs.Sets.{constraint, constraints, each, given_row, given_rows, is_extensible, own_rows, row, rows, set_at, set_by, simple_by, single_by, sized_by, size_of, unseen_by};
+ghost use Rattle.oer_module_limits.specs.Sets.{constraint, constraints, each, given_row, given_rows, own_rows, row, rows, set_at, set_by, simple_by, single_by, sized_by, size_of, unseen_by};
 ghost use Rattle.oer_module_limits.specs.Views.{IsGivenWithin, IsMeasureWithin, IsWithin, measure_seen};
 
 use crate::ends::{ranged, single};
 use crate::error::{Error, Why};
 use crate::kept::read_row;
+use crate::marks::is_extensible;
 use crate::measure::{Measure, measure_of, own};
 use oer_module_bounds::{Constraint, Range, Set};
 use oer_module_lexer::Spot;
 use oer_module_names::{Names, Place};
-use oer_module_terms::{Elements, Extension, Simple, Value};
+use oer_module_terms::{Elements, Simple, Value};
 use oer_module_values::{Given, Meaning, TypeIn};
 use std::alloc::Global;
-
-fn is_extensible(extension: &Extension<'_, '_>) -> bool
-    ensures { result ≡ is_extensible (extension_of extension.now) }
-{
-    match extension {
-        Extension::Closed => false,
-        Extension::Open | Extension::Extended(_) => true,
-    }
-}
 
 /// FROM, or a narrowing, at a place: it says nothing of sizes.
 #[tactic(auto, using(crate::proofs::Views::sets))]
@@ -200,15 +192,10 @@ fn constraint<'m, 's, 't>(
     ensures { Gives bounding_of result (constraint (set_at (modules_in names.now) levels) (measure_seen measure.entry) «module» (constraint_of written.now)) }
 {
     match written {
-        oer_module_terms::Constraint::Subtype {
-            at,
-            root,
-            extension,
-            ..
-        } => {
+        oer_module_terms::Constraint::Subtype { at, root, .. } => {
             let place = Place { module, at: *at };
             let root = set_of(alloc, names, levels, measure, place, root)?;
-            let extensible = is_extensible(extension);
+            let extensible = is_extensible(written);
             Ok(Constraint { root, extensible })
         }
         oer_module_terms::Constraint::General { .. } => Ok(Constraint {
