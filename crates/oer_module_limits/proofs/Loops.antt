@@ -1,5 +1,5 @@
 -- The turns of loops that join what is said of each.
-use Rattle.std.proofs.Common.{◌≡◌, ℕ, suc, ◌+◌, ◌<◌, List, [], ◌∷◌, ◌++◌, length, drop, map, Ok, Err, refl, sym, ap, ◌∙◌, append_assoc, get_or, drop-cons, add-one}
+use Rattle.std.proofs.Common.{◌≡◌, ℕ, suc, ◌+◌, ◌<◌, List, [], ◌++◌, length, drop, map, Ok, Err, refl, sym, ap, ◌∙◌, append_assoc, get_or, drop-cons, add-one}
 use Rattle.oer_module_limits.specs.Errors.{Error, Read, ◌>>=◌}
 use Rattle.oer_module_limits.specs.Sets.{added, joined}
 

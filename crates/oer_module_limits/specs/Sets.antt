@@ -3,7 +3,7 @@ use Rattle.std.specs.Prelude.{ℕ, zero, suc, List, [], ◌∷◌, ◌++◌, Boo
 use Rattle.oer_module_bounds.specs.Sets.{Set, range, union, intersection, except, unknown, everything, sets_from, Constraint}
 use Rattle.oer_module_lexer.specs.Token.{Spot}
 use Rattle.oer_module_names.specs.declared.error.Place.{Place}
-use Rattle.oer_module_syntax.specs.Tree.{Module, Tree, plain, named, tagged, structure, list_of, selection, instance_of, any_defined_by}
+use Rattle.oer_module_syntax.specs.Tree.{Module, Tree, plain, list_of}
 use Rattle.oer_module_syntax.specs.declared.word.Builtin.{Builtin}
 use Rattle.oer_module_syntax.specs.declared.word.Builtin.TheVariants as bi
 use Rattle.oer_module_terms.specs.Constraints.{constraints_at}

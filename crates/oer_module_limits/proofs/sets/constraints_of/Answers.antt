@@ -1,8 +1,8 @@
-use Rattle.std.proofs.Common.{◌≡◌, List, ◌++◌, Ok, Err, map, sym, ap, ◌∙◌}
+use Rattle.std.proofs.Common.{◌≡◌, List, Ok, map, sym, ap, ◌∙◌}
 use Rattle.std.proofs.lemmas.Result.{err_from_is_err_and}
 use Rattle.std.proofs.lemmas.List.{map-append}
 use Rattle.oer_module_bounds.specs.Sets.{Constraint, Set, constraint_of as bounding_of}
-use Rattle.oer_module_limits.specs.Errors.{Error, Read, ◌>>=◌}
+use Rattle.oer_module_limits.specs.Errors.{Read, ◌>>=◌}
 use Rattle.oer_module_limits.specs.Sets.{Measure, added, given_rows, measure_of, own_rows, rows, set_at}
 use Rattle.oer_module_limits.specs.Views.{measure_seen}
 use Rattle.oer_module_names.specs.Views.{modules_in}
