@@ -3,10 +3,10 @@ ghost use Rattle.std.specs.Prelude.{◌<◌, length};
 ghost use Rattle.oer_module_names.specs.Views.{modules_in};
 
 use oer_module_bounds::Range;
-use oer_module_lexer::lex;
+use oer_module_lexer::{Tokens, lex};
 use oer_module_limits::{Error, Why, integer_limits, size_limits};
 use oer_module_names::Names;
-use oer_module_syntax::{Body, Cursor, TypeSyntax, read_modules};
+use oer_module_syntax::{Body, Cursor, Module, TypeSyntax, read_modules};
 use oer_module_values::TypeIn;
 use std::alloc::Global;
 use std::test::Fail;
@@ -30,7 +30,8 @@ const TEXT: &str =
     T2 ::= IA5String (SIZE(1..4) | FROM(\"a\"..\"z\")) T3 ::= IA5String (SIZE(1..4, ...)) T4 ::= Id (SIZE(4..9))\n\
     T5 ::= OCTET STRING (CONTAINING Uint8) (SIZE(2)) T6 ::= IA5String (\"abc\") T7 ::= IA5String (SIZE(1..8 EXCEPT 2..8))\n\
     T8 ::= UTF8String T9 ::= SEQUENCE OF Uint8 T10 ::= Uint8 T11 ::= OCTET STRING (SIZE(1 | 3..small))\n\
-    T12 ::= IA5String (SIZE(1..4), ...) (SIZE(4..MAX)) T13 ::= IA5String (FROM(\"a\"), ...) (SIZE(4)) END\n\
+    T12 ::= IA5String (SIZE(1..4), ...) (SIZE(4..MAX)) T13 ::= IA5String (FROM(\"a\"), ...) (SIZE(4))\n\
+    T14 ::= IA5String (SIZE(1..4, ...)) (SIZE(4..MAX)) T15 ::= IA5String (FROM(\"a\", ...)) (SIZE(4)) END\n\
     B DEFINITIONS ::= BEGIN max INTEGER ::= 255 small INTEGER ::= 10 Uint8 ::= INTEGER (0..max) Uint16 ::= INTEGER (0..65535)\n\
     Temperature ::= INTEGER {freezing(0), boiling(100)} (-50..150) Bytes ::= OCTET STRING (SIZE(1..small))\n\
     Id ::= OCTET STRING (SIZE(4)) END\n";
@@ -66,17 +67,21 @@ fn drawn(at: Global, answer: Result<Range, Error<'_>>) -> Result<String, Fail> {
             Ok(format!(in at; "{low}..{high}")?)
         }
         Err(error) => {
-            let text = why_text(error.why);
-            Ok(format!(in at; "{text} {}:{}", error.place.module, error.place.at)?)
+            let place = error.place;
+            Ok(format!(in at; "{} {}:{}", why_text(error.why), place.module, place.at)?)
         }
     }
 }
 
-/// What a name of the first module is, if it is a type.
-fn type_named<'n>(names: &Names<'n, 'n, 'n>, name: &'n str) -> Option<&'n TypeSyntax<'n, 'n>>
-    requires { 0 < length (modules_in names.now) }
+/// What a name of a module is, if it is a type.
+fn type_named<'m, 's, 't>(
+    names: &Names<'m, 's, 't>,
+    module: usize,
+    name: &str,
+) -> Option<&'m TypeSyntax<'s, 't>>
+    requires { «module» < length (modules_in names.now) }
 {
-    let Ok(found) = names.find(0, name) else {
+    let Ok(found) = names.find(module, name) else {
         return None;
     };
     match &names.assignment(found).body {
@@ -85,96 +90,133 @@ fn type_named<'n>(names: &Names<'n, 'n, 'n>, name: &'n str) -> Option<&'n TypeSy
     }
 }
 
-fn limits_of<'n>(
+#[derive(Clone, Copy)]
+enum Measured {
+    Number,
+    Size,
+}
+
+fn answers<'m, 's, 't>(
     at: Global,
-    names: &Names<'n, 'n, 'n>,
-    name: &'n str,
-    sizes: bool,
-) -> Result<String, Fail>
-    requires { 0 < length (modules_in names.now) }
-{
-    let Some(syntax) = type_named(names, name) else {
+    names: &Names<'m, 's, 't>,
+    measured: Measured,
+    name: &str,
+    want: &str,
+) -> Result<(), Fail> {
+    let Ok(module) = names.find_module("M") else {
+        return Err(Fail::new("module"));
+    };
+    let Some(syntax) = type_named(names, module, name) else {
         return Err(Fail::new(name));
     };
-    let of = TypeIn { module: 0, syntax };
-    if sizes {
-        return drawn(at, size_limits(at, names, of));
+    let of = TypeIn { module, syntax };
+    let answer = match measured {
+        Measured::Number => drawn(at, integer_limits(at, names, of))?,
+        Measured::Size => drawn(at, size_limits(at, names, of))?,
+    };
+    if answer.as_str() == want {
+        return Ok(());
     }
-    drawn(at, integer_limits(at, names, of))
+    Err(Fail::new(answer.as_str()))
+}
+
+fn modules_of<'s, 't>(at: Global, tokens: &'s Tokens<'t>) -> Result<Vec<Module<'s, 't>>, Fail> {
+    let mut cursor = Cursor::new(tokens);
+    match read_modules(at, &mut cursor, 3) {
+        Ok(modules) => Ok(modules),
+        Err(_) => Err(Fail::new("unread")),
+    }
+}
+
+fn all_answers<'m, 's, 't>(
+    at: Global,
+    modules: &'m [Module<'s, 't>],
+    measured: Measured,
+    rows: &[(&str, &str)],
+) -> Result<(), Fail> {
+    let names = Names::new(at, modules)?;
+    for row in rows {
+        answers(at, &names, measured, row.0, row.1)?;
+    }
+    Ok(())
+}
+
+/// The range of each INTEGER, or why there is none.
+const NUMBERS: &[(&str, &str)] = &[
+    ("A1", "0..255"),
+    ("A2", "0..10"),
+    ("A3", "1..400"),
+    ("A4", "10..255"),
+    ("A5", "0..10"),
+    ("A6", "5..5"),
+    ("A7", "-50..150"),
+    ("A8", "*..*"),
+    ("A9", "0..255"),
+    ("A10", "0..255"),
+    ("A11", "*..*"),
+    ("A12", "0..255"),
+    ("A13", "-1..*"),
+    ("A14", "*..255"),
+    ("A15", "Differs 0:476"),
+    ("A16", "10..255"),
+    ("A17", "0..20"),
+    ("X1", "Differs 0:559"),
+    ("X2", "0..9"),
+    ("X3", "Empty 0:634"),
+    ("X4", "Inapplicable 0:672"),
+    ("X5", "Inapplicable 0:698"),
+    ("X6", "NotANumber 0:726"),
+    ("X7", "Contained 0:751"),
+    ("X8", "OpenEnd 0:775"),
+    ("X9", "0..9"),
+    ("X10", "Inapplicable 0:834"),
+    ("X11", "Unresolved 0:859"),
+    ("X12", "TooLarge 0:885"),
+    ("X13", "*..*"),
+    ("X14", "ValueSet 0:0"),
+    ("X15", "0..20"),
+    ("X16", "Inapplicable 0:1062"),
+    ("X17", "*..*"),
+    ("X18", "Differs 0:1125"),
+    ("X19", "Empty 0:1164"),
+];
+
+/// The range of the sizes of each type, or why there is none.
+const SIZES: &[(&str, &str)] = &[
+    ("S4", "0..10"),
+    ("S5", "1..4"),
+    ("S6", "1..10"),
+    ("S7", "4..4"),
+    ("B1", "8..8"),
+    ("T1", "1..4"),
+    ("T2", "*..*"),
+    ("T3", "*..*"),
+    ("T4", "4..4"),
+    ("T5", "2..2"),
+    ("T6", "*..*"),
+    ("T7", "Differs 0:1573"),
+    ("T8", "*..*"),
+    ("T9", "*..*"),
+    ("T10", "Inapplicable 1:1978"),
+    ("T11", "1..10"),
+    ("T12", "Differs 0:1715"),
+    ("T13", "Differs 0:1766"),
+    ("T14", "Differs 0:1811"),
+    ("T15", "4..4"),
+];
+
+#[test]
+fn numbers(rt: HostRuntime) -> Result<(), Fail> {
+    let at = rt.alloc();
+    let tokens = lex(at, TEXT)?;
+    let modules = modules_of(at, &tokens)?;
+    all_answers(at, &modules, Measured::Number, NUMBERS)
 }
 
 #[test]
-fn limits(rt: HostRuntime) -> Result<(), Fail> {
+fn sizes(rt: HostRuntime) -> Result<(), Fail> {
     let at = rt.alloc();
     let tokens = lex(at, TEXT)?;
-    let mut cursor = Cursor::new(&tokens);
-    let Ok(modules) = read_modules(at, &mut cursor, 3) else {
-        return Err(Fail::new("unread"));
-    };
-    let names = Names::new(at, &modules)?;
-    if modules.is_empty() {
-        return Err(Fail::new("no module"));
-    }
-    for (name, sizes, want) in [
-        ("A1", false, "0..255"),
-        ("A2", false, "0..10"),
-        ("A3", false, "1..400"),
-        ("A4", false, "10..255"),
-        ("A5", false, "0..10"),
-        ("A6", false, "5..5"),
-        ("A7", false, "-50..150"),
-        ("A8", false, "*..*"),
-        ("A9", false, "0..255"),
-        ("A10", false, "0..255"),
-        ("A11", false, "*..*"),
-        ("A12", false, "0..255"),
-        ("A13", false, "-1..*"),
-        ("A14", false, "*..255"),
-        ("A15", false, "Differs"),
-        ("A16", false, "10..255"),
-        ("A17", false, "0..20"),
-        ("X1", false, "Differs"),
-        ("X2", false, "0..9"),
-        ("X3", false, "Empty"),
-        ("X4", false, "Inapplicable"),
-        ("X5", false, "Inapplicable"),
-        ("X6", false, "NotANumber"),
-        ("X7", false, "Contained"),
-        ("X8", false, "OpenEnd"),
-        ("X9", false, "0..9"),
-        ("X10", false, "Inapplicable"),
-        ("X11", false, "Unresolved"),
-        ("X12", false, "TooLarge"),
-        ("X13", false, "*..*"),
-        ("X14", false, "ValueSet"),
-        ("X15", false, "0..20"),
-        ("X16", false, "Inapplicable"),
-        ("X17", false, "*..*"),
-        ("X18", false, "Differs"),
-        ("X19", false, "Empty"),
-        ("S4", true, "0..10"),
-        ("S5", true, "1..4"),
-        ("S6", true, "1..10"),
-        ("S7", true, "4..4"),
-        ("B1", true, "8..8"),
-        ("T1", true, "1..4"),
-        ("T2", true, "*..*"),
-        ("T3", true, "*..*"),
-        ("T4", true, "4..4"),
-        ("T5", true, "2..2"),
-        ("T6", true, "*..*"),
-        ("T7", true, "Differs"),
-        ("T8", true, "*..*"),
-        ("T9", true, "*..*"),
-        ("T10", true, "Inapplicable"),
-        ("T11", true, "1..10"),
-        ("T12", true, "Differs"),
-        ("T13", true, "Differs"),
-    ] {
-        let got = limits_of(at, &names, name, sizes)?;
-        if !got.as_str().starts_with(want) {
-            return Err(Fail::new(&got));
-        }
-    }
-    Ok(())
+    let modules = modules_of(at, &tokens)?;
+    all_answers(at, &modules, Measured::Size, SIZES)
 }
