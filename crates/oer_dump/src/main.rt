@@ -1,8 +1,12 @@
 //! The program `oer-dump`: what each octet of an encoding is.
 #![tactic(auto)]
 
+mod pipe;
+
+use crate::pipe::{Errors, Output};
 use oer_cmd::{NoStart, stop};
 use oer_dump_cmd::{run, usual_width};
+use std::cell::Cell;
 use std::env::{self, Env};
 use std::io::{BufReader, ErrorKind, IsTerminal};
 use std::process::ExitCode;
@@ -36,13 +40,14 @@ fn main(rt: HostRuntime) -> ExitCode {
         return ExitCode::from(stop(NoStart::NoMemory, &mut errors));
     };
     let is_terminal = rt.stdout().is_terminal();
+    let is_closed = Cell::new(false);
     let status = run(
         alloc,
         words.as_slice(),
         width_of(&rt, is_terminal),
         &mut input,
-        &mut rt.stdout(),
-        &mut errors,
+        &mut Output::new(rt.stdout(), &is_closed),
+        &mut Errors::new(errors, &is_closed),
     );
     ExitCode::from(status)
 }

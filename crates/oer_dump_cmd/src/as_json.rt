@@ -1,6 +1,6 @@
 //! Entries as JSON: an array of an object for each. The text is made at once, with the members in the
 //! order of their keys.
-ghost use Rattle.std.specs.Prelude.{◌≡◌, ◌++◌, IfOk, OnOk, codes, false, string_bytes, true};
+ghost use Rattle.std.specs.Prelude.{◌≡◌, ◌++◌, ◌∷◌, [], IfOk, OnOk, codes, false, string_bytes, true};
 ghost use Rattle.std.specs.Fmt.{decimal};
 ghost use Rattle.json.specs.Print.{escape, quoted};
 ghost use Rattle.serde_json.specs.Data.{boolean};
@@ -51,6 +51,15 @@ fn push_spelt(alloc: Global, text: &mut String, part: &str) -> Result<(), AllocE
 /// Up to how many octets a text is looked through for characters with another spelling.
 const SHORT: usize = 64;
 
+// Appends a text between quotation marks, as it is.
+fn push_between_quotes(text: &mut String, part: &str) -> Result<(), AllocError>
+    ensures { OnOk result (string_bytes text.new ≡ string_bytes text.old ++ 34 ∷ (part.now ++ 34 ∷ [])) }
+{
+    text.push_str("\"")?;
+    text.push_str(part)?;
+    text.push_str("\"")
+}
+
 // Appends a text as a string. A long one is left to serde_json, which looks through it faster.
 fn push_quoted(alloc: Global, text: &mut String, part: &str) -> Result<(), AllocError>
     ensures { OnOk result (string_bytes text.new ≡ string_bytes text.old ++ quoted part.now) }
@@ -58,9 +67,7 @@ fn push_quoted(alloc: Global, text: &mut String, part: &str) -> Result<(), Alloc
     if part.len() > SHORT || !is_plain(part) {
         return push_spelt(alloc, text, part);
     }
-    text.push_str("\"")?;
-    text.push_str(part)?;
-    text.push_str("\"")
+    push_between_quotes(text, part)
 }
 
 // Appends a name as a string.
@@ -129,6 +136,9 @@ pub(crate) fn push_json(
     ensures { OnOk result (string_bytes text.new ≡ string_bytes text.old ++ compact_text (view value.now.json)) }
 {
     if let Some(part) = value.json.as_str() {
+        if value.is_digits {
+            return push_between_quotes(text, part);
+        }
         return push_quoted(alloc, text, part);
     }
     if let Some(number) = value.json.as_u64() {
@@ -179,9 +189,7 @@ fn push_octets(alloc: Global, text: &mut String, octets: &[u8]) -> Result<(), Al
     ensures { OnOk result (string_bytes text.new ≡ string_bytes text.old ++ compact_text (octets_data octets.now)) }
 {
     let digits = hex::encode(alloc, octets)?;
-    text.push_str("\"")?;
-    text.push_str(digits.as_str())?;
-    text.push_str("\"")
+    push_between_quotes(text, digits.as_str())
 }
 
 // Begins an object, with the member for the canonical spelling, if it is another one.

@@ -1,10 +1,14 @@
 pub mod Again
+pub mod Called
 pub mod Chains
+pub mod Digits
 pub mod Floats
 pub mod Nexts
 pub mod Parts
+pub mod Reached
 pub mod Spoken
 pub mod Steps
 pub mod Tags
 pub mod Taken
 pub mod Texts
+pub mod Within

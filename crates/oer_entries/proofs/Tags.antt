@@ -16,8 +16,10 @@ use Rattle.oer_entries.specs.Entries.{tag_at, tag_by}
 use Rattle.oer_entries.specs.Frames.{Seen, fresh, noted}
 use Rattle.oer_entries.specs.Known.{Known, part_in, plainly}
 use Rattle.oer_entries.specs.Makes.{Stands, Tagged, last_path, path_steps, step_list, taken}
-use Rattle.oer_entries.specs.Trails.{AreParts, Follow, IsWay, common, grown, grown_from, inner_of, known_from, last_by, leads_to, names_in, names_to, parts_of, path_in, path_to, reached, text_to}
-use Rattle.oer_entries.specs.Ways.{joined, letter_text, names_on, names_text, path_text, pointed, step_text}
+use Rattle.oer_entries.specs.Trails.{AreParts, Follow, IsWay, common, grown, grown_from, inner_of, known_from, last_by, last_type, leads_to}
+use Rattle.oer_entries.specs.Trails.{names_in, names_to, parts_of, path_in, path_to, reached, text_to}
+use Rattle.oer_entries.specs.Kinds.{kind_text}
+use Rattle.oer_entries.specs.Ways.{joined, kind_at, letter_text, names_on, names_text, path_text, pointed, step_text, type_on}
 use Rattle.oer_entries.specs.declared.way.Way.{Way}
 use Rattle.oer_entries.proofs.Texts.{names_of, steps_of}
 
@@ -208,6 +210,20 @@ names_are tags F f (g ∷ gs) (s ∷ path) p n (h, more) e (own, later) is =
     (names_are tags (F ++ step_list (taken g)) g gs path (path_to p g) (names_to n g) more own later rest
     ∙ ap₂ (λ (k : Known) (l : List plain.Step). names_on tags k.type l path) part on)
 
+pub type_is : (tags : List plain.Step → Option Tag) (F : List plain.Step) (f : Seen) (gs : List Seen) (path : List plain.Step) (p n : List ℕ)
+    → Follow f p n gs → f.tag ≡ tags F → Tagged tags F gs → map taken gs ≡ path_steps path → last_type (f ∷ gs) ≡ type_on tags f.is.type F path
+type_is tags F f [] [] p n h e t is = refl
+type_is tags F f [] (s ∷ path) p n h e t is = absurd (cc)
+type_is tags F f (g ∷ gs) [] p n h e t is = absurd (cc)
+type_is tags F f (g ∷ gs) (s ∷ path) p n (h, more) e (own, later) is =
+    let here : taken g ≡ Some s = head_is (taken g) (Some s) (map taken gs) (path_steps path) is in
+    let rest : map taken gs ≡ path_steps path = tail_is (taken g) (Some s) (map taken gs) (path_steps path) is in
+    let by : step_of h.by ≡ s = some_is (step_of h.by) s (sym (ap (option_map step_of) h.step) ∙ here) in
+    let part : g.is ≡ part_in f.is.type (tags F) s = h.is ∙ ap₂ (part_in f.is.type) e by in
+    let on : F ++ step_list (taken g) ≡ F ++ s ∷ [] = ap (λ t. F ++ step_list t) here in
+    type_is tags (F ++ step_list (taken g)) g gs path (path_to p g) (names_to n g) more own later rest
+    ∙ ap₂ (λ (k : Known) (l : List plain.Step). type_on tags k.type l path) part on
+
 -- ---- a row is read
 
 after_row : (role : Role) (offset : ℕ) (b : List ℕ) (f : Seen) (t : Option Tag) → f.tag ≡ t → (noted role offset b f).tag ≡ tag_by true role b t
@@ -267,23 +283,27 @@ taken_last role offset b (f ∷ g ∷ fs) = ap (λ l. taken f ∷ l) (taken_last
 -- ---- ways
 
 abbrev Texts : AsnType → (List plain.Step → Option Tag) → List plain.Step → List Seen → Type 0
-Texts T tags path fs = (path_in fs ≡ path_text path) × (names_in fs ≡ names_text T tags path)
+Texts T tags path fs = (path_in fs ≡ path_text path) × (names_in fs ≡ names_text T tags path) × (kind_text (last_type fs) ≡ kind_at T tags path)
 
 texts_are : (T : AsnType) (tags : List plain.Step → Option Tag) (path : List plain.Step) (fs : List Seen) → AreParts T fs → map taken (drop 1 fs) ≡ path_steps path
     → Tagged tags [] fs → Texts T tags path fs
 texts_are T tags path [] h is t = absurd h
 texts_are T tags path (f ∷ gs) (whole, more) is (own, later) =
-    let here : step_list (taken f) ≡ [] = ap (λ o. step_list (option_map step_of o)) whole.step in (
+    let here : step_list (taken f) ≡ [] = ap (λ o. step_list (option_map step_of o)) whole.step in
+    let tag : f.tag ≡ tags [] = own ∙ ap tags here in
+    let tagged : Tagged tags [] gs = subst (λ l. Tagged tags l gs) here later in (
       ap (joined []) (path_is gs path is),
-      ap (joined []) (names_are tags [] f gs path [] [] more (own ∙ ap tags here) (subst (λ l. Tagged tags l gs) here later) is ∙ ap (λ (k : Known). names_on tags k.type [] path) whole.is),
+      ap (joined []) (names_are tags [] f gs path [] [] more tag tagged is ∙ ap (λ (k : Known). names_on tags k.type [] path) whole.is),
+      ap kind_text (type_is tags [] f gs path [] [] more tag tagged is ∙ ap (λ (k : Known). type_on tags k.type [] path) whole.is),
     )
 
--- the texts of a way that stands at a path
+-- the texts of a way that stands at a path, and the kind of its last part
 pub placed : (T : AsnType) (octets : List ℕ) (before : List Line) (path : List plain.Step) (w : Way) → Stands T octets before path w
     → (string_bytes w.path ≡ path_text path) × (string_bytes w.names ≡ names_text T (tag_at before) path)
+    × (kind_text (last_type (parts_of w)) ≡ kind_at T (tag_at before) path)
 placed T octets before path w h =
     let x = texts_are T (tag_at before) path (parts_of w) h.leads.parts h.steps h.tags in
-    (h.leads.path ∙ x.0, h.leads.names ∙ x.1)
+    (h.leads.path ∙ x.0, h.leads.names ∙ x.1, x.2)
 
 no_tag : (before : List Line) → Beyond (tag_at before) (last_path before)
 unfolding Beyond

@@ -9,7 +9,7 @@ use Rattle.oer_rows.specs.Rows.{Line, line}
 use Rattle.oer_rows.specs.declared.row.Role.{Role}
 use Rattle.oer_rows.specs.declared.row.Role.TheVariants.{Tag as TagRole}
 use Rattle.oer_entries.specs.Frames.{tag_of}
-use Rattle.oer_entries.specs.Ways.{names_text, path_text}
+use Rattle.oer_entries.specs.Ways.{kind_at, names_text, path_text}
 use Rattle.oer_entries.specs.declared.entry.Entry.{Entry}
 
 -- how many octets are before an entry, and its octets
@@ -45,9 +45,10 @@ tag_at [] path = None
 tag_at (line n at role b ∷ before) path =
     if starts_with path at then tag_by (starts_with at path) role b (tag_at before path) else None
 
--- The entry has the path of its row, in the spelling of `oer part`, and the names on that path.
+-- The entry has the path of its row, in the spelling of `oer part`, the names on that path, and the kind of the type of its part.
 abbrev pub IsPlaced : AsnType → List Line → Line → Entry → Type 0
-IsPlaced T before (line n path role b) e = (e.path.now ≡ path_text path) × (e.names.now ≡ names_text T (tag_at before) path)
+IsPlaced T before (line n path role b) e =
+    (e.path.now ≡ path_text path) × (e.names.now ≡ names_text T (tag_at before) path) × (e.kind.now ≡ kind_at T (tag_at before) path)
 
 -- Each row has its entry, placed by the rows before it.
 abbrev pub ArePlaced : AsnType → List Line → List Line → List Entry → Type 0
@@ -55,6 +56,6 @@ ArePlaced T before [] es = Unit {0}
 ArePlaced T before (l ∷ ls) [] = ⊥
 ArePlaced T before (l ∷ ls) (e ∷ es) = IsPlaced T before l e × ArePlaced T (l ∷ before) ls es
 
--- From s to t the entries of these rows of a value of the type were taken, one after another, each with its path and names.
+-- From s to t the entries of these rows of a value of the type were taken, one after another, each with its path, names and kind.
 abbrev pub ArePlacedFor : {E : Type 0} → (E → Entry → E → Type 0) → AsnType → List Line → E → E → Type 0
 ArePlacedFor takes T ls s t = (es : List Entry) × AreOfRows ls es × ArePlaced T [] ls es × FoldsTo takes s es t

@@ -1,5 +1,8 @@
+pub mod Digits
 pub mod Entries
+pub mod Extents
 pub mod Frames
+pub mod Kinds
 pub mod Known
 pub mod Makes
 pub mod Names

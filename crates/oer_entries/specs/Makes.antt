@@ -1,4 +1,4 @@
--- What the rows so far say of the way, as entries are made.
+-- What the rows so far say of the way, as entries are made or measured.
 use Rattle.std.specs.Prelude.{◌≡◌, ℕ, List, [], ◌∷◌, ◌++◌, drop, map, Option, Some, None, option_map}
 use Rattle.oer_units.specs.declared.tagging.Tag.{Tag}
 use Rattle.oer_model.specs.AsnType.{AsnType}
@@ -6,9 +6,11 @@ use Rattle.oer_model.specs.Parts.{Step}
 use Rattle.oer_parts.specs.Walk.{step_of}
 use Rattle.oer_rows.specs.Rows.{Line, again, line}
 use Rattle.oer_entries.specs.Entries.{IsPlaced, spot_in, spot_of, tag_at}
+use Rattle.oer_entries.specs.Extents.{row_extents, wider}
 use Rattle.oer_entries.specs.Frames.{Seen}
 use Rattle.oer_entries.specs.Trails.{IsWay, parts_of}
 use Rattle.oer_entries.specs.declared.entry.Entry.{Entry}
+use Rattle.oer_entries.specs.declared.extents.Extents.{Extents}
 use Rattle.oer_entries.specs.declared.way.Way.{Way}
 
 -- the step to a part, as the rows have it
@@ -52,3 +54,13 @@ abbrev pub Makes : {E : Type 0} → (E → Entry → E → Type 0) → E → Way
 Makes takes s v l t w = (T : AsnType) (before : List Line) → Stands T v.octets.now before (last_path before) v
     → Stands T v.octets.now (again v.octets.now l ∷ before) (path_at l) w
     × ((e : Entry) × (spot_of e ≡ spot_in l) × IsPlaced T before l e × takes s e t)
+
+-- The way came from v to the row's part at w, and from x to y the entry of the row was measured.
+abbrev pub Reaches : Way → Extents → Line → Way → Extents → Type 0
+Reaches v x l w y = (T : AsnType) (before : List Line) → Stands T v.octets.now before (last_path before) v
+    → Stands T v.octets.now before (path_at l) w × (y ≡ wider x (row_extents T before l))
+
+-- The same, and the row was noted.
+abbrev pub Measures : Way → Extents → Line → Way → Extents → Type 0
+Measures v x l w y = (T : AsnType) (before : List Line) → Stands T v.octets.now before (last_path before) v
+    → Stands T v.octets.now (again v.octets.now l ∷ before) (path_at l) w × (y ≡ wider x (row_extents T before l))

@@ -28,6 +28,12 @@ path_in parts = joined [] (map (λ f. text_to f.step) (drop 1 parts))
 abbrev pub names_in : List Seen → List ℕ
 names_in parts = joined [] (map (λ f. f.is.name) (drop 1 parts))
 
+-- the type of the last part
+abbrev pub last_type : List Seen → Option AsnType
+last_type [] = None
+last_type (f ∷ []) = f.is.type
+last_type (f ∷ g ∷ gs) = last_type (g ∷ gs)
+
 -- what the type says of the part to which the step leads from this one
 abbrev pub known_from : Seen → Step → Known
 known_from f step = part_in f.is.type f.tag (step_of step)

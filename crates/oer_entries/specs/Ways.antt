@@ -7,6 +7,7 @@ use Rattle.oer_model.specs.Parts as plain
 use Rattle.oer_model.specs.Parts.{to_addition, to_chosen, to_component, to_item}
 use Rattle.oer_parts.specs.Walk.{step_of}
 use Rattle.oer_parts.specs.declared.step.Step.{Step}
+use Rattle.oer_entries.specs.Kinds.{kind_text}
 use Rattle.oer_entries.specs.Known.{part_in}
 
 -- a text, and a point behind it where it isn't empty
@@ -42,3 +43,12 @@ names_on tags T front (step ∷ path) =
 -- the names on a path from a value of the type
 abbrev pub names_text : AsnType → (List plain.Step → Option Tag) → List plain.Step → List ℕ
 names_text T tags path = joined [] (names_on tags (Some T) [] path)
+
+-- the type of the part at the end of a path, from a part of this type on, to which `front` leads
+abbrev pub type_on : (List plain.Step → Option Tag) → Option AsnType → List plain.Step → List plain.Step → Option AsnType
+type_on tags T front [] = T
+type_on tags T front (step ∷ path) = type_on tags (part_in T (tags front) step).type (front ++ step ∷ []) path
+
+-- what that type is called, on a path from a value of the type
+abbrev pub kind_at : AsnType → (List plain.Step → Option Tag) → List plain.Step → List ℕ
+kind_at T tags path = kind_text (type_on tags (Some T) [] path)

@@ -22,6 +22,7 @@ fn entry<'e>(part: Part<'e>, offset: usize, octets: &'e [u8], meaning: Meaning<'
     ensures spot { spot_of result ≡ (offset, octets.entry.now) }
     ensures path { result.path.now ≡ part.entry.path.now }
     ensures names { result.names.now ≡ part.entry.names.now }
+    ensures kind { result.kind.now ≡ part.entry.kind.now }
 {
     Entry {
         offset,
@@ -125,7 +126,7 @@ pub fn each_entry<E: TakeEntry + Drop>(
     taker: E,
 ) -> Result<(E, Option<Place>), Stopped>
     ensures taken { IfOk result (λ done. AreTakenFor E.takes (rows_of (the_type schema.now) octets.now) taker done.0) }
-    // Each entry of a row has the path of its row, and the names on it.
+    // Each entry of a row has the path of its row, the names on it, and the kind of the type of its part.
     ensures placed { let T = the_type schema.now in
         IfOk result (λ done. ArePlacedFor E.takes T (rows_of T octets.now) taker done.0) }
 {

@@ -6,6 +6,7 @@ mod entries;
 mod entry;
 mod extents;
 mod frame;
+pub mod laws;
 mod leaf;
 mod meaning;
 mod next;

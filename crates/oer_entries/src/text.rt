@@ -1,6 +1,8 @@
 //! The text of names, paths and kinds.
-ghost use Rattle.std.specs.Prelude.{◌≡◌, ◌++◌, IfOk, OnOk, string_bytes, take};
+ghost use Rattle.std.specs.Prelude.{◌≡◌, ◌++◌, IfOk, OnOk, option_map, string_bytes, take};
 ghost use Rattle.std.specs.String.Boundary.{IsSplitPoint};
+ghost use Rattle.oer_values.specs.ShapeView.{type_of};
+ghost use Rattle.oer_entries.specs.Kinds.{kind_text};
 ghost use Rattle.oer_entries.specs.Names.{text_of};
 ghost use Rattle.oer_entries.specs.Ways.{pointed, step_text};
 
@@ -12,7 +14,10 @@ use std::alloc::{AllocError, Global};
 use std::fmt::Write;
 
 /// What a type is called in the notation.
-pub(crate) fn kind_of(shape: Option<&Shape>) -> &'static str {
+#[tactic(auto, using(crate::proofs::Called::kinds))]
+pub(crate) fn kind_of(shape: Option<&Shape>) -> &'static str
+    ensures { result.now ≡ kind_text (option_map (λ s. type_of s.now) shape.entry) }
+{
     let Some(shape) = shape else {
         return "unknown";
     };

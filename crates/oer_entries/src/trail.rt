@@ -4,9 +4,10 @@ ghost use Rattle.oer_model.specs.AsnType.{AsnType};
 ghost use Rattle.oer_values.specs.ShapeView.{type_of};
 ghost use Rattle.oer_entries.specs.declared.frame.Frame.{Frame};
 ghost use Rattle.oer_entries.specs.Frames.{fresh, noted, seen};
+ghost use Rattle.oer_entries.specs.Kinds.{kind_text};
 ghost use Rattle.oer_entries.specs.Known.{plainly};
 ghost use Rattle.oer_entries.specs.Next.{gone_on};
-ghost use Rattle.oer_entries.specs.Trails.{IsWay, common, entered, last_by, parts_of, reached};
+ghost use Rattle.oer_entries.specs.Trails.{IsWay, common, entered, last_by, last_type, parts_of, reached};
 
 use crate::entry::Place;
 use crate::frame::Frame;
@@ -116,7 +117,8 @@ impl<'a> Way<'a> {
 
     /// What is said of the part at the end of the way.
     pub(crate) fn part(&self) -> Part<'_>
-        ensures { (result.path.now ≡ string_bytes self.now.path) × (result.names.now ≡ string_bytes self.now.names) }
+        ensures { (result.path.now ≡ string_bytes self.now.path) × (result.names.now ≡ string_bytes self.now.names)
+            × (result.kind.now ≡ kind_text (last_type (parts_of self.now))) }
     {
         Part {
             path: self.path.as_str(),

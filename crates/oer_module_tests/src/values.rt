@@ -4,8 +4,8 @@ ghost use Rattle.oer_module_names.specs.Views.{modules_in};
 
 use oer_module_lexer::{Spot, Tokens, lex};
 use oer_module_names::{Names, Place};
-use oer_module_syntax::{Body, Cursor, Module, TypeSyntax, read_modules};
-use oer_module_terms::{Amount, read_enumeration};
+use oer_module_syntax::{Body, Builtin, Cursor, Module, TypeSyntax, read_modules};
+use oer_module_terms::{Amount, Atom, Value, read_enumeration, read_value};
 use oer_module_values::{
     Error, Given, Meaning, TypeIn, Why, given_numbers, integer, number, resolve,
 };
@@ -21,7 +21,7 @@ const TEXT: &str =
     over INTEGER ::= 170141183460469231731687303715884105728 own T ::= max item T ::= top through V ::= one far INTEGER ::= n\n\
     outer INTEGER ::= B.max color Color ::= green unlike INTEGER ::= color text UTF8String ::= \"x\" texts INTEGER ::= text\n\
     round INTEGER ::= around around INTEGER ::= round typed X ::= 5 dummy {INTEGER:i} INTEGER ::= i dummies INTEGER ::= dummy\n\
-    field INTEGER ::= n.&id braces INTEGER ::= {1} parameters INTEGER ::= dummy {5} numbers N ::= two END\n\
+    mixed Color ::= max plain Color ::= red missing INTEGER ::= nowhere unread Z ::= a under U ::= one field INTEGER ::= n.&id braces INTEGER ::= {1} parameters INTEGER ::= dummy {5} numbers N ::= two END\n\
     B DEFINITIONS ::= BEGIN max INTEGER ::= 3 n INTEGER ::= max Far ::= N (0..9) N ::= INTEGER {two(max)} END\n";
 
 fn why_text(why: Why<'_>) -> &'static str {
@@ -43,20 +43,17 @@ fn draw_error(at: Global, error: Error<'_>) -> Result<String, Fail> {
     Ok(format!(in at; "{} {}:{}", why_text(error.why), place.module, place.at)?)
 }
 
-/// What a name of a module is, if it is a type.
-fn type_named<'n>(
-    names: &Names<'n, 'n, 'n>,
+/// What a name of a module is.
+fn body_of<'m, 's, 't>(
+    names: &Names<'m, 's, 't>,
     module: usize,
-    name: &'n str,
-) -> Option<&'n TypeSyntax<'n, 'n>>
+    name: &str,
+) -> Option<&'m Body<'s, 't>>
     requires { «module» < length (modules_in names.now) }
 {
-    let Ok(found) = names.find(module, name) else {
-        return None;
-    };
-    match &names.assignment(found).body {
-        Body::Type(syntax) => Some(syntax),
-        _ => None,
+    match names.find(module, name) {
+        Ok(found) => Some(&names.assignment(found).body),
+        Err(_) => None,
     }
 }
 
@@ -77,45 +74,66 @@ fn draw_meaning(at: Global, meaning: &Meaning<'_, '_, '_>) -> Result<String, Fai
     Ok(out)
 }
 
-fn draw_type<'n>(
+fn draw_type<'m, 's, 't>(
     at: Global,
-    names: &Names<'n, 'n, 'n>,
-    module: usize,
-    name: &'n str,
+    names: &Names<'m, 's, 't>,
+    of: TypeIn<'m, 's, 't>,
 ) -> Result<String, Fail>
-    requires { «module» < length (modules_in names.now) }
+    requires { of.«module» < length (modules_in names.now) }
 {
-    let Some(syntax) = type_named(names, module, name) else {
-        return Err(Fail::new(name));
-    };
-    match resolve(at, names, TypeIn { module, syntax }) {
+    match resolve(at, names, of) {
         Ok(meaning) => draw_meaning(at, &meaning),
         Err(error) => draw_error(at, error),
     }
 }
 
-fn no_path<'n>() -> &'n [Spot<'n>] {
-    &[]
+fn over_kept<'s, 't>(spots: &'s [Spot<'t>]) -> Cursor<'s, 't> {
+    Cursor {
+        spots,
+        end: 0,
+        complete: true,
+    }
 }
 
-/// The number of a name, where this type governs it, if there is one.
-fn draw_number<'n>(
+/// The amount that a value is, and where it stands.
+fn amount_of<'s, 't>(at: Global, spots: &'s [Spot<'t>]) -> Result<(usize, Amount<'s, 't>), Fail> {
+    let mut cursor = over_kept(spots);
+    match read_value(at, &mut cursor, 3) {
+        Ok(
+            Value::Atom {
+                at: begins,
+                atom: Atom::Amount(amount),
+            },
+        ) => Ok((begins, amount)),
+        _ => Err(Fail::new("amount")),
+    }
+}
+
+/// The number of a value under its governor. Under an INTEGER without items it is the same without one.
+fn draw_number<'m, 's, 't>(
     at: Global,
-    names: &Names<'n, 'n, 'n>,
-    module: usize,
-    of: &'n str,
-    name: &'n str,
+    names: &Names<'m, 's, 't>,
+    of: TypeIn<'m, 's, 't>,
+    value: &'s [Spot<'t>],
 ) -> Result<String, Fail>
-    requires { «module» < length (modules_in names.now) }
+    requires { of.«module» < length (modules_in names.now) }
 {
-    let place = Place { module, at: 0 };
-    let amount = Amount::Named {
-        name,
-        path: no_path(),
+    let (begins, amount) = amount_of(at, value)?;
+    let place = Place {
+        module: of.module,
+        at: begins,
     };
-    let answer = match type_named(names, module, of) {
-        Some(syntax) => number(at, names, TypeIn { module, syntax }, place, amount),
-        None => integer(at, names, place, amount),
+    let bare = matches!(
+        of.syntax,
+        TypeSyntax::Plain {
+            builtin: Builtin::Integer,
+            ..
+        }
+    );
+    let answer = if bare {
+        integer(at, names, place, amount)
+    } else {
+        number(at, names, of, place, amount)
     };
     match answer {
         Ok(whole) => Ok(format!(in at; "{whole}")?),
@@ -124,24 +142,17 @@ fn draw_number<'n>(
 }
 
 /// The numbers that the items of the root of an enumeration are given.
-fn draw_given<'n>(
+fn draw_given<'m, 's, 't>(
     at: Global,
-    names: &Names<'n, 'n, 'n>,
+    names: &Names<'m, 's, 't>,
     module: usize,
-    name: &'n str,
+    items: &'s [Spot<'t>],
 ) -> Result<String, Fail>
     requires { «module» < length (modules_in names.now) }
 {
-    let Some(TypeSyntax::Plain { items, .. }) = type_named(names, module, name) else {
-        return Err(Fail::new(name));
-    };
-    let mut cursor = Cursor {
-        spots: items,
-        end: 0,
-        complete: true,
-    };
+    let mut cursor = over_kept(items);
     let Ok(enumeration) = read_enumeration(at, &mut cursor) else {
-        return Err(Fail::new(name));
+        return Err(Fail::new("items"));
     };
     match given_numbers(at, names, module, &enumeration.root) {
         Ok(numbers) => draw_numbers(at, &numbers),
@@ -160,37 +171,57 @@ fn draw_numbers(at: Global, numbers: &[Option<i128>]) -> Result<String, Fail> {
     Ok(out)
 }
 
-/// What is asked of a name.
-#[derive(Clone, Copy)]
-enum Question<'n> {
-    Type,
-    Given,
-    /// Under the type of this name, if there is one.
-    Number(&'n str),
+/// What a type stands for; of an ENUMERATED, the numbers that its items are given; the number of a value.
+fn draw_body<'m, 's, 't>(
+    at: Global,
+    names: &Names<'m, 's, 't>,
+    module: usize,
+    body: &'m Body<'s, 't>,
+) -> Result<String, Fail>
+    requires { «module» < length (modules_in names.now) }
+{
+    match body {
+        Body::Type(
+            TypeSyntax::Plain {
+                builtin: Builtin::Enumerated,
+                items,
+                ..
+            },
+        ) => draw_given(at, names, module, items),
+        Body::Type(syntax) => draw_type(at, names, TypeIn { module, syntax }),
+        Body::Value { governor, value } => draw_number(
+            at,
+            names,
+            TypeIn {
+                module,
+                syntax: governor,
+            },
+            value,
+        ),
+        _ => Err(Fail::new("body")),
+    }
 }
 
-fn answers<'n>(
+fn answers<'m, 's, 't>(
     at: Global,
-    names: &Names<'n, 'n, 'n>,
-    question: Question<'n>,
-    name: &'n str,
+    names: &Names<'m, 's, 't>,
+    name: &str,
     want: &str,
 ) -> Result<(), Fail> {
     let Ok(module) = names.find_module("A") else {
         return Err(Fail::new("module"));
     };
-    let answer = match question {
-        Question::Type => draw_type(at, names, module, name)?,
-        Question::Given => draw_given(at, names, module, name)?,
-        Question::Number(of) => draw_number(at, names, module, of, name)?,
+    let Some(body) = body_of(names, module, name) else {
+        return Err(Fail::new(name));
     };
+    let answer = draw_body(at, names, module, body)?;
     if answer.as_str() == want {
         return Ok(());
     }
     Err(Fail::new(answer.as_str()))
 }
 
-fn modules_of<'x>(at: Global, tokens: &'x Tokens<'x>) -> Result<Vec<Module<'x, 'x>>, Fail> {
+fn modules_of<'s, 't>(at: Global, tokens: &'s Tokens<'t>) -> Result<Vec<Module<'s, 't>>, Fail> {
     let mut cursor = Cursor::new(tokens);
     match read_modules(at, &mut cursor, 3) {
         Ok(modules) => Ok(modules),
@@ -198,68 +229,59 @@ fn modules_of<'x>(at: Global, tokens: &'x Tokens<'x>) -> Result<Vec<Module<'x, '
     }
 }
 
-#[test]
-fn types(rt: HostRuntime) -> Result<(), Fail> {
-    let at = rt.alloc();
-    let tokens = lex(at, TEXT)?;
-    let modules = modules_of(at, &tokens)?;
-    let names = Names::new(at, &modules)?;
-    for (name, want) in [
-        ("T", "0:76"),
-        ("U", "0:76 c0:5"),
-        ("V", "0:76 c0:5 c0:11"),
-        ("W", "0:166 s0:5 c0:3"),
-        ("Q", "1:1032 c1:5 c0:3"),
-        ("D", "0:259"),
-        ("G", "0:297"),
-        ("R", "Unsettled 0:251"),
-        ("K", "NotAType 0:309"),
-        ("C", "Circular 0:333"),
-    ] {
-        answers(at, &names, Question::Type, name, want)?;
-    }
-    answers(at, &names, Question::Given, "Color", "- 5 ")
-}
-
-#[test]
-fn numbers(rt: HostRuntime) -> Result<(), Fail> {
-    let at = rt.alloc();
-    let tokens = lex(at, TEXT)?;
-    let modules = modules_of(at, &tokens)?;
-    let names = Names::new(at, &modules)?;
-    for (of, name, want) in [
-        ("", "max", "255"),
-        ("", "zero", "0"),
-        ("", "least", "-170141183460469231731687303715884105728"),
-        ("", "over", "TooLarge 0:502"),
-        ("", "own", "7"),
-        ("", "item", "255"),
-        ("", "through", "1"),
-        ("", "far", "3"),
-        ("", "outer", "3"),
-        ("", "numbers", "3"),
-        ("T", "max", "7"),
-        ("U", "one", "1"),
-        ("T", "far", "3"),
-        ("Color", "green", "5"),
-        ("Color", "blue", "255"),
-        ("Color", "color", "5"),
-        ("Color", "red", "Unnumbered 0:375"),
-        ("", "color", "NotANumber 0:0"),
-        ("", "unlike", "NotANumber 0:672"),
-        ("", "texts", "NotANumber 0:683"),
-        ("", "braces", "NotANumber 0:890"),
-        ("Color", "max", "NotANumber 0:0"),
-        ("", "T", "NotAValue 0:0"),
-        ("", "none", "Unnamed 0:0"),
-        ("", "round", "Circular 0:743"),
-        ("", "typed", "Circular 0:333"),
-        ("", "dummies", "Unsettled 0:841"),
-        ("", "field", "Unsettled 0:865"),
-        ("", "parameters", "Unsettled 0:923"),
-        ("Z", "a", "Unread 0:351"),
-    ] {
-        answers(at, &names, Question::Number(of), name, want)?;
+fn all_answers<'m, 's, 't>(
+    at: Global,
+    modules: &'m [Module<'s, 't>],
+    rows: &[(&str, &str)],
+) -> Result<(), Fail> {
+    let names = Names::new(at, modules)?;
+    for row in rows {
+        answers(at, &names, row.0, row.1)?;
     }
     Ok(())
+}
+
+/// What each name stands for, or why it stands for nothing.
+const ROWS: &[(&str, &str)] = &[
+    ("T", "0:76"),
+    ("U", "0:76 c0:5"),
+    ("V", "0:76 c0:5 c0:11"),
+    ("W", "0:166 s0:5 c0:3"),
+    ("Q", "1:1131 c1:5 c0:3"),
+    ("D", "0:259"),
+    ("G", "0:297"),
+    ("R", "Unsettled 0:251"),
+    ("K", "NotAType 0:309"),
+    ("C", "Circular 0:333"),
+    ("Color", "- 5 "),
+    ("max", "255"),
+    ("zero", "0"),
+    ("least", "-170141183460469231731687303715884105728"),
+    ("over", "TooLarge 0:502"),
+    ("own", "7"),
+    ("item", "255"),
+    ("through", "1"),
+    ("under", "1"),
+    ("far", "3"),
+    ("outer", "3"),
+    ("numbers", "3"),
+    ("color", "5"),
+    ("plain", "Unnumbered 0:375"),
+    ("unlike", "NotANumber 0:672"),
+    ("mixed", "NotANumber 0:863"),
+    ("texts", "NotANumber 0:683"),
+    ("missing", "Unnamed 0:907"),
+    ("round", "Circular 0:769"),
+    ("typed", "Circular 0:333"),
+    ("dummies", "Unsettled 0:841"),
+    ("field", "Unsettled 0:964"),
+    ("unread", "Unread 0:351"),
+];
+
+#[test]
+fn stand_for(rt: HostRuntime) -> Result<(), Fail> {
+    let at = rt.alloc();
+    let tokens = lex(at, TEXT)?;
+    let modules = modules_of(at, &tokens)?;
+    all_answers(at, &modules, ROWS)
 }

@@ -19,8 +19,8 @@ returns g c = on_ok_weaker c.take.result (λ took. λ T before h.
         c.entry-entry.ensures.spot,
         (
           c.entry-entry.ensures.path ∙ c.part.ensures.0 ∙ texts.0,
-          c.entry-entry.ensures.names ∙ c.part.ensures.1
-              ∙ texts.1,
+          c.entry-entry.ensures.names ∙ c.part.ensures.1 ∙ texts.1,
+          c.entry-entry.ensures.kind ∙ c.part.ensures.2 ∙ texts.2,
         ),
         took,
       ),
