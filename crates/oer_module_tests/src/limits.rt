@@ -206,17 +206,10 @@ const SIZES: &[(&str, &str)] = &[
 ];
 
 #[test]
-fn numbers(rt: HostRuntime) -> Result<(), Fail> {
+fn limits(rt: HostRuntime) -> Result<(), Fail> {
     let at = rt.alloc();
     let tokens = lex(at, TEXT)?;
     let modules = modules_of(at, &tokens)?;
-    all_answers(at, &modules, Measured::Number, NUMBERS)
-}
-
-#[test]
-fn sizes(rt: HostRuntime) -> Result<(), Fail> {
-    let at = rt.alloc();
-    let tokens = lex(at, TEXT)?;
-    let modules = modules_of(at, &tokens)?;
+    all_answers(at, &modules, Measured::Number, NUMBERS)?;
     all_answers(at, &modules, Measured::Size, SIZES)
 }
