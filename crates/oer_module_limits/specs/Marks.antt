@@ -27,3 +27,19 @@ abbrev mutual
   pub are_marked : Sets → Bool
   are_marked no_sets = false
   are_marked (set e es) = is_marked e || are_marked es
+
+-- whether SIZE with a marker stands beside other elements, of which the whole may have a marker or not
+abbrev mutual
+  pub is_mixed : Elements → Bool
+  is_mixed (union es) = are_mixed es
+  is_mixed (intersection es) = are_mixed es
+  is_mixed (except e x) = is_marked e || is_marked x
+  is_mixed (all_except x) = is_marked x
+  is_mixed (size at c) = false
+  is_mixed (alphabet at c) = false
+  is_mixed (simple e) = false
+
+  pub are_mixed : Sets → Bool
+  are_mixed no_sets = false
+  are_mixed (set e no_sets) = is_mixed e
+  are_mixed (set e (set x es)) = are_marked (set e (set x es))

@@ -15,8 +15,8 @@ use Rattle.oer_module_values.specs.Looks.{place_of}
 use Rattle.oer_module_values.specs.Types.{TypeIn, Given, Meaning}
 use Rattle.oer_module_values.specs.Types as values
 use Rattle.oer_module_limits.specs.Ends.{single, ranged}
-use Rattle.oer_module_limits.specs.Errors.{Read, refused, ◌>>=◌, told_by, too_deep, inapplicable, contained, value_set}
-use Rattle.oer_module_limits.specs.Marks.{is_extensible}
+use Rattle.oer_module_limits.specs.Errors.{Read, refused, ◌>>=◌, told_by, too_deep, inapplicable, contained, value_set, differs}
+use Rattle.oer_module_limits.specs.Marks.{is_extensible, is_mixed}
 
 -- what the numbers of a set are: those of an INTEGER, which governs them, or of SIZE; or the sizes of values
 pub data Measure : Type 0 where
@@ -106,7 +106,8 @@ module _ (found : Measure → Place → Elements → Read Set) where
   -- a constraint in a module (49.6, 50.1)
   abbrev pub constraint : Measure → ℕ → terms.Constraint → Read Constraint
   constraint k m (terms.subtype at root more exception) =
-      found k (place_in m at) root >>= λ s. Ok (record { root = s; extensible = is_extensible (terms.subtype at root more exception) })
+      if is_mixed root then refused (place_in m at) differs
+      else (found k (place_in m at) root >>= λ s. Ok (record { root = s; extensible = is_extensible (terms.subtype at root more exception) }))
   constraint k m (terms.general at kind ts) = Ok (record { root = unknown; extensible = false })
 
   abbrev pub constraints : Measure → ℕ → List terms.Constraint → Read (List Constraint)

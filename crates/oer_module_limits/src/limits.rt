@@ -173,7 +173,9 @@ pub fn integer_limits<'m, 's, 't>(
 /// # Errors
 /// Those of `integer_limits`, in the same order. Inapplicable, if the values of the type have no sizes, or at a range of
 /// texts. Differs, if it depends on whether EXCEPT bounds that there is one size alone (X.696, 13, 14, 17 and 27), or if a
-/// constraint with an extension marker is followed by another, also where one of them is not about sizes, as FROM.
+/// constraint with an extension marker is followed by another, also where one of them is not about sizes, as FROM. Differs
+/// too, before Empty, at a constraint in which SIZE with a marker stands beside other elements: whether the whole has a
+/// marker isn't read.
 #[tactic(auto, unfolding(crate::specs::Limits::size_limits))]
 pub fn size_limits<'m, 's, 't>(
     alloc: Global,

@@ -1,7 +1,7 @@
 //! Extension markers of constraints.
 ghost use Rattle.std.specs.Prelude.{◌≡◌, map};
 ghost use Rattle.oer_module_terms.specs.Trees.{constraint_of, elements_of, extension_of, sets_from};
-ghost use Rattle.oer_module_limits.specs.Marks.{are_marked, has_marker, is_extensible, is_marked};
+ghost use Rattle.oer_module_limits.specs.Marks.{are_marked, are_mixed, has_marker, is_extensible, is_marked, is_mixed};
 
 use oer_module_terms::{Constraint, Elements, Extension};
 
@@ -43,6 +43,32 @@ fn is_marked(elements: &Elements<'_, '_>) -> bool
         Elements::AllExcept(excluded) => is_marked(excluded),
         Elements::Size { size, .. } => is_extensible(size),
         Elements::Alphabet { .. } | Elements::Simple(_) => false,
+    }
+}
+
+/// Whether SIZE with an extension marker stands beside other elements.
+#[cycle(mixed)]
+#[tactic(auto, using(crate::proofs::Views::levels))]
+pub fn is_mixed(elements: &Elements<'_, '_>) -> bool
+    ensures { result ≡ is_mixed (elements_of elements.now) }
+{
+    match elements {
+        Elements::Union(members) | Elements::Intersection(members) => are_mixed(members),
+        Elements::Except(from, excluded) => is_marked(from) || is_marked(excluded),
+        Elements::AllExcept(excluded) => is_marked(excluded),
+        Elements::Size { .. } | Elements::Alphabet { .. } | Elements::Simple(_) => false,
+    }
+}
+
+/// Whether one of several elements is SIZE with an extension marker, or the only one mixes it with others.
+#[cycle(mixed)]
+fn are_mixed(members: &[Elements<'_, '_>]) -> bool
+    ensures { result ≡ are_mixed (sets_from (map elements_of members.now)) }
+{
+    match members {
+        [] => false,
+        [only] => is_mixed(only),
+        _ => are_marked(members),
     }
 }
 

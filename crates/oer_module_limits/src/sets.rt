@@ -14,7 +14,7 @@ ghost use Rattle.oer_module_limits.specs.Views.{IsGivenWithin, IsMeasureWithin, 
 use crate::ends::{ranged, single};
 use crate::error::{Error, Why};
 use crate::kept::read_row;
-use crate::marks::is_extensible;
+use crate::marks::{is_extensible, is_mixed};
 use crate::measure::{Measure, measure_of, own};
 use oer_module_bounds::{Constraint, Range, Set};
 use oer_module_lexer::Spot;
@@ -194,6 +194,12 @@ fn constraint<'m, 's, 't>(
     match written {
         oer_module_terms::Constraint::Subtype { at, root, .. } => {
             let place = Place { module, at: *at };
+            if is_mixed(root) {
+                return Err(Error {
+                    place,
+                    why: Why::Differs,
+                });
+            }
             let root = set_of(alloc, names, levels, measure, place, root)?;
             let extensible = is_extensible(written);
             Ok(Constraint { root, extensible })

@@ -31,7 +31,8 @@ const TEXT: &str =
     T5 ::= OCTET STRING (CONTAINING Uint8) (SIZE(2)) T6 ::= IA5String (\"abc\") T7 ::= IA5String (SIZE(1..8 EXCEPT 2..8))\n\
     T8 ::= UTF8String T9 ::= SEQUENCE OF Uint8 T10 ::= Uint8 T11 ::= OCTET STRING (SIZE(1 | 3..small))\n\
     T12 ::= IA5String (SIZE(1..4), ...) (SIZE(4..MAX)) T13 ::= IA5String (FROM(\"a\"), ...) (SIZE(4))\n\
-    T14 ::= IA5String (SIZE(1..4, ...)) (SIZE(4..MAX)) T15 ::= IA5String (FROM(\"a\", ...)) (SIZE(4)) END\n\
+    T14 ::= IA5String (SIZE(1..4, ...)) (SIZE(4..MAX)) T15 ::= IA5String (FROM(\"a\", ...)) (SIZE(4))\n\
+    T16 ::= IA5String (SIZE(1..4, ...) ^ SIZE(2)) END\n\
     B DEFINITIONS ::= BEGIN max INTEGER ::= 255 small INTEGER ::= 10 Uint8 ::= INTEGER (0..max) Uint16 ::= INTEGER (0..65535)\n\
     Temperature ::= INTEGER {freezing(0), boiling(100)} (-50..150) Bytes ::= OCTET STRING (SIZE(1..small))\n\
     Id ::= OCTET STRING (SIZE(4)) END\n";
@@ -197,12 +198,13 @@ const SIZES: &[(&str, &str)] = &[
     ("T7", "Differs 0:1573"),
     ("T8", "*..*"),
     ("T9", "*..*"),
-    ("T10", "Inapplicable 1:1978"),
+    ("T10", "Inapplicable 1:2024"),
     ("T11", "1..10"),
     ("T12", "Differs 0:1715"),
     ("T13", "Differs 0:1766"),
     ("T14", "Differs 0:1811"),
     ("T15", "4..4"),
+    ("T16", "Differs 0:1917"),
 ];
 
 #[test]
