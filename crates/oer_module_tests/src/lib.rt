@@ -6,6 +6,8 @@ mod bounds;
 #[cfg(test)]
 mod lexer;
 #[cfg(test)]
+mod limits;
+#[cfg(test)]
 mod parts;
 #[cfg(test)]
 mod syntax;

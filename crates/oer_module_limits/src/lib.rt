@@ -1,0 +1,14 @@
+//! What the constraints of ASN.1 types allow (X.680, 49 to 51): the range of an INTEGER, and that of the sizes of strings and
+//! lists, as X.696 sees them.
+#![tactic(auto)]
+
+mod ends;
+mod error;
+mod kept;
+mod limits;
+mod marks;
+mod measure;
+mod sets;
+
+pub use error::{Error, Why};
+pub use limits::{integer_limits, size_limits};

@@ -1,0 +1,203 @@
+//! The range of an INTEGER, and that of sizes.
+ghost use Rattle.std.specs.Prelude.{◌≡◌, ◌<◌, length, false, map};
+ghost use Rattle.oer_module_bounds.specs.Sets.{constraint_of, span_of};
+ghost use Rattle.oer_module_names.specs.Views.{modules_in};
+ghost use Rattle.oer_module_values.specs.Views.{type_in};
+ghost use Rattle.oer_module_limits.specs.Errors.{Gives};
+ghost use Rattle.oer_module_limits.specs.Limits.{integer_limits, is_fixed, is_followed, is_from, is_to, same_form, same_sizes, signed_octets, size_limits, type_place, unsigned_octets};
+
+use crate::error::{Error, Why};
+use crate::measure::{Measure, place_of};
+use crate::sets::constraints_of;
+use oer_module_bounds::{Constraint, Range, effective_range, loose_effective_range};
+use oer_module_names::{Names, Place};
+use oer_module_values::{TypeIn, resolve};
+use std::alloc::Global;
+
+/// How many levels of sets may nest.
+const LEVELS: u8 = 255;
+
+fn is_from(least: i128, low: Option<i128>) -> bool
+    ensures { result ≡ is_from least low }
+{
+    match low {
+        Some(low) => least <= low,
+        None => false,
+    }
+}
+
+fn is_to(greatest: i128, high: Option<i128>) -> bool
+    ensures { result ≡ is_to greatest high }
+{
+    match high {
+        Some(high) => high <= greatest,
+        None => false,
+    }
+}
+
+/// In how many octets a number is that has no sign; 0 for as many as it takes.
+fn unsigned_octets(high: Option<i128>) -> u8
+    ensures { result ≡ unsigned_octets high }
+{
+    if is_to(255, high) {
+        return 1;
+    }
+    if is_to(65535, high) {
+        return 2;
+    }
+    if is_to(4294967295, high) {
+        return 4;
+    }
+    if is_to(18446744073709551615, high) {
+        return 8;
+    }
+    0
+}
+
+/// In how many octets a number with a sign is; 0 for as many as it takes.
+fn signed_octets(low: Option<i128>, high: Option<i128>) -> u8
+    ensures { result ≡ signed_octets low high }
+{
+    if is_from(-128, low) && is_to(127, high) {
+        return 1;
+    }
+    if is_from(-32768, low) && is_to(32767, high) {
+        return 2;
+    }
+    if is_from(-2147483648, low) && is_to(2147483647, high) {
+        return 4;
+    }
+    if is_from(-9223372036854775808, low) && is_to(9223372036854775807, high) {
+        return 8;
+    }
+    0
+}
+
+/// Whether numbers have the same octets under two ranges (X.696, 10).
+fn same_form(one: Range, other: Range) -> bool
+    ensures { result ≡ same_form (span_of one) (span_of other) }
+{
+    if is_from(0, one.low()) {
+        return is_from(0, other.low())
+            && unsigned_octets(one.high()) == unsigned_octets(other.high());
+    }
+    !is_from(0, other.low())
+        && signed_octets(one.low(), one.high()) == signed_octets(other.low(), other.high())
+}
+
+/// Whether there is one size alone.
+fn is_fixed(low: Option<i128>, high: Option<i128>) -> bool
+    ensures { result ≡ is_fixed low high }
+{
+    match (low, high) {
+        (_, None) => false,
+        (None, Some(high)) => high == 0,
+        (Some(low), Some(high)) => low == high,
+    }
+}
+
+/// Whether values have the same octets under two ranges of their sizes (X.696, 13, 14, 17 and 27).
+fn same_sizes(one: Range, other: Range) -> bool
+    ensures { result ≡ same_sizes (span_of one) (span_of other) }
+{
+    if is_fixed(one.low(), one.high()) {
+        return is_fixed(other.low(), other.high());
+    }
+    !is_fixed(other.low(), other.high())
+}
+
+/// Whether a constraint with an extension marker is followed by another, which sees it without its marker (X.680, 50.8).
+fn is_followed(constraints: &[Constraint]) -> bool
+    ensures { result ≡ is_followed false (map constraint_of constraints.now) }
+{
+    let mut extended = false;
+    for constraint in constraints {
+        if extended {
+            return true;
+        }
+        extended = constraint.extensible;
+    }
+    false
+}
+
+fn type_place(of: TypeIn<'_, '_, '_>) -> Place
+    ensures { result ≡ type_place (type_in of.entry) }
+{
+    Place {
+        module: of.module,
+        at: place_of(of.syntax),
+    }
+}
+
+/// The range of the numbers that an INTEGER allows, or one that a type stands for (X.680, 49 to 51): of all constraints on the way
+/// together. An absent end is no bound. A constraint with an extension marker bounds nothing (X.696, 8.2), nor does a
+/// general one. A marker behind SIZE is the constraint's.
+///
+/// # Errors
+/// Unresolved, where a name stands for nothing, tokens can't be read, or an allocation failed. Inapplicable, if the type is none, or at
+/// elements that an INTEGER hasn't: SIZE, FROM, PATTERN, SETTINGS and WITH COMPONENTS (X.680, 51.1). NotANumber and TooLarge at a
+/// value, OpenEnd at `<` beside MIN or MAX. TooDeep, Contained and ValueSet at what isn't read. Then Empty, if no number is
+/// allowed. Then Differs, if the sign or the width of the octets depends on whether EXCEPT bounds (X.696, 10), or if a
+/// constraint with an extension marker is followed by another, whatever both say: X.680 (50.8) takes the first one without
+/// its marker, other readers ignore it.
+#[tactic(auto, unfolding(crate::specs::Limits::integer_limits))]
+pub fn integer_limits<'m, 's, 't>(
+    alloc: Global,
+    names: &Names<'m, 's, 't>,
+    of: TypeIn<'m, 's, 't>,
+) -> Result<Range, Error<'t>>
+    requires { of.«module» < length (modules_in names.now) }
+    ensures { Gives span_of result (integer_limits (modules_in names.now) (type_in of.entry)) }
+{
+    let meaning = resolve(alloc, names, of)?;
+    let constraints = constraints_of(alloc, names, LEVELS, Measure::Number(None), &meaning)?;
+    let Some(range) = effective_range(alloc, &constraints)? else {
+        return Err(Error {
+            place: type_place(of),
+            why: Why::Empty,
+        });
+    };
+    match loose_effective_range(&constraints) {
+        Some(loose) if !is_followed(&constraints) && same_form(range, loose) => Ok(range),
+        _ => Err(Error {
+            place: type_place(of),
+            why: Why::Differs,
+        }),
+    }
+}
+
+/// The range of the sizes that a type allows, or one that it stands for (X.680, 51.5): a string, a SEQUENCE OF or a
+/// SET OF. An absent lower end is 0, an absent upper one no bound. What is not about sizes bounds nothing, and takes
+/// nothing away behind EXCEPT.
+///
+/// # Errors
+/// Those of `integer_limits`, in the same order. Inapplicable, if the values of the type have no sizes, or at a range of
+/// texts. Differs, if it depends on whether EXCEPT bounds that there is one size alone (X.696, 13, 14, 17 and 27), or if a
+/// constraint with an extension marker is followed by another, also where one of them is not about sizes, as FROM. Differs
+/// too, before Empty, at a constraint in which SIZE with a marker stands beside other elements: whether the whole has a
+/// marker isn't read.
+#[tactic(auto, unfolding(crate::specs::Limits::size_limits))]
+pub fn size_limits<'m, 's, 't>(
+    alloc: Global,
+    names: &Names<'m, 's, 't>,
+    of: TypeIn<'m, 's, 't>,
+) -> Result<Range, Error<'t>>
+    requires { of.«module» < length (modules_in names.now) }
+    ensures { Gives span_of result (size_limits (modules_in names.now) (type_in of.entry)) }
+{
+    let meaning = resolve(alloc, names, of)?;
+    let constraints = constraints_of(alloc, names, LEVELS, Measure::Size, &meaning)?;
+    let Some(range) = effective_range(alloc, &constraints)? else {
+        return Err(Error {
+            place: type_place(of),
+            why: Why::Empty,
+        });
+    };
+    match loose_effective_range(&constraints) {
+        Some(loose) if !is_followed(&constraints) && same_sizes(range, loose) => Ok(range),
+        _ => Err(Error {
+            place: type_place(of),
+            why: Why::Differs,
+        }),
+    }
+}
