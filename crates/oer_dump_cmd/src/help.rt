@@ -28,10 +28,12 @@ Exit status:
   1  The octets are no encoding of the type, or more than --limit. The lines go
      up to the octet that shows it.
   2  The arguments, the type or the digits are rejected.
-  3  Standard input or output failed, or an allocation did.
+  3  Standard input or output failed, or an allocation did, or an argument is
+     not UTF-8.
 
-Documents, in the source: docs/COMMAND.md (this program), docs/NOTATION.md
-(types), docs/JSON.md (the JSON of a value), docs/ENCODING.md (octets).";
+Documents, in the source, and in share/doc/oer where this is installed:
+docs/COMMAND.md (this program), docs/NOTATION.md (types), docs/JSON.md (the
+JSON of a value), docs/ENCODING.md (octets).";
 
 // What help says of an option that `oer` doesn't have, or has for more. In the lines that options share
 // it has 58 characters at most.
