@@ -1,3 +1,4 @@
 pub mod Loops
+pub mod Serial
 pub mod Views
 pub mod Within

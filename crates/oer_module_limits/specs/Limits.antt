@@ -1,5 +1,5 @@
 -- The range of an INTEGER and that of sizes, where readers don't differ on the octets (X.696, 8.2, 10 and 13 to 18).
-use Rattle.std.specs.Prelude.{ℕ, ℤ, pos, negsuc, int_le, List, [], ◌∷◌, ◌==◌, Bool, false, not, ◌&&◌, ◌||◌, Option, Some, None, Ok, if◌then◌else◌}
+use Rattle.std.specs.Prelude.{ℕ, ℤ, pos, negsuc, int_le, List, [], ◌∷◌, ◌==◌, Bool, false, not, ◌&&◌, Option, Some, None, Ok, if◌then◌else◌}
 use Rattle.std.specs.Ordering.{int_eq}
 use Rattle.oer_module_bounds.specs.Hull.{effective}
 use Rattle.oer_module_bounds.specs.Loose.{loose_effective}
@@ -54,17 +54,23 @@ is_fixed (Some low) (Some high) = int_eq low high
 abbrev pub same_sizes : Span → Span → Bool
 same_sizes r s = if is_fixed r.low r.high then is_fixed s.low s.high else not (is_fixed s.low s.high)
 
--- Whether a constraint with an extension marker is followed by another, which sees it without its marker (X.680, 50.8).
--- The flag: whether the constraint before has a marker.
-abbrev pub is_followed : Bool → List Constraint → Bool
-is_followed extended [] = false
-is_followed extended (c ∷ cs) = extended || is_followed c.extensible cs
+-- ---- constraints in a row, the parent's first
 
--- the range of what is allowed, beside that as PER reads it
-abbrev pub judged : (Span → Span → Bool) → Bool → Place → Option Span → Option Span → Read Span
-judged same followed p None other = refused p empty
-judged same followed p (Some r) None = refused p differs
-judged same followed p (Some r) (Some s) = if not followed && same r s then Ok r else refused p differs
+abbrev pub unmarked : Constraint → Constraint
+unmarked c = record { root = c.root; extensible = false }
+
+-- As X.680 takes them: what a constraint is applied to has no extension marker (50.8). So each is without it but the last.
+abbrev pub serially : List Constraint → List Constraint
+serially [] = []
+serially (c ∷ []) = c ∷ []
+serially (c ∷ d ∷ cs) = unmarked c ∷ serially (d ∷ cs)
+
+-- The range that X.680 gives, where values have the same octets under it and under the widest: to that neither EXCEPT is a bound, nor a
+-- constraint with a marker, whatever follows it (X.696, 8.2 alone). What readers take lies between the two. Empty where X.680's is.
+abbrev pub judged : (Span → Span → Bool) → Place → Option Span → Option Span → Read Span
+judged same p None widest = refused p empty
+judged same p (Some r) None = refused p differs
+judged same p (Some r) (Some s) = if same r s then Ok r else refused p differs
 
 abbrev pub type_place : TypeIn → Place
 type_place t = place_in t.«module» (place_of t.type)
@@ -75,10 +81,10 @@ module _ (ms : List Module) where
   integer_limits t = do
     r ← told_by (meaning ms t)
     cs ← rows (set_at ms 255) (number None) r
-    judged same_form (is_followed false cs) (type_place t) (effective cs) (loose_effective cs)
+    judged same_form (type_place t) (effective (serially cs)) (loose_effective cs)
 
   unfoldable pub size_limits : TypeIn → Read Span
   size_limits t = do
     r ← told_by (meaning ms t)
     cs ← rows (set_at ms 255) size r
-    judged same_sizes (is_followed false cs) (type_place t) (effective cs) (loose_effective cs)
+    judged same_sizes (type_place t) (effective (serially cs)) (loose_effective cs)

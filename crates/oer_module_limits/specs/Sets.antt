@@ -74,9 +74,6 @@ measure_of size t = size
 abbrev pub added : {A : Type 0} → List A → Read (List A) → Read (List A)
 added before r = r >>= λ more. Ok (before ++ more)
 
-abbrev pub size_of : Constraint → Set
-size_of c = if c.extensible then unknown else c.root
-
 -- constraints in a row, from tokens of a module
 unfoldable pub row_read : ℕ → List Spot → Read (List terms.Constraint)
 row_read m ts = told_by (in_module m (constraints_at 64 (kept ts))) >>= λ cs. Ok cs.0
@@ -132,10 +129,10 @@ module _ (found : Measure → Place → Elements → Read Set) where
   unfoldable pub rows : Measure → Meaning → Read (List Constraint)
   rows k r = own_rows k r.of >>= λ first. added first (given_rows (measure_of k r.of) r.given)
 
-  -- SIZE (51.5)
+  -- SIZE (51.5); a marker there is that of the constraint in which SIZE stands
   abbrev pub sized_by : Measure → Place → terms.Constraint → Read Set
   sized_by (number g) p c = refused p inapplicable
-  sized_by size p c = constraint (number None) p.«module» c >>= λ x. Ok (size_of x)
+  sized_by size p c = constraint (number None) p.«module» c >>= λ x. Ok x.root
 
 module _ (ms : List Module) where
   abbrev pub single_by : Measure → Place → Value → Read Set

@@ -28,8 +28,8 @@ pub enum Why<'n> {
     Contained,
     /// No value is allowed.
     Empty,
-    /// Readers differ on whether EXCEPT bounds, or a constraint that is followed by another and has an extension marker;
-    /// or SIZE with a marker is a part of a set.
+    /// The octets depend on whether EXCEPT bounds, or a constraint that has an extension marker and is followed by another, on
+    /// which readers differ; or SIZE with a marker is a part of a set.
     Differs,
 }
 

@@ -1,36 +1,19 @@
 //! Constraints that a tree keeps as tokens.
-ghost use Rattle.std.specs.Prelude.{◌≡◌, map};
+ghost use Rattle.std.specs.Prelude.{map};
 ghost use Rattle.oer_module_lexer.specs.Token.{spots_of};
-ghost use Rattle.oer_module_syntax.specs.State.{state_of};
 ghost use Rattle.oer_module_terms.specs.Trees.{constraint_of};
-ghost use Rattle.oer_module_values.specs.Kept.{kept};
 ghost use Rattle.oer_module_limits.specs.Errors.{Gives};
 ghost use Rattle.oer_module_limits.specs.Sets.{row_read};
 
 use crate::error::{Error, Why};
 use oer_module_lexer::Spot;
 use oer_module_names::Place;
-use oer_module_syntax::Cursor;
 use oer_module_terms::{Constraint, read_constraints};
+use oer_module_values::over_kept;
 use std::alloc::Global;
 
 /// How many levels may nest in a constraint.
 const LEVELS: u8 = 64;
-
-/// Before the first of some tokens that a tree keeps. A fault behind the last has the place of the first.
-fn over_kept<'s, 't>(spots: &'s [Spot<'t>]) -> Cursor<'s, 't>
-    ensures { state_of result ≡ kept (spots_of spots.now) }
-{
-    let end = match spots.first() {
-        Some(spot) => spot.at,
-        None => 0,
-    };
-    Cursor {
-        spots,
-        end,
-        complete: true,
-    }
-}
 
 /// The constraints that stand in a row, from tokens of a module.
 #[tactic(auto, unfolding(crate::specs::Sets::row_read))]

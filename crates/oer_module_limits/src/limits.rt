@@ -1,17 +1,17 @@
 //! The range of an INTEGER, and that of sizes.
-ghost use Rattle.std.specs.Prelude.{◌≡◌, ◌<◌, length, false, map};
+ghost use Rattle.std.specs.Prelude.{◌≡◌, ◌<◌, length, map};
 ghost use Rattle.oer_module_bounds.specs.Sets.{constraint_of, span_of};
 ghost use Rattle.oer_module_names.specs.Views.{modules_in};
 ghost use Rattle.oer_module_values.specs.Views.{type_in};
 ghost use Rattle.oer_module_limits.specs.Errors.{Gives};
-ghost use Rattle.oer_module_limits.specs.Limits.{integer_limits, is_fixed, is_followed, is_from, is_to, same_form, same_sizes, signed_octets, size_limits, type_place, unsigned_octets};
+ghost use Rattle.oer_module_limits.specs.Limits.{integer_limits, is_fixed, is_from, is_to, same_form, same_sizes, serially, signed_octets, size_limits, type_place, unsigned_octets};
 
 use crate::error::{Error, Why};
-use crate::measure::{Measure, place_of};
+use crate::measure::Measure;
 use crate::sets::constraints_of;
 use oer_module_bounds::{Constraint, Range, effective_range, loose_effective_range};
 use oer_module_names::{Names, Place};
-use oer_module_values::{TypeIn, resolve};
+use oer_module_values::{TypeIn, place_of, resolve};
 use std::alloc::Global;
 
 /// How many levels of sets may nest.
@@ -106,18 +106,14 @@ fn same_sizes(one: Range, other: Range) -> bool
     !is_fixed(other.low(), other.high())
 }
 
-/// Whether a constraint with an extension marker is followed by another, which sees it without its marker (X.680, 50.8).
-fn is_followed(constraints: &[Constraint]) -> bool
-    ensures { result ≡ is_followed false (map constraint_of constraints.now) }
+/// Takes the extension marker from each constraint that another follows (X.680, 50.8).
+fn apply_serially(constraints: &mut [Constraint])
+    ensures { map constraint_of constraints.new ≡ serially (map constraint_of constraints.old) }
 {
-    let mut extended = false;
-    for constraint in constraints {
-        if extended {
-            return true;
-        }
-        extended = constraint.extensible;
+    let followed = constraints.len().saturating_sub(1);
+    for at in 0..followed {
+        constraints[at].extensible = false;
     }
-    false
 }
 
 fn type_place(of: TypeIn<'_, '_, '_>) -> Place
@@ -130,16 +126,17 @@ fn type_place(of: TypeIn<'_, '_, '_>) -> Place
 }
 
 /// The range of the numbers that an INTEGER allows, or one that a type stands for (X.680, 49 to 51): of all constraints on the way
-/// together. An absent end is no bound. A constraint with an extension marker bounds nothing (X.696, 8.2), nor does a
-/// general one. A marker behind SIZE is the constraint's.
+/// together. An absent end is no bound. A constraint with an extension marker bounds nothing (X.696, 8.2), unless another
+/// follows: then it bounds as if it had none (X.680, 50.8). A general one bounds nothing. A marker behind SIZE is the
+/// constraint's.
 ///
 /// # Errors
 /// Unresolved, where a name stands for nothing, tokens can't be read, or an allocation failed. Inapplicable, if the type is none, or at
 /// elements that an INTEGER hasn't: SIZE, FROM, PATTERN, SETTINGS and WITH COMPONENTS (X.680, 51.1). NotANumber and TooLarge at a
 /// value, OpenEnd at `<` beside MIN or MAX. TooDeep, Contained and ValueSet at what isn't read. Then Empty, if no number is
-/// allowed. Then Differs, if the sign or the width of the octets depends on whether EXCEPT bounds (X.696, 10), or if a
-/// constraint with an extension marker is followed by another, whatever both say: X.680 (50.8) takes the first one without
-/// its marker, other readers ignore it.
+/// allowed. Then Differs, if the sign or the width of the octets (X.696, 10) depends on whether EXCEPT bounds, or whether
+/// constraints do that have a marker and are followed, which other readers ignore: `(0..10, ...) (0..5)` has the range
+/// 0..5, and `(0..10, ...) (0..70000)` is refused.
 #[tactic(auto, unfolding(crate::specs::Limits::integer_limits))]
 pub fn integer_limits<'m, 's, 't>(
     alloc: Global,
@@ -150,15 +147,17 @@ pub fn integer_limits<'m, 's, 't>(
     ensures { Gives span_of result (integer_limits (modules_in names.now) (type_in of.entry)) }
 {
     let meaning = resolve(alloc, names, of)?;
-    let constraints = constraints_of(alloc, names, LEVELS, Measure::Number(None), &meaning)?;
+    let mut constraints = constraints_of(alloc, names, LEVELS, Measure::Number(None), &meaning)?;
+    let widest = loose_effective_range(&constraints);
+    apply_serially(&mut constraints);
     let Some(range) = effective_range(alloc, &constraints)? else {
         return Err(Error {
             place: type_place(of),
             why: Why::Empty,
         });
     };
-    match loose_effective_range(&constraints) {
-        Some(loose) if !is_followed(&constraints) && same_form(range, loose) => Ok(range),
+    match widest {
+        Some(widest) if same_form(range, widest) => Ok(range),
         _ => Err(Error {
             place: type_place(of),
             why: Why::Differs,
@@ -172,10 +171,9 @@ pub fn integer_limits<'m, 's, 't>(
 ///
 /// # Errors
 /// Those of `integer_limits`, in the same order. Inapplicable, if the values of the type have no sizes, or at a range of
-/// texts. Differs, if it depends on whether EXCEPT bounds that there is one size alone (X.696, 13, 14, 17 and 27), or if a
-/// constraint with an extension marker is followed by another, also where one of them is not about sizes, as FROM. Differs
-/// too, before Empty, at a constraint in which SIZE with a marker stands beside other elements: whether the whole has a
-/// marker isn't read.
+/// texts. Differs, if it depends on the same that there is one size alone (X.696, 13, 14, 17 and 27). Differs too, before
+/// Empty, at a constraint in which SIZE with a marker stands beside other elements: whether the whole has a marker isn't
+/// read.
 #[tactic(auto, unfolding(crate::specs::Limits::size_limits))]
 pub fn size_limits<'m, 's, 't>(
     alloc: Global,
@@ -186,15 +184,17 @@ pub fn size_limits<'m, 's, 't>(
     ensures { Gives span_of result (size_limits (modules_in names.now) (type_in of.entry)) }
 {
     let meaning = resolve(alloc, names, of)?;
-    let constraints = constraints_of(alloc, names, LEVELS, Measure::Size, &meaning)?;
+    let mut constraints = constraints_of(alloc, names, LEVELS, Measure::Size, &meaning)?;
+    let widest = loose_effective_range(&constraints);
+    apply_serially(&mut constraints);
     let Some(range) = effective_range(alloc, &constraints)? else {
         return Err(Error {
             place: type_place(of),
             why: Why::Empty,
         });
     };
-    match loose_effective_range(&constraints) {
-        Some(loose) if !is_followed(&constraints) && same_sizes(range, loose) => Ok(range),
+    match widest {
+        Some(widest) if same_sizes(range, widest) => Ok(range),
         _ => Err(Error {
             place: type_place(of),
             why: Why::Differs,

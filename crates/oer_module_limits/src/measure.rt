@@ -1,8 +1,6 @@
 //! What the numbers of a set are.
 ghost use Rattle.std.specs.Prelude.{◌≡◌, ◌<◌, ℕ, IfOk};
 ghost use Rattle.oer_module_lexer.specs.Token.{spots_of};
-ghost use Rattle.oer_module_syntax.specs.Tree.{tree_of};
-ghost use Rattle.oer_module_values.specs.Looks.{place_of};
 ghost use Rattle.oer_module_values.specs.Views.{type_in};
 ghost use Rattle.oer_module_limits.specs.Errors.{seen};
 ghost use Rattle.oer_module_limits.specs.Sets.{has_size, measure_of, own};
@@ -12,7 +10,7 @@ use crate::error::{Error, Why};
 use oer_module_lexer::Spot;
 use oer_module_names::Place;
 use oer_module_syntax::{Builtin, TypeSyntax};
-use oer_module_values::TypeIn;
+use oer_module_values::{TypeIn, place_of};
 
 /// What the numbers of a set are.
 #[derive(Clone, Copy)]
@@ -47,23 +45,6 @@ fn has_size(builtin: Builtin) -> bool
             | Builtin::VisibleString
             | Builtin::ObjectDescriptor
     )
-}
-
-/// The byte at which a type begins.
-#[tactic(auto, using(oer_module_syntax::proofs::Trees::trees))]
-pub fn place_of(syntax: &TypeSyntax<'_, '_>) -> usize
-    ensures { result ≡ place_of (tree_of syntax.now) }
-{
-    match syntax {
-        TypeSyntax::Plain { at, .. }
-        | TypeSyntax::Named { at, .. }
-        | TypeSyntax::Tagged { at, .. }
-        | TypeSyntax::Structure { at, .. }
-        | TypeSyntax::ListOf { at, .. }
-        | TypeSyntax::Selection { at, .. }
-        | TypeSyntax::InstanceOf { at, .. }
-        | TypeSyntax::AnyDefinedBy { at, .. } => *at,
-    }
 }
 
 /// What is measured where a reference to a type stands.

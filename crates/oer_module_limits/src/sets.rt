@@ -8,7 +8,7 @@ ghost use Rattle.oer_module_names.specs.Views.{modules_in};
 ghost use Rattle.oer_module_terms.specs.Trees.{constraint_of, elements_of, simple_of, value_of};
 ghost use Rattle.oer_module_values.specs.Views.{given_of, meaning_of, type_in};
 ghost use Rattle.oer_module_limits.specs.Errors.{Gives};
-ghost use Rattle.oer_module_limits.specs.Sets.{constraint, constraints, each, given_row, given_rows, own_rows, row, rows, set_at, set_by, simple_by, single_by, sized_by, size_of, unseen_by};
+ghost use Rattle.oer_module_limits.specs.Sets.{constraint, constraints, each, given_row, given_rows, own_rows, row, rows, set_at, set_by, simple_by, single_by, sized_by, unseen_by};
 ghost use Rattle.oer_module_limits.specs.Views.{IsGivenWithin, IsMeasureWithin, IsWithin, measure_seen};
 
 use crate::ends::{ranged, single};
@@ -35,16 +35,6 @@ fn unseen<'t>(measure: Measure<'_, '_, '_>, place: Place) -> Result<Set, Error<'
         }),
         Measure::Size => Ok(Set::Unknown),
     }
-}
-
-/// What a constraint behind SIZE allows.
-fn size_of(constraint: Constraint) -> Set
-    ensures { set_of result ≡ size_of (bounding_of constraint) }
-{
-    if constraint.extensible {
-        return Set::Unknown;
-    }
-    constraint.root
 }
 
 /// The set of elements in a constraint at a place. So many levels of sets and contained types may nest.
@@ -146,7 +136,7 @@ fn sets_of<'m, 's, 't>(
     Ok(sets)
 }
 
-/// SIZE and a constraint, at a place.
+/// SIZE and a constraint, at a place. An extension marker there is that of the constraint in which SIZE stands.
 #[cycle(sets)]
 fn sized<'m, 's, 't>(
     alloc: Global,
@@ -173,7 +163,7 @@ fn sized<'m, 's, 't>(
         place.module,
         size,
     )?;
-    Ok(size_of(constraint))
+    Ok(constraint.root)
 }
 
 /// A constraint in a module. Where it is general it bounds nothing.

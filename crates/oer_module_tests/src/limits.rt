@@ -32,7 +32,11 @@ const TEXT: &str =
     T8 ::= UTF8String T9 ::= SEQUENCE OF Uint8 T10 ::= Uint8 T11 ::= OCTET STRING (SIZE(1 | 3..small))\n\
     T12 ::= IA5String (SIZE(1..4), ...) (SIZE(4..MAX)) T13 ::= IA5String (FROM(\"a\"), ...) (SIZE(4))\n\
     T14 ::= IA5String (SIZE(1..4, ...)) (SIZE(4..MAX)) T15 ::= IA5String (FROM(\"a\", ...)) (SIZE(4))\n\
-    T16 ::= IA5String (SIZE(1..4, ...) ^ SIZE(2)) END\n\
+    T16 ::= IA5String (SIZE(1..4, ...) ^ SIZE(2)) A18 ::= INTEGER (0..255) (0..10, ...) (0..20)\n\
+    A19 ::= INTEGER (0..400 EXCEPT 301..400, ...) (0..500) X20 ::= INTEGER (0..10, ...) (0..70000) X21 ::= A11 (0..9, ...)\n\
+    X22 ::= A11 (20..30) X23 ::= INTEGER (0..300 EXCEPT 256..300, ...) (0..300) T17 ::= IA5String (SIZE(1..4), ...) (SIZE(2..8))\n\
+    T18 ::= IA5String (SIZE(1..4, ...)) (SIZE(2..8)) T19 ::= OCTET STRING (SIZE(4), ...) (CONSTRAINED BY {})\n\
+    T20 ::= IA5String (SIZE(4)) (FROM(\"a\"), ...) T21 ::= IA5String (SIZE(4, ...)) (SIZE(4, ...)) END\n\
     B DEFINITIONS ::= BEGIN max INTEGER ::= 255 small INTEGER ::= 10 Uint8 ::= INTEGER (0..max) Uint16 ::= INTEGER (0..65535)\n\
     Temperature ::= INTEGER {freezing(0), boiling(100)} (-50..150) Bytes ::= OCTET STRING (SIZE(1..small))\n\
     Id ::= OCTET STRING (SIZE(4)) END\n";
@@ -158,9 +162,11 @@ const NUMBERS: &[(&str, &str)] = &[
     ("A12", "0..255"),
     ("A13", "-1..*"),
     ("A14", "*..255"),
-    ("A15", "Differs 0:476"),
+    ("A15", "0..5"),
     ("A16", "10..255"),
     ("A17", "0..20"),
+    ("A18", "0..10"),
+    ("A19", "0..300"),
     ("X1", "Differs 0:559"),
     ("X2", "0..9"),
     ("X3", "Empty 0:634"),
@@ -180,6 +186,10 @@ const NUMBERS: &[(&str, &str)] = &[
     ("X17", "*..*"),
     ("X18", "Differs 0:1125"),
     ("X19", "Empty 0:1164"),
+    ("X20", "Differs 0:2054"),
+    ("X21", "Differs 0:2094"),
+    ("X22", "Empty 0:2118"),
+    ("X23", "Differs 0:2139"),
 ];
 
 /// The range of the sizes of each type, or why there is none.
@@ -198,13 +208,18 @@ const SIZES: &[(&str, &str)] = &[
     ("T7", "Differs 0:1573"),
     ("T8", "*..*"),
     ("T9", "*..*"),
-    ("T10", "Inapplicable 1:2024"),
+    ("T10", "Inapplicable 1:2512"),
     ("T11", "1..10"),
     ("T12", "Differs 0:1715"),
-    ("T13", "Differs 0:1766"),
+    ("T13", "4..4"),
     ("T14", "Differs 0:1811"),
     ("T15", "4..4"),
     ("T16", "Differs 0:1917"),
+    ("T17", "2..4"),
+    ("T18", "2..4"),
+    ("T19", "Differs 0:2292"),
+    ("T20", "4..4"),
+    ("T21", "Differs 0:2393"),
 ];
 
 #[test]

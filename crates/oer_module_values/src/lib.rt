@@ -10,6 +10,8 @@ mod look;
 mod numbers;
 mod types;
 
-pub use error::{Error, Why};
+pub use error::{Error, Why, unread};
+pub use kept::over_kept;
+pub use look::{Path, path_of, place_of};
 pub use numbers::{given_numbers, integer, number};
-pub use types::{Given, Meaning, TypeIn, resolve};
+pub use types::{Given, MOST_STEPS, Meaning, Referent, TypeIn, follow, referred, resolve};

@@ -69,6 +69,9 @@ fn referent_at<'m, 's, 't>(names: &Names<'m, 's, 't>, found: Found) -> Referent<
 }
 
 /// The assignment that a name in a module and the path behind it name; none where that is a field (X.680, 14.1).
+///
+/// # Errors
+/// Unnamed, at the place, if the name stands for no assignment.
 pub fn referred<'m, 's, 't>(
     names: &Names<'m, 's, 't>,
     place: Place,
@@ -130,9 +133,13 @@ fn entered<'m, 's, 't>(
     }
 }
 
-/// On to the type that a name stands for; none where that is a field.
+/// On to the type that a name stands for; none where that is a field. What is given at the name is added to what was given
+/// before, with the values where the name is that of a set (X.680, 16.2).
+///
+/// # Errors
+/// Unnamed; Unsettled, if the assignment has parameters; NotAType; or Unread, with Memory.
 #[tactic(auto, unfolding(crate::specs::Types::follow))]
-fn follow<'m, 's, 't>(
+pub fn follow<'m, 's, 't>(
     names: &Names<'m, 's, 't>,
     place: Place,
     name: &'t str,
