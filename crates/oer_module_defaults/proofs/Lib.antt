@@ -1,0 +1,4 @@
+pub mod Loops
+pub mod Members
+pub mod Shorts
+pub mod Turns

@@ -1,0 +1,9 @@
+pub mod Arcs
+pub mod Atoms
+pub mod Bits
+pub mod Defaults
+pub mod Governors
+pub mod Items
+pub mod Values
+pub mod Views
+pub mod Walks

@@ -1,0 +1,242 @@
+//! Values of BIT STRING by the names of their bits.
+ghost use Rattle.std.specs.Prelude.{◌≡◌, ◌<◌, OnOk, length, map, option_map};
+ghost use Rattle.oer_module_bounds.specs.Sets.{span_of};
+ghost use Rattle.oer_module_names.specs.Views.{modules_in};
+ghost use Rattle.oer_module_terms.specs.Trees.{item_of, members_from, member_of, parts_from, value_of};
+ghost use Rattle.oer_module_text.specs.Errors.{Gives, seen};
+ghost use Rattle.oer_module_text.specs.Room.{put, room_of};
+ghost use Rattle.oer_module_values.specs.Views.{type_in};
+ghost use Rattle.oer_module_defaults.specs.Bits.{bit_at, bit_named, bit_name, bit_numbers, bits_from, fixed_size, named_bits, numbered_bit, own_name, short, these_bits};
+ghost use Rattle.oer_module_defaults.specs.Governors.{governor_of};
+ghost use Rattle.oer_module_defaults.specs.Views.{name_seen};
+
+use crate::atoms::{no_text, none_such};
+use crate::governor::Governor;
+use crate::items::{bits_of, item_named};
+use crate::step::{Name, name_in};
+use oer_module_bounds::Range;
+use oer_module_limits::size_limits;
+use oer_module_names::{Names, Place};
+use oer_module_terms::{Item, Member, Value};
+use oer_module_text::{Error, Part, Room, Why};
+use oer_module_values::{Path, TypeIn, integer};
+use std::alloc::{AllocError, Global};
+
+/// How many bits a value that names its bits may have.
+const MOST_BITS: u16 = 4096;
+
+/// The number, if it has 16 bits and no sign.
+fn short(number: i128) -> Option<u16>
+    ensures { result ≡ short number }
+{
+    match u16::try_from(number) {
+        Ok(number) => Some(number),
+        Err(_) => None,
+    }
+}
+
+/// How many bits each value has, if all have as many.
+fn fixed_size<'t>(place: Place, sizes: Range) -> Result<u16, Error<'t>>
+    ensures { seen (λ n. n) result ≡ fixed_size place (span_of sizes) }
+{
+    let (Some(low), Some(high)) = (sizes.low(), sizes.high()) else {
+        return Err(Error {
+            place,
+            why: Why::NotTaken(Part::NamedBits),
+        });
+    };
+    if low != high {
+        return Err(Error {
+            place,
+            why: Why::NotTaken(Part::NamedBits),
+        });
+    }
+    match short(high) {
+        Some(size) if size <= MOST_BITS => Ok(size),
+        _ => Err(Error {
+            place,
+            why: Why::TooLong,
+        }),
+    }
+}
+
+/// The name, if nothing stands behind it.
+fn own_name(name: Option<Name<'_>>) -> Option<&str>
+    ensures { option_map (λ w. w.now) result ≡ own_name (option_map name_seen name.entry) }
+{
+    match name {
+        Some(
+            Name {
+                name,
+                path: Path::Own,
+            },
+        ) => Some(name),
+        _ => None,
+    }
+}
+
+/// The name that is the only part.
+fn only_name<'t>(parts: &[Value<'_, 't>]) -> Option<&'t str>
+    ensures { option_map (λ w. w.now) result ≡ bit_name (parts_from (map value_of parts.now)) }
+{
+    match parts {
+        [] => None,
+        [part] => own_name(name_in(part)),
+        _ => None,
+    }
+}
+
+/// The name that a member of braces is, and nothing else.
+#[tactic(auto, using(crate::proofs::Members::levels))]
+fn bit_name<'t>(member: &Member<'_, 't>) -> Option<&'t str>
+    ensures { option_map (λ w. w.now) result ≡ bit_name (member_of member.now) }
+{
+    only_name(&member.parts)
+}
+
+/// The number of a bit, in a value of so many.
+fn numbered_bit<'m, 's, 't>(
+    alloc: Global,
+    names: &Names<'m, 's, 't>,
+    place: Place,
+    module: usize,
+    size: u16,
+    item: Item<'s, 't>,
+) -> Result<u16, Error<'t>>
+    requires { «module» < length (modules_in names.now) }
+    ensures { Gives (λ n. n) result (numbered_bit (modules_in names.now) place «module» size (item_of item.entry)) }
+{
+    let at = Place {
+        module,
+        at: item.at,
+    };
+    let Some(amount) = item.number else {
+        return Err(Error {
+            place: at,
+            why: Why::Unresolved(oer_module_values::Why::Unnumbered),
+        });
+    };
+    let number = integer(alloc, names, at, amount)?;
+    match short(number) {
+        Some(bit) if bit < size => Ok(bit),
+        _ => Err(none_such(place)),
+    }
+}
+
+/// The number of the bit that a member names.
+#[tactic(auto, unfolding(crate::specs::Bits::bit_named))]
+fn bit_named<'m, 's, 't>(
+    alloc: Global,
+    names: &Names<'m, 's, 't>,
+    place: Place,
+    module: usize,
+    size: u16,
+    items: &[Item<'s, 't>],
+    member: &Member<'s, 't>,
+) -> Result<u16, Error<'t>>
+    requires { «module» < length (modules_in names.now) }
+    ensures { Gives (λ n. n) result (bit_named (modules_in names.now) place «module» size (map item_of items.now) (member_of member.now)) }
+{
+    let Some(name) = bit_name(member) else {
+        return Err(none_such(place));
+    };
+    let Some(item) = item_named(items, name) else {
+        return Err(none_such(place));
+    };
+    numbered_bit(alloc, names, place, module, size, item)
+}
+
+/// The numbers of the bits that members name.
+fn bit_numbers<'m, 's, 't>(
+    alloc: Global,
+    names: &Names<'m, 's, 't>,
+    place: Place,
+    module: usize,
+    size: u16,
+    items: &[Item<'s, 't>],
+    members: &[Member<'s, 't>],
+) -> Result<Vec<u16>, Error<'t>>
+    requires { «module» < length (modules_in names.now) }
+    ensures { Gives (λ v. v.items) result (bit_numbers (modules_in names.now) place «module» size (map item_of items.now) (members_from (map member_of members.now))) }
+{
+    let mut numbers = Vec::new(alloc);
+    for member in members {
+        let number = bit_named(alloc, names, place, module, size, items, member)?;
+        numbers.push(number)?;
+    }
+    Ok(numbers)
+}
+
+/// The bit at this number: 1 if it is among these.
+fn bit_at(numbers: &[u16], bit: u16) -> &'static str
+    ensures { result.now ≡ bit_at numbers.now bit }
+{
+    if numbers.contains(&bit) {
+        return "1";
+    }
+    "0"
+}
+
+/// Writes so many bits: 1 at these numbers, and 0 at all others.
+fn write_bits(numbers: &[u16], size: u16, room: &mut Room) -> Result<(), AllocError>
+    ensures { OnOk result (room_of room.new ≡ put (bits_from numbers.now 0 size) (room_of room.old)) }
+{
+    for bit in 0..size {
+        room.put(bit_at(numbers, bit))?;
+    }
+    Ok(())
+}
+
+/// Writes so many bits: 1 where members name them.
+fn write_these<'m, 's, 't>(
+    alloc: Global,
+    names: &Names<'m, 's, 't>,
+    place: Place,
+    module: usize,
+    size: u16,
+    items: &[Item<'s, 't>],
+    members: &[Member<'s, 't>],
+    room: &mut Room,
+) -> Result<(), Error<'t>>
+    requires { «module» < length (modules_in names.now) }
+    ensures { Gives (λ _. room_of room.new) result (these_bits (modules_in names.now) place «module» size (map item_of items.now) (members_from (map member_of members.now)) (room_of room.old)) }
+{
+    let numbers = bit_numbers(alloc, names, place, module, size, items, members)?;
+    room.put("'")?;
+    write_bits(&numbers, size, room)?;
+    room.put("'B")?;
+    Ok(())
+}
+
+/// Writes the value in which the bits that members name are 1, where the type has one size (X.680, 22).
+#[tactic(auto, unfolding(crate::specs::Bits::named_bits))]
+pub fn write_named_bits<'m, 's, 't>(
+    alloc: Global,
+    names: &Names<'m, 's, 't>,
+    of: TypeIn<'m, 's, 't>,
+    place: Place,
+    governor: Governor<'s, 't>,
+    members: &[Member<'s, 't>],
+    room: &mut Room,
+) -> Result<(), Error<'t>>
+    requires of { of.«module» < length (modules_in names.now) }
+    requires governor { governor.«module» < length (modules_in names.now) }
+    ensures { Gives (λ _. room_of room.new) result (named_bits (modules_in names.now) (type_in of.entry) place (governor_of governor.entry) (members_from (map member_of members.now)) (room_of room.old)) }
+{
+    if governor.items.is_empty() {
+        return Err(no_text(place));
+    }
+    let items = bits_of(alloc, governor)?;
+    let sizes = size_limits(alloc, names, of)?;
+    let size = fixed_size(place, sizes)?;
+    write_these(
+        alloc,
+        names,
+        place,
+        governor.module,
+        size,
+        &items,
+        members,
+        room,
+    )
+}

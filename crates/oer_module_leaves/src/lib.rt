@@ -1,0 +1,10 @@
+//! Types of modules that hold no other, written in our notation (docs/NOTATION.md, "Printing").
+#![tactic(auto)]
+
+mod leaf;
+mod numbered;
+mod text;
+
+pub use leaf::{is_implied, sizes_of, write_leaf};
+pub use numbered::{Numbered, NumberedItem, enumeration_numbers, numbered_items};
+pub use text::{Sizes, put_range, put_size};

@@ -1,0 +1,186 @@
+//! The text of ranges, sizes and items.
+ghost use Rattle.std.specs.Prelude.{◌≡◌, IfOk, OnOk, map, string_bytes};
+ghost use Rattle.oer_module_bounds.specs.Sets.{span_of};
+ghost use Rattle.oer_module_names.specs.Views.{modules_in};
+ghost use Rattle.oer_module_text.specs.Errors.{Gives};
+ghost use Rattle.oer_module_text.specs.Room.{put, room_of};
+ghost use Rattle.oer_module_leaves.specs.Numbered.{item_of, numbered_of};
+ghost use Rattle.oer_module_leaves.specs.Texts.{before, closing, fixed, is_at, item_text, items_at, items_from, low_end, put_range, put_size, range_text, size_text, sizes_of, sizes_within};
+
+use crate::numbered::{Numbered, NumberedItem};
+use oer_module_bounds::Range;
+use oer_module_names::Place;
+use oer_module_text::{Error, Room};
+use std::alloc::{AllocError, Global};
+
+/// The sizes that a type allows, in octets, bits or characters: from `low`, which isn't below 0, to `high`, both included. An absent
+/// upper end is no bound.
+#[derive(Clone, Copy, Debug, PartialEq, Eq)]
+pub struct Sizes {
+    pub low: i128,
+    pub high: Option<i128>,
+}
+
+/// A lower end of sizes; no size is below 0.
+fn low_end(low: Option<i128>) -> i128
+    ensures { result ≡ low_end low }
+{
+    match low {
+        Some(low) if low > 0 => low,
+        _ => 0,
+    }
+}
+
+impl Sizes {
+    /// Those of a range of whole numbers. No size is below 0, whatever the range says.
+    pub fn within(range: Range) -> Sizes
+        ensures { sizes_of result ≡ sizes_within (span_of range) }
+    {
+        Sizes {
+            low: low_end(range.low()),
+            high: range.high(),
+        }
+    }
+
+    /// The one size that is allowed, if there is one alone (X.696, 13 and 14).
+    pub fn fixed(&self) -> Option<i128>
+        ensures { result ≡ fixed (sizes_of self.now) }
+    {
+        match self.high {
+            Some(high) if self.low == high => Some(high),
+            _ => None,
+        }
+    }
+}
+
+/// A range in parentheses, or nothing where it has no end.
+fn range_text(alloc: Global, low: Option<i128>, high: Option<i128>) -> Result<String, AllocError>
+    ensures { IfOk result (λ s. string_bytes s ≡ range_text low high) }
+{
+    match (low, high) {
+        (None, None) => Ok(String::new(alloc)),
+        (None, Some(high)) => format!(in alloc; " (MIN..{high})"),
+        (Some(low), None) => format!(in alloc; " ({low}..MAX)"),
+        (Some(low), Some(high)) => {
+            if low == high {
+                return format!(in alloc; " ({low})");
+            }
+            format!(in alloc; " ({low}..{high})")
+        }
+    }
+}
+
+/// Adds the range of an INTEGER in parentheses, or nothing where it has no end.
+pub fn put_range(alloc: Global, range: Range, room: &mut Room) -> Result<(), AllocError>
+    ensures { OnOk result (room_of room.new ≡ put_range (span_of range) (room_of room.old)) }
+{
+    let text = range_text(alloc, range.low(), range.high())?;
+    room.put(text.as_str())
+}
+
+/// Sizes in parentheses, or nothing where every size is allowed.
+fn size_text(alloc: Global, low: i128, high: Option<i128>) -> Result<String, AllocError>
+    ensures { IfOk result (λ s. string_bytes s ≡ size_text low high) }
+{
+    match high {
+        None => {
+            if low == 0 {
+                return Ok(String::new(alloc));
+            }
+            format!(in alloc; " (SIZE({low}..MAX))")
+        }
+        Some(high) => {
+            if low == high {
+                return format!(in alloc; " (SIZE({low}))");
+            }
+            format!(in alloc; " (SIZE({low}..{high}))")
+        }
+    }
+}
+
+/// Adds sizes in parentheses, or nothing where every size is allowed.
+pub fn put_size(alloc: Global, sizes: Sizes, room: &mut Room) -> Result<(), AllocError>
+    ensures { OnOk result (room_of room.new ≡ put_size (sizes_of sizes) (room_of room.old)) }
+{
+    let text = size_text(alloc, sizes.low, sizes.high)?;
+    room.put(text.as_str())
+}
+
+/// Whether the marker stands before the item of this index.
+fn is_at(marker: Option<usize>, index: usize) -> bool
+    ensures { result ≡ is_at marker index }
+{
+    match marker {
+        Some(at) => at == index,
+        None => false,
+    }
+}
+
+/// What stands before the item of this index.
+fn before(marker: Option<usize>, index: usize) -> &'static str
+    ensures { result.now ≡ before marker index }
+{
+    if index == 0 {
+        return "";
+    }
+    if is_at(marker, index) {
+        return ", ..., ";
+    }
+    ", "
+}
+
+/// What stands behind so many items.
+fn closing(marker: Option<usize>, count: usize) -> &'static str
+    ensures { result.now ≡ closing marker count }
+{
+    if is_at(marker, count) {
+        return ", ...}";
+    }
+    "}"
+}
+
+/// An item with its number.
+fn item_text(alloc: Global, item: &NumberedItem<'_>) -> Result<String, AllocError>
+    ensures { IfOk result (λ s. string_bytes s ≡ item_text (item_of item.now)) }
+{
+    let name = item.name;
+    let number = item.number;
+    format!(in alloc; "{name}({number})")
+}
+
+/// Adds items; each takes the room of one part, at its place in the module.
+fn put_items<'t>(
+    alloc: Global,
+    module: usize,
+    marker: Option<usize>,
+    items: &[NumberedItem<'t>],
+    room: &mut Room,
+) -> Result<(), Error<'t>>
+    ensures { Gives (λ _. room_of room.new) result (items_from «module» marker 0 (map item_of items.now) (room_of room.old)) }
+{
+    for (index, item) in items.iter().enumerate() {
+        room.take_part(Place {
+            module,
+            at: item.at,
+        })?;
+        room.put(before(marker, index))?;
+        let text = item_text(alloc, item)?;
+        room.put(text.as_str())?;
+    }
+    Ok(())
+}
+
+/// Adds all items and the marker, and the closing brace.
+#[tactic(auto, unfolding(crate::specs::Texts::items_at))]
+pub fn put_numbered<'t>(
+    alloc: Global,
+    module: usize,
+    numbered: &Numbered<'t>,
+    room: &mut Room,
+) -> Result<(), Error<'t>>
+    ensures { Gives (λ _. room_of room.new) result (items_at «module» (numbered_of numbered.now) (room_of room.old)) }
+{
+    put_items(alloc, module, numbered.marker, &numbered.items, room)?;
+    room.put(closing(numbered.marker, numbered.items.len()))?;
+    Ok(())
+}

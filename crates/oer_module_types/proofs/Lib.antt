@@ -1,0 +1,2 @@
+pub mod ClassFields
+pub mod Settled

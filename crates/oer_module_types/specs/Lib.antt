@@ -1,0 +1,4 @@
+pub mod Fields
+pub mod Levels
+pub mod Types
+pub mod Views

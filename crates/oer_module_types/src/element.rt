@@ -1,0 +1,177 @@
+//! What stands between the commas of a SEQUENCE or CHOICE, without the types.
+ghost use Rattle.std.specs.Prelude.{◌≡◌, ◌<◌, OnOk, length, slice_get};
+ghost use Rattle.oer_module_names.specs.Views.{modules_in};
+ghost use Rattle.oer_module_syntax.specs.Tree.{need_of, tree_of};
+ghost use Rattle.oer_module_text.specs.Errors.{Gives};
+ghost use Rattle.oer_module_text.specs.Room.{room_of};
+ghost use Rattle.oer_module_values.specs.Views.{type_in};
+ghost use Rattle.oer_module_types.specs.Types.{added_at, closed, first, index_of, marker_at, name_at, need_at, needed_at, put_comma, tag_if};
+
+use oer_module_defaults::write_default;
+use oer_module_leaves::is_implied;
+use oer_module_names::{Names, Place};
+use oer_module_syntax::Need;
+use oer_module_tags::write_tag;
+use oer_module_text::{Error, Part, Room, refused};
+use oer_module_values::TypeIn;
+use oer_units::Tag;
+use std::alloc::{AllocError, Global};
+
+/// How many elements stand before one, and whether the marker is among them.
+#[derive(Clone, Copy)]
+pub struct Before {
+    pub elements: usize,
+    pub marked: bool,
+}
+
+impl Before {
+    /// Before the first element.
+    pub fn first() -> Before
+        ensures { result ≡ first }
+    {
+        Before {
+            elements: 0,
+            marked: false,
+        }
+    }
+
+    /// Which of the components one is: all that stand before it are such but the marker.
+    fn index(self) -> usize
+        ensures { result ≡ index_of self }
+    {
+        if self.marked {
+            return self.elements.saturating_sub(1);
+        }
+        self.elements
+    }
+}
+
+fn put_comma(before: Before, room: &mut Room) -> Result<(), AllocError>
+    ensures { OnOk result (room_of room.new ≡ put_comma before (room_of room.old)) }
+{
+    if before.elements == 0 {
+        return Ok(());
+    }
+    room.put(", ")
+}
+
+/// The tag of an alternative, if there is one at the index.
+fn put_tag(alloc: Global, tags: &[Tag], index: usize, room: &mut Room) -> Result<(), AllocError>
+    ensures { OnOk result (room_of room.new ≡ tag_if (slice_get tags.now index) (room_of room.old)) }
+{
+    match tags.get(index) {
+        Some(tag) => {
+            write_tag(alloc, room, *tag)?;
+            room.put(" ")
+        }
+        None => Ok(()),
+    }
+}
+
+/// The name of a component or an alternative, behind others, and its tag, if there are tags.
+#[tactic(auto, unfolding(crate::specs::Types::name_at))]
+pub fn write_name(
+    alloc: Global,
+    tags: &[Tag],
+    before: Before,
+    name: &str,
+    room: &mut Room,
+) -> Result<(), AllocError>
+    ensures { OnOk result (room_of room.new ≡ name_at tags.now before name.now (room_of room.old)) }
+{
+    put_comma(before, room)?;
+    room.put(name)?;
+    room.put(" ")?;
+    put_tag(alloc, tags, before.index(), room)
+}
+
+/// The marker, behind others.
+///
+/// # Errors
+/// NotTaken, if there is one before; or Unresolved, with Memory.
+pub fn write_marker<'t>(place: Place, before: Before, room: &mut Room) -> Result<(), Error<'t>>
+    ensures { Gives (λ _. room_of room.new) result (marker_at place.«module» place.at before (room_of room.old)) }
+{
+    if before.marked {
+        return Err(refused(place.module, place.at, Part::SecondMarker));
+    }
+    put_comma(before, room)?;
+    room.put("...")?;
+    Ok(())
+}
+
+/// What makes an addition optional: nothing, since each may be absent.
+fn check_added<'t>(place: Place, need: Need<'_, 't>, room: &mut Room) -> Result<(), Error<'t>>
+    ensures { Gives (λ _. room_of room.new) result (added_at place.«module» place.at (need_of need.entry) (room_of room.old)) }
+{
+    match need {
+        Need::Default(_) => Err(refused(place.module, place.at, Part::AddedDefault)),
+        _ => Ok(()),
+    }
+}
+
+/// What makes a component of the root optional.
+fn write_root_need<'m, 's, 't>(
+    alloc: Global,
+    names: &Names<'m, 's, 't>,
+    of: TypeIn<'m, 's, 't>,
+    need: Need<'s, 't>,
+    room: &mut Room,
+) -> Result<(), Error<'t>>
+    requires { of.«module» < length (modules_in names.now) }
+    ensures { Gives (λ _. room_of room.new) result (needed_at (modules_in names.now) of.entry.«module» (tree_of of.entry.syntax.now) (need_of need.entry) (room_of room.old)) }
+{
+    match need {
+        Need::Must => Ok(()),
+        Need::May => {
+            room.put(" OPTIONAL")?;
+            Ok(())
+        }
+        Need::Default(value) => {
+            room.put(" DEFAULT ")?;
+            write_default(alloc, names, of, of.module, value, room)
+        }
+    }
+}
+
+/// What makes a component at a place optional, behind its type.
+#[tactic(auto, unfolding(crate::specs::Types::need_at))]
+pub fn write_need<'m, 's, 't>(
+    alloc: Global,
+    names: &Names<'m, 's, 't>,
+    added: bool,
+    at: usize,
+    of: TypeIn<'m, 's, 't>,
+    need: Need<'s, 't>,
+    room: &mut Room,
+) -> Result<(), Error<'t>>
+    requires { of.«module» < length (modules_in names.now) }
+    ensures { Gives (λ _. room_of room.new) result (need_at (modules_in names.now) added of.entry.«module» at (tree_of of.entry.syntax.now) (need_of need.entry) (room_of room.old)) }
+{
+    if added {
+        let module = of.module;
+        return check_added(Place { module, at }, need, room);
+    }
+    write_root_need(alloc, names, of, need, room)
+}
+
+/// The closing brace of a type at a place, which has a marker or not.
+///
+/// # Errors
+/// NotTaken, if it has none and the module's header gives it one; or Unresolved, with Memory.
+#[tactic(auto, unfolding(crate::specs::Types::closed))]
+pub fn close<'t>(
+    names: &Names<'_, '_, 't>,
+    place: Place,
+    marked: bool,
+    room: &mut Room,
+) -> Result<(), Error<'t>>
+    requires { place.«module» < length (modules_in names.now) }
+    ensures { Gives (λ _. room_of room.new) result (closed (modules_in names.now) place marked (room_of room.old)) }
+{
+    if !marked && is_implied(names, place.module) {
+        return Err(refused(place.module, place.at, Part::Implied));
+    }
+    room.put("}")?;
+    Ok(())
+}
