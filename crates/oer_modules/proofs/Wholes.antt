@@ -1,0 +1,47 @@
+-- What is made of the modules of texts.
+use Rattle.std.proofs.Common.{◌≡◌, ℕ, List, [], ◌∷◌, ◌++◌, map, Result, Ok, Err, refl, sym, ap, ◌∙◌}
+use denote.Ref.{Bor}
+use Rattle.oer_module_lexer.specs.Lexing.{lex}
+use Rattle.oer_module_lexer.specs.declared.lexing.Tokens.{Tokens}
+use Rattle.oer_modules.proofs.Walks.{lexed_texts}
+use Rattle.oer_modules.specs.Causes.{Cause}
+use Rattle.oer_modules.specs.Modules.{ComesFirst, definitions_of_modules, lines, named_text, of_texts, or_misread, or_refused, type_of_modules}
+use Rattle.oer_modules.specs.Places.{lexed_of}
+use Rattle.oer_modules.specs.Refusals.{Refusal, unreadable}
+use Rattle.oer_modules.specs.Texts.{Library, no_modules, read_each}
+use Rattle.oer_modules.specs.declared.texts.Misread.{Misread}
+
+-- the texts that references point at
+abbrev pub texts_of : List (Bor (List ℕ)) → List (List ℕ)
+texts_of ts = map (λ t. t.now) ts
+
+lexed_same : (ts : List (Bor (List ℕ))) → lexed_texts ts ≡ map lex (texts_of ts)
+lexed_same [] = refl
+lexed_same (t ∷ ts) = ap (λ ls. lex t.now ∷ ls) (lexed_same ts)
+
+module _ (ks : List Tokens) (ts : List (Bor (List ℕ))) (same : map lexed_of ks ≡ lexed_texts ts) where
+  of_read : {A : Type 0} (f : Library → Result A Refusal) (r : Result Library Misread) → read_each 0 (map lexed_of ks) no_modules ≡ r → of_texts (texts_of ts) f ≡ or_misread (texts_of ts) f r
+  of_read f r h = ap (or_misread (texts_of ts) f) (ap (λ ls. read_each 0 ls no_modules) (sym (lexed_same ts) ∙ sym same) ∙ h)
+
+  pub type_misread : (w : List ℕ) (n : ℕ) (e : Misread) → read_each 0 (map lexed_of ks) no_modules ≡ Err e → type_of_modules (texts_of ts) w n ≡ Err (unreadable (texts_of ts) e)
+  unfolding type_of_modules
+  type_misread w n e h = of_read (λ l. or_refused (texts_of ts) l (named_text l.modules w n)) (Err e) h
+
+  pub type_answer : (w : List ℕ) (n : ℕ) (l : Library) (r : Result (List ℕ) Cause) → read_each 0 (map lexed_of ks) no_modules ≡ Ok l → named_text l.modules w n ≡ r
+      → type_of_modules (texts_of ts) w n ≡ or_refused (texts_of ts) l r
+  unfolding type_of_modules
+  type_answer w n l r h g = of_read (λ l. or_refused (texts_of ts) l (named_text l.modules w n)) (Ok l) h ∙ ap (or_refused (texts_of ts) l) g
+
+  pub listed_misread : (n : ℕ) (e : Misread) → read_each 0 (map lexed_of ks) no_modules ≡ Err e → definitions_of_modules (texts_of ts) n ≡ Err (unreadable (texts_of ts) e)
+  unfolding definitions_of_modules
+  listed_misread n e h = of_read (λ l. Ok (lines l.modules n l.modules)) (Err e) h
+
+  pub listed : (n : ℕ) (l : Library) (s taken refused : List ℕ) → read_each 0 (map lexed_of ks) no_modules ≡ Ok l → taken ≡ [] ++ lines l.modules n l.modules → s ≡ taken ++ refused
+      → ComesFirst s (definitions_of_modules (texts_of ts) n)
+  unfolding definitions_of_modules
+  listed n l s taken refused h is e = record {
+    lines = lines l.modules n l.modules;
+    rest = refused;
+    are = of_read (λ l. Ok (lines l.modules n l.modules)) (Ok l) h;
+    whole = e ∙ ap (λ x. x ++ refused) is;
+  }

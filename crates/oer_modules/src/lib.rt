@@ -1,0 +1,16 @@
+//! From the texts of ASN.1 modules to the text of a type in our notation.
+#![tactic(auto)]
+
+mod asked;
+mod cause;
+mod listing;
+mod modules;
+mod nesting;
+mod place;
+mod refusal;
+mod texts;
+mod words;
+
+pub use modules::{definitions_of_modules, type_of_modules};
+pub use place::Point;
+pub use refusal::Refusal;

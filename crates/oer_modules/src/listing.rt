@@ -1,0 +1,157 @@
+//! All definitions of modules.
+ghost use Rattle.std.specs.Prelude.{◌≡◌, ◌++◌, [], IfOk, OnOk, map, string_bytes};
+ghost use Rattle.oer_module_lexer.specs.Lexing.{lex};
+ghost use Rattle.oer_module_names.specs.Views.{modules_in};
+ghost use Rattle.oer_module_syntax.specs.Tree.{assignment_of, body_of, module_of};
+ghost use Rattle.oer_modules.specs.Causes.{IsGiven};
+ghost use Rattle.oer_modules.specs.Modules.{is_memory, line_of, lines, lines_in, named_text, one_line};
+ghost use Rattle.oer_modules.specs.Places.{lexed_of};
+
+use crate::asked::{asked, type_at};
+use crate::cause::Cause;
+use crate::nesting::text_by;
+use crate::refusal::{Refusal, refuse};
+use crate::texts::Library;
+use oer_module_lexer::Tokens;
+use oer_module_names::Names;
+use oer_module_syntax::{Assignment, Body, Module};
+use oer_module_text::Why;
+use std::alloc::{AllocError, Global};
+
+/// The text of the type that a name has.
+#[tactic(auto, unfolding(crate::specs::Modules::named_text))]
+pub fn named_text<'n, 't>(
+    alloc: Global,
+    names: &Names<'_, '_, 't>,
+    name: &'n str,
+    nesting: u8,
+) -> Result<String, Cause<'n>>
+where
+    't: 'n,
+    ensures { IsGiven string_bytes result (named_text (modules_in names.now) name.now nesting) }
+{
+    let found = asked(names, name)?;
+    let of = type_at(names, found)?;
+    let text = text_by(alloc, names, nesting, of)?;
+    Ok(text)
+}
+
+fn is_memory(why: Why<'_>) -> bool
+    ensures { result ≡ is_memory why.entry }
+{
+    matches!(
+        why,
+        Why::Unresolved(oer_module_values::Why::Unread(oer_module_syntax::Why::Memory))
+    )
+}
+
+/// Texts, what was read of them, and how often a type that contains itself is written out.
+#[derive(Clone, Copy)]
+pub struct Sources<'a, 'b, 'c, 'd, 'm, 's, 't> {
+    pub texts: &'a [&'t str],
+    pub tokens: &'b [Tokens<'t>],
+    pub library: &'c Library<'s, 't>,
+    pub names: &'d Names<'m, 's, 't>,
+    pub nesting: u8,
+}
+
+/// The lines of the definitions that have a text, and of those that have none.
+#[derive(Drop)]
+pub struct Listing {
+    pub taken: String,
+    pub refused: String,
+}
+
+impl Listing {
+    /// No lines.
+    pub fn new(alloc: Global) -> Listing
+        ensures { string_bytes result.taken ≡ [] }
+    {
+        Listing {
+            taken: String::new(alloc),
+            refused: String::new(alloc),
+        }
+    }
+
+    /// A definition that has a text.
+    fn take(&mut self, name: &str, text: &str) -> Result<(), AllocError>
+        ensures { OnOk result (string_bytes self.new.taken ≡ string_bytes self.old.taken ++ one_line name.now text.now) }
+    {
+        self.taken.push_str(name)?;
+        self.taken.push_str(" ::= ")?;
+        self.taken.push_str(text)?;
+        self.taken.push_str("\n")
+    }
+
+    /// A definition that has none.
+    fn refuse(&mut self, alloc: Global, name: &str, refusal: Refusal<'_>) -> Result<(), AllocError>
+        ensures { string_bytes self.new.taken ≡ string_bytes self.old.taken }
+    {
+        let line = format!(in alloc; "-- {name}: {refusal}\n")?;
+        self.refused.push_str(line.as_str())
+    }
+
+    /// The line of a definition, if it is one of a type.
+    fn add<'t>(
+        &mut self,
+        alloc: Global,
+        sources: Sources<'_, '_, '_, '_, '_, '_, 't>,
+        assignment: &Assignment<'_, 't>,
+    ) -> Result<(), AllocError>
+        requires { map lexed_of sources.tokens.now ≡ map (λ t. lex t.now) sources.texts.now }
+        ensures { OnOk result (string_bytes self.new.taken ≡ string_bytes self.old.taken ++ line_of (modules_in sources.entry.names.now) sources.entry.nesting assignment.now.name.now (body_of assignment.now.body)) }
+    {
+        let Body::Type(_) = &assignment.body else {
+            return Ok(());
+        };
+        match named_text(alloc, sources.names, assignment.name, sources.nesting) {
+            Ok(text) => self.take(assignment.name, text.as_str()),
+            Err(cause) if is_memory(cause.why) => Err(AllocError),
+            Err(cause) => {
+                let refusal = refuse(sources.texts, sources.tokens, sources.library, cause);
+                self.refuse(alloc, assignment.name, refusal)
+            }
+        }
+    }
+
+    /// The lines of the definitions of a module.
+    fn add_module<'t>(
+        &mut self,
+        alloc: Global,
+        sources: Sources<'_, '_, '_, '_, '_, '_, 't>,
+        module: &Module<'_, 't>,
+    ) -> Result<(), AllocError>
+        requires { map lexed_of sources.tokens.now ≡ map (λ t. lex t.now) sources.texts.now }
+        ensures { OnOk result (string_bytes self.new.taken ≡ string_bytes self.old.taken ++ lines_in (modules_in sources.entry.names.now) sources.entry.nesting (module_of «module».now).assignments) }
+    {
+        for assignment in module.assignments.iter() {
+            self.add(alloc, sources, assignment)?;
+        }
+        Ok(())
+    }
+
+    /// The lines of the definitions of all modules.
+    pub fn add_modules<'t>(
+        &mut self,
+        alloc: Global,
+        sources: Sources<'_, '_, '_, '_, '_, '_, 't>,
+        modules: &[Module<'_, 't>],
+    ) -> Result<(), AllocError>
+        requires { map lexed_of sources.tokens.now ≡ map (λ t. lex t.now) sources.texts.now }
+        ensures { OnOk result (string_bytes self.new.taken ≡ string_bytes self.old.taken ++ lines (modules_in sources.entry.names.now) sources.entry.nesting (map module_of modules.now)) }
+    {
+        for module in modules {
+            self.add_module(alloc, sources, module)?;
+        }
+        Ok(())
+    }
+
+    /// All lines: those of the definitions that have a text come first.
+    pub fn end(self) -> Result<String, AllocError>
+        ensures { IfOk result (λ s. string_bytes s ≡ string_bytes self.taken ++ string_bytes self.refused) }
+    {
+        let Listing { mut taken, refused } = self;
+        taken.push_str(refused.as_str())?;
+        Ok(taken)
+    }
+}
