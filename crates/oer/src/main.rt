@@ -2,6 +2,9 @@
 #![tactic(auto)]
 
 use oer_cmd::{NoStart, run, stop};
+use oer_module_cmd::rewrite;
+use oer_module_options::Command;
+use oer_types_cmd::run_types;
 use std::io::{BufReader, ErrorKind};
 use std::process::ExitCode;
 
@@ -20,6 +23,27 @@ fn main(rt: HostRuntime) -> ExitCode {
     };
     let Ok(mut input) = BufReader::new(alloc, rt.reader()) else {
         return ExitCode::from(stop(NoStart::NoMemory, &mut errors));
+    };
+    let types = run_types(
+        alloc,
+        words.as_slice(),
+        &mut input,
+        &mut rt.stdout(),
+        &mut errors,
+    );
+    if let Some(status) = types {
+        return ExitCode::from(status);
+    }
+    let rewritten = rewrite(
+        alloc,
+        Command::Oer,
+        words.as_slice(),
+        &mut input,
+        &mut errors,
+    );
+    let words = match rewritten {
+        Ok(rewritten) => rewritten.unwrap_or(words),
+        Err(status) => return ExitCode::from(status),
     };
     let status = run(
         alloc,

@@ -6,6 +6,8 @@ mod pipe;
 use crate::pipe::{Errors, Output};
 use oer_cmd::{NoStart, stop};
 use oer_dump_cmd::{run, usual_width};
+use oer_module_cmd::rewrite;
+use oer_module_options::Command;
 use std::cell::Cell;
 use std::env::{self, Env};
 use std::io::{BufReader, ErrorKind, IsTerminal};
@@ -38,6 +40,17 @@ fn main(rt: HostRuntime) -> ExitCode {
     };
     let Ok(mut input) = BufReader::new(alloc, rt.reader()) else {
         return ExitCode::from(stop(NoStart::NoMemory, &mut errors));
+    };
+    let rewritten = rewrite(
+        alloc,
+        Command::Dump,
+        words.as_slice(),
+        &mut input,
+        &mut errors,
+    );
+    let words = match rewritten {
+        Ok(rewritten) => rewritten.unwrap_or(words),
+        Err(status) => return ExitCode::from(status),
     };
     let is_terminal = rt.stdout().is_terminal();
     let is_closed = Cell::new(false);

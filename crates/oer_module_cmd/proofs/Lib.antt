@@ -1,0 +1,3 @@
+mod Left
+mod Steps
+mod Texts

@@ -1,0 +1,116 @@
+//! Why the words aren't rewritten.
+ghost use Rattle.std.specs.Prelude.{◌≡◌, ◌≤◌, IfOk, string_bytes};
+ghost use Rattle.oer_module_options.specs.Errors.{error_of as option_error_of};
+ghost use Rattle.oer_module_cmd.specs.Errors.{AppendsFront, IsByRefusal, IsLineOf, Reports, error_of, status_of, text_of};
+ghost use Rattle.oer_module_cmd.specs.declared.error.Error.TheVariants as raw;
+
+use oer_module_text::Why;
+use oer_modules::Refusal;
+use oer_units::Metered;
+use std::alloc::{AllocError, Global};
+use std::fmt;
+use std::io::Write;
+
+/// Why the words aren't rewritten. It displays as what stands after `oer: ` in the line on standard error.
+#[derive(Clone, Copy)]
+pub enum Error<'a> {
+    /// The options are at fault.
+    Options(oer_module_options::Error<'a>),
+    /// Standard input isn't UTF-8.
+    NotText,
+    /// The modules give no type of the Name.
+    Modules(Refusal<'a>),
+    /// A read of standard input failed.
+    Input,
+    /// An allocation failed.
+    Memory,
+}
+
+impl Error<'_> {
+    /// The status of the program: 2 where the words are at fault, 3 where the machine fails.
+    fn status(self) -> u8
+        ensures status { result ≡ status_of (error_of self.entry) }
+        ensures least { 2 ≤ result }
+        ensures most { result ≤ 3 }
+    {
+        match self {
+            Error::Options(_) | Error::NotText | Error::Modules(_) => 2,
+            Error::Input | Error::Memory => 3,
+        }
+    }
+}
+
+impl fmt::Display for Error<'_> {
+    ghost output = { λ error. text_of (error_of error) };
+
+    fn fmt<W: fmt::Write>(&self, f: &mut fmt::Formatter<W>) -> fmt::Result {
+        match self {
+            Error::Options(error) => write!(f, "{error}"),
+            Error::NotText => f.write_str("modules: not UTF-8"),
+            Error::Modules(refusal) => write!(f, "modules: {refusal}"),
+            Error::Input => f.write_str("input failed"),
+            Error::Memory => f.write_str("out of memory"),
+        }
+    }
+}
+
+impl<'a> From<oer_module_options::Error<'a>> for Error<'a> {
+    ghost from_gives = { λ e r. r ≡ raw.Options e };
+
+    fn from(error: oer_module_options::Error<'a>) -> Error<'a> {
+        Error::Options(error)
+    }
+}
+
+impl<'a> From<Refusal<'a>> for Error<'a> {
+    ghost from_gives = { λ refusal r. IsByRefusal refusal r };
+
+    fn from(refusal: Refusal<'a>) -> Error<'a> {
+        match refusal.why {
+            Why::Unresolved(oer_module_values::Why::Unread(oer_module_syntax::Why::Memory)) => {
+                Error::Memory
+            }
+            _ => Error::Modules(refusal),
+        }
+    }
+}
+
+impl<'a> From<AllocError> for Error<'a> {
+    ghost from_gives = { λ _ r. r ≡ raw.Memory };
+
+    fn from(_: AllocError) -> Error<'a> {
+        Error::Memory
+    }
+}
+
+// The line on standard error, with its line feed.
+fn error_line(alloc: Global, error: Error<'_>) -> Result<String, AllocError>
+    ensures { IfOk result (λ line. IsLineOf (error_of error.entry) (string_bytes line)) }
+{
+    format!(in alloc; "oer: {error}\n")
+}
+
+fn put<E: Write>(line: &str, errors: &mut E)
+    ensures { AppendsFront (E.contents errors.old) (E.contents errors.new) line.now }
+{
+    let _is_whole = Metered::new(errors).put(line.as_bytes()).is_ok();
+}
+
+/// Writes the line of the error in one call, and returns the status of the program. If memory for the line is refused, it
+/// is that of `Memory`. A failure to write it is ignored.
+pub fn report<E: Write>(alloc: Global, error: Error<'_>, errors: &mut E) -> u8
+    ensures line { Reports (error_of error.entry) result (E.contents errors.old) (E.contents errors.new) }
+    ensures least { 2 ≤ result }
+    ensures most { result ≤ 3 }
+{
+    match error_line(alloc, error) {
+        Ok(line) => {
+            put(line.as_str(), errors);
+            error.status()
+        }
+        Err(_) => {
+            put("oer: out of memory\n", errors);
+            3
+        }
+    }
+}

@@ -1,0 +1,9 @@
+//! `oer types`: what the program understands of modules, or of definitions in its notation.
+#![tactic(auto)]
+
+mod help;
+mod listing;
+mod stop;
+mod types;
+
+pub use types::run_types;
