@@ -2,7 +2,8 @@
 
 tools/test_wireshark compares it with what `oer show` prints. A value is taken apart into what stands at each path of it, as
 `Ieee1609Dot2Data.content.unsecuredData`: a number, text or None, for a SEQUENCE OF how many items it has, and {} for a SEQUENCE
-or CHOICE. Additions that the types don't know are left out; such an alternative stands at the path `..#`.
+or CHOICE. Additions that the types don't know are left out; such an alternative stands at the path `..#`, or `..another class` where
+its tag isn't of class context.
 """
 
 import os
@@ -14,6 +15,7 @@ import tempfile
 from xml.etree import ElementTree
 
 MESSAGE, PREFIX, LINK_TYPE, SECONDS = "Ieee1609Dot2Data", "ieee1609dot2.", 147, 600
+OTHER = "another class"
 BOUND = f'uat:user_dlts:"User 0 (DLT={LINK_TYPE})","{PREFIX}data","0","","0",""'
 
 # Where the reading of a message ends. The dissector of Wireshark 4.0.17 doesn't step over the preamble of missingCrlIdentifier,
@@ -47,7 +49,8 @@ def leaves(value, path=MESSAGE):
         yield path, {}
         for name, held in value.items():
             if not re.match(r"#\d", name):
-                yield from leaves(held, f"{path}.{re.sub('^#.*', '#', name)}")
+                name = OTHER if re.match("#[aup]", name) else re.sub("^#.*", "#", name)
+                yield from leaves(held, f"{path}.{name}")
     else:
         yield path, value
 
