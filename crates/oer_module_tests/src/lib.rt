@@ -1,17 +1,11 @@
-//! Tests of the reading of ASN.1 modules, through public items alone.
+//! Tests of the crates of modules, of what no run of the programs tells.
 #![tactic(auto)]
 
 #[cfg(test)]
 mod bounds;
 #[cfg(test)]
-mod lexer;
-#[cfg(test)]
-mod limits;
+mod modules;
 #[cfg(test)]
 mod parts;
 #[cfg(test)]
-mod syntax;
-#[cfg(test)]
 mod terms;
-#[cfg(test)]
-mod values;
