@@ -1,0 +1,10 @@
+pub mod Counted
+pub mod Moved
+pub mod Spelled
+pub mod Filled
+pub mod Strictly
+pub mod Fitting
+pub mod Canonical
+pub mod Reading
+pub mod Replaced
+pub mod Free

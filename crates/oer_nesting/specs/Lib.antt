@@ -1,0 +1,5 @@
+pub mod Deeper
+pub mod Defaults
+pub mod Free
+pub mod Laws
+pub mod Example
