@@ -29,7 +29,8 @@ abbrev mutual
 
   pub DeeperFields : Fields → Fields → Type 0
   DeeperFields no_fields gs = gs ≡ no_fields
-  DeeperFields (field name need T fs) gs = (X : AsnType) × (rest : Fields) × (gs ≡ field name need X rest) × Deeper T X × DeeperFields fs rest
+  DeeperFields (field name need T fs) gs = (X : AsnType) × (rest : Fields) × (gs ≡ field name need X rest)
+      × Deeper T X × DeeperFields fs rest
 
   pub DeeperAdditions : Additions → Additions → Type 0
   DeeperAdditions no_additions others = others ≡ no_additions
