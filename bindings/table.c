@@ -6,7 +6,8 @@
  *   layout STRUCT SIZE OFFSET+SIZE..     of the struct, and of each field
  *   vector TASK TYPE GIVEN PATH LIMIT STATUS WHY OCTETS WRITTEN ANSWER
  *   place TYPE GIVEN PATH STATUS WHY OCTETS AT LENGTH
- *   rejected TEXT WHY PLACE */
+ *   rejected TEXT WHY PLACE
+ *   modules FIRST SECOND WHY TEXT PLACE LINE COLUMN WORDS */
 #include "vectors.h"
 
 #include <inttypes.h>
@@ -55,6 +56,19 @@ static void put_place(const struct place *place) {
     putchar('\n');
 }
 
+static void put_modules(const struct modules_row *row) {
+    printf("modules");
+    put_text(row->first);
+    put_text(row->second);
+    put_number(row->why);
+    put_number(row->text);
+    put_number(row->place);
+    put_number(row->line);
+    put_number(row->column);
+    put_text(row->words);
+    putchar('\n');
+}
+
 /* Where a field begins in its struct, and how many octets it has. */
 #define PLACE(type, field) \
     printf("\t%u+%u", (unsigned)offsetof(type, field), (unsigned)sizeof(((type *)0)->field))
@@ -67,6 +81,14 @@ static void put_layouts(void) {
     PLACE(oer_parsed, status);
     PLACE(oer_parsed, why);
     PLACE(oer_parsed, place);
+    printf("\nlayout\toer_understood\t%u", (unsigned)sizeof(oer_understood));
+    PLACE(oer_understood, status);
+    PLACE(oer_understood, why);
+    PLACE(oer_understood, text);
+    PLACE(oer_understood, place);
+    PLACE(oer_understood, line);
+    PLACE(oer_understood, column);
+    PLACE(oer_understood, words);
     printf("\nlayout\toer_checked\t%u", (unsigned)sizeof(oer_checked));
     PLACE(oer_checked, status);
     PLACE(oer_checked, why);
@@ -102,5 +124,6 @@ int main(void) {
         put_number(rejected_texts[i].place);
         putchar('\n');
     }
+    for (i = 0; i < sizeof rejected_modules / sizeof *rejected_modules; i++) put_modules(&rejected_modules[i]);
     return fflush(stdout) != 0;
 }

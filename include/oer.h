@@ -1,13 +1,14 @@
 /* oer.h: encodings of ASN.1 values by the octet encoding rules (ITU-T X.696), from C and C++.
  *
- * A text of definitions is read once into an oer_types. By the types in it octets are checked,
- * rewritten as canonical octets, taken apart, shown as JSON, and made from JSON. Each call is a
- * function of crates/oer_c, and is proved to do what its contract there says; oer_types_free first asks
- * whether its pointer is NULL. This file and the code that calls the library are not proved: a caller has
+ * A text of definitions, or published ASN.1 modules, are read once into an oer_types. By the types in it
+ * octets are checked, rewritten as canonical octets, taken apart, shown as JSON, and made from JSON. Each
+ * call is a function of crates/oer_c, and is proved to do what its contract there says; oer_types_free first
+ * asks whether its pointer is NULL. This file and the code that calls the library are not proved: a caller has
  * to keep the rules below.
  *
  * A call that writes takes a buffer of the caller's, and never writes past it. It writes all of the
- * answer or nothing: where the status is not OER_OK, the buffer is as it was.
+ * answer or nothing: where the status is not OER_OK, the buffer is as it was. oer_types_read_modules alone
+ * writes where it rejects: words, as many as there is room for.
  *
  * Rules
  *
@@ -31,11 +32,12 @@
  * - Memory comes from malloc, realloc and free, which have to belong together. It may run out: then
  *   the status is OER_MEMORY, and what the call was given is as before. oer_check, oer_check_whole and
  *   oer_check_many take none.
- * - A call takes at most 96 KB of stack. This is measured (docs/LIBRARY.md), and not proved.
+ * - A call takes at most 96 KB of stack, but oer_types_read_modules at most 512 KB. This is measured
+ *   (docs/LIBRARY.md), and not proved.
  * - No call is made from a signal handler, or in the child of a fork of a process with threads.
  *
  * Octets are uint8_t, texts are char. All lengths and places are numbers of octets; texts are UTF-8,
- * come with their length, and need no zero octet at the end. None is written after the JSON. */
+ * come with their length, and need no zero octet at the end. None is written after JSON or words. */
 #ifndef OER_H
 #define OER_H
 
@@ -65,8 +67,8 @@ uint32_t oer_version(void);
 /* What a call answers in `status`. */
 enum oer_status {
     OER_OK = 0,             /* the call did what it is for */
-    OER_REJECTED = 1,       /* the octets are no encoding, the text spells no types, or the JSON is no value
-                               of the type; `why` has the reason */
+    OER_REJECTED = 1,       /* the octets are no encoding, the text spells no types, the modules give none, or
+                               the JSON is no value of the type; `why` has the reason */
     OER_NO_TYPES = 2,       /* the oer_types has no types */
     OER_UNNAMED = 3,        /* no definition has the name */
     OER_MEMORY = 4,         /* an allocation failed */
@@ -77,7 +79,7 @@ enum oer_status {
                                goes on from a part that the type doesn't know */
     OER_ABSENT = 8,         /* the path leads to a component or a known addition that is absent */
     OER_NO_JSON = 9,        /* the text is not JSON, or not UTF-8: `octets` says where */
-    OER_OUTSIDE = 10,       /* the message is not all in the octets */
+    OER_OUTSIDE = 10,       /* the message, or the text of modules, is not all in the octets */
     OER_NOT_CANONICAL = 11, /* the octets are an encoding, but not the canonical one */
     OER_FOLLOWS = 12        /* an encoding is at the front of the octets, and others follow it */
 };
@@ -128,6 +130,17 @@ enum oer_text_reason {
     OER_TEXT_PARTS = 20            /* oer_types_read_within: all types together have more parts */
 };
 
+/* Why modules are rejected: `why` of oer_understood at OER_REJECTED. The words say more: which token stands there, and
+ * what was looked for. */
+enum oer_modules_reason {
+    OER_MODULES_NOT_UTF8 = 0, /* a text is not UTF-8 from `place` on */
+    OER_MODULES_TOKEN = 1,    /* no token begins at `place`, or it has no end */
+    OER_MODULES_SYNTAX = 2,   /* a token that the grammar doesn't have at `place`, or the text ends there */
+    OER_MODULES_TOO_DEEP = 3, /* types or values nest too deep at `place` */
+    OER_MODULES_NO_TYPES = 4  /* what is understood of the modules spells no types, as where each definition
+                                 is refused: the words say why the first one is */
+};
+
 /* Why JSON is rejected: `why` of oer_written at OER_REJECTED, in oer_from_json (docs/JSON.md). */
 enum oer_json_reason {
     OER_JSON_KIND = 2,    /* JSON of another kind than the type's values have, or of another form */
@@ -160,6 +173,20 @@ typedef struct oer_parsed {
                         else 0 */
 } oer_parsed;
 
+/* What reading modules answers. */
+typedef struct oer_understood {
+    uint32_t status; /* OER_OK, OER_REJECTED, OER_OUTSIDE or OER_MEMORY */
+    uint32_t why;    /* at OER_REJECTED the reason, an enum oer_modules_reason; else 0 */
+    uint64_t text;   /* at OER_REJECTED and OER_OUTSIDE which of the texts it is, counted from 1; 0 at
+                        OER_MODULES_NO_TYPES, and else */
+    uint64_t place;  /* at OER_REJECTED the octet of that text at which the fault shows, counted from 0; at
+                        OER_MODULES_NOT_UTF8 the one from which on it isn't UTF-8; else 0 */
+    uint64_t line;   /* the line of that octet, counted from 1; 0 at OER_MODULES_NOT_UTF8, and where there is
+                        no such octet */
+    uint64_t column; /* its column in characters, counted from 1; 0 where there is no line */
+    uint64_t words;  /* at OER_REJECTED how many octets of words are in the buffer; else 0 */
+} oer_understood;
+
 /* What a check answers. */
 typedef struct oer_checked {
     uint32_t status;    /* OER_OK, OER_REJECTED, OER_NO_TYPES or OER_UNNAMED; of oer_check_many
@@ -172,7 +199,7 @@ typedef struct oer_checked {
                            another one; else 0 */
 } oer_checked;
 
-/* Where a message is in octets. */
+/* Where a message is in octets, or a text of modules in texts. */
 typedef struct oer_message {
     size_t at;     /* the place of its first octet */
     size_t length; /* how many octets it has */
@@ -221,6 +248,23 @@ oer_parsed oer_types_read(oer_types *types, const char *text, size_t text_length
  * types of IEEE 1609.2, and take some 20 MB. */
 oer_parsed oer_types_read_within(oer_types *types, const char *text, size_t text_length, uint64_t parts)
     OER_NO_NULL;
+
+/* Reads published ASN.1 modules (X.680), in place of the types that were there. The types are those of all
+ * definitions that are understood (docs/MODULES.md), each by its Name: what the command `oer types` prints. A
+ * definition that is refused has no type, so its Name is OER_UNNAMED in later calls, and `oer types` says why.
+ * The texts stand in one buffer: each is the `length` octets from texts + at on, by its place, and holds one module
+ * or more, in any order. A type that contains itself is written out so often, one in the other, as `nesting` says;
+ * 0 stands for the most that fits, up to 8. Each type has at most 4,096 parts. Together they may have many more, so
+ * modules from someone else may take much memory.
+ * At OER_REJECTED words are put into the buffer, all that there are or as many as it has room for: one line of ASCII
+ * without its end, as: text 1, line 12, column 5: expected a type, found "}". Room for 256 octets is enough, where
+ * the Names of definitions are not long. At any other status the buffer is as before. Unless the status is OER_OK
+ * the types are those from before.
+ * OER_OK, OER_REJECTED, OER_MEMORY, OER_OUTSIDE: the place of the text with the number `text` is not all in the
+ * texts. */
+oer_understood oer_types_read_modules(oer_types *types, const char *texts, size_t texts_length,
+                                      const oer_message *places, size_t places_length, uint8_t nesting,
+                                      char *words, size_t room) OER_NO_NULL;
 
 /* Frees the types. With NULL it does nothing, as free does. */
 void oer_types_free(oer_types *types);

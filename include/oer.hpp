@@ -1,8 +1,9 @@
 /* oer.hpp: encodings of ASN.1 values by the octet encoding rules (ITU-T X.696), from C++11 to C++20.
  *
- * A class over the calls of oer.h, all of it in this header. An oer::types holds definitions that were
- * read. By the types in it octets are checked, rewritten as canonical octets, taken apart, shown as
- * JSON, and made from JSON. A program that includes this header is linked with liboer, as from C.
+ * A class over the calls of oer.h, all of it in this header. An oer::types holds the types of definitions,
+ * or of published modules, that were read. By the types in it octets are checked, rewritten as canonical
+ * octets, taken apart, shown as JSON, and made from JSON. A program that includes this header is linked with
+ * liboer, as from C.
  *
  *     oer::types types = oer::types::of("Flags ::= SEQUENCE OF BOOLEAN").value();
  *     auto made = types.canon("Flags", octets);
@@ -15,7 +16,9 @@
  * the place. `ok()` tells which. No call throws. `value()`, `*` and `->` of a result give its answer;
  * where it has an error they throw an oer::failure, or end the program by std::terminate in a file that
  * is compiled without exceptions. The types are the same in both kinds of file, which may be linked
- * together. From C++17 on the compiler warns where a result is not looked at.
+ * together. From C++17 on the compiler warns where a result is not looked at. The error of
+ * types::from_modules() is an oer::modules_error, which has words too, and is thrown as an
+ * oer::modules_failure.
  *
  * Octets and texts that a call makes are returned in an oer::octets or an oer::text, which own them.
  * The calls whose names end in _into write into a buffer of the caller's, and this header then
@@ -58,6 +61,7 @@
 #include <cstdint>
 #include <cstring>
 #include <exception>
+#include <initializer_list>
 #include <memory>
 #include <new>
 #include <stdexcept>
@@ -92,7 +96,8 @@ inline std::uint32_t version() noexcept { return oer_version(); }
 enum class subject {
     octets,      /* octets: an oer_reason */
     definitions, /* definitions: an oer_text_reason */
-    json         /* JSON: an oer_json_reason */
+    json,        /* JSON: an oer_json_reason */
+    modules      /* texts of modules: an oer_modules_reason */
 };
 
 /* The status of a result whose answer was moved out of it. No call answers it. */
@@ -106,9 +111,10 @@ struct error {
     std::uint32_t why;
     /* At OER_REJECTED the place. Of octets: how many had been looked at. Of definitions: the octet of
      * the text at which the token or type begins that shows the fault, or from which on it is not UTF-8.
-     * Of JSON: 0. At OER_NO_JSON the octet of the text at which reading stopped, or from which on it is
-     * not UTF-8, as oer_from_json says (oer.h). At OER_NO_STEP, OER_ABSENT, OER_NOT_CANONICAL and
-     * OER_FOLLOWS how many octets the encoding has. With any other status 0. */
+     * Of modules: the octet of the text at which the fault shows, or from which on it is not UTF-8; 0
+     * where it is in none of the texts. Of JSON: 0. At OER_NO_JSON the octet of the text at which reading
+     * stopped, or from which on it is not UTF-8, as oer_from_json says (oer.h). At OER_NO_STEP, OER_ABSENT,
+     * OER_NOT_CANONICAL and OER_FOLLOWS how many octets the encoding has. With any other status 0. */
     std::uint64_t place;
     /* At OER_ROOM how many octets the buffer has to have. Else 0. */
     std::uint64_t needed;
@@ -118,6 +124,16 @@ struct error {
     /* The name of the status, and at OER_REJECTED that of the reason, as the documents have them:
      * "Memory", "End", "LengthForm". It is kept for as long as the program runs. */
     const char *name() const noexcept;
+};
+
+/* Why modules are not read. */
+struct modules_error : error {
+    /* At OER_REJECTED which of the texts the fault is in, its line, and its column in characters, all
+     * counted from 1. 0 where it is in none of the texts. Line and column are also 0 where the text is not
+     * UTF-8. Of any other status 0. */
+    std::uint64_t text, line, column;
+    /* At OER_REJECTED the fault in words, on one line, with a zero octet at the end. Else "". */
+    char words[256];
 };
 
 /* Whether elements of the type are taken as octets. */
@@ -334,8 +350,25 @@ public:
     /* The error of the result. */
     const oer::error &error() const noexcept { return why_; }
 
+protected:
+    /* The same, where what() is another text. */
+    failure(const oer::error &why, const char *words) : std::runtime_error(words), why_(why) {}
+
 private:
     oer::error why_;
+};
+
+/* The same where modules are not read. what() is the words of the error, where it has some. */
+class modules_failure : public failure {
+public:
+    explicit modules_failure(const modules_error &why)
+        : failure(why, why.words[0] ? why.words : why.name()), why_modules_(why) {}
+
+    /* The error of the result. */
+    const modules_error &error() const noexcept { return why_modules_; }
+
+private:
+    modules_error why_modules_;
 };
 
 /* What value() does where there is an error: it throws, or ends the program. Which of the two is part of
@@ -343,27 +376,29 @@ private:
  * own. */
 struct throwing {
     [[noreturn]] static void fail(const error &why);
+    [[noreturn]] static void fail(const modules_error &why);
 };
 struct ending {
     [[noreturn]] static void fail(const error &) noexcept { std::terminate(); }
 };
 #ifdef OER_HPP_THROWS
 inline void throwing::fail(const error &why) { throw failure(why); }
+inline void throwing::fail(const modules_error &why) { throw modules_failure(why); }
 typedef throwing failing;
 #else
 typedef ending failing;
 #endif
 
-/* An answer, or the reason why there is none. It may be moved, and copied where the answer may. After it
- * was moved it is not ok(): its status is moved_from, unless it had an error, which stays. */
-template <class T>
+/* An answer, or the reason why there is none, an E. It may be moved, and copied where the answer may. After
+ * it was moved it is not ok(): its status is moved_from, unless it had an error, which stays. */
+template <class T, class E = error>
 class OER_HPP_NODISCARD result {
 public:
     /* A result that has an answer. */
     result(T &&answer) noexcept : error_(), answer_(std::move(answer)) {}
 
     /* A result that has an error, whose status is not OER_OK. */
-    result(const oer::error &why) noexcept : error_(why), answer_() {}
+    result(const E &why) noexcept : error_(why), answer_() {}
 
     result(const result &) = default;
     result &operator=(const result &) = default;
@@ -386,7 +421,7 @@ public:
     explicit operator bool() const noexcept { return ok(); }
 
     /* The error. Where there is an answer its status is OER_OK, and all its numbers are 0. */
-    const oer::error &error() const noexcept { return error_; }
+    const E &error() const noexcept { return error_; }
 
     /* The answer. Where there is an error it throws a failure, or ends the program in a file that is
      * compiled without exceptions. Of a result that is moved the answer is moved out. The argument of the
@@ -447,7 +482,7 @@ private:
         if (ok()) error_.status = moved_from;
     }
 
-    oer::error error_;
+    E error_;
     T answer_;
 };
 
@@ -502,6 +537,42 @@ public:
         oer_parsed parsed = oer_types_read_within(&held_, definitions.data(), definitions.size(), parts);
         if (parsed.status == OER_OK) return result<std::uint64_t>(std::move(parsed.place));
         return result<std::uint64_t>(fault(parsed.status, parsed.why, parsed.place, 0, subject::definitions));
+    }
+
+    /* The types of published ASN.1 modules (docs/MODULES.md): those of all definitions that are understood,
+     * each by its Name. `texts` has texts, each with one module or more, in any order: what a range-based
+     * `for` goes through and text_in takes, as a vector of strings, or {one, other}. A type that contains
+     * itself is written out so often as `nesting` says; 0 stands for the most that fits, up to 8.
+     *   OER_REJECTED  a text is not UTF-8, or can't be read, or no definition is understood: `why` is an
+     *                oer_modules_reason, and `text`, `line`, `column` and `words` say more
+     *   OER_MEMORY   an allocation failed, here or in the library
+     *   OER_OUTSIDE  a text is missing() */
+    template <class Texts>
+    static result<types, modules_error> from_modules(const Texts &texts, std::uint8_t nesting = 0) noexcept {
+        buffer<char> all;
+        buffer<message> places;
+        std::size_t size = 0, count = 0;
+        for (const auto &each : texts) {
+            const text_in one(each);
+            if (one.missing()) return modules_fault(OER_OUTSIDE);
+            if (size + one.size() < size) return modules_fault(OER_MEMORY);
+            size += one.size();
+            count++;
+        }
+        if (!all.make(size) || !places.make(count)) return modules_fault(OER_MEMORY);
+        size = count = 0;
+        for (const auto &each : texts) {
+            const text_in one(each);
+            places.at_[count].at = size;
+            places.at_[count++].length = one.size();
+            std::memcpy(all.at_.get() + size, one.data(), one.size());
+            size += one.size();
+        }
+        return of_modules(all.data(), size, places.data(), count, nesting);
+    }
+    static result<types, modules_error> from_modules(std::initializer_list<text_in> texts,
+                                                     std::uint8_t nesting = 0) noexcept {
+        return from_modules<std::initializer_list<text_in>>(texts, nesting);
     }
 
     /* Frees the types. After it there are none, and types may be read again. It may be called twice. */
@@ -674,6 +745,31 @@ public:
     }
 
 private:
+    /* The error of a status other than OER_REJECTED. */
+    static modules_error modules_fault(std::uint32_t status) noexcept {
+        modules_error made = modules_error();
+        made.status = status;
+        made.of = subject::modules;
+        return made;
+    }
+
+    /* The types of the texts at the places. */
+    static result<types, modules_error> of_modules(const char *texts, std::size_t size, const message *places,
+                                                   std::size_t count, std::uint8_t nesting) noexcept {
+        types made;
+        modules_error why = modules_fault(OER_OK);
+        oer_understood answer = oer_types_read_modules(&made.held_, texts, size, places, count, nesting, why.words,
+                                                       sizeof why.words - 1);
+        if (answer.status == OER_OK) return result<types, modules_error>(std::move(made));
+        why.status = answer.status;
+        why.why = answer.why;
+        why.place = answer.place;
+        why.text = answer.text;
+        why.line = answer.line;
+        why.column = answer.column;
+        return result<types, modules_error>(why);
+    }
+
     /* Begins as a new one; what it held has moved. */
     void forget() noexcept { held_ = oer_types(); }
 
@@ -768,13 +864,26 @@ inline const char *json_reason(std::uint32_t number) noexcept {
     return at(table, number);
 }
 
+inline const char *modules_reason(std::uint32_t number) noexcept {
+    static const char *const table[] = { "NotUtf8", "Token", "Syntax", "TooDeep", "NoTypes" };
+    return at(table, number);
+}
+
 } // namespace names
 
 inline const char *error::name() const noexcept {
     if (status == moved_from) return "Moved";
     if (status != OER_REJECTED) return names::status(status);
-    if (of == subject::octets) return names::reason(why);
-    return of == subject::definitions ? names::text_reason(why) : names::json_reason(why);
+    switch (of) {
+    case subject::octets:
+        return names::reason(why);
+    case subject::definitions:
+        return names::text_reason(why);
+    case subject::modules:
+        return names::modules_reason(why);
+    default:
+        return names::json_reason(why);
+    }
 }
 
 } // namespace oer

@@ -1,4 +1,5 @@
-"""The tables of rows that tools/test_vectors and tools/test_programs run: those of oer_vectors, and those in tests/.
+"""The tables of rows that tools/test_vectors, tools/test_programs and tools/test_modules run: those of oer_vectors, and those in
+tests/.
 
 The head of oer_vectors says how rows are spelt there, and tests/oer.rows how they are in tests/.
 """
@@ -74,3 +75,13 @@ def placed(row, place):
 
     put_all = " ".join(it if it == "=" else put(it) for it in encodings.split(" "))
     return " | ".join((kinds.replace("?", kind), jsons.replace("?", json), put(canonical), put_all))
+
+
+def spelt(text):
+    """The text, with the characters that are spelt by their number."""
+    return re.sub(r"\\u([0-9a-f]{4})", lambda it: chr(int(it[1], 16)), text)
+
+
+def wrapped(definitions):
+    """A module M with AUTOMATIC TAGS, and these definitions on its second line."""
+    return f"M DEFINITIONS AUTOMATIC TAGS ::= BEGIN\n{definitions}\nEND"

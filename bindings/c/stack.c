@@ -1,9 +1,9 @@
-/* How much stack the calls take: stack FOLDER MOST
+/* How much stack the calls take: stack FOLDER MOST MODULES
  *
  * FOLDER is examples/ieee1609dot2. Each call runs in a thread whose stack was filled with one octet; how
  * far it was overwritten is what the call took, less what a thread takes that makes none. It prints the
- * calls that take more than MOST octets, each with its number, and then its status is 1. With MOST 0 it
- * prints all of them. */
+ * calls that take more than MOST octets, or oer_types_read_modules more than MODULES, each with its number,
+ * and then its status is 1. With MOST 0 it prints all of them. */
 #define _DEFAULT_SOURCE
 #include "oer.h"
 
@@ -17,9 +17,9 @@ enum { STACK = 8 << 20, FILL = 0xa5, LARGE = 1 << 20 };
 
 /* ---- a call in a thread of its own */
 
-enum call { NONE, READ, READ_WITHIN, SHARE, CHECK, CHECK_WHOLE, CHECK_MANY, CANON, PART, PART_AT, TO_JSON, FROM_JSON, FREE };
+enum call { NONE, READ, READ_WITHIN, READ_MODULES, SHARE, CHECK, CHECK_WHOLE, CHECK_MANY, CANON, PART, PART_AT, TO_JSON, FROM_JSON, FREE };
 
-static const char *const names[] = { "none", "oer_types_read", "oer_types_read_within", "oer_types_share", "oer_check", "oer_check_whole",
+static const char *const names[] = { "none", "oer_types_read", "oer_types_read_within", "oer_types_read_modules", "oer_types_share", "oer_check", "oer_check_whole",
                                      "oer_check_many", "oer_canon", "oer_part", "oer_part_at", "oer_to_json", "oer_from_json", "oer_types_free" };
 
 /* What the call is given; `status` is what it answers. */
@@ -44,8 +44,9 @@ static void *run(void *given) {
     oer_message message;
     oer_checked answer;
     oer_written written = { 0, 0, 0, 0 };
+    char words[256];
     message.at = 0;
-    message.length = job->octets_length;
+    message.length = job->call == READ_MODULES ? job->text_length : job->octets_length;
     switch (job->call) {
     case NONE:
         break;
@@ -54,6 +55,9 @@ static void *run(void *given) {
         break;
     case READ_WITHIN:
         job->status = oer_types_read_within(&job->types, job->text, job->text_length, OER_NO_LIMIT).status;
+        break;
+    case READ_MODULES:
+        job->status = oer_types_read_modules(&job->types, job->text, job->text_length, &message, 1, 0, words, sizeof words).status;
         break;
     case SHARE:
         job->status = oer_types_share(&job->types, &job->other);
@@ -109,21 +113,22 @@ static size_t stack_of(struct job *job) {
     return STACK - untouched;
 }
 
-static size_t most, greatest;
+static size_t most, most_of_modules, greatest, greatest_of_modules;
 static int differs;
 
 /* Does the job by the call, prints what it takes, and says so where it has another status. */
 static void measure(struct job *job, enum call call, const char *what, uint32_t status) {
     struct job none;
-    size_t taken;
+    size_t taken, allowed = call == READ_MODULES ? most_of_modules : most;
+    size_t *so_far = call == READ_MODULES ? &greatest_of_modules : &greatest;
     memset(&none, 0, sizeof none);
     none.name = "";
     job->call = call;
     taken = stack_of(job) - stack_of(&none);
-    if (taken > greatest) greatest = taken;
+    if (taken > *so_far) *so_far = taken;
     if (job->status != status) printf("bindings/c/stack.c: %s, %s: status %u\n", names[call], what, (unsigned)job->status);
-    if (taken > most) printf("%s, %s: %lu octets of stack\n", names[call], what, (unsigned long)taken);
-    if (job->status != status || (most && taken > most)) differs = 1;
+    if (!most || taken > allowed) printf("%s, %s: %lu octets of stack\n", names[call], what, (unsigned long)taken);
+    if (job->status != status || (most && taken > allowed)) differs = 1;
 }
 
 /* ---- what is given */
@@ -257,7 +262,7 @@ static void measure_text(const char *what, enum call call, const char *text, uin
     struct job job;
     memset(&job, 0, sizeof job);
     job.name = "A";
-    if (call != READ && oer_types_read(&job.types, "A ::= SEQUENCE OF SEQUENCE OF OCTET STRING", 42).status != OER_OK) exit(2);
+    if (call == FROM_JSON && oer_types_read(&job.types, "A ::= SEQUENCE OF SEQUENCE OF OCTET STRING", 42).status != OER_OK) exit(2);
     job.text = text;
     job.text_length = strlen(text);
     job.out = out;
@@ -309,14 +314,87 @@ static void measure_texts(void) {
     measure_text("many strings", FROM_JSON, repeated("[[\"00\"", ",\"00\"", 100000, "]]"), OER_OK);
 }
 
+/* A module with these definitions, the word so many times between them. */
+static void measure_module(const char *what, const char *start, const char *word, size_t times, const char *end, uint32_t status) {
+    static char head[1024], tail[LARGE / 2 + 8];
+    sprintf(head, "M DEFINITIONS AUTOMATIC TAGS ::= BEGIN %s", start);
+    strcat(strcpy(tail, end), " END");
+    measure_text(what, READ_MODULES, repeated(head, word, times, tail), status);
+}
+
+/* The same with as many words that close. */
+static void measure_closed(const char *what, const char *start, const char *open, size_t times, const char *middle, const char *close,
+                           const char *end, uint32_t status) {
+    static char tail[LARGE / 2];
+    size_t i;
+    strcpy(tail, middle);
+    for (i = 0; i < times; i++) strcat(tail, close);
+    strcat(strcat(tail, end), " B ::= BOOLEAN");
+    measure_module(what, start, open, times, tail, status);
+}
+
+/* A type in so many others, each the alternative of a CHOICE. Its constraint nests about as deep as is read. */
+static void measure_deep_constraint(size_t levels) {
+    static char start[LARGE / 2], end[LARGE / 2];
+    size_t i;
+    strcpy(start, "A ::= ");
+    for (i = 0; i < levels; i++) strcat(start, "CHOICE {a ");
+    strcat(start, "OCTET STRING (SIZE (");
+    strcpy(end, "))");
+    for (i = 0; i < levels; i++) strcat(end, "}");
+    for (i = 60; i < 65; i++) measure_closed("a deep constraint in a deep type", start, "(1 EXCEPT ", i, "2", ")", end, OER_OK);
+}
+
+/* Definitions that name one another in a row, of which the last is what it says. */
+static void measure_chain(const char *what, const char *definition, const char *last, size_t links) {
+    static char text[LARGE];
+    size_t i, length = (size_t)sprintf(text, "M DEFINITIONS AUTOMATIC TAGS ::= BEGIN\n");
+    for (i = 0; i < links; i++) length += (size_t)sprintf(text + length, definition, (unsigned)i, (unsigned)i + 1);
+    length += (size_t)sprintf(text + length, last, (unsigned)links);
+    strcpy(text + length, " END");
+    measure_text(what, READ_MODULES, text, OER_OK);
+}
+
+static void measure_modules(const char *folder) {
+    static const size_t deep[] = { 8, 30, 60, 200, 4000 };
+    size_t i;
+    measure_text("the module of the example", READ_MODULES, contents(folder, "../modules/common.asn"), OER_OK);
+    measure_module("a module that is too deep", "A ::= ", "SEQUENCE OF ", 80000, "NULL", OER_REJECTED);
+    measure_module("a module that is too deep", "A ::= ", "CHOICE {a ", 80000, "NULL", OER_REJECTED);
+    measure_module("a module that is too deep", "A ::= ", "SEQUENCE {a ", 80000, "NULL", OER_REJECTED);
+    measure_module("a type of modules that is too deep", "B ::= BOOLEAN A ::= ", "SEQUENCE OF ", 40, "BOOLEAN", OER_OK);
+    measure_module("a type of modules of 32 levels", "A ::= ", "SEQUENCE OF ", 31, "INTEGER (0..7)", OER_OK);
+    measure_module("a type of modules of 32 levels", "A ::= ", "SEQUENCE {a ", 31, "INTEGER (0..7) DEFAULT 5" BRACES "}", OER_OK);
+    measure_module("a type of modules of 32 levels", "A ::= ", "CHOICE {a ", 31, "INTEGER (0..7)" BRACES "}", OER_OK);
+    measure_module("COMPONENTS OF 30 times in each other", "A ::= ", "SEQUENCE {COMPONENTS OF ", 30, "SEQUENCE {a INTEGER (0..7)" BRACES "}", OER_OK);
+    measure_module("parentheses", "B ::= BOOLEAN A ::= INTEGER ", "(", 80000, "1", OER_REJECTED);
+    for (i = 0; i < sizeof deep / sizeof *deep; i++) {
+        measure_closed("nested sets", "A ::= INTEGER (", "(", deep[i], "1", ")", ")", OER_OK);
+        measure_closed("nested sizes", "A ::= OCTET STRING (SIZE (", "(", deep[i], "1", ")", "))", OER_OK);
+        measure_closed("nested values", "A ::= SEQUENCE {a SEQUENCE OF NULL DEFAULT ", "{", deep[i], "", "}", "}", OER_OK);
+        measure_closed("nested additions", "A ::= SEQUENCE {a NULL, ..., ", "[[", deep[i], "b NULL", "]]", "}", OER_REJECTED);
+    }
+    for (i = 28; i < 34; i++) measure_deep_constraint(i);
+    measure_module("a type that contains itself", "A ::= SEQUENCE {a A OPTIONAL, ", "", 0, "b BOOLEAN}", OER_OK);
+    for (i = 0; i < 2; i++) {
+        size_t links = i ? 300 : 250;
+        measure_chain("names in a row", "A%u ::= A%u\n", "A%u ::= BOOLEAN", links);
+        measure_chain("numbers in a row", "a%u INTEGER ::= a%u\n", "a%u INTEGER ::= 7 A ::= INTEGER (0..a0) B ::= BOOLEAN", links);
+        measure_chain("constraints in a row", "A%u ::= A%u (0..9)\n", "A%u ::= INTEGER (0..99)", links);
+        measure_chain("alternatives in a row", "A%u ::= CHOICE {a A%u}\n", "A%u ::= BOOLEAN", links);
+        measure_chain("imported names in a row", "A%u ::= SEQUENCE {a [0] A%u}\n", "A%u ::= BOOLEAN", links);
+    }
+}
+
 int main(int count, char **words) {
     static const uint8_t one[] = { 1, 1 }, two[] = { 2, 1, 1 };
     size_t i;
-    if (count != 3) {
-        puts("usage: stack FOLDER MOST");
+    if (count != 4) {
+        puts("usage: stack FOLDER MOST MODULES");
         return 2;
     }
     most = (size_t)atol(words[2]);
+    most_of_modules = (size_t)atol(words[3]);
     measure_certificate(words[1]);
     for (i = 0; i <= sizeof levels / sizeof *levels; i++) {
         const struct level *kind = i ? &levels[i - 1] : NULL;
@@ -330,6 +408,7 @@ int main(int count, char **words) {
         measure_deep(kind, "ENUMERATED {a(1)}", one, 1);
     }
     measure_texts();
-    if (!most) printf("the most: %lu octets of stack\n", (unsigned long)greatest);
+    measure_modules(words[1]);
+    if (!most) printf("the most: %lu octets of stack, by oer_types_read_modules %lu\n", (unsigned long)greatest, (unsigned long)greatest_of_modules);
     return differs;
 }

@@ -384,6 +384,108 @@ static void test_shared_types(void) {
     oer_types_free(&types);
 }
 
+/* ---- modules */
+
+/* Reads texts that stand one after another. */
+static oer_understood read_modules(oer_types *types, const char *const *texts, size_t count, uint8_t nesting,
+                                   char *words, size_t room) {
+    static char all[2 * 65536];
+    oer_message places[2];
+    size_t length = 0, i;
+    for (i = 0; i < count; i++) {
+        places[i].at = length;
+        places[i].length = strlen(texts[i]);
+        memcpy(all + length, texts[i], places[i].length);
+        length += places[i].length;
+    }
+    return oer_types_read_modules(types, all, length, places, count, nesting, words, room);
+}
+
+static int is_understood(oer_understood answer, uint32_t status, uint32_t why, uint64_t text, uint64_t place, uint64_t line,
+                         uint64_t column, uint64_t words) {
+    return answer.status == status && answer.why == why && answer.text == text && answer.place == place &&
+        answer.line == line && answer.column == column && answer.words == words;
+}
+
+/* Modules that are rejected leave the types from before, and as many words as there is room for. */
+static void test_rejected_modules(const struct modules_row *row) {
+    static const size_t rooms[] = { 0, 1, 20, 256 };
+    const char *texts[2];
+    struct vector check = { CHECK, 0, "ff", 0, OER_NO_LIMIT, 0, 0, 0, 0, 0 };
+    oer_types types = types_of("BOOLEAN");
+    uint8_t words[300];
+    size_t i;
+    texts[0] = row->first;
+    texts[1] = row->second;
+    for (i = 0; i < COUNT(rooms); i++) {
+        size_t length = strlen(row->words) < rooms[i] ? strlen(row->words) : rooms[i];
+        oer_understood answer;
+        memset(words, 0xbb, sizeof words);
+        answer = read_modules(&types, texts, row->second ? 2 : 1, 0, (char *)words, rooms[i]);
+        EXPECT(is_understood(answer, OER_REJECTED, row->why, row->text, row->place, row->line, row->column, length), row->first);
+        EXPECT(memcmp(words, row->words, length) == 0 && are_all(words, length, sizeof words, 0xbb), (char *)words);
+    }
+    EXPECT(call(&types, "A", &check, 0, 0).octets == 1, row->first);
+    oer_types_free(&types);
+}
+
+/* A place that isn't all in the texts. */
+static void test_modules_outside(void) {
+    static const char text[] = MODULE("A ::= NULL");
+    static const oer_message outside[] = { { sizeof text, 0 }, { 1, sizeof text - 1 }, { (size_t)-1, 2 }, { 2, (size_t)-1 } };
+    oer_message places[2];
+    oer_types types = types_of("BOOLEAN");
+    struct vector check = { CHECK, 0, "ff", 0, OER_NO_LIMIT, 0, 0, 0, 0, 0 };
+    char words[4] = "abc";
+    size_t i;
+    places[0].at = 0;
+    places[0].length = strlen(text);
+    for (i = 0; i < COUNT(outside); i++) {
+        oer_understood answer;
+        places[1] = outside[i];
+        answer = oer_types_read_modules(&types, text, strlen(text), places, 2, 0, words, sizeof words);
+        EXPECT(is_understood(answer, OER_OUTSIDE, 0, 2, 0, 0, 0, 0), "a text that is outside");
+    }
+    EXPECT(strcmp(words, "abc") == 0 && call(&types, "A", &check, 0, 0).octets == 1, "a text that is outside");
+    EXPECT(oer_types_read_modules(&types, text, strlen(text), places, 1, 0, words, 0).status == OER_OK, text);
+    EXPECT(call(&types, "A", &check, 0, 0).octets == 0, "types in place of others");
+    places[0].length = 0;
+    EXPECT(oer_types_read_modules(&types, text, 0, places, 0, 0, words, 4).why == OER_MODULES_NO_TYPES, "no text");
+    oer_types_free(&types);
+}
+
+/* The modules of the example, by either order. */
+static void test_modules(const char *folder) {
+    static const char json[] = "{\"report\":{\"position\":{\"north\":1,\"east\":2}}}";
+    struct octets message = from_hex("80000000000100000002"), deep = from_hex("01818000"), out;
+    const char *texts[2];
+    oer_types types = types_of("BOOLEAN");
+    char words[4] = "abc";
+    int turn;
+    for (turn = 0; turn < 2; turn++) {
+        oer_written answer;
+        oer_checked checked;
+        texts[turn] = contents(folder, "../modules/common.asn");
+        texts[1 - turn] = contents(folder, "../modules/messages.asn");
+        EXPECT(is_understood(read_modules(&types, texts, 2, 0, words, sizeof words), OER_OK, 0, 0, 0, 0, 0, 0), "modules");
+        checked = oer_check_whole(&types, "Message", 7, message.at, message.length);
+        EXPECT(checked.status == OER_OK && checked.octets == message.length, "a message");
+        answer = oer_from_json(&types, "Message", 7, json, strlen(json), out.at, sizeof out.at);
+        EXPECT(answer.status == OER_OK && answer.written == message.length, "a message from JSON");
+        EXPECT(memcmp(out.at, message.at, message.length) == 0, "a message from JSON");
+        EXPECT(oer_check(&types, "Position", 8, message.at + 2, 8).octets == 8, "a type of the other text");
+        EXPECT(oer_check(&types, "Log", 3, message.at, message.length).status == OER_UNNAMED, "a type that is refused");
+        EXPECT(oer_check(&types, "A", 1, message.at, message.length).status == OER_UNNAMED, "the earlier types are gone");
+        checked = oer_check(&types, "Forwarded", 9, deep.at, deep.length);
+        EXPECT(checked.status == OER_REJECTED && checked.why == OER_INTEGER_RANGE && checked.octets == 3, "as deep as it fits");
+        EXPECT(read_modules(&types, texts, 2, 1, words, sizeof words).status == OER_OK, "nesting");
+        checked = oer_check(&types, "Forwarded", 9, deep.at, deep.length);
+        EXPECT(checked.status == OER_REJECTED && checked.why == OER_UNKNOWN_ALTERNATIVE && checked.octets == 3, "nesting 1");
+    }
+    EXPECT(strcmp(words, "abc") == 0, "no words");
+    oer_types_free(&types);
+}
+
 /* ---- the certificate of the example */
 
 static void test_certificate(const char *folder) {
@@ -489,6 +591,35 @@ static void fail_sharing_in_turn(void) {
     oer_types_free(&other);
 }
 
+/* Reading a text of modules where each growth fails in turn: the types and the words are those from before. Two growths it may do without,
+ * and then gives its own answer: room for all modules of the text at once, and for their places. */
+static void fail_modules_in_turn(const char *text, uint32_t status) {
+    struct vector check = { CHECK, 0, "ff", 0, OER_NO_LIMIT, 0, 0, 0, 0, 0 };
+    long start = blocks, without = 0, nth;
+    for (nth = 1;; nth++) {
+        oer_types types = types_of("BOOLEAN");
+        char words[256] = "abc";
+        long before = blocks;
+        oer_understood answer;
+        growths = 0;
+        fail_at = nth;
+        answer = read_modules(&types, &text, 1, 1, words, sizeof words);
+        fail_at = 0;
+        if (answer.status != status) {
+            EXPECT(is_understood(answer, OER_MEMORY, 0, 0, 0, 0, 0, 0), text);
+            EXPECT(blocks == before && strcmp(words, "abc") == 0, text);
+            EXPECT(call(&types, "A", &check, 0, 0).octets == 1, text);
+        }
+        oer_types_free(&types);
+        EXPECT(blocks == start, text);
+        if (growths < nth) {
+            EXPECT(answer.status == status && nth > 1 && without <= 2, text);
+            break;
+        }
+        without += answer.status == status;
+    }
+}
+
 /* Reading the text where each growth fails in turn: the types are those from before. */
 static long fail_text_in_turn(const char *text) {
     oer_types types = types_of("BOOLEAN");
@@ -516,8 +647,13 @@ static void test_memory(const char *folder) {
     for (i = 0; i < COUNT(vectors); i++) fail_in_turn(&vectors[i]);
     for (i = 0; i < COUNT(places); i++) fail_place_in_turn(&places[i]);
     fail_sharing_in_turn();
+    fail_modules_in_turn(MODULE("A ::= SEQUENCE {a INTEGER (0..most), b A OPTIONAL} B ::= SET {} most INTEGER ::= 7"), OER_OK);
+    for (i = 0; i < COUNT(rejected_modules); i++)
+        if (!rejected_modules[i].second && rejected_modules[i].why != OER_MODULES_NOT_UTF8)
+            fail_modules_in_turn(rejected_modules[i].first, OER_REJECTED);
     for (i = 0; i < COUNT(vectors); i++) {
         char text[1024];
+        if (i && strcmp(vectors[i].type, vectors[i - 1].type) == 0) continue;
         snprintf(text, sizeof text, "A ::= %s", vectors[i].type);
         failed += fail_text_in_turn(text);
     }
@@ -613,6 +749,10 @@ static void test_layout(void) {
     EXPECT(sizeof(oer_types) == 16 && offsetof(oer_types, at_) == 0 && offsetof(oer_types, full_) == 8, "oer_types");
     EXPECT(sizeof(oer_parsed) == 16 && offsetof(oer_parsed, status) == 0, "oer_parsed");
     EXPECT(offsetof(oer_parsed, why) == 4 && offsetof(oer_parsed, place) == 8, "oer_parsed");
+    EXPECT(sizeof(oer_understood) == 48 && offsetof(oer_understood, status) == 0, "oer_understood");
+    EXPECT(offsetof(oer_understood, why) == 4 && offsetof(oer_understood, text) == 8, "oer_understood");
+    EXPECT(offsetof(oer_understood, place) == 16 && offsetof(oer_understood, line) == 24, "oer_understood");
+    EXPECT(offsetof(oer_understood, column) == 32 && offsetof(oer_understood, words) == 40, "oer_understood");
     EXPECT(sizeof(oer_checked) == 24 && offsetof(oer_checked, status) == 0, "oer_checked");
     EXPECT(offsetof(oer_checked, why) == 4 && offsetof(oer_checked, octets) == 8, "oer_checked");
     EXPECT(offsetof(oer_checked, canonical) == 16, "oer_checked");
@@ -645,6 +785,9 @@ int main(int count, char **words) {
     for (i = 0; i < COUNT(rejected_texts); i++) test_rejected_text(&rejected_texts[i]);
     test_kept_types();
     test_read_within();
+    for (i = 0; i < COUNT(rejected_modules); i++) test_rejected_modules(&rejected_modules[i]);
+    test_modules_outside();
+    test_modules(words[1]);
     test_free_of_null();
     test_shared_types();
     test_certificate(words[1]);

@@ -1,5 +1,5 @@
 /* Calls and what they have to answer. The octets and answers are those of docs/COMMAND.md,
- * docs/NOTATION.md and docs/JSON.md, and of the tables of tests in Rattle, whose octets follow from
+ * docs/NOTATION.md and docs/JSON.md, and of the tables of oer_vectors, whose octets follow from
  * the standard. worked.h has the rows of oer_vectors: bindings/worked prints it. */
 #ifndef VECTORS_H
 #define VECTORS_H
@@ -212,6 +212,35 @@ static const struct rejected_text rejected_texts[] = {
     { "A ::= NULL  A ::= NULL", OER_TEXT_REPEATED, 12 },
     { "A ::= NULL  B ::= SEQUENCE OF A", OER_TEXT_EMPTY_ELEMENT, 18 },
     { "", OER_TEXT_SYNTAX, 0 }
+};
+
+/* Texts of modules that are rejected, at most two: the fields of the answer, and the words. */
+struct modules_row {
+    const char *first;
+    const char *second;
+    uint32_t why;
+    uint64_t text;
+    uint64_t place;
+    uint64_t line;
+    uint64_t column;
+    const char *words;
+};
+
+#define MODULE(definitions) "M DEFINITIONS AUTOMATIC TAGS ::= BEGIN\n" definitions "\nEND"
+
+static const struct modules_row rejected_modules[] = {
+    { "\377", 0, OER_MODULES_NOT_UTF8, 1, 0, 0, 0, "text 1: not UTF-8" },
+    { MODULE("A ::= NULL"), "N DEFINITIONS ::= BEGIN -- \303\244 \303", OER_MODULES_NOT_UTF8, 2, 30, 0, 0, "text 2: not UTF-8" },
+    { "\377", "\377", OER_MODULES_NOT_UTF8, 1, 0, 0, 0, "text 1: not UTF-8" },
+    { MODULE("A ::= }"), 0, OER_MODULES_SYNTAX, 1, 45, 2, 7, "text 1, line 2, column 7: expected a type, found \"}\"" },
+    { MODULE("A ::= NULL"), "N DEFINITIONS ::= BEGIN\n  B ::= NULL -- \303\244\n  C ::=\nEND", OER_MODULES_SYNTAX, 2, 51, 4, 1,
+      "text 2, line 4, column 1: expected a type, found \"END\"" },
+    { MODULE("/* \303\244 */ A ::= }"), 0, OER_MODULES_SYNTAX, 1, 54, 2, 15, "text 1, line 2, column 15: expected a type, found \"}\"" },
+    { MODULE("A ::= \"x"), 0, OER_MODULES_TOKEN, 1, 45, 2, 7, "text 1, line 2, column 7: no token begins here, or it has no end" },
+    { MODULE("A ::= SEQUENCE {a NULL"), 0, OER_MODULES_SYNTAX, 1, 62, 3, 1, "text 1, line 3, column 1: expected \"}\", found \"END\"" },
+    { "M DEFINITIONS ::= BEGIN", 0, OER_MODULES_SYNTAX, 1, 23, 1, 24, "text 1, line 1, column 24: expected a name, found the end of the text" },
+    { MODULE("A ::= SET {}"), 0, OER_MODULES_NO_TYPES, 0, 0, 0, 0, "A: text 1, line 2, column 7: SET isn't taken, at \"SET\"" },
+    { MODULE("a INTEGER ::= 1"), 0, OER_MODULES_NO_TYPES, 0, 0, 0, 0, "the modules give no types" }
 };
 
 #endif

@@ -423,6 +423,54 @@ static void test_parts() {
     EXPECT(oer::types::of(text, 3).ok() && types.read(text, 3).value() == 31, text);
 }
 
+// Modules that are rejected have an error with words, which is thrown as well.
+static void test_rejected_modules(const modules_row &row) {
+    std::vector<oer::text_in> texts(1, row.first);
+    if (row.second) texts.push_back(row.second);
+    oer::result<oer::types, oer::modules_error> none = oer::types::from_modules(texts);
+    const oer::modules_error &error = none.error();
+    EXPECT(error.status == OER_REJECTED && error.why == row.why && error.of == oer::subject::modules, row.first);
+    EXPECT(error.text == row.text && error.place == row.place && error.needed == 0, row.first);
+    EXPECT(error.line == row.line && error.column == row.column, row.first);
+    EXPECT(error.words == std::string(row.words), error.words);
+    try {
+        none.value();
+        EXPECT(false, "it throws");
+    } catch (const oer::modules_failure &thrown) {
+        EXPECT(thrown.what() == std::string(row.words) && thrown.error().line == row.line, thrown.what());
+    }
+    try {
+        std::move(none).value();
+        EXPECT(false, "it throws");
+    } catch (const oer::failure &thrown) {
+        EXPECT(thrown.what() == std::string(row.words) && thrown.error().why == row.why, thrown.what());
+    }
+}
+
+// The types of modules, from texts of each kind.
+static void test_modules(const std::string &folder) {
+    const std::vector<std::string> texts = { contents(folder + "/../modules/messages.asn"), contents(folder + "/../modules/common.asn") };
+    const bytes message = from_hex("80000000000100000002"), deep = from_hex("01818000");
+    oer::types types = oer::types::from_modules(texts).value();
+    EXPECT(types.check_whole("Message", message).ok(), "a message");
+    EXPECT(copy(types.from_json("Message", "{\"report\":{\"position\":{\"north\":1,\"east\":2}}}").value()) == message, "JSON");
+    EXPECT(is_only(types.check("Log", message).error(), OER_UNNAMED), "a type that is refused");
+    EXPECT(types.check("Forwarded", deep).error().why == OER_INTEGER_RANGE, "as deep as it fits");
+    const char *const letters[] = { texts[0].c_str(), texts[1].c_str() };
+    types = oer::types::from_modules(letters, 1).value();
+    EXPECT(types.check("Forwarded", deep).error().why == OER_UNKNOWN_ALTERNATIVE, "nesting 1");
+    EXPECT(oer::types::from_modules({ texts[1], texts[0].c_str() }).value().check_whole("Message", message).ok(), "a list");
+    EXPECT(oer::types::from_modules(std::array<oer::text_in, 1>{ { texts[1] } }).ok(), "std::array");
+    const char *null = nullptr;
+    oer::result<oer::types, oer::modules_error> none = oer::types::from_modules({ oer::text_in("A"), oer::text_in(null) });
+    EXPECT(is_only(none.error(), OER_OUTSIDE) && none.error().words[0] == 0, "no text");
+    EXPECT(oer::types::from_modules({ oer::text_in(null, 0) }).error().status == OER_REJECTED, "an empty text");
+    fail_new = true;
+    none = oer::types::from_modules(texts);
+    fail_new = false;
+    EXPECT(is_only(none.error(), OER_MEMORY) && none.error().text == 0, "memory");
+}
+
 // Types in place of others, by reading and by moving.
 static void test_kept_types() {
     const bytes octets(1, 0xff);
@@ -723,13 +771,14 @@ static void test_numbers(const std::string &file) {
         oer::subject of = oer::subject::octets;
         if (name.compare(0, 5, "TEXT_") == 0) of = oer::subject::definitions;
         if (name.compare(0, 5, "JSON_") == 0) of = oer::subject::json;
-        if (of != oer::subject::octets) name = name.substr(5);
+        if (name.compare(0, 8, "MODULES_") == 0) of = oer::subject::modules;
+        if (of != oer::subject::octets) name = name.substr(name.find('_') + 1);
         if (status) EXPECT(name == "REJECTED" || name_of(number, 0, of) == name, name);
         else EXPECT(name_of(OER_REJECTED, number, of) == name, name);
         statuses += status;
         tested++;
     }
-    EXPECT(tested == 54, std::to_string(tested) + " numbers");
+    EXPECT(tested == 59, std::to_string(tested) + " numbers");
     EXPECT(name_of(OER_REJECTED, 0, oer::subject::octets) == "UNKNOWN", "no reason");
     EXPECT(name_of(OER_REJECTED, 99, oer::subject::json) == "UNKNOWN", "no reason");
     EXPECT(name_of(99, 0, oer::subject::json) == "UNKNOWN", "no status");
@@ -814,6 +863,8 @@ int main(int count, char **words) {
     for (const vector &row : vectors) test_memory(row);
     for (const rejected_text &row : rejected_texts) test_rejected_text(row);
     test_parts();
+    for (const modules_row &row : rejected_modules) test_rejected_modules(row);
+    test_modules(words[1]);
     test_kept_types();
     test_shared_types();
     test_arguments();

@@ -1,7 +1,7 @@
 """Encodings of ASN.1 values by the octet encoding rules (ITU-T X.696), over the proved library liboer.
 
-A Types holds definitions that were read. By the types in it octets are checked, rewritten as canonical
-octets, taken apart, shown as JSON, and made from JSON:
+A Types holds the types of definitions, or of published modules, that were read. By the types in it octets are
+checked, rewritten as canonical octets, taken apart, shown as JSON, and made from JSON:
 
     with oer.Types("Flags ::= SEQUENCE OF BOOLEAN") as types:
         types.check("Flags", b"\\x02\\x00\\x02\\x01\\x07")   # Checked(octets=5, canonical=False)
@@ -34,8 +34,8 @@ from types import TracebackType
 from typing import Any, Callable, Dict, Iterable, List, NamedTuple, Optional, Sequence, Tuple, Type, Union
 
 __all__ = [
-    "__version__", "VERSION_NUMBER", "version", "Types", "Checked", "Canonical", "Json", "Part", "Place", "Reason", "TextReason", "JsonReason",
-    "Error", "Rejected", "OctetsRejected", "DefinitionsRejected", "JsonRejected", "NoTypes", "Unnamed",
+    "__version__", "VERSION_NUMBER", "version", "Types", "Checked", "Canonical", "Json", "Part", "Place", "Reason", "TextReason", "ModulesReason",
+    "JsonReason", "Error", "Rejected", "OctetsRejected", "DefinitionsRejected", "ModulesRejected", "JsonRejected", "NoTypes", "Unnamed",
     "OutOfMemory", "NoPath", "NoStep", "Absent", "NotJson", "Outside", "NotCanonical", "Follows",
 ]
 
@@ -96,6 +96,16 @@ class TextReason(enum.IntEnum):
     PARTS = 20  # all types together have more parts than they may have
 
 
+class ModulesReason(enum.IntEnum):
+    """Why modules are rejected (MODULES.md)."""
+
+    NOT_UTF8 = 0  # a text is not UTF-8 from the place on
+    TOKEN = 1  # no token begins at the place, or it has no end
+    SYNTAX = 2  # a token that the grammar doesn't have at the place, or the text ends there
+    TOO_DEEP = 3  # types or values nest too deep at the place
+    NO_TYPES = 4  # no definition is understood; the words say why the first one is refused
+
+
 class JsonReason(enum.IntEnum):
     """Why JSON is rejected (JSON.md)."""
 
@@ -106,7 +116,7 @@ class JsonReason(enum.IntEnum):
     MISFIT = 6  # a value of the right form that doesn't fit the type
 
 
-AnyReason = Union[Reason, TextReason, JsonReason]
+AnyReason = Union[Reason, TextReason, ModulesReason, JsonReason]
 
 
 class Error(Exception):
@@ -114,7 +124,7 @@ class Error(Exception):
 
 
 class Rejected(Error):
-    """Octets, definitions or JSON are rejected."""
+    """Octets, definitions, modules or JSON are rejected."""
 
     what = "input"
 
@@ -142,6 +152,30 @@ class DefinitionsRejected(Rejected):
     which the token or type begins that shows the fault, or from which on it is not UTF-8."""
 
     what = "definitions"
+
+
+class ModulesRejected(Rejected):
+    """Texts of modules are rejected, or no definition of them is understood. `reason` is a ModulesReason, `place` the
+    octet of the text, counted from 0, at which the fault shows, or from which on it is not UTF-8; None where it is in
+    none of the texts. The message has the words."""
+
+    what = "modules"
+
+    def __init__(self, reason: ModulesReason, place: Optional[int], text: Optional[int], line: Optional[int],
+                 column: Optional[int], words: str) -> None:
+        super().__init__(reason, place)
+        self.args = (f"{self.what} rejected: {words}",)
+        self.text = text
+        """Which of the texts it is, counted from 1."""
+        self.line = line
+        """The line of the place, counted from 1; None where the text is not UTF-8, or there is none."""
+        self.column = column
+        """Its column in characters, counted from 1; None where there is no line."""
+        self.words = words
+        """The fault in words, on one line."""
+
+    def __reduce__(self) -> Tuple[Any, ...]:
+        return (type(self), (self.reason, self.place, self.text, self.line, self.column, self.words))
 
 
 class JsonRejected(Rejected):
@@ -302,6 +336,7 @@ class Place(NamedTuple):
 _NO_LIMIT = 2**64 - 1
 _MOST = ctypes.c_size_t(-1).value  # the greatest place and length
 _KEPT = 65536  # a buffer of more octets is not kept for the next call
+_WORDS = 256  # how many octets of words there is room for
 
 
 class _Types(ctypes.Structure):
@@ -310,6 +345,11 @@ class _Types(ctypes.Structure):
 
 class _Parsed(ctypes.Structure):
     _fields_ = [("status", ctypes.c_uint32), ("why", ctypes.c_uint32), ("place", ctypes.c_uint64)]
+
+
+class _Understood(ctypes.Structure):
+    _fields_ = [("status", ctypes.c_uint32), ("why", ctypes.c_uint32), ("text", ctypes.c_uint64), ("place", ctypes.c_uint64),
+                ("line", ctypes.c_uint64), ("column", ctypes.c_uint64), ("words", ctypes.c_uint64)]
 
 
 class _Checked(ctypes.Structure):
@@ -360,6 +400,7 @@ def _load() -> ctypes.CDLL:
     given, out = [ctypes.c_char_p, size], [ctypes.c_void_p, size]
     calls: Dict[str, Tuple[Any, Any]] = {
         "oer_types_read_within": ([handle] + given + [limit], _Parsed),
+        "oer_types_read_modules": ([handle] + given + [ctypes.c_void_p, size, ctypes.c_uint8] + out, _Understood),
         "oer_types_free": ([handle], None),
         "oer_types_share": ([handle, handle], ctypes.c_uint32),
         "oer_check": ([handle] + given + given, _Checked),
@@ -433,6 +474,20 @@ def _limited(limit: Optional[int]) -> int:
     return min(number, _NO_LIMIT)
 
 
+def _nesting(nesting: int) -> int:
+    """A nesting as the library takes it."""
+    number = _number(nesting)
+    if not 0 <= number <= 255:
+        raise ValueError("a nesting is from 0 to 255")
+    return number
+
+
+def _contents(path: Any) -> bytes:
+    """The octets of a file."""
+    with open(path, "rb") as file:
+        return file.read()
+
+
 def _in_order(items: Any, what: str) -> Iterable[Any]:
     """Items that are in an order, and are not the keys of a mapping or octets, which would be taken for numbers."""
     if isinstance(items, (collections.abc.Mapping, set, frozenset, str, bytes, bytearray, memoryview)):
@@ -489,6 +544,38 @@ class Types:
             raise DefinitionsRejected(TextReason(parsed.why), parsed.place)
         if parsed.status != _OK:
             raise _error(parsed.status)
+
+    @classmethod
+    def from_modules(cls, *paths: Any, nesting: int = 0) -> "Types":
+        """The types of published ASN.1 modules (MODULES.md) in these files, in any order: those of all definitions that
+        are understood, each by its name. A file has one module or more. A type that contains itself is written out so
+        often as `nesting` says, from 1 to 255; 0 stands for the most that fits, up to 8.
+
+        Raises ModulesRejected if a text is not UTF-8 or can't be read, or if no definition is understood; and what
+        open() raises.
+        """
+        return cls.from_module_texts(*(_contents(path) for path in paths), nesting=nesting)
+
+    @classmethod
+    def from_module_texts(cls, *texts: Text, nesting: int = 0) -> "Types":
+        """The same of these texts.
+
+        Raises ModulesRejected.
+        """
+        given = [_text(text) for text in texts]
+        places, at = (_Message * len(given))(), 0
+        for place, text in zip(places, given):
+            place.at, place.length = at, len(text)
+            at += len(text)
+        types, words = cls(), ctypes.create_string_buffer(_WORDS)
+        answer = types._call(_library.oer_types_read_modules, b"".join(given), at, places, len(places), _nesting(nesting),
+                             words, _WORDS)
+        if answer.status == _REJECTED:
+            raise ModulesRejected(ModulesReason(answer.why), answer.place if answer.text else None, answer.text or None,
+                                  answer.line or None, answer.column or None, _readable(words.raw[:answer.words]))
+        if answer.status != _OK:
+            raise _error(answer.status)
+        return types
 
     def close(self) -> None:
         """Frees the types. After it there are none, and types may be read again. It may be called twice."""

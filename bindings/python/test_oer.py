@@ -22,6 +22,7 @@ import oer
 
 HERE = os.path.dirname(os.path.abspath(__file__))
 EXAMPLE = os.path.join(HERE, "..", "..", "examples", "ieee1609dot2")
+MODULES = [os.path.join(HERE, "..", "..", "examples", "modules", name) for name in ("messages.asn", "common.asn")]
 
 
 def table() -> List[List[str]]:
@@ -200,6 +201,44 @@ class Calls(unittest.TestCase):
         self.assertEqual(self.raised(lambda: oer.Types(text, parts=2)), (oer.DefinitionsRejected, 20, 11))
         self.assertEqual(self.raised(lambda: oer.Types(text, parts=0)), (oer.DefinitionsRejected, 20, 0))
         self.assertRaises(ValueError, oer.Types, text, -1)
+
+    def test_rejected_modules(self) -> None:
+        for first, second, why, *numbers, words in rows("modules"):
+            texts = [from_hex(first)] + ([] if second == "-" else [from_hex(second)])
+            text, place, line, column = (int(number) for number in numbers)
+            with self.subTest(texts=texts), self.assertRaises(oer.ModulesRejected) as caught:
+                oer.Types.from_module_texts(*texts)
+            rejected = caught.exception
+            self.assertEqual((rejected.reason, rejected.text or 0, rejected.place or 0), (int(why), text, place))
+            self.assertEqual((rejected.line or 0, rejected.column or 0), (line, column))
+            self.assertEqual((rejected.place is None, rejected.line is None), (text == 0, line == 0))
+            self.assertEqual(rejected.words, from_hex(words).decode("ascii"))
+            self.assertEqual(str(rejected), "modules rejected: " + rejected.words)
+            again = pickle.loads(pickle.dumps(rejected))
+            self.assertEqual((str(again), vars(again)), (str(rejected), vars(rejected)))
+        self.assertEqual(self.raised(oer.Types.from_modules), (oer.ModulesRejected, oer.ModulesReason.NO_TYPES, None))
+
+    def test_modules(self) -> None:
+        message = bytes.fromhex("80000000000100000002")
+        texts = []
+        for path in MODULES:
+            with open(path, encoding="utf-8") as file:
+                texts.append(file.read())
+        for types in (oer.Types.from_modules(*MODULES), oer.Types.from_module_texts(*texts[::-1], nesting=0)):
+            self.assertIsNone(types.check_whole("Message", message))  # type: ignore[func-returns-value]
+            json = '{"report":{"position":{"north":1,"east":2}}}'
+            self.assertEqual(types.from_json("Message", json), message)
+            self.assertEqual(types.from_json("Message", types.to_json("Message", message).text), message)
+            self.assertEqual(self.raised(lambda: types.check("Log", message)), (oer.Unnamed, None, None))
+            deep = self.raised(lambda: types.check("Forwarded", bytes.fromhex("01818000")))
+            self.assertEqual(deep, (oer.OctetsRejected, oer.Reason.INTEGER_RANGE, 3))
+        types = oer.Types.from_modules(*MODULES, nesting=1)
+        deep = self.raised(lambda: types.check("Forwarded", bytes.fromhex("01818000")))
+        self.assertEqual(deep, (oer.OctetsRejected, oer.Reason.UNKNOWN_ALTERNATIVE, 3))
+        for nesting in (-1, 256, 2**70):
+            self.assertRaises(ValueError, lambda: oer.Types.from_modules(*MODULES, nesting=nesting))
+        self.assertRaises(TypeError, lambda: oer.Types.from_module_texts(5))  # type: ignore[arg-type]
+        self.assertRaises(FileNotFoundError, lambda: oer.Types.from_modules(os.path.join(HERE, "none.asn")))
 
     def test_types_in_place_of_others(self) -> None:
         types = types_of(b"BOOLEAN")
@@ -492,6 +531,7 @@ class Header(unittest.TestCase):
     def test_numbers(self) -> None:
         found = {"OER_" + reason.name: reason.value for reason in oer.Reason}
         found.update({"OER_TEXT_" + reason.name: reason.value for reason in oer.TextReason})
+        found.update({"OER_MODULES_" + reason.name: reason.value for reason in oer.ModulesReason})
         found.update({"OER_JSON_" + reason.name: reason.value for reason in oer.JsonReason})
         statuses = "OK REJECTED NO_TYPES UNNAMED MEMORY ROOM NO_PATH NO_STEP ABSENT NO_JSON OUTSIDE "
         statuses += "NOT_CANONICAL FOLLOWS"
@@ -502,7 +542,8 @@ class Header(unittest.TestCase):
         def place(field: Any) -> str:
             return f"{field.offset}+{field.size}"
 
-        structs = {"oer_types": oer._Types, "oer_parsed": oer._Parsed, "oer_checked": oer._Checked,
+        structs = {"oer_types": oer._Types, "oer_parsed": oer._Parsed, "oer_understood": oer._Understood,
+                   "oer_checked": oer._Checked,
                    "oer_message": oer._Message, "oer_written": oer._Written, "oer_located": oer._Located}
         found = [
             [name, str(ctypes.sizeof(struct))] + [place(getattr(struct, field[0])) for field in struct._fields_]

@@ -1,7 +1,7 @@
 //! Why a call has no answer.
 
 use crate::sys;
-use crate::{JsonReason, Reason, TextReason};
+use crate::{JsonReason, ModulesReason, Reason, TextReason};
 use std::fmt;
 
 /// Why a call has no answer. Each call says which of these it may return.
@@ -166,6 +166,71 @@ impl fmt::Display for Error {
 }
 
 impl std::error::Error for Error {}
+
+/// Why modules are not read.
+#[derive(Clone, Debug, PartialEq, Eq)]
+#[non_exhaustive]
+pub enum ModulesError {
+    /// A text is rejected, or what is understood of the modules is.
+    Rejected(RejectedModules),
+    /// An allocation failed, here or in the library.
+    Memory,
+    /// A status or reason that this crate doesn't know. No library of the version that the crate was
+    /// made for answers it.
+    Unknown {
+        /// The status.
+        status: u32,
+        /// The reason.
+        why: u32,
+    },
+}
+
+/// Where modules are rejected, and why.
+#[derive(Clone, Debug, PartialEq, Eq)]
+pub struct RejectedModules {
+    /// What is wrong.
+    pub reason: ModulesReason,
+    /// Which of the texts it is, counted from 1; 0 where the fault is in none of them.
+    pub text: u64,
+    /// The octet of that text at which the fault shows, or from which on it is not UTF-8, counted from 0.
+    pub place: u64,
+    /// The line of that octet, counted from 1; 0 where the text is not UTF-8, or there is none.
+    pub line: u64,
+    /// Its column in characters, counted from 1; 0 where there is no line.
+    pub column: u64,
+    /// The fault in words, on one line: `text 1, line 12, column 5: expected a type, found "}"`.
+    pub words: String,
+}
+
+impl ModulesError {
+    /// The error of an answer that is not OK, with its words.
+    pub(crate) fn of(answer: &sys::OerUnderstood, words: String) -> ModulesError {
+        match ModulesReason::from_number(answer.why) {
+            Some(reason) if answer.status == sys::REJECTED => ModulesError::Rejected(RejectedModules {
+                reason,
+                text: answer.text,
+                place: answer.place,
+                line: answer.line,
+                column: answer.column,
+                words,
+            }),
+            _ if answer.status == sys::MEMORY => ModulesError::Memory,
+            _ => ModulesError::Unknown { status: answer.status, why: answer.why },
+        }
+    }
+}
+
+impl fmt::Display for ModulesError {
+    fn fmt(&self, out: &mut fmt::Formatter<'_>) -> fmt::Result {
+        match self {
+            ModulesError::Rejected(rejected) => write!(out, "modules rejected: {}", rejected.words),
+            ModulesError::Memory => out.write_str("an allocation failed"),
+            ModulesError::Unknown { status, why } => write!(out, "status {status}, reason {why}"),
+        }
+    }
+}
+
+impl std::error::Error for ModulesError {}
 
 #[cfg(test)]
 mod tests {

@@ -1,8 +1,8 @@
 //! Encodings of ASN.1 values by the octet encoding rules (ITU-T X.696), over the proved library
 //! `liboer`.
 //!
-//! [`Types`] holds definitions that were read. By the types in it octets are checked, rewritten as
-//! canonical octets, taken apart, shown as JSON, and made from JSON.
+//! [`Types`] holds the types of definitions, or of published modules, that were read. By the types in it octets
+//! are checked, rewritten as canonical octets, taken apart, shown as JSON, and made from JSON.
 //!
 //! ```
 //! # fn main() -> Result<(), oer::Error> {
@@ -43,8 +43,8 @@ mod sys;
 #[path = "../tests/table/mod.rs"]
 mod table;
 
-pub use error::Error;
-pub use reason::{JsonReason, Reason, TextReason};
+pub use error::{Error, ModulesError, RejectedModules};
+pub use reason::{JsonReason, ModulesReason, Reason, TextReason};
 
 use std::cell::UnsafeCell;
 use std::fmt;
@@ -218,6 +218,61 @@ impl Types {
         match parsed.status {
             sys::OK => Ok(()),
             status => Err(Error::of_definitions(status, parsed.why, parsed.place)),
+        }
+    }
+
+    /// The types of published ASN.1 modules (MODULES.md): those of all definitions that are understood, each by
+    /// its name. A text has one module or more; they stand in any order. A type that contains itself is written
+    /// out so often as `nesting` says; 0 stands for the most that fits, up to 8.
+    ///
+    /// # Errors
+    ///
+    /// [`ModulesError::Rejected`] if a text is not UTF-8 or can't be read, or if no definition is understood, and
+    /// [`ModulesError::Memory`].
+    ///
+    /// ```
+    /// let text = "M DEFINITIONS ::= BEGIN Hops ::= INTEGER (0..most) most INTEGER ::= 15 END";
+    /// let types = oer::Types::from_modules(&[text], 0)?;
+    /// assert!(types.check("Hops", &[0x0f]).is_ok());
+    /// let rejected = oer::Types::from_modules(&["M DEFINITIONS ::= BEGIN Hops ::= END"], 0).unwrap_err();
+    /// assert_eq!(
+    ///     rejected.to_string(),
+    ///     "modules rejected: text 1, line 1, column 34: expected a type, found \"END\"",
+    /// );
+    /// # Ok::<(), oer::ModulesError>(())
+    /// ```
+    pub fn from_modules(texts: &[impl AsRef<[u8]>], nesting: u8) -> Result<Types, ModulesError> {
+        let mut all = Vec::new();
+        let mut places = Vec::new();
+        places.try_reserve_exact(texts.len()).map_err(|_| ModulesError::Memory)?;
+        for text in texts {
+            let text = text.as_ref();
+            all.try_reserve(text.len()).map_err(|_| ModulesError::Memory)?;
+            places.push(sys::OerMessage { at: all.len(), length: text.len() });
+            all.extend_from_slice(text);
+        }
+        let types = Types::new();
+        let mut words = [0; 256];
+        // SAFETY: the handle was made by `new` and is in no other call. The slices are as long as it says, and
+        // `words` overlaps nothing.
+        let answer = unsafe {
+            sys::oer_types_read_modules(
+                types.held.get(),
+                all.as_ptr().cast(),
+                all.len(),
+                places.as_ptr(),
+                places.len(),
+                nesting,
+                words.as_mut_ptr().cast::<c_char>(),
+                words.len(),
+            )
+        };
+        match answer.status {
+            sys::OK => Ok(types),
+            _ => {
+                let words = String::from_utf8_lossy(&words[..answer.words as usize]).into_owned();
+                Err(ModulesError::of(&answer, words))
+            }
         }
     }
 

@@ -127,6 +127,22 @@ reasons! {
 }
 
 reasons! {
+    /// Why modules are rejected (MODULES.md).
+    ModulesReason {
+        /// A text is not UTF-8 from the place on.
+        NotUtf8 = 0,
+        /// No token begins at the place, or it has no end.
+        Token = 1,
+        /// A token that the grammar doesn't have at the place, or the text ends there.
+        Syntax = 2,
+        /// Types or values nest too deep at the place.
+        TooDeep = 3,
+        /// No definition is understood. The words say why the first one is refused.
+        NoTypes = 4,
+    }
+}
+
+reasons! {
     /// Why JSON is rejected (JSON.md).
     JsonReason {
         /// JSON of another kind than the type's values have, or of another form.

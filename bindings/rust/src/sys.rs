@@ -16,6 +16,17 @@ pub struct OerParsed {
 }
 
 #[repr(C)]
+pub struct OerUnderstood {
+    pub status: u32,
+    pub why: u32,
+    pub text: u64,
+    pub place: u64,
+    pub line: u64,
+    pub column: u64,
+    pub words: u64,
+}
+
+#[repr(C)]
 pub struct OerMessage {
     pub at: usize,
     pub length: usize,
@@ -65,6 +76,16 @@ extern "C" {
     pub fn oer_version() -> u32;
     pub fn oer_types_read(types: *mut OerTypes, text: *const c_char, text_length: usize) -> OerParsed;
     pub fn oer_types_read_within(types: *mut OerTypes, text: *const c_char, text_length: usize, parts: u64) -> OerParsed;
+    pub fn oer_types_read_modules(
+        types: *mut OerTypes,
+        texts: *const c_char,
+        texts_length: usize,
+        places: *const OerMessage,
+        places_length: usize,
+        nesting: u8,
+        words: *mut c_char,
+        room: usize,
+    ) -> OerUnderstood;
     pub fn oer_types_free(types: *mut OerTypes);
     pub fn oer_types_share(types: *mut OerTypes, other: *mut OerTypes) -> u32;
     pub fn oer_check(
@@ -172,6 +193,7 @@ mod tests {
         let found = [
             ("oer_types", layout!(OerTypes, at_, full_)),
             ("oer_parsed", layout!(OerParsed, status, why, place)),
+            ("oer_understood", layout!(OerUnderstood, status, why, text, place, line, column, words)),
             ("oer_checked", layout!(OerChecked, status, why, octets, canonical)),
             ("oer_message", layout!(OerMessage, at, length)),
             ("oer_written", layout!(OerWritten, status, why, octets, written)),

@@ -3,7 +3,9 @@
 
 mod table;
 
-use oer::{Checked, Error, JsonReason, Reason, TextReason, Types, Written, NO_LIMIT};
+use oer::{
+    Checked, Error, JsonReason, ModulesError, ModulesReason, Reason, RejectedModules, TextReason, Types, Written, NO_LIMIT,
+};
 use std::env;
 use std::fs;
 use std::ops::Range;
@@ -223,6 +225,40 @@ fn rejected_definitions_leave_the_types() {
     }
 }
 
+#[test]
+fn rejected_modules_are_said_in_words() {
+    for row in table::rows("modules") {
+        let number = |place: usize| row[place].parse::<u64>().unwrap();
+        let texts: Vec<_> = row[..2].iter().filter(|text| *text != "-").map(|text| from_hex(text)).collect();
+        let wanted = ModulesError::Rejected(RejectedModules {
+            reason: ModulesReason::from_number(number(2) as u32).unwrap(),
+            text: number(3),
+            place: number(4),
+            line: number(5),
+            column: number(6),
+            words: String::from_utf8(from_hex(&row[7])).unwrap(),
+        });
+        assert_eq!(Types::from_modules(&texts, 0).unwrap_err(), wanted);
+    }
+    let rejected: Box<dyn std::error::Error> = Box::new(Types::from_modules(&["M"; 0], 0).unwrap_err());
+    assert_eq!(rejected.to_string(), "modules rejected: the modules give no types");
+}
+
+#[test]
+fn the_modules_of_the_example() {
+    let folder = Path::new(env!("CARGO_MANIFEST_DIR")).join("../../examples/modules");
+    let texts = ["messages.asn", "common.asn"].map(|name| fs::read_to_string(folder.join(name)).unwrap());
+    let types = Types::from_modules(&texts, 0).unwrap();
+    let message = [0x80, 0, 0, 0, 0, 1, 0, 0, 0, 2];
+    let json = r#"{"report":{"position":{"north":1,"east":2}}}"#;
+    assert_eq!(types.check_whole("Message", &message), Ok(()));
+    assert_eq!(types.from_json("Message", json).unwrap(), message);
+    assert_eq!(types.check("Log", &message), Err(Error::Unnamed));
+    let nested = |types: &Types| types.check("Forwarded", &[0x01, 0x81, 0x80, 0x00]).unwrap_err().reason();
+    assert_eq!(nested(&types), Some("IntegerRange"));
+    assert_eq!(nested(&Types::from_modules(&texts, 1).unwrap()), Some("UnknownAlternative"));
+}
+
 /// The name of the header without its underscores, in small letters.
 fn spelt(name: &str) -> String {
     name.replace('_', "").to_lowercase()
@@ -233,15 +269,16 @@ fn numbers_are_those_of_the_header() {
     let rows = table::rows("number");
     for row in &rows[13..] {
         let (name, number) = (row[0].strip_prefix("OER_").unwrap(), row[1].parse().unwrap());
-        let (found, name) = match (name.strip_prefix("TEXT_"), name.strip_prefix("JSON_")) {
-            (Some(name), _) => (TextReason::from_number(number).map(|why| (why.name(), why.number())), name),
-            (_, Some(name)) => (JsonReason::from_number(number).map(|why| (why.name(), why.number())), name),
+        let (found, name) = match name.split_once('_') {
+            Some(("TEXT", name)) => (TextReason::from_number(number).map(|why| (why.name(), why.number())), name),
+            Some(("MODULES", name)) => (ModulesReason::from_number(number).map(|why| (why.name(), why.number())), name),
+            Some(("JSON", name)) => (JsonReason::from_number(number).map(|why| (why.name(), why.number())), name),
             _ => (Reason::from_number(number).map(|why| (why.name(), why.number())), name),
         };
         let (found, again) = found.unwrap();
         assert_eq!((found.to_lowercase(), again), (spelt(name), number));
     }
-    assert_eq!(rows.len(), 54);
+    assert_eq!(rows.len(), 59);
     assert_eq!((Reason::from_number(2), TextReason::from_number(1), JsonReason::from_number(7)), (None, None, None));
     assert_eq!(table::rows("version")[0][0], oer::version().to_string());
 }

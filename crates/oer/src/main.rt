@@ -5,52 +5,53 @@ use oer_cmd::{NoStart, run, stop};
 use oer_module_cmd::rewrite;
 use oer_module_options::Command;
 use oer_types_cmd::run_types;
-use std::io::{BufReader, ErrorKind};
+use std::alloc::Global;
+use std::env;
+use std::io::{BufReader, ErrorKind, Read, Write};
 use std::process::ExitCode;
+
+// The arguments, the program's name first.
+fn arguments(rt: &HostRuntime) -> Result<Vec<String>, NoStart> {
+    let words = match env::args(rt) {
+        Ok(words) => words,
+        Err(error) if error.kind() == ErrorKind::InvalidData => return Err(NoStart::NoText),
+        Err(_) => return Err(NoStart::NoMemory),
+    };
+    match words.collect::<Vec<String>>(rt.alloc()) {
+        Ok(words) => Ok(words),
+        Err(_) => Err(NoStart::NoMemory),
+    }
+}
+
+// Does what the arguments ask for. The status.
+fn answer<R: Read, W: Write, E: Write>(
+    alloc: Global,
+    words: Vec<String>,
+    input: &mut R,
+    output: &mut W,
+    errors: &mut E,
+) -> u8 {
+    if let Some(status) = run_types(alloc, words.as_slice(), input, output, errors) {
+        return status;
+    }
+    let rewritten = rewrite(alloc, Command::Oer, words.as_slice(), input, errors);
+    let words = match rewritten {
+        Ok(rewritten) => rewritten.unwrap_or(words),
+        Err(status) => return status,
+    };
+    run(alloc, words.as_slice(), input, output, errors)
+}
 
 fn main(rt: HostRuntime) -> ExitCode {
     let alloc = rt.alloc();
     let mut errors = rt.stderr();
-    let words = match std::env::args(&rt) {
+    let words = match arguments(&rt) {
         Ok(words) => words,
-        Err(error) if error.kind() == ErrorKind::InvalidData => {
-            return ExitCode::from(stop(NoStart::NoText, &mut errors));
-        }
-        Err(_) => return ExitCode::from(stop(NoStart::NoMemory, &mut errors)),
-    };
-    let Ok(words) = words.collect::<Vec<String>>(alloc) else {
-        return ExitCode::from(stop(NoStart::NoMemory, &mut errors));
+        Err(why) => return ExitCode::from(stop(why, &mut errors)),
     };
     let Ok(mut input) = BufReader::new(alloc, rt.reader()) else {
         return ExitCode::from(stop(NoStart::NoMemory, &mut errors));
     };
-    let types = run_types(
-        alloc,
-        words.as_slice(),
-        &mut input,
-        &mut rt.stdout(),
-        &mut errors,
-    );
-    if let Some(status) = types {
-        return ExitCode::from(status);
-    }
-    let rewritten = rewrite(
-        alloc,
-        Command::Oer,
-        words.as_slice(),
-        &mut input,
-        &mut errors,
-    );
-    let words = match rewritten {
-        Ok(rewritten) => rewritten.unwrap_or(words),
-        Err(status) => return ExitCode::from(status),
-    };
-    let status = run(
-        alloc,
-        words.as_slice(),
-        &mut input,
-        &mut rt.stdout(),
-        &mut errors,
-    );
+    let status = answer(alloc, words, &mut input, &mut rt.stdout(), &mut errors);
     ExitCode::from(status)
 }

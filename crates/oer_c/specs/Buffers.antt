@@ -1,5 +1,5 @@
 -- Octets put into a buffer of the caller's.
-use Rattle.std.specs.Prelude.{◌≡◌, ◌<◌, ◌≤◌, ℕ, Bool, true, false, List, ◌++◌, drop, length, ◌⊎◌}
+use Rattle.std.specs.Prelude.{◌≡◌, ◌<◌, ◌≤◌, ℕ, Bool, true, false, List, ◌++◌, drop, take, length, min, ◌⊎◌}
 use Rattle.oer_units.specs.Faults.{why_number}
 use Rattle.oer_units.specs.declared.fault.ReadFault.{ReadFault}
 use Rattle.oer_c.specs.declared.buffer.Written.{Written}
@@ -28,3 +28,7 @@ IsPut c taken old new a = ((a ≡ wrote 0 taken (length c)) × (length c ≤ len
 -- nothing but this status is answered, and the buffer is as before
 abbrev pub IsUndone : List ℕ → List ℕ → Written → ℕ → Type 0
 IsUndone old new a status = (a ≡ only_written status) × (new ≡ old)
+
+-- The first n octets of c are at the front of the buffer, as many as it has room for, and the rest is as before.
+abbrev pub IsFront : List ℕ → List ℕ → List ℕ → ℕ → Type 0
+IsFront c old new n = (n ≡ min (length c) (length old)) × (new ≡ take n c ++ drop n old)

@@ -6,7 +6,7 @@ use Rattle.oer_notation.specs.Parsing.{parse_all}
 use Rattle.oer_notation.specs.Reading.{Known}
 use Rattle.oer_notation.specs.Views.{knowns}
 use Rattle.oer_notation.specs.Within.{parse_within, parts_of}
-use Rattle.oer_notation.specs.declared.within.WithinFault.TheVariants.{Parts}
+use Rattle.oer_notation.specs.declared.within.WithinFault.TheVariants.{Parts, Text}
 use Rattle.oer_value_notation.specs.declared.fault.TextFault.{TextFault}
 use Rattle.oer_value_notation.specs.declared.fault.TextWhy.TheVariants.{Memory}
 use Rattle.oer_notation.specs.declared.types.Types.{Types}
@@ -37,12 +37,15 @@ abbrev pub IsRead : List ℕ → Option Types → Option Types → Parsed → Ty
 IsRead text old new p = ((t : Types) × (new ≡ Some t) × SpellsAll (knowns t) text × (p ≡ answer 0 0 (length text)))
     ⊎ ((new ≡ old) × IsRejected text p)
 
--- The text is rejected, however many parts its types may have; or they have more parts together, and the definition with which they do,
--- the first such fault from the left, begins at the place.
+-- The text is not UTF-8; or it spells no well-formed types, however many parts they may have; or these have more parts together, and the
+-- definition with which they do begins at the place. Of the last two it is the one that comes first from the left. Or an allocation failed.
 abbrev pub IsRejectedWithin : ℕ → List ℕ → Parsed → Type 0
-IsRejectedWithin most text p = IsRejected text p
+IsRejectedWithin most text p = (p ≡ answer 4 0 0)
+    ⊎ (IsNotUtf8 text p
+    ⊎ (((fault : TextFault) × (p ≡ answer 1 (text_number fault.why) fault.at) × (parse_within most text ≡ Err (Text fault)) × (parse_all text ≡ Err fault)
+    × ((definitions : List Known) → SpellsAll definitions text → AreWellFormed definitions → ⊥))
     ⊎ ((place : ℕ) × (p ≡ answer 1 20 place) × (parse_within most text ≡ Err (Parts place))
-    × ((definitions : List Known) → parse_all text ≡ Ok definitions → most < parts_of definitions))
+    × ((definitions : List Known) → parse_all text ≡ Ok definitions → most < parts_of definitions))))
 
 -- There are types that the text spells, of no more parts together; or the text is rejected, and there are those from before.
 abbrev pub IsReadWithin : ℕ → List ℕ → Option Types → Option Types → Parsed → Type 0

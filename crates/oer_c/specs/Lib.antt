@@ -10,3 +10,4 @@ pub mod Rewriting
 pub mod Parts
 pub mod Showing
 pub mod Making
+pub mod Modules

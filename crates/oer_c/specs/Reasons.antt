@@ -1,5 +1,9 @@
--- The numbers of the reasons for which texts and JSON are rejected.
+-- The numbers of the reasons for which texts, modules and JSON are rejected.
 use Rattle.std.specs.Prelude.{ℕ}
+use Rattle.oer_module_syntax.specs.declared.fault.Why.TheVariants as unread
+use Rattle.oer_module_text.specs.declared.error.Why as refused
+use Rattle.oer_module_text.specs.declared.error.Why.TheVariants as refusals
+use Rattle.oer_module_values.specs.declared.error.Why.TheVariants as unresolved
 use Rattle.oer_model.specs.declared.fault.SchemaFault.{SchemaFault}
 use Rattle.oer_model.specs.declared.fault.SchemaFault.TheVariants.{TooDeep, TooManyParts, BoundOrder, SizeOrder, BadName, RepeatedName, NoItems, RepeatedNumber, RepeatedTag, DefaultMisfit, EmptyElement}
 use Rattle.oer_value_notation.specs.declared.fault.TextWhy.{TextWhy}
@@ -30,6 +34,12 @@ text_number text.Repeated = 6
 text_number text.Mixed = 7
 text_number text.Default = 8
 text_number (text.Schema fault) = schema_number fault
+
+-- of a text of modules that can't be read: its tokens, its levels, and else its syntax
+abbrev pub modules_number : refused.Why → ℕ
+modules_number (refusals.Unresolved (unresolved.Unread unread.Token)) = 1
+modules_number (refusals.Unresolved (unresolved.Unread unread.TooDeep)) = 3
+modules_number _ = 2
 
 abbrev pub json_number : JsonFault → ℕ
 json_number json.Memory = 1

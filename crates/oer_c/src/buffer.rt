@@ -1,6 +1,6 @@
 //! Octets put into a buffer of the caller's.
 ghost use Rattle.std.specs.Prelude.{◌≡◌, leb, length};
-ghost use Rattle.oer_c.specs.Buffers.{IsFilled, IsPut, only_written, rejection, wrote};
+ghost use Rattle.oer_c.specs.Buffers.{IsFilled, IsFront, IsPut, only_written, rejection, wrote};
 
 use crate::status::{OK, REJECTED, ROOM};
 use oer_units::ReadFault;
@@ -83,4 +83,13 @@ pub(crate) fn put(out: &mut [u8], octets: &[u8], taken: u64) -> Written
         octets: taken,
         written: octets.len() as u64,
     }
+}
+
+/// Puts as much of the octets at the front of the buffer as it has room for, and returns how many these are.
+pub(crate) fn put_front(out: &mut [u8], octets: &[u8]) -> usize
+    ensures { IsFront octets.now out.old out.new result }
+{
+    let count = octets.len().min(out.len());
+    out[..count].copy_from_slice(&octets[..count]);
+    count
 }

@@ -11,7 +11,7 @@ use crate::handle::Handle;
 use crate::reason;
 use crate::shared::Shared;
 use crate::status::{MEMORY, OK, REJECTED};
-use oer_text::{TextFault, TextWhy, Types, WithinFault, parse_types, parse_types_within};
+use oer_notation::{TextFault, TextWhy, Types, WithinFault, parse_types, parse_types_within};
 use std::alloc::Global;
 
 /// What reading definitions answers. It takes 16 octets: `status` at 0, `why` at 4 and `place` at 8.
@@ -71,8 +71,8 @@ fn utf8(text: &[u8]) -> Result<&str, Parsed>
     }
 }
 
-// The definitions of the text, on the heap.
-fn read(alloc: Global, text: &[u8]) -> Result<Box<Shared>, Parsed>
+/// The definitions of the text, on the heap.
+pub(crate) fn read(alloc: Global, text: &[u8]) -> Result<Box<Shared>, Parsed>
     ensures spells { IfOk result (λ shared. SpellsAll (knowns (types_in shared.value)) text.now) }
     ensures rejected { IfErr result (IsRejected text.now) }
 {
@@ -95,8 +95,8 @@ fn read_within(alloc: Global, text: &[u8], parts: u64) -> Result<Box<Shared>, Pa
     }
 }
 
-// Gives the handle these types, in place of those that it had.
-fn keep(alloc: Global, types: &mut Handle, found: Box<Shared>)
+/// Gives the handle these types, in place of those that it had.
+pub(crate) fn keep(alloc: Global, types: &mut Handle, found: Box<Shared>)
     ensures { types_of types.new.held.shared ≡ Some (types_in found.value) }
 {
     let _earlier = types.take(alloc);

@@ -10,6 +10,7 @@ mod handle;
 mod held;
 mod make;
 mod many;
+mod modules;
 mod naming;
 mod part;
 mod part_at;

@@ -10,7 +10,7 @@ use crate::check::{Checked, judged, only};
 use crate::handle::Handle;
 use crate::naming::find_type;
 use crate::status::{NO_TYPES, OK, OUTSIDE, ROOM, UNNAMED};
-use oer_text::Types;
+use oer_notation::Types;
 use oer_types::Schema;
 use std::alloc::Global;
 
@@ -26,8 +26,8 @@ pub struct Message {
 
 const _: () = prove!(size_of::<Message>() == 16);
 
-// The octets of the message, if all of them are there.
-fn cut(octets: &[u8], message: Message) -> Option<&[u8]>
+/// The octets of the message, if all of them are there.
+pub(crate) fn cut(octets: &[u8], message: Message) -> Option<&[u8]>
     ensures { MatchOption result (length octets.now < end message) (λ s. (end message ≤ length octets.now) × (s.now ≡ between message.at (end message) octets.now)) }
 {
     let end = message.at.checked_add(message.length)?;

@@ -5,7 +5,7 @@ ghost use Rattle.oer_types.specs.Schema.{the_type};
 ghost use Rattle.oer_notation.specs.Reading.{find};
 ghost use Rattle.oer_notation.specs.Views.{knowns};
 
-use oer_text::Types;
+use oer_notation::Types;
 use oer_types::Schema;
 
 /// The type that the Name has, or `None` where no definition has it or it is not UTF-8.

@@ -11,8 +11,8 @@ use crate::handle::Handle;
 use crate::naming::find_type;
 use crate::path::steps_of;
 use crate::status::{ABSENT, NO_STEP, NO_TYPES, UNNAMED};
-use oer_reader::{Encoding, PartFault};
-use oer_text::Types;
+use oer_notation::Types;
+use oer_parts::{Encoding, PartFault};
 use oer_types::Schema;
 use std::alloc::Global;
 

@@ -2,7 +2,7 @@
 ghost use Rattle.oer_c.specs.Parts.{AreSteps};
 
 use crate::status::{MEMORY, NO_PATH};
-use oer_reader::{PathFault, Step, read_path};
+use oer_parts::{PathFault, Step, read_path};
 use std::alloc::Global;
 
 /// The steps of the path that the text spells, or the status of a call that can't read it.

@@ -1,8 +1,12 @@
 //! The numbers of reasons.
 ghost use Rattle.std.specs.Prelude.{◌≡◌};
-ghost use Rattle.oer_c.specs.Reasons.{json_number, schema_number, text_number};
+ghost use Rattle.oer_c.specs.Reasons.{json_number, modules_number, schema_number, text_number};
 
-use oer_text::{JsonFault, TextWhy};
+use oer_json::JsonFault;
+use oer_module_syntax::Why as Unread;
+use oer_module_text::Why as Refused;
+use oer_module_values::Why as Unresolved;
+use oer_notation::TextWhy;
 use oer_types::SchemaFault;
 
 fn of_schema(fault: SchemaFault) -> u32
@@ -25,6 +29,21 @@ fn of_schema(fault: SchemaFault) -> u32
 
 /// The number of the reason that the types of definitions have more parts together than they may have.
 pub(crate) const TEXT_PARTS: u32 = 20;
+
+/// The number of the reason that what is understood of modules spells no types.
+pub(crate) const MODULES_NO_TYPES: u32 = 4;
+
+/// The number of a reason for which a text of modules can't be read: no token begins at the place or it has no end, a
+/// token that the grammar doesn't have there, or types or values that nest too deep.
+pub(crate) fn of_modules(why: Refused<'_>) -> u32
+    ensures { result ≡ modules_number why.entry }
+{
+    match why {
+        Refused::Unresolved(Unresolved::Unread(Unread::Token)) => 1,
+        Refused::Unresolved(Unresolved::Unread(Unread::TooDeep)) => 3,
+        _ => 2,
+    }
+}
 
 /// The number of a reason for which definitions are rejected: from 1 on in the order of `TextWhy`,
 /// and from 9 on in that of `SchemaFault`.

@@ -2,7 +2,7 @@
 ghost use Rattle.std.specs.Prelude.{◌≡◌, IfOk};
 ghost use Rattle.oer_c.specs.Sharing.{types_in};
 
-use oer_text::Types;
+use oer_notation::Types;
 use std::alloc::{AllocError, Global};
 use std::sync::Arc;
 

@@ -9,8 +9,8 @@ use crate::check::{Checked, only, rejected};
 use crate::handle::Handle;
 use crate::naming::find_type;
 use crate::status::{FOLLOWS, NO_TYPES, NOT_CANONICAL, OK, UNNAMED};
-use oer_reader::{Verdict, check};
-use oer_text::Types;
+use oer_checker::{Verdict, check};
+use oer_notation::Types;
 use oer_types::Schema;
 use std::alloc::Global;
 

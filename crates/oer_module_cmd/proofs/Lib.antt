@@ -1,3 +1,3 @@
-mod Left
+pub mod Left
 mod Steps
 mod Texts

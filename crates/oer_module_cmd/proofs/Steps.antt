@@ -1,5 +1,5 @@
 -- The steps of the words as they are rewritten.
-use Rattle.std.proofs.Common.{◌≡◌, List, ℕ, [], ◌∷◌, map, length, false, None, Ok, Err, String, Global, string_bytes, refl, arith}
+use Rattle.std.proofs.Common.{◌≡◌, List, ℕ, [], ◌∷◌, map, length, false, None, Ok, Err, String, Global, string_bytes, refl, sym, ap, ◌∙◌, arith}
 use Rattle.oer_module_options.specs.Asked.{TypeAsked, asked}
 use Rattle.oer_module_options.specs.Errors.{Error as OptionError}
 use Rattle.oer_module_options.specs.Scan.{Scan, scanned}
@@ -7,8 +7,8 @@ use Rattle.oer_module_options.specs.Words.{Text}
 use Rattle.oer_module_options.specs.declared.words.Command.{Command}
 use Rattle.oer_modules.specs.Modules.{type_of_modules}
 use Rattle.oer_module_cmd.specs.Errors.{Error, Read, options}
-use Rattle.oer_module_cmd.specs.Input.{input_for, with_input}
-use Rattle.oer_module_cmd.specs.Rewriting.{by_modules, rewritten, rewritten_by, type_for, words_with}
+use Rattle.oer_module_cmd.specs.Input.{input_for, reads_input, with_input}
+use Rattle.oer_module_cmd.specs.Rewriting.{by_modules, reads_by, reads_for, rewritten, rewritten_by, type_for, words_with}
 
 pub options_stop : (p : Text) (s : Scan) (xs : List ℕ) (e : OptionError) → asked s ≡ Err e → rewritten_by p s xs ≡ Err (options e)
 options_stop p s xs e is = rw is refl
@@ -41,3 +41,7 @@ no_words k (w ∷ ws) xs h = absurd (omega (h, arith))
 pub unasked : (k : Command) (w : String Global) (ws : List (String Global)) (xs : List ℕ) → (scanned k (map string_bytes ws)).has_modules ≡ false
     → rewritten k (map string_bytes (w ∷ ws)) xs ≡ Ok None
 unasked k w ws xs none = rw none refl
+
+-- Standard input isn't read where the options are taken.
+pub unread_by : (s : Scan) (a : TypeAsked) → asked s ≡ Ok a → reads_by s ≡ false → reads_input s.modules ≡ false
+unread_by s a is none = ap (λ r. reads_for r s.modules) (sym is) ∙ none

@@ -1,9 +1,10 @@
 -- Why the words aren't rewritten, the status of the program then, and the line that tells of it.
-use Rattle.std.specs.Prelude.{◌≡◌, ◌≤◌, ◌⊎◌, ℕ, List, [], ◌∷◌, ◌++◌, length, take, Option, Some, None, IfSome, codes, Result, Ok, Err}
+use Rattle.std.specs.Prelude.{◌≡◌, ◌≤◌, ◌⊎◌, ℕ, List, [], ◌∷◌, ◌++◌, length, take, Option, codes, Result, Ok, Err}
 use Rattle.std.specs.Io.KnownBytes.{Appends}
 use Rattle.oer_module_options.specs.Errors.{Error as OptionError, error_of as option_error_of, text_of as option_text_of}
 use Rattle.oer_module_options.specs.Words.{Text}
 use Rattle.oer_modules.specs.Refusals.{Refusal, refusal_of}
+use Rattle.oer_modules.specs.Words.{refusal_words}
 use Rattle.oer_modules.specs.declared.refusal.Refusal.{Refusal as RawRefusal}
 use Rattle.oer_module_syntax.specs.declared.fault.Why.TheVariants as fault
 use Rattle.oer_module_text.specs.declared.error.Why.TheVariants as raws
@@ -52,20 +53,17 @@ abbrev pub Gives : {X Y : Type 0} → (X → Y) → Result X RawError → Read Y
 Gives view (Ok x) plain = plain ≡ Ok (view x)
 Gives view (Err e) plain = status_of (error_of e) ≡ 2 → plain ≡ Err (error_of e)
 
--- what is said of an error, where that is fixed
-abbrev pub text_of : Error → Option Text
-text_of (options e) = Some (option_text_of e)
-text_of not_text = Some (codes "modules: not UTF-8")
-text_of (refused r) = None
-text_of input = Some (codes "input failed")
-text_of memory = Some (codes "out of memory")
+-- what is said of an error
+abbrev pub text_of : Error → Text
+text_of (options e) = option_text_of e
+text_of not_text = codes "modules: not UTF-8"
+text_of (refused r) = codes "modules: " ++ refusal_words r
+text_of input = codes "input failed"
+text_of memory = codes "out of memory"
 
--- A line on standard error, with its line feed, tells of it.
-abbrev pub line_of : Text → Text
-line_of text = codes "oer: " ++ text ++ 10 ∷ []
-
-abbrev pub IsLineOf : Error → Text → Type 0
-IsLineOf e line = IfSome (text_of e) (λ text. line ≡ line_of text)
+-- the line on standard error, with its line feed
+abbrev pub line_of : Error → Text
+line_of e = codes "oer: " ++ text_of e ++ 10 ∷ []
 
 -- known bytes grew by a front of the text, which may be all of it or nothing
 abbrev pub AppendsFront : Option (List ℕ) → Option (List ℕ) → Text → Type 0
@@ -73,7 +71,7 @@ AppendsFront old new text = (n : ℕ) × (n ≤ length text) × Appends old new 
 
 -- the line that tells of an error by this status: its own, or where memory for that was refused, the line of that
 abbrev pub IsLineFor : Error → ℕ → Text → Type 0
-IsLineFor e status line = ((status ≡ status_of e) × IsLineOf e line) ⊎ ((status ≡ 3) × IsLineOf memory line)
+IsLineFor e status line = ((status ≡ status_of e) × (line ≡ line_of e)) ⊎ ((status ≡ 3) × (line ≡ line_of memory))
 
 -- A writer got a front of the line of the error.
 abbrev pub Reports : Error → ℕ → Option (List ℕ) → Option (List ℕ) → Type 0

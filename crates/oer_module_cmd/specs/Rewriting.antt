@@ -49,10 +49,17 @@ rewritten c (program ∷ ws) xs = rewritten_from program (scanned c ws) xs
 abbrev pub words_of : Vec (String Global) Global → List Text
 words_of ws = map string_bytes ws.items
 
--- Whether the text on standard input is asked for.
+-- Whether the text on standard input is read: the options are taken, and one of the texts is that.
+abbrev pub reads_for : OptionRead TypeAsked → List Text → Bool
+reads_for (Ok a) ts = reads_input ts
+reads_for (Err e) ts = false
+
+abbrev pub reads_by : Scan → Bool
+reads_by s = reads_for (asked s) s.modules
+
 abbrev pub asks_input : Command → List Text → Bool
 asks_input c [] = false
-asks_input c (program ∷ ws) = reads_input (scanned c ws).modules
+asks_input c (program ∷ ws) = reads_by (scanned c ws)
 
 -- What a function returned is what the plain function gives, and nothing is on the errors; or these tell of an error, and the
 -- status is that of it: the one that the plain function gives, unless the machine failed.

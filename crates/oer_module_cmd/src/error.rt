@@ -1,7 +1,6 @@
 //! Why the words aren't rewritten.
-ghost use Rattle.std.specs.Prelude.{◌≡◌, ◌≤◌, IfOk, string_bytes};
-ghost use Rattle.oer_module_options.specs.Errors.{error_of as option_error_of};
-ghost use Rattle.oer_module_cmd.specs.Errors.{AppendsFront, IsByRefusal, IsLineOf, Reports, error_of, status_of, text_of};
+ghost use Rattle.std.specs.Prelude.{◌≡◌, ◌≤◌, IfOk, Some, string_bytes};
+ghost use Rattle.oer_module_cmd.specs.Errors.{AppendsFront, IsByRefusal, Reports, error_of, line_of, status_of, text_of};
 ghost use Rattle.oer_module_cmd.specs.declared.error.Error.TheVariants as raw;
 
 use oer_module_text::Why;
@@ -41,7 +40,7 @@ impl Error<'_> {
 }
 
 impl fmt::Display for Error<'_> {
-    ghost output = { λ error. text_of (error_of error) };
+    ghost output = { λ error. Some (text_of (error_of error)) };
 
     fn fmt<W: fmt::Write>(&self, f: &mut fmt::Formatter<W>) -> fmt::Result {
         match self {
@@ -85,7 +84,7 @@ impl<'a> From<AllocError> for Error<'a> {
 
 // The line on standard error, with its line feed.
 fn error_line(alloc: Global, error: Error<'_>) -> Result<String, AllocError>
-    ensures { IfOk result (λ line. IsLineOf (error_of error.entry) (string_bytes line)) }
+    ensures { IfOk result (λ line. string_bytes line ≡ line_of (error_of error.entry)) }
 {
     format!(in alloc; "oer: {error}\n")
 }

@@ -1,8 +1,8 @@
 //! The text of modules on standard input.
-ghost use Rattle.std.specs.Prelude.{◌≡◌, ℕ, List, IfOk, false, map, string_bytes};
+ghost use Rattle.std.specs.Prelude.{◌≡◌, ℕ, List, IfOk, false, true, map, string_bytes};
 ghost use Rattle.oer_module_options.specs.Scan.{text_of};
 ghost use Rattle.oer_module_cmd.specs.Errors.{Gives};
-ghost use Rattle.oer_module_cmd.specs.Input.{MayBeLeft, input_for, reads_input, text_in, text_or, with_input};
+ghost use Rattle.oer_module_cmd.specs.Input.{GivesAll, MayBeLeft, input_for, reads_input, status_after, text_in, text_or, with_input};
 
 use crate::error::Error;
 use oer_module_options::is_input;
@@ -21,7 +21,8 @@ fn text_in<'a>(octets: Vec<u8>) -> Result<String, Error<'a>>
 
 // All that the input has left, as a text.
 fn read_text<'a, R: Read>(alloc: Global, input: &mut R) -> Result<String, Error<'a>>
-    ensures { (xs : List ℕ) × MayBeLeft (R.remaining input.old) xs × Gives string_bytes result (text_in xs) }
+    ensures exact { (xs : List ℕ) × MayBeLeft (R.remaining input.old) xs × Gives string_bytes result (text_in xs) }
+    ensures takes { GivesAll (status_after result) (R.remaining input.old) (R.remaining input.new) }
 {
     let mut octets = Vec::new(alloc);
     match input.read_to_end(&mut octets) {
@@ -54,6 +55,8 @@ pub fn input_for<'a, R: Read>(
 ) -> Result<String, Error<'a>>
     ensures exact { (xs : List ℕ) × MayBeLeft (R.remaining input.old) xs × Gives string_bytes result (input_for (map text_of texts.now) xs) }
     ensures untouched { reads_input (map text_of texts.now) ≡ false → input.new ≡ input.old }
+    ensures takes { reads_input (map text_of texts.now) ≡ true
+        → GivesAll (status_after result) (R.remaining input.old) (R.remaining input.new) }
 {
     if reads_input(texts) {
         return read_text(alloc, input);

@@ -4,8 +4,8 @@ ghost use Rattle.oer_module_options.specs.Asked.{asked_of};
 ghost use Rattle.oer_module_options.specs.Scan.{item_of, scan_of, text_of};
 ghost use Rattle.oer_modules.specs.Modules.{type_of_modules};
 ghost use Rattle.oer_module_cmd.specs.Errors.{Gives};
-ghost use Rattle.oer_module_cmd.specs.Input.{MayBeLeft, reads_input, with_input};
-ghost use Rattle.oer_module_cmd.specs.Rewriting.{Ends, asks_input, by_modules, rewritten, rewritten_by, word_for, words_of, words_with};
+ghost use Rattle.oer_module_cmd.specs.Input.{MayBeLeft, with_input};
+ghost use Rattle.oer_module_cmd.specs.Rewriting.{Ends, asks_input, by_modules, reads_by, rewritten, rewritten_by, word_for, words_of, words_with};
 
 use crate::error::{Error, report};
 use crate::input::{input_for, with_input};
@@ -68,7 +68,7 @@ fn rewrite_scanned<R: Read, E: Write>(
 ) -> Result<Vec<String>, u8>
     ensures exact { (xs : List ℕ) × MayBeLeft (R.remaining input.old) xs
         × Ends words_of result (rewritten_by program.now (scan_of scan.now) xs) (E.contents errors.old) (E.contents errors.new) }
-    ensures untouched { reads_input (scan_of scan.now).modules ≡ false → input.new ≡ input.old }
+    ensures untouched { reads_by (scan_of scan.now) ≡ false → input.new ≡ input.old }
 {
     let asked = match asked(scan) {
         Ok(asked) => asked,

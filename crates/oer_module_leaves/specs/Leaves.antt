@@ -2,6 +2,7 @@
 use Rattle.std.specs.Prelude.{ℕ, List, Bool, false, not, ◌&&◌, Option, Some, None, is_none, slice_get, Ok, codes, if◌then◌else◌}
 use Rattle.oer_module_lexer.specs.Token.{Spot}
 use Rattle.oer_module_limits.specs.Limits.{integer_limits, size_limits}
+use Rattle.oer_module_limits.specs.Written.{written}
 use Rattle.oer_module_names.specs.declared.error.Place.{Place}
 use Rattle.oer_module_syntax.specs.Modules.{none_left}
 use Rattle.oer_module_syntax.specs.Tree.{Module, Tree, plain}
@@ -11,7 +12,8 @@ use Rattle.oer_module_text.specs.Errors.{Read, refused, limited_by, place_in, �
 use Rattle.oer_module_text.specs.Room.{Room, put}
 use Rattle.oer_module_text.specs.declared.error.Part.TheVariants as part
 use Rattle.oer_module_values.specs.Looks.{place_of}
-use Rattle.oer_module_values.specs.Types.{TypeIn}
+use Rattle.oer_module_values.specs.Types.{TypeIn, Given}
+use Rattle.oer_module_leaves.specs.Comments.{checked_of, unchecked_at}
 use Rattle.oer_module_leaves.specs.Numbered.{Numbered, numbered_at}
 use Rattle.oer_module_leaves.specs.Texts.{Sizes, fixed, items_at, put_range, put_size, sizes_within}
 
@@ -72,10 +74,12 @@ module _ (ms : List Module) where
   plain_at t p bi.Utf8String ts r = sized_at (codes "UTF8String") t r
   plain_at t p builtin ts r = refused p.«module» p.at part.Word
 
-  abbrev pub leaf_by : TypeIn → ℕ → Tree → Room → Read Room
-  leaf_by t m (plain at builtin ts cs) r = plain_at t (place_in m at) builtin ts r
-  leaf_by t m u r = refused m (place_of u) part.Word
+  -- its words, and a comment on constraints that aren't in them
+  abbrev pub leaf_by : TypeIn → ℕ → Tree → List Given → Room → Read Room
+  leaf_by t m (plain at builtin ts cs) gs r =
+      plain_at t (place_in m at) builtin ts r >>= λ s. Ok (unchecked_at (checked_of builtin) false (written m cs gs) s)
+  leaf_by t m u gs r = refused m (place_of u) part.Word
 
-  -- a type as it is written where it is used, and what it stands for
-  unfoldable pub leaf_at : TypeIn → TypeIn → Room → Read Room
-  leaf_at t u r = leaf_by t u.«module» u.type r
+  -- a type as it is written where it is used, what it stands for, and what is given on the way
+  unfoldable pub leaf_at : TypeIn → TypeIn → List Given → Room → Read Room
+  leaf_at t u gs r = leaf_by t u.«module» u.type gs r

@@ -1,3 +1,4 @@
+pub mod Comments
 pub mod Leaves
 pub mod Numbered
 pub mod Texts

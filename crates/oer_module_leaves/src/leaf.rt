@@ -1,22 +1,23 @@
 //! The text of types that hold no other.
-ghost use Rattle.std.specs.Prelude.{◌≡◌, ◌<◌, length, OnOk};
+ghost use Rattle.std.specs.Prelude.{◌≡◌, ◌<◌, length, map, OnOk};
 ghost use Rattle.oer_module_lexer.specs.Token.{spots_of};
 ghost use Rattle.oer_module_names.specs.Views.{modules_in};
 ghost use Rattle.oer_module_syntax.specs.Tree.{tree_of};
 ghost use Rattle.oer_module_text.specs.Errors.{Gives};
 ghost use Rattle.oer_module_text.specs.Room.{put, room_of};
-ghost use Rattle.oer_module_values.specs.Views.{type_in};
+ghost use Rattle.oer_module_values.specs.Views.{given_of, type_in};
 ghost use Rattle.oer_module_leaves.specs.Leaves.{bits_at, enumerated_at, integer_at, is_implied, leaf_at, plain_at, put_sized, sized_at, sizes_at};
 ghost use Rattle.oer_module_leaves.specs.Texts.{sizes_of};
 
+use crate::comment::{checked_of, put_unchecked};
 use crate::numbered::numbered_at;
 use crate::text::{Sizes, put_numbered, put_range, put_size};
 use oer_module_lexer::Spot;
-use oer_module_limits::{integer_limits, size_limits};
+use oer_module_limits::{Written, integer_limits, size_limits};
 use oer_module_names::{Names, Place};
 use oer_module_syntax::{Builtin, TypeSyntax};
 use oer_module_text::{Error, Part, Room, refused};
-use oer_module_values::{TypeIn, place_of};
+use oer_module_values::{Given, TypeIn, place_of};
 use std::alloc::{AllocError, Global};
 
 /// Whether the module's header has EXTENSIBILITY IMPLIED (X.680, 13.4).
@@ -156,9 +157,10 @@ fn write_plain<'m, 's, 't>(
 }
 
 /// Adds a type that holds no other: its words, with the range of an INTEGER, the sizes of a string, or the items of an
-/// ENUMERATED and their numbers behind them, as `print_type` of oer_printer has them. `of` is the type as it is written where
-/// it is used, and `is` what `resolve` says that it stands for. Each item of an ENUMERATED takes the room of one part, at
-/// the item; the room of the type itself isn't taken.
+/// ENUMERATED and their numbers behind them, as `print_type` of oer_printer has them, and a comment on constraints that
+/// aren't in it. `of` is the type as it is written where it is used, `is` what `resolve` says that it stands for, and
+/// `given` what is given on the way. Each item of an ENUMERATED takes the room of one part, at the item; the room of the
+/// type itself isn't taken.
 ///
 /// # Errors
 /// NotTaken, with Word, at a type with other words than BOOLEAN, NULL, OBJECT IDENTIFIER, INTEGER, ENUMERATED, BIT STRING,
@@ -174,25 +176,27 @@ pub fn write_leaf<'m, 's, 't>(
     names: &Names<'m, 's, 't>,
     of: TypeIn<'m, 's, 't>,
     is: TypeIn<'m, 's, 't>,
+    given: &[Given<'s, 't>],
     room: &mut Room,
 ) -> Result<(), Error<'t>>
     requires of { of.«module» < length (modules_in names.now) }
     requires is { is.«module» < length (modules_in names.now) }
-    ensures { Gives (λ _. room_of room.new) result (leaf_at (modules_in names.now) (type_in of.entry) (type_in is.entry) (room_of room.old)) }
+    ensures { Gives (λ _. room_of room.new) result (leaf_at (modules_in names.now) (type_in of.entry) (type_in is.entry) (map given_of given.now) (room_of room.old)) }
 {
+    let module = is.module;
     match is.syntax {
         TypeSyntax::Plain {
             at,
             builtin,
             items,
-            ..
+            constraints: own,
         } => {
-            let place = Place {
-                module: is.module,
-                at: *at,
-            };
-            write_plain(alloc, names, of, place, *builtin, items, room)
+            let place = Place { module, at: *at };
+            write_plain(alloc, names, of, place, *builtin, items, room)?;
+            let written = Written { module, own, given };
+            put_unchecked(alloc, written, checked_of(*builtin), false, room)?;
+            Ok(())
         }
-        _ => Err(refused(is.module, place_of(is.syntax), Part::Word)),
+        _ => Err(refused(module, place_of(is.syntax), Part::Word)),
     }
 }

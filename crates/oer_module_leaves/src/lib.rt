@@ -1,10 +1,12 @@
 //! Types of modules that hold no other, written in our notation (docs/NOTATION.md, "Printing").
 #![tactic(auto)]
 
+mod comment;
 mod leaf;
 mod numbered;
 mod text;
 
+pub use comment::{Checked, put_open, put_unchecked};
 pub use leaf::{is_implied, sizes_of, write_leaf};
 pub use numbered::{Numbered, NumberedItem, enumeration_numbers, numbered_items};
 pub use text::{Sizes, put_range, put_size};

@@ -1,3 +1,4 @@
+pub mod Bounding
 pub mod Loops
 pub mod Serial
 pub mod Views

@@ -1,5 +1,6 @@
 -- What the types of the code stand for.
-use Rattle.std.specs.Prelude.{◌<◌, ℕ, List, length, option_map}
+use Rattle.std.specs.Prelude.{◌<◌, ℕ, List, length, map, option_map}
+use Rattle.oer_module_lexer.specs.Token.{spots_of}
 use Rattle.std.specs.List.{All}
 use Rattle.std.specs.Option.{ForSome}
 use Rattle.oer_module_syntax.specs.Tree.{Module}
@@ -8,8 +9,10 @@ use Rattle.oer_module_values.specs.Types as values
 use Rattle.oer_module_values.specs.Views.{given_of, type_in}
 use Rattle.oer_module_values.specs.declared.types.Meaning.{Meaning as RawMeaning}
 use Rattle.oer_module_limits.specs.Sets.{Measure, number, size}
+use Rattle.oer_module_limits.specs.Written.{Written}
 use Rattle.oer_module_limits.specs.declared.measure.Measure as raw
 use Rattle.oer_module_limits.specs.declared.measure.Measure.TheVariants as raws
+use Rattle.oer_module_limits.specs.declared.written.Written.{Written as RawWritten}
 
 abbrev pub measure_seen : raw.Measure → Measure
 measure_seen (raws.Number g) = number (option_map type_in g)
@@ -29,3 +32,6 @@ IsGivenWithin ms (values.set m ts) = m < length ms
 pub record IsWithin (ms : List Module) (r : RawMeaning) : Type 0 where
   pub of : r.of.«module» < length ms
   pub given : All (λ g. IsGivenWithin ms (given_of g)) r.given.items
+
+abbrev pub written_of : RawWritten → Written
+written_of w = record { «module» = w.«module»; own = spots_of w.own.now; given = map given_of w.given.now }

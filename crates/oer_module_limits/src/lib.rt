@@ -5,10 +5,14 @@
 mod ends;
 mod error;
 mod kept;
+mod kinds;
 mod limits;
 mod marks;
 mod measure;
 mod sets;
+mod written;
 
 pub use error::{Error, Why};
+pub use kinds::{Kind, narrows};
 pub use limits::{integer_limits, size_limits};
+pub use written::{Written, are_none, are_plain, constraints_in, has_set};

@@ -6,7 +6,7 @@ use Rattle.std.specs.Str.{bytes_eq}
 use Rattle.oer_module_syntax.specs.Tree.{Import, Module}
 use Rattle.oer_module_names.specs.Sole.{Entry, each, first_of, numbered, sole, sole_from, with_entry, with_number}
 use Rattle.oer_module_names.specs.Tables.{assigned, assigned_in, assigner, assigners_from, assignment_names, assignments_in, imported, imported_in}
-use Rattle.oer_module_names.specs.Tables.{imports_from, imports_in, module_names, named, source, source_in, source_names, symbol_names}
+use Rattle.oer_module_names.specs.Tables.{identifiers, imports_from, imports_in, is_other, module_names, named, other, other_entries, other_in, others_from, source, source_in, source_names, symbol_names}
 use Rattle.oer_module_names.specs.Views.{IsSoleBelow}
 use Rattle.oer_module_names.specs.declared.index.Sole.{Sole}
 use Rattle.oer_module_names.specs.declared.index.Sole.TheVariants.{Nothing, One, Two}
@@ -109,3 +109,21 @@ imported_below ms k w = by (slice_get ms k)
     by : (o : Option Module) → IsSoleBelow (length (option_map_or (λ m. m.imports) o [])) (option_map_or (λ m. imported m w) o Nothing)
     by None = tt
     by (Some m) = sole_below (length m.imports) (imports_from (source m.imports) 0 m.imports) w (imports_below (source m.imports) (length m.imports) 0 m.imports (source_below m.imports) (omega arith))
+
+other_entry_below : (b : Bool) (f : List ℕ) (n m : ℕ) → n < m → AllBelow m (other_entries b f n)
+other_entry_below true f n m l = (l, tt)
+other_entry_below false f n m l = tt
+
+others_below : (f : List ℕ → Sole) (ids : List (Option (List ℕ))) (m n : ℕ) (is : List Import) → n + length is ≤ m → AllBelow m (others_from f ids n is)
+others_below f ids m n [] k = tt
+others_below f ids m n (i ∷ is) k =
+    both_below m (other_entries (is_other f ids i) i.from n) (others_from f ids (suc n) is) (other_entry_below (is_other f ids i) i.from n m (omega (arith, k)))
+    (others_below f ids m (suc n) is (omega (arith, k)))
+
+pub other_in_below : (ms : List Module) (k : ℕ) (f : List ℕ) → IsSoleBelow (length (imports_in ms k)) (other_in ms k f)
+unfolding other_in imports_in
+other_in_below ms k f = by (slice_get ms k)
+  where
+    by : (o : Option Module) → IsSoleBelow (length (option_map_or (λ m. m.imports) o [])) (option_map_or (λ m. other (named ms) (identifiers ms) m f) o Nothing)
+    by None = tt
+    by (Some m) = sole_below (length m.imports) (others_from (named ms) (identifiers ms) 0 m.imports) f (others_below (named ms) (identifiers ms) (length m.imports) 0 m.imports (omega arith))

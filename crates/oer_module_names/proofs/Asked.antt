@@ -5,15 +5,16 @@ use Rattle.std.proofs.lemmas.Bool.{false_from_ne_true}
 use Rattle.std.proofs.lemmas.Slice.Eq.{bytes_eq-Decides}
 use Rattle.std.specs.Option.{option_map_or}
 use Rattle.std.specs.Str.{bytes_eq}
-use Rattle.oer_module_syntax.specs.Tree.{Module}
+use Rattle.oer_module_syntax.specs.Tree.{Import, Module}
 use Rattle.oer_module_names.proofs.Among.{Gives, Tells, among_either, among_left, among_right, same_some, tells}
 use Rattle.oer_module_names.proofs.Stands.{follow_stands, finds_stands, stands_finds, stands_follow, stands_within}
-use Rattle.oer_module_names.proofs.Steps.{name_here, through_crosses, through_is}
+use Rattle.oer_module_names.proofs.Others.{fit_where_none}
+use Rattle.oer_module_names.proofs.Steps.{name_here, other_here, through_crosses, through_is}
 use Rattle.oer_module_names.proofs.Tellings.{among_is_there, at_from, each_given, each_gives, first_at, there_is_among}
 use Rattle.oer_module_names.specs.Finding.{Fault, ◌>>=◌, find, find_anywhere, find_by_assigner, find_from, find_in, follow, from_name, from_place, own_name, through}
 use Rattle.oer_module_names.specs.Sole.{each, first_of, is_there, sole}
-use Rattle.oer_module_names.specs.Standing.{IsAmong, IsAt, IsOnlyAssignment, IsOnlyAt, MayLeave, StandsFor, StandsForIn, imported, itself, other, own}
-use Rattle.oer_module_names.specs.Tables.{assigner, assigners_from, assignment_names, module_names, source, source_in, source_names}
+use Rattle.oer_module_names.specs.Standing.{Has, IsAmong, IsAt, IsOnlyAssignment, IsOnlyAt, IsImportedFrom, IsVersion, MayLeave, StandsFor, StandsForIn, imported, itself, other, own}
+use Rattle.oer_module_names.specs.Tables.{assigner, assigners_from, assignment_names, identifiers, module_names, named, other as others_of, other_in, source, source_in, source_names}
 use Rattle.oer_module_names.specs.declared.error.Found.{Found}
 use Rattle.oer_module_names.specs.declared.index.Sole.{Sole}
 use Rattle.oer_module_names.specs.declared.index.Sole.TheVariants.{Nothing, One, Two}
@@ -58,7 +59,10 @@ module _ (ms : List Module) (f w : List ℕ) (k : ℕ) (x : Found) where
       by (Err e) t g = cc
       by (Ok way) t g =
           let c = through_crosses ms w k i way t in
-          other at apart among (subst (λ v. IsOnlyAt (module_names ms) way.«module» v) (first_named m i at among first) c.only) c.at c.may (follow_stands ms w (length ms) way x g)
+          let name = first_named m i at among first in
+          let only = subst (λ v. IsOnlyAt (module_names ms) way.«module» v) name c.only in
+          let none : others_of (named ms) (identifiers ms) m f ≡ Nothing = sym (other_here ms k m at f) ∙ sym (ap (other_in ms k) name) ∙ c.none in
+          other at apart among only c.at (fit_where_none ms f way.«module» c.next only c.at m none) c.may (follow_stands ms w (length ms) way x g)
 
   source_stands : (s : Sole) → source_in ms k f ≡ s → (f ≡ own_name ms k → ⊥) → find_from ms k f w s ≡ Ok x → StandsForIn ms f w x k
   source_stands Nothing e apart h = cc
@@ -83,10 +87,10 @@ module _ (ms : List Module) (f w : List ℕ) (k : ℕ) (x : Found) where
       by false e g = source_stands (source_in ms k f) refl (λ same. let yes : bytes_eq f (own_name ms k) ≡ true = (bytes_eq-Decides f (own_name ms k)).1 same in cc) g
 
   -- through import i, which is from that module
-  import_finds : (i j : ℕ) (n : Module) → from_name ms k i ≡ f → IsOnlyAt (module_names ms) j f → IsAt ms j n → MayLeave n.exports w → StandsFor ms w x j
+  import_finds : (m : Module) (i j : ℕ) (n : Module) → IsAt ms k m → from_name ms k i ≡ f → IsOnlyAt (module_names ms) j f → IsAt ms j n → IsVersion m f n → MayLeave n.exports w → StandsFor ms w x j
       → (through ms w k i >>= follow ms w (length ms)) ≡ Ok x
-  import_finds i j n name only there may rest =
-      ap (λ r. r >>= follow ms w (length ms)) (through_is ms w k i j f n name only there may) ∙ stands_follow ms w j (from_place ms k i) x rest
+  import_finds m i j n at name only there fit may rest =
+      ap (λ r. r >>= follow ms w (length ms)) (through_is ms w k i j f m n at name only there fit may) ∙ stands_follow ms w j (from_place ms k i) x rest
 
   source_finds : (m : Module) (s : Sole) → IsAt ms k m → source m.imports f ≡ s → IsAmong (source_names m.imports) f
       → ((i : ℕ) → from_name ms k i ≡ f → (through ms w k i >>= follow ms w (length ms)) ≡ Ok x) → find_from ms k f w s ≡ Ok x
@@ -99,11 +103,11 @@ module _ (ms : List Module) (f w : List ℕ) (k : ℕ) (x : Found) where
   stands_finds_in (itself {m = m} at same rest) =
       let yes : bytes_eq f (own_name ms k) ≡ true = (bytes_eq-Decides f (own_name ms k)).1 (same ∙ sym (name_of_own m at)) in
       ap (λ b. cond b (find ms k w) (find_from ms k f w (source_in ms k f))) yes ∙ stands_finds ms w k x rest
-  stands_finds_in (other {j = j} {m = m} {n = n} at apart among only there may rest) =
+  stands_finds_in (other {j = j} {m = m} {n = n} at apart among only there fit may rest) =
       let no : bytes_eq f (own_name ms k) ≡ false = false_from_ne_true (bytes_eq f (own_name ms k)) (λ yes. apart ((bytes_eq-Decides f (own_name ms k)).0 yes ∙ name_of_own m at)) in
       ap (λ b. cond b (find ms k w) (find_from ms k f w (source_in ms k f))) no
       ∙ ap (find_from ms k f w) (source_of m at)
-      ∙ source_finds m (source m.imports f) at refl among (λ i name. import_finds i j n name only there may rest)
+      ∙ source_finds m (source m.imports f) at refl among (λ i name. import_finds m i j n at name only there fit may rest)
 
 -- ---- a Name in all modules
 
@@ -148,7 +152,7 @@ module _ (ms : List Module) (w : List ℕ) (x : Found) where
   -- a module that assigns the Name has it from no other
   own_only : (k : ℕ) (m : Module) → IsAt ms k m → IsAmong (assignment_names m.assignments) w → StandsFor ms w x k → (k ≡ x.«module») × IsOnlyAt (assignment_names m.assignments) x.assignment w
   own_only k m at among (own {m = n} there only) = (refl, subst (λ y. IsOnlyAt (assignment_names y.assignments) x.assignment w) (same_some n m (sym there ∙ at)) only)
-  own_only k m at among (imported {m = n} there absent from only next may rest) =
+  own_only k m at among (imported {m = n} there absent from only next fit may rest) =
       absurd (absent (subst (λ y. IsAmong (assignment_names y.assignments) w) (same_some m n (sym at ∙ there)) among))
 
   pub finds_only : find_anywhere ms w ≡ Ok x → IsOnlyAssignment ms w x
@@ -187,3 +191,26 @@ module _ (ms : List Module) (w : List ℕ) (x : Found) where
       by Nothing t = absurd (t x.«module» (gives_assigner x.«module» h.here.0 h.here.1 (x.assignment, h.here.2)))
       by (Two a b) t = absurd (t.2 (is_here a t.0 ∙ sym (is_here b t.1)))
       by (One k) t = ap (λ i. find ms i w) (is_here k t.0) ∙ stands_finds ms w x.«module» x alone
+
+-- ---- the versions
+
+pub finds_version : (ms : List Module) (w : List ℕ) (k : ℕ) (x : Found) (m : Module) (i : Import) → find ms k w ≡ Ok x → IsAt ms k m → ¬ IsAmong (assignment_names m.assignments) w
+    → IsAmong m.imports i → Has i w → IsImportedFrom ms w x i
+finds_version ms w k x m i h at absent among has = by k (finds_stands ms w k x h) at
+  where
+    by : (c : ℕ) → StandsFor ms w x c → IsAt ms c m → IsImportedFrom ms w x i
+    by c (own {m = o} there only) here =
+        let same : o ≡ m = same_some o m (sym there ∙ here) in
+        absurd (absent (subst (λ y. IsAmong (assignment_names y.assignments) w) same (x.assignment, only.here)))
+    by c (imported {j = j} {m = o} {n = n} {f = f} there gone from only next fit may rest) here =
+        let same : o ≡ m = same_some o m (sym there ∙ here) in
+        let those = subst (λ y. IsAmong y.imports i) (sym same) among in
+        let name : i.from ≡ f = from.only i those has in
+        record {
+          place = j;
+          this = n;
+          only = subst (λ v. IsOnlyAt (module_names ms) j v) (sym name) only;
+          at = next;
+          fit = fit i those name;
+          found = stands_finds ms w j x rest;
+        }

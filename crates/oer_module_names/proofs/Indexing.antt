@@ -69,10 +69,10 @@ texts xs = map (λ w. w.now) xs
 at_drop : {A : Type 0} (xs : List A) (i : ℕ) (d : A) → i < length xs → drop i xs ≡ get_or xs i d ∷ drop (i + 1) xs
 at_drop xs i d l = drop-cons xs i d l ∙ ap (λ j. get_or xs i d ∷ drop j xs) (sym (add-one i))
 
-item_drop : {A : Type 0} (xs : List A) (i : ℕ) (x : A) → i < length xs → x ≡ get_or xs i x → drop i xs ≡ x ∷ drop (i + 1) xs
+pub item_drop : {A : Type 0} (xs : List A) (i : ℕ) (x : A) → i < length xs → x ≡ get_or xs i x → drop i xs ≡ x ∷ drop (i + 1) xs
 item_drop xs i x l is = at_drop xs i x l ∙ ap (λ y. y ∷ drop (i + 1) xs) (sym is)
 
-past_drop : {A : Type 0} (xs : List A) (i : ℕ) → length xs ≤ i → drop i xs ≡ []
+pub past_drop : {A : Type 0} (xs : List A) (i : ℕ) → length xs ≤ i → drop i xs ≡ []
 past_drop xs i l = drop_of_length-le xs l
 
 pub each_left : (xs : List (Bor (List ℕ))) (i n : ℕ) (d : Bor (List ℕ)) → i < length xs

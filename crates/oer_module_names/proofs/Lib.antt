@@ -1,11 +1,15 @@
 pub mod Adding
+pub mod Allowed
 pub mod Among
 pub mod Asked
 pub mod Follows
 pub mod Indexing
+pub mod Others
 pub mod Parts
 pub mod Readings
 pub mod Rounds
+pub mod Spelled
 pub mod Stands
 pub mod Steps
+pub mod Taking
 pub mod Tellings

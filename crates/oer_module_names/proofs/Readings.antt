@@ -6,9 +6,10 @@ use Rattle.std.specs.Option.{option_map_or}
 use Rattle.oer_module_syntax.specs.Tree.{Module, assignment_of, import_of, module_of}
 use Rattle.oer_module_syntax.specs.declared.tree.Module.{Module as RawModule}
 use Rattle.oer_module_names.specs.Indexed.{held, leaves}
-use Rattle.oer_module_names.specs.Tables.{assigned_in, assigner, assignments_in, imported_in, imports_in, is_exported_in, named, source_in}
+use Rattle.oer_module_names.specs.Tables.{assigned_in, assigner, assignments_in, imported_in, imports_in, is_exported_in, named, other_in, source_in}
 use Rattle.oer_module_names.specs.Views.{modules_in}
 use Rattle.oer_module_names.specs.declared.index.Sole.TheVariants.{Nothing}
+use Rattle.oer_module_names.specs.declared.index.Index.{Index}
 use Rattle.oer_module_names.specs.declared.names.Names.{Names}
 use Rattle.oer_module_names.specs.declared.part.Part.{Part}
 
@@ -49,6 +50,14 @@ module _ (ms : List Module) (k : ℕ) (x : RawModule) (h : slice_get ms k ≡ So
 pub parts_count : (n : Names) → length n.parts.items ≡ length (modules_in n)
 unfolding modules_in
 parts_count n = n.indexed.size
+
+pub others_count : (n : Names) → length n.others.items ≡ length (modules_in n)
+unfolding modules_in
+others_count n = n.indexed.other_size
+
+pub says_other : (n : Names) (k : ℕ) (x : Index) (f : List ℕ) → slice_get n.others.items k ≡ Some x → held x f ≡ other_in (modules_in n) k f
+unfolding modules_in
+says_other n k x f h = ap (λ o. option_map_or (λ y. held y f) o Nothing) (sym h) ∙ n.indexed.other k f
 
 pub says_named : (n : Names) (f : List ℕ) → held n.by_name f ≡ named (modules_in n) f
 unfolding modules_in

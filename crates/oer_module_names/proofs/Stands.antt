@@ -30,7 +30,7 @@ module _ (ms : List Module) (w : List ℕ) where
           let same : y ≡ x = cc in
           let o = step_owns ms w way x (s ∙ ap (λ z. Ok (Here z)) same) in
           subst (λ k. StandsFor ms w x k) (sym o.same) (own (subst (λ k. IsAt ms k o.this) o.same o.at) o.only)
-      by (Ok (On next)) s g rest = let l = step_leads ms w way next s in imported l.at l.absent l.from l.only l.there l.may (rest next x g)
+      by (Ok (On next)) s g rest = let l = step_leads ms w way next s in imported l.at l.absent l.from l.only l.there l.fit l.may (rest next x g)
 
   -- ---- what stands is found, within so many turns
 
@@ -65,9 +65,9 @@ module _ (ms : List Module) (w : List ℕ) where
 
   stands_chain : (x : Found) (k : ℕ) → StandsFor ms w x k → (n : ℕ) × (chain next n k ≡ Some x)
   stands_chain x k (own {m} at only) = (1, ap (turned (chain next 0)) (owns_next x.«module» x (record { this = m; at = at; only = only; same = refl })))
-  stands_chain x k (imported {j = j} {m = m} {n = n} {f = f} at absent from only there may rest) =
+  stands_chain x k (imported {j = j} {m = m} {n = n} {f = f} at absent from only there fit may rest) =
       let r = stands_chain x j rest in
-      (suc r.0, ap (turned (chain next r.0)) (leads_next k j (record { this = m; next = n; name = f; at = at; absent = absent; from = from; only = only; there = there; may = may })) ∙ r.1)
+      (suc r.0, ap (turned (chain next r.0)) (leads_next k j (record { this = m; next = n; name = f; at = at; absent = absent; from = from; only = only; there = there; fit = fit; may = may })) ∙ r.1)
 
   chain_follow : (n k : ℕ) (p : Place) (x : Found) → chain next n k ≡ Some x → follow ms w n (way_at k p) ≡ Ok x
   unfolding follow next
@@ -86,7 +86,7 @@ module _ (ms : List Module) (w : List ℕ) where
 
   pub stands_within : (k : ℕ) (x : Found) → StandsFor ms w x k → k < length ms
   stands_within k x (own {m} at only) = slice_get_within ms x.«module» m at
-  stands_within k x (imported {m = m} at absent from only there may rest) = slice_get_within ms k m at
+  stands_within k x (imported {m = m} at absent from only there fit may rest) = slice_get_within ms k m at
 
   pub stands_follow : (k : ℕ) (p : Place) (x : Found) → StandsFor ms w x k → follow ms w (length ms) (way_at k p) ≡ Ok x
   stands_follow k p x h =

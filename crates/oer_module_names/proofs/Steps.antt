@@ -2,11 +2,12 @@
 use Rattle.std.proofs.Common.{◌≡◌, ℕ, Bool, true, false, cond, List, [], Option, None, Some, slice_get, Result, Ok, Err, refl, sym, subst, ap, ◌∙◌}
 use Rattle.std.specs.Option.{option_map_or}
 use Rattle.oer_module_syntax.specs.Tree.{Import, Module}
+use Rattle.oer_module_names.proofs.Others.{fit_where_none, none_where_fit}
 use Rattle.oer_module_names.proofs.Tellings.{absent_is_nothing, leaves_may, may_leave, nothing_is_absent, one_is_only, one_is_source, only_is_one, source_is_one}
-use Rattle.oer_module_names.specs.Finding.{Fault, ◌>>=◌, fault, from_name, from_place, import_of_name, into, module_at, one_assignment, one_import, one_module, own, step, step_by, through}
+use Rattle.oer_module_names.specs.Finding.{Fault, ◌>>=◌, fault, fitting, from_name, from_place, import_of_name, into, module_at, one_assignment, one_import, one_module, one_version, own, step, step_by, through, version_at}
 use Rattle.oer_module_names.specs.Sole.{numbered, sole}
-use Rattle.oer_module_names.specs.Standing.{ImportsFrom, IsAmong, IsAt, IsOnlyAt, MayLeave}
-use Rattle.oer_module_names.specs.Tables.{assigned, assigned_in, assignment_names, imported, imported_in, imports_in, is_exported, is_exported_in, module_names, named}
+use Rattle.oer_module_names.specs.Standing.{ImportsFrom, IsAmong, IsAt, IsOnlyAt, IsVersion, MayLeave}
+use Rattle.oer_module_names.specs.Tables.{assigned, assigned_in, assignment_names, identifiers, imported, imported_in, imports_in, is_exported, is_exported_in, module_names, named, other, other_in}
 use Rattle.oer_module_names.specs.declared.error.Found.{Found}
 use Rattle.oer_module_names.specs.declared.error.Place.{Place}
 use Rattle.oer_module_names.specs.declared.error.Why.TheVariants.{NotExported}
@@ -28,6 +29,10 @@ module _ (ms : List Module) where
     pub exported_here : (w : List ℕ) → is_exported_in ms k w ≡ is_exported m.exports w
     unfolding is_exported_in
     exported_here w = ap (λ o. option_map_or (λ x. is_exported x.exports w) o false) at
+
+    pub other_here : (f : List ℕ) → other_in ms k f ≡ other (named ms) (identifiers ms) m f
+    unfolding other_in
+    other_here f = ap (λ o. option_map_or (λ x. other (named ms) (identifiers ms) x f) o Nothing) at
 
     imports_here : imports_in ms k ≡ m.imports
     unfolding imports_in
@@ -64,37 +69,54 @@ module _ (ms : List Module) where
   module _ (w : List ℕ) where
     -- ---- through an import
 
-    pub record Crosses (f : List ℕ) (way : Way) : Type 0 where
+    pub record Crosses (k : ℕ) (f : List ℕ) (way : Way) : Type 0 where
       pub next : Module
       pub only : IsOnlyAt (module_names ms) way.«module» f
       pub at : IsAt ms way.«module» next
+      pub none : other_in ms k f ≡ Nothing
       pub may : MayLeave next.exports w
 
-    into_crosses : (p : Place) (f : List ℕ) (j : ℕ) (way : Way) → IsOnlyAt (module_names ms) j f → into ms w p j ≡ Ok way → Crosses f way
-    into_crosses p f j way only h = by (is_exported_in ms j w) refl h
+    into_crosses : (k : ℕ) (p : Place) (f : List ℕ) (j : ℕ) (way : Way) → IsOnlyAt (module_names ms) j f → other_in ms k f ≡ Nothing → into ms w p j ≡ Ok way → Crosses k f way
+    into_crosses k p f j way only none h = by (is_exported_in ms j w) refl h
       where
-        by : (b : Bool) → is_exported_in ms j w ≡ b → cond b (Ok (record { «module» = j; place = p })) (fault NotExported w (Some p)) ≡ Ok way → Crosses f way
+        by : (b : Bool) → is_exported_in ms j w ≡ b → cond b (Ok (record { «module» = j; place = p })) (fault NotExported w (Some p)) ≡ Ok way → Crosses k f way
         by true e g =
             let x = exports_some j w e in
             let same : j ≡ way.«module» = cc in
-            record { next = x.0; only = subst (λ i. IsOnlyAt (module_names ms) i f) same only; at = subst (λ i. IsAt ms i x.0) same x.1; may = x.2 }
+            record { next = x.0; only = subst (λ i. IsOnlyAt (module_names ms) i f) same only; at = subst (λ i. IsAt ms i x.0) same x.1; none = none; may = x.2 }
         by false e g = cc
 
-    pub through_crosses : (k i : ℕ) (way : Way) → through ms w k i ≡ Ok way → Crosses (from_name ms k i) way
+    version_none : (k : ℕ) (f : List ℕ) (u : Unit {0}) → version_at ms k f ≡ Ok u → other_in ms k f ≡ Nothing
+    unfolding version_at
+    version_none k f u h = by (other_in ms k f) refl h
+      where
+        by : (s : Sole) → other_in ms k f ≡ s → one_version ms k f s ≡ Ok u → other_in ms k f ≡ Nothing
+        by Nothing e g = e
+        by (One a) e g = cc
+        by (Two a b) e g = cc
+
+    pub through_crosses : (k i : ℕ) (way : Way) → through ms w k i ≡ Ok way → Crosses k (from_name ms k i) way
     unfolding through
     through_crosses k i way h = by (module_at ms (Some (from_place ms k i)) (from_name ms k i)) refl h
       where
-        by : (r : Result ℕ Fault) → module_at ms (Some (from_place ms k i)) (from_name ms k i) ≡ r → (r >>= into ms w (from_place ms k i)) ≡ Ok way → Crosses (from_name ms k i) way
-        by (Ok j) e g = into_crosses (from_place ms k i) (from_name ms k i) j way (module_is_only (Some (from_place ms k i)) (from_name ms k i) j e) g
+        on : (j : ℕ) → IsOnlyAt (module_names ms) j (from_name ms k i) → (r : Result (Unit {0}) Fault) → version_at ms k (from_name ms k i) ≡ r
+            → (r >>= λ _. into ms w (from_place ms k i) j) ≡ Ok way → Crosses k (from_name ms k i) way
+        on j only (Ok u) e g = into_crosses k (from_place ms k i) (from_name ms k i) j way only (version_none k (from_name ms k i) u e) g
+        on j only (Err x) e g = cc
+
+        by : (r : Result ℕ Fault) → module_at ms (Some (from_place ms k i)) (from_name ms k i) ≡ r → (r >>= fitting ms w k i) ≡ Ok way → Crosses k (from_name ms k i) way
+        by (Ok j) e g = on j (module_is_only (Some (from_place ms k i)) (from_name ms k i) j e) (version_at ms k (from_name ms k i)) refl g
         by (Err x) e g = cc
 
-    pub through_is : (k i j : ℕ) (f : List ℕ) (n : Module) → from_name ms k i ≡ f → IsOnlyAt (module_names ms) j f → IsAt ms j n → MayLeave n.exports w
+    pub through_is : (k i j : ℕ) (f : List ℕ) (m n : Module) → IsAt ms k m → from_name ms k i ≡ f → IsOnlyAt (module_names ms) j f → IsAt ms j n → IsVersion m f n → MayLeave n.exports w
         → through ms w k i ≡ Ok (record { «module» = j; place = from_place ms k i })
-    unfolding through
-    through_is k i j f n name only at may =
+    unfolding through version_at
+    through_is k i j f m n at name only there fit may =
         let p = from_place ms k i in
-        let out : is_exported_in ms j w ≡ true = exported_here j n at w ∙ may_leave n.exports w may in
-        ap (λ r. r >>= into ms w p) (only_is_module (Some p) (from_name ms k i) j (subst (λ v. IsOnlyAt (module_names ms) j v) (sym name) only))
+        let out : is_exported_in ms j w ≡ true = exported_here j n there w ∙ may_leave n.exports w may in
+        let none : other_in ms k (from_name ms k i) ≡ Nothing = ap (other_in ms k) name ∙ other_here k m at f ∙ none_where_fit ms f j n only there m fit in
+        ap (λ r. r >>= fitting ms w k i) (only_is_module (Some p) (from_name ms k i) j (subst (λ v. IsOnlyAt (module_names ms) j v) (sym name) only))
+        ∙ ap (λ s. one_version ms k (from_name ms k i) s >>= λ _. into ms w p j) none
         ∙ ap (λ b. cond b (Ok (record { «module» = j; place = p })) (fault NotExported w (Some p))) out
 
     -- ---- a step
@@ -116,6 +138,7 @@ module _ (ms : List Module) where
       pub from : ImportsFrom this w name
       pub only : IsOnlyAt (module_names ms) j name
       pub there : IsAt ms j next
+      pub fit : IsVersion this name next
       pub may : MayLeave next.exports w
 
     imported_some : (k i : ℕ) → imported_in ms k w ≡ One i → (m : Module) × IsAt ms k m × (imported m w ≡ One i)
@@ -174,6 +197,8 @@ module _ (ms : List Module) where
         let s = one_is_source m w i one in
         let c = through_crosses k i way h in
         let name : from_name ms k i ≡ s.import.from = name_here k m at i s.import s.at in
+        let only = subst (λ f. IsOnlyAt (module_names ms) way.«module» f) name c.only in
+        let alike : other (named ms) (identifiers ms) m s.import.from ≡ Nothing = sym (other_here k m at s.import.from) ∙ sym (ap (other_in ms k) name) ∙ c.none in
         record {
           this = m;
           next = c.next;
@@ -181,8 +206,9 @@ module _ (ms : List Module) where
           at = at;
           absent = nothing_is_absent (assignment_names m.assignments) w none;
           from = s.from;
-          only = subst (λ f. IsOnlyAt (module_names ms) way.«module» f) name c.only;
+          only = only;
           there = c.at;
+          fit = fit_where_none ms s.import.from way.«module» c.next only c.at m alike;
           may = c.may;
         }
 
@@ -223,7 +249,7 @@ module _ (ms : List Module) where
     leads_step k j h =
         let m = h.this in
         let s = source_is_one m w h.name h.from in
-        let crosses = through_is k s.0 j h.name h.next (name_here k m h.at s.0 s.1 s.3 ∙ s.4) h.only h.there h.may in (
+        let crosses = through_is k s.0 j h.name m h.next h.at (name_here k m h.at s.0 s.1 s.3 ∙ s.4) h.only h.there h.fit h.may in (
           from_place ms k s.0,
           λ p.
               let way : Way = record { «module» = k; place = p } in

@@ -3,11 +3,11 @@ use Rattle.std.specs.Prelude.{ℕ, zero, suc, List, [], length, Option, Some, No
 use Rattle.std.specs.Option.{option_map_or}
 use Rattle.std.specs.Str.{bytes_eq}
 use Rattle.oer_module_syntax.specs.Tree.{Module}
-use Rattle.oer_module_names.specs.Tables.{assigned_in, assigner, assignments_in, imported_in, imports_in, is_exported_in, named, source_in}
+use Rattle.oer_module_names.specs.Tables.{assigned_in, assigner, assignments_in, imported_in, imports_in, is_exported_in, named, other_in, source_in}
 use Rattle.oer_module_names.specs.declared.error.Found.{Found}
 use Rattle.oer_module_names.specs.declared.error.Place.{Place}
 use Rattle.oer_module_names.specs.declared.error.Why.{Why}
-use Rattle.oer_module_names.specs.declared.error.Why.TheVariants.{Missing, NoModule, NotImported, NotExported, Circular, AssignedTwice, ImportedTwice, ModuleTwice, InTwoModules}
+use Rattle.oer_module_names.specs.declared.error.Why.TheVariants.{Missing, NoModule, NotImported, NotExported, OtherVersion, Circular, AssignedTwice, ImportedTwice, ModuleTwice, InTwoModules}
 use Rattle.oer_module_names.specs.declared.index.Sole.{Sole}
 use Rattle.oer_module_names.specs.declared.index.Sole.TheVariants.{Nothing, One, Two}
 use Rattle.oer_module_names.specs.declared.way.Step.{Step}
@@ -58,6 +58,15 @@ module _ (ms : List Module) where
   unfoldable pub module_at : Option Place → List ℕ → Result ℕ Fault
   module_at p f = one_module p f (named ms f)
 
+  abbrev pub one_version : ℕ → List ℕ → Sole → Result (Unit {0}) Fault
+  one_version k f Nothing = Ok tt
+  one_version k f (One i) = fault OtherVersion f (Some (from_place k i))
+  one_version k f (Two i j) = fault OtherVersion f (Some (from_place k i))
+
+  -- each import of module k from the module of this name asks for the version that is there
+  unfoldable pub version_at : ℕ → List ℕ → Result (Unit {0}) Fault
+  version_at k f = one_version k f (other_in ms k f)
+
   module _ (w : List ℕ) where
     -- ---- one module
 
@@ -85,9 +94,12 @@ module _ (ms : List Module) where
     abbrev pub into : Place → ℕ → Result Way Fault
     into p k = if is_exported_in ms k w then Ok (record { «module» = k; place = p }) else fault NotExported w (Some p)
 
+    abbrev pub fitting : ℕ → ℕ → ℕ → Result Way Fault
+    fitting k i j = version_at k (from_name k i) >>= λ _. into (from_place k i) j
+
     -- through import i of module k
     unfoldable pub through : ℕ → ℕ → Result Way Fault
-    through k i = module_at (Some (from_place k i)) (from_name k i) >>= into (from_place k i)
+    through k i = module_at (Some (from_place k i)) (from_name k i) >>= fitting k i
 
     abbrev pub step_by : Way → Option ℕ → Result Step Fault
     step_by way (Some n) = Ok (Here (record { «module» = way.«module»; assignment = n }))

@@ -1,7 +1,9 @@
 pub mod Finding
+pub mod Identifiers
 pub mod Indexed
 pub mod Laws
 pub mod Sole
 pub mod Standing
 pub mod Tables
+pub mod Versions
 pub mod Views

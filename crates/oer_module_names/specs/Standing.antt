@@ -1,7 +1,9 @@
 -- What a Name stands for, as a relation (X.680, 13.12 to 13.17).
-use Rattle.std.specs.Prelude.{◌≡◌, ℕ, List, slice_get, Some}
+use Rattle.std.specs.Prelude.{◌≡◌, ℕ, List, slice_get, Some, Ok}
 use Rattle.oer_module_syntax.specs.Tree.{Exports, Import, Module, all, these}
+use Rattle.oer_module_names.specs.Finding.{find}
 use Rattle.oer_module_names.specs.Tables.{assignment_names, module_names, source_names, symbol_names}
+use Rattle.oer_module_names.specs.Versions.{Fits}
 use Rattle.oer_module_names.specs.declared.error.Found.{Found}
 
 -- x stands at i
@@ -28,18 +30,23 @@ abbrev pub MayLeave : Exports → List ℕ → Type 0
 MayLeave all w = Unit {0}
 MayLeave (these ss) w = IsAmong (symbol_names ss) w
 
+-- module n is one of the versions that each import of module m from the modules named f asks for
+abbrev pub IsVersion : Module → List ℕ → Module → Type 0
+IsVersion m f n = (i : Import) → IsAmong m.imports i → i.from ≡ f → Fits i n
+
 -- Assignment x is what w stands for in a module of ms: the one assignment of that Name in the module; or, where the
--- module assigns none, what w stands for in the one module from which it imports w, if that module exports w.
+-- module assigns none, what w stands for in the one module from which it imports w, if that module
+-- is of the version that is asked for, and exports w.
 pub data StandsFor (ms : List Module) (w : List ℕ) (x : Found) : ℕ → Type 0 where
   own : {m : Module} → IsAt ms x.«module» m → IsOnlyAt (assignment_names m.assignments) x.assignment w → StandsFor ms w x x.«module»
   imported : {k j : ℕ} {m n : Module} {f : List ℕ} → IsAt ms k m → ¬ IsAmong (assignment_names m.assignments) w → ImportsFrom m w f
-      → IsOnlyAt (module_names ms) j f → IsAt ms j n → MayLeave n.exports w → StandsFor ms w x j → StandsFor ms w x k
+      → IsOnlyAt (module_names ms) j f → IsAt ms j n → IsVersion m f n → MayLeave n.exports w → StandsFor ms w x j → StandsFor ms w x k
 
 -- The same of f.w (14.1): f is the module itself, or the one module of that name, from which something is imported.
 pub data StandsForIn (ms : List Module) (f w : List ℕ) (x : Found) : ℕ → Type 0 where
   itself : {k : ℕ} {m : Module} → IsAt ms k m → f ≡ m.name → StandsFor ms w x k → StandsForIn ms f w x k
   other : {k j : ℕ} {m n : Module} → IsAt ms k m → ¬ (f ≡ m.name) → IsAmong (source_names m.imports) f
-      → IsOnlyAt (module_names ms) j f → IsAt ms j n → MayLeave n.exports w → StandsFor ms w x j → StandsForIn ms f w x k
+      → IsOnlyAt (module_names ms) j f → IsAt ms j n → IsVersion m f n → MayLeave n.exports w → StandsFor ms w x j → StandsForIn ms f w x k
 
 -- x assigns w
 abbrev pub Assigns : List Module → Found → List ℕ → Type 0
@@ -49,3 +56,12 @@ Assigns ms x w = (m : Module) × IsAt ms x.«module» m × IsAt (assignment_name
 pub record IsOnlyAssignment (ms : List Module) (w : List ℕ) (x : Found) : Type 0 where
   pub here : Assigns ms x w
   pub only : (y : Found) → Assigns ms y w → y ≡ x
+
+-- What w stands for is found in the one module that import i names, which fits that import.
+pub record IsImportedFrom (ms : List Module) (w : List ℕ) (x : Found) (i : Import) : Type 0 where
+  pub place : ℕ
+  pub this : Module
+  pub only : IsOnlyAt (module_names ms) place i.from
+  pub at : IsAt ms place this
+  pub fit : Fits i this
+  pub found : find ms place w ≡ Ok x

@@ -25,6 +25,8 @@ pub enum Why {
     NoModule,
     /// `Module.Name`, where the module that says so imports nothing from Module (X.680, 14.1).
     NotImported,
+    /// The module of this name isn't of the version that the import asks for (X.680, 13.1).
+    OtherVersion,
     /// The module that it is imported from doesn't export it (X.680, 13.13).
     NotExported,
     /// The Name is imported from one module to the next, and no module assigns it.
@@ -43,7 +45,7 @@ pub enum Why {
 #[derive(Clone, Copy, Debug, PartialEq, Eq)]
 pub struct NameError<'n> {
     pub why: Why,
-    /// The Name; that of a module in NoModule, NotImported and ModuleTwice.
+    /// The Name; that of a module in NoModule, NotImported, OtherVersion and ModuleTwice.
     pub name: &'n str,
     /// Where this shows, unless it is all that was asked for.
     pub place: Option<Place>,

@@ -73,7 +73,7 @@ impl<'t> Index<'t> {
     }
 
     /// Gives the Name one number more.
-    fn add(&mut self, name: &'t str, number: usize) -> Result<(), AllocError>
+    pub fn add(&mut self, name: &'t str, number: usize) -> Result<(), AllocError>
         ensures { OnOk result (Extends self.old (record { name = name.now; number = number } ∷ []) self.new) }
     {
         let numbers = self.get(name).with_number(number);

@@ -2,10 +2,12 @@
 #![tactic(auto)]
 
 mod error;
+mod identifier;
 mod index;
 pub mod laws;
 mod names;
 mod part;
+mod version;
 mod way;
 
 pub use error::{Found, NameError, Place, Why};

@@ -7,6 +7,7 @@ ghost use Rattle.oer_module_names.specs.Indexed.{IsIndexed};
 use crate::error::{Found, NameError, Place, Why};
 use crate::index::{Index, Sole};
 use crate::part::{Part, assigners_of, named_modules, parts_of};
+use crate::version::others_of;
 use crate::way::{Step, Way};
 use oer_module_syntax::{Assignment, Import, Module};
 use std::alloc::{AllocError, Global};
@@ -18,20 +19,28 @@ pub struct Names<'m, 's, 't> {
     by_name: Index<'t>,
     parts: Vec<Part<'t>>,
     assigners: Index<'t>,
-    ghost indexed: { IsIndexed (map module_of modules.now) by_name parts.items assigners } by { Prim.hlevel props },
+    /// Of each module: the names of those from which it imports another version than is there.
+    others: Vec<Index<'t>>,
+    ghost indexed: { IsIndexed (map module_of modules.now) by_name parts.items assigners others.items } by { Prim.hlevel props },
 }
 
 impl<'m, 's, 't> Names<'m, 's, 't> {
     ghost use Rattle.std.specs.Prelude.{◌≡◌, ◌<◌, IfOk, IfSome, Some, length, map, slice_get};
     ghost use Rattle.oer_module_syntax.specs.Tree.{assignment_of, import_of, module_of};
-    ghost use Rattle.oer_module_names.specs.Finding.{assignment_place, find, find_anywhere, find_in, find_module, follow, from_name, from_place, import_of_name, module_at, module_place, own, own_name, step, through};
-    ghost use Rattle.oer_module_names.specs.Tables.{assigned_in, assigner, assignments_in, imported_in, imports_in, is_exported_in, named, source_in};
+    ghost use Rattle.oer_module_names.specs.Finding.{assignment_place, find, find_anywhere, find_in, find_module, follow, from_name, from_place, import_of_name, module_at, module_place, own, own_name, step, through, version_at};
+    ghost use Rattle.oer_module_names.specs.Tables.{assigned_in, assigner, assignments_in, imported_in, imports_in, is_exported_in, named, other_in, source_in};
     ghost use Rattle.oer_module_names.specs.Views.{IsSoleBelow, IsStepWithin, IsWithin, answer_of, modules_in};
 
     /// Looks through the modules once. They are in any order, of one text or several. What is wrong with
-    /// a Name, as that two assignments have it, shows when that Name is looked for, and not here. A
-    /// module is known by its name alone: identifiers of modules, and the versions that an import
-    /// allows, aren't looked at.
+    /// a Name, as that two assignments have it, shows when that Name is looked for, and not here.
+    ///
+    /// A module is found by its name. Where an import gives it an object identifier, and its header has
+    /// one too, the module has to be of the version that the import asks for (X.680, 13.1): the arcs are
+    /// the same; by WITH SUCCESSORS the last arc of the module may also be greater; by WITH DESCENDANTS it
+    /// may also have more arcs behind those of the import. Only identifiers in braces are compared of which
+    /// each arc is told: by a number below 2^128, or by one of the names that need none (X.680, 32.3),
+    /// which are `itu-t`, `iso` and `joint-iso-itu-t`, those below `itu-t` and `iso`, and the letters below
+    /// `recommendation`.
     pub fn new(
         alloc: Global,
         modules: &'m [Module<'s, 't>],
@@ -41,11 +50,13 @@ impl<'m, 's, 't> Names<'m, 's, 't> {
         let by_name = named_modules(alloc, modules)?;
         let parts = parts_of(alloc, modules)?;
         let assigners = assigners_of(alloc, modules)?;
+        let others = others_of(alloc, &by_name, modules)?;
         Ok(Names {
             modules,
             by_name,
             parts,
             assigners,
+            others,
         })
     }
 
@@ -107,8 +118,9 @@ impl<'m, 's, 't> Names<'m, 's, 't> {
     /// In each module on the way, the first of these that holds is the error: AssignedTwice, if two
     /// assignments have the Name; Missing, if none has it and it isn't imported; ImportedTwice, if it
     /// is imported from two modules; NoModule or ModuleTwice, if not one module has the name behind
-    /// FROM; NotExported, by the EXPORTS of that module. Circular, if no end is found within as many
-    /// modules as there are.
+    /// FROM; OtherVersion, if that module isn't of the version that is asked for, by the first import
+    /// from it of which this is so; NotExported, by the EXPORTS of that module. Circular, if no end is
+    /// found within as many modules as there are.
     pub fn find<'n>(&self, module: usize, name: &'n str) -> Result<Found, NameError<'n>>
     where
         't: 'n,
@@ -274,6 +286,15 @@ impl<'m, 's, 't> Names<'m, 's, 't> {
         self.part(module).sources.get(from)
     }
 
+    /// Which import of a module from the module of this name asks for another version than is there.
+    fn other(&self, module: usize, from: &str) -> Sole
+        requires { «module» < length (modules_in self.now) }
+        ensures value { result ≡ other_in (modules_in self.now) «module» from.now }
+        ensures below { IsSoleBelow (length (imports_in (modules_in self.now) «module»)) result }
+    {
+        self.others[module].get(from)
+    }
+
     /// Whether a module exports the Name.
     fn is_exported(&self, module: usize, name: &str) -> bool
         requires { «module» < length (modules_in self.now) }
@@ -299,6 +320,22 @@ impl<'m, 's, 't> Names<'m, 's, 't> {
                 why: Why::ModuleTwice { first, second },
                 name,
                 place,
+            }),
+        }
+    }
+
+    #[tactic(auto, unfolding(crate::specs::Finding::version_at))]
+    /// Each import of a module from the module of this name asks for the version that is there.
+    fn version_at<'n>(&self, module: usize, from: &'n str) -> Result<(), NameError<'n>>
+        requires { «module» < length (modules_in self.now) }
+        ensures { answer_of result ≡ version_at (modules_in self.now) «module» from.now }
+    {
+        match self.other(module, from) {
+            Sole::Nothing => Ok(()),
+            Sole::One(import) | Sole::Two(import, _) => Err(NameError {
+                why: Why::OtherVersion,
+                name: from,
+                place: Some(self.from_place(module, import)),
             }),
         }
     }
@@ -344,7 +381,8 @@ impl<'m, 's, 't> Names<'m, 's, 't> {
     }
 
     #[tactic(auto, unfolding(crate::specs::Finding::through))]
-    /// Through an import to the module that it names, which must export the Name.
+    /// Through an import to the module that it names, which must be of the version that is asked for, and
+    /// export the Name.
     fn through<'n>(&self, module: usize, import: usize, name: &'n str) -> Result<Way, NameError<'n>>
     where
         't: 'n,
@@ -354,7 +392,9 @@ impl<'m, 's, 't> Names<'m, 's, 't> {
         ensures within { IfOk result (λ way. way.«module» < length (modules_in self.now)) }
     {
         let place = self.from_place(module, import);
-        let next = self.module_at(Some(place), self.from_name(module, import))?;
+        let from = self.from_name(module, import);
+        let next = self.module_at(Some(place), from)?;
+        self.version_at(module, from)?;
         if !self.is_exported(next, name) {
             return Err(NameError {
                 why: Why::NotExported,

@@ -1,4 +1,4 @@
-//! Automatic tags behind a second marker and in groups, where the programs take no type.
+//! Automatic tags behind a second marker, in groups and behind COMPONENTS OF, which no run of the programs shows.
 use oer_module_lexer::lex;
 use oer_module_parts::{are_tagged_automatically, automatic_numbers, marks_of, places_of};
 use oer_module_syntax::{Cursor, Element, TypeSyntax, read_type};

@@ -1,2 +1,3 @@
 pub mod ClassFields
+pub mod Parts
 pub mod Settled

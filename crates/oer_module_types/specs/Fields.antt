@@ -3,12 +3,15 @@ use Rattle.std.specs.Prelude.{ℕ, List, [], ◌∷◌, Bool, false, ◌&&◌, �
 use Rattle.std.specs.Str.{bytes_eq}
 use Rattle.oer_module_lexer.specs.Token.{Token, Spot, field}
 use Rattle.oer_module_lexer.specs.declared.token.Sign.TheVariants.{Point, OpenBrace, CloseBrace, Comma}
+use Rattle.oer_module_leaves.specs.Comments.{open_at as open_text}
+use Rattle.oer_module_limits.specs.Written.{Written}
+use Rattle.oer_module_names.specs.declared.error.Place.{Place}
 use Rattle.oer_module_syntax.specs.Modules.{none_left}
 use Rattle.oer_module_syntax.specs.State.{is_sign, is_word}
 use Rattle.oer_module_syntax.specs.Tree.{Module, Body, class_body, type_body, value_body, set_body}
 use Rattle.oer_module_syntax.specs.Words.{is_useful_class}
 use Rattle.oer_module_text.specs.Errors.{Read, ◌>>=◌, told_by, refused, place_in}
-use Rattle.oer_module_text.specs.Room.{Room, put}
+use Rattle.oer_module_text.specs.Room.{Room}
 use Rattle.oer_module_text.specs.declared.error.Part.TheVariants.{Field, Parameters}
 use Rattle.oer_module_values.specs.Looks.{own}
 use Rattle.oer_module_values.specs.Types.{Referent, referred}
@@ -52,9 +55,6 @@ abbrev pub is_open_by : List ℕ → Option Referent → Bool
 is_open_by w None = false
 is_open_by w (Some c) = has_field w c.assignment.body
 
-abbrev pub open_text : List ℕ
-open_text = codes "OCTET STRING /* open type */"
-
 module _ (ms : List Module) where
   -- whether a field of a class, by its name, is a type's; TYPE-IDENTIFIER and ABSTRACT-SYNTAX have one (X.681, annexes A and B)
   abbrev pub is_open : ℕ → ℕ → List ℕ → List ℕ → Read Bool
@@ -66,8 +66,8 @@ module _ (ms : List Module) where
   open_at m at class None = Ok false
   open_at m at class (Some w) = is_open m at class w
 
-  -- a name in a module at a byte, with steps and actual parameters
-  unfoldable pub field_at : ℕ → ℕ → List ℕ → List Spot → List Spot → Room → Read Room
-  field_at m at name steps ps r =
-      if none_left ps then (open_at m at name (field_of steps) >>= λ o. if o then Ok (put open_text r) else refused m at Field)
-      else refused m at Parameters
+  -- a name at a place, with steps, actual parameters and constraints
+  unfoldable pub field_at : Place → List ℕ → List Spot → List Spot → Written → Room → Read Room
+  field_at p name steps ps w r =
+      if none_left ps then (open_at p.«module» p.at name (field_of steps) >>= λ o. if o then Ok (open_text w r) else refused p.«module» p.at Field)
+      else refused p.«module» p.at Parameters

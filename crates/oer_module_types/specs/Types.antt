@@ -1,8 +1,11 @@
 -- The text of a type in our notation (docs/NOTATION.md, "Printing"), with the types in it.
-use Rattle.std.specs.Prelude.{ℕ, zero, suc, ◌-◌, List, [], ◌∷◌, ◌++◌, ◌==◌, Bool, true, false, not, ◌&&◌, Option, Some, None, Ok}
+use Rattle.std.specs.Prelude.{ℕ, zero, suc, ◌-◌, List, [], ◌∷◌, ◌++◌, Bool, true, false, not, ◌&&◌, Option, Some, None, Ok}
 use Rattle.std.specs.Prelude.{codes, slice_get, if◌then◌else◌}
 use Rattle.oer_module_defaults.specs.Defaults.{default_at}
+use Rattle.oer_module_leaves.specs.Comments.{unchecked_at}
 use Rattle.oer_module_leaves.specs.Leaves.{is_implied, leaf_at}
+use Rattle.oer_module_leaves.specs.declared.comment.Checked.TheVariants.{Nothing}
+use Rattle.oer_module_limits.specs.Written.{Written, written}
 use Rattle.oer_module_names.specs.declared.error.Place.{Place}
 use Rattle.oer_module_syntax.specs.Tree.{Module, Tree, plain, named, tagged, structure, list_of, selection, instance_of, any_defined_by}
 use Rattle.oer_module_syntax.specs.Tree.{Elements, no_elements, element, Element, marker, group, components_of, component}
@@ -15,30 +18,34 @@ use Rattle.oer_module_text.specs.Errors.{Read, error, refused, ◌>>=◌, told_b
 use Rattle.oer_module_text.specs.Room.{Room, new, put, take_part}
 use Rattle.oer_module_text.specs.declared.error.Part.TheVariants as parts
 use Rattle.oer_module_values.specs.Looks.{place_of}
-use Rattle.oer_module_values.specs.Types.{TypeIn, type_in, meaning}
+use Rattle.oer_module_values.specs.Types.{TypeIn, type_in, Given, Meaning, meaning}
 use Rattle.oer_units.specs.declared.tagging.Tag.{Tag}
 use Rattle.oer_module_types.specs.Fields.{field_at}
 use Rattle.oer_module_types.specs.Levels.{is_full, end_at}
+use Rattle.oer_module_types.specs.declared.element.After.{After}
 use Rattle.oer_module_types.specs.declared.element.Before.{Before}
 
 abbrev pub type_place : TypeIn → Place
 type_place t = place_in t.«module» (place_of t.type)
 
--- ---- elements: how many stand before one, and whether the marker does
+-- ---- elements: how many of a type stand before one, whether the text has some by then, and whether the marker is among them
 
-abbrev pub first : Before
-first = record { elements = 0; marked = false }
+abbrev pub first : Bool → Before
+first any = record { elements = 0; any = any; marked = false }
 
-abbrev pub behind : Before → Bool → Before
-behind b marked = record { elements = suc b.elements; marked = marked }
+abbrev pub after : Bool → Bool → After
+after any marked = record { any = any; marked = marked }
+
+abbrev pub behind : Before → After → Before
+behind b a = record { elements = suc b.elements; any = a.any; marked = a.marked }
 
 -- which of the components one is: all that stand before it are such but the marker
 abbrev pub index_of : Before → ℕ
 index_of b = if b.marked then b.elements - 1 else b.elements
 
--- a comma behind another element
+-- a comma behind others
 abbrev pub put_comma : Before → Room → Room
-put_comma b r = if b.elements == 0 then r else put (codes ", ") r
+put_comma b r = if b.any then put (codes ", ") r else r
 
 -- the tag of an alternative; components of a SEQUENCE have none
 abbrev pub tag_if : Option Tag → Room → Room
@@ -51,6 +58,11 @@ name_at tags b name r = tag_if (slice_get tags (index_of b)) (put (codes " ") (p
 abbrev pub marker_at : ℕ → ℕ → Before → Room → Read Room
 marker_at m at b r = if b.marked then refused m at parts.SecondMarker else Ok (put (codes "...") (put_comma b r))
 
+-- the elements of a SEQUENCE
+abbrev pub sequence_of : Tree → Option Elements
+sequence_of (structure at bi.Sequence es cs) = Some es
+sequence_of t = None
+
 -- an addition may be absent in any case, and has no default
 abbrev pub added_at : ℕ → ℕ → Need → Room → Read Room
 added_at m at (default v) r = refused m at parts.AddedDefault
@@ -58,9 +70,9 @@ added_at m at must r = Ok r
 added_at m at may r = Ok r
 
 module _ (ms : List Module) where
-  -- the type that a type stands for
-  unfoldable pub stands_for : TypeIn → Read TypeIn
-  stands_for t = told_by (meaning ms t) >>= λ m. Ok m.of
+  -- what a type stands for
+  unfoldable pub stands_for : TypeIn → Read Meaning
+  stands_for t = told_by (meaning ms t)
 
   -- OPTIONAL, or DEFAULT and a value of the type
   abbrev pub needed_at : ℕ → Tree → Need → Room → Read Room
@@ -79,59 +91,121 @@ module _ (ms : List Module) where
 
 -- the text of what a type has in it, where that of each type behind a path is this
 module _ (ms : List Module) (type : List Place → TypeIn → Room → Read Room) where
-  abbrev pub element_at : ℕ → List Tag → List Place → Before → Element → Room → Read (Bool × Room)
-  element_at m tags path b (marker at x) r = marker_at m at b r >>= λ s. Ok (true, s)
-  element_at m tags path b (group at es) r = refused m at parts.Group
-  element_at m tags path b (components_of at t) r = refused m at parts.ComponentsOf
-  element_at m tags path b (component at name t need) r =
-      type path (type_in m t) (name_at tags b name r) >>= λ s. need_at ms b.marked m at t need s >>= λ u. Ok (b.marked, u)
+  -- The sizes of a list are no part of the text but for a comment, which stands where they would.
+  abbrev pub list_at : Place → Builtin → Bool → Tree → Written → List Place → Room → Read Room
+  list_at p bi.Sequence sized t w path r =
+      type path (type_in p.«module» t) (put (codes " OF ") (unchecked_at Nothing sized w (put (codes "SEQUENCE") r)))
+  list_at p b sized t w path r = refused p.«module» p.at parts.SetOf
 
-  -- elements behind others, and whether there is a marker
-  abbrev pub elements_at : ℕ → List Tag → List Place → Before → Elements → Room → Read (Bool × Room)
-  elements_at m tags path b no_elements r = Ok (b.marked, r)
-  elements_at m tags path b (element e es) r =
-      element_at m tags path b e r >>= λ x. elements_at m tags path (behind b x.0) es x.1
+  -- a component or an alternative at a byte
+  abbrev pub component_at : ℕ → List Tag → List Place → Before → ℕ → List ℕ → Tree → Need → Room → Read (After × Room)
+  component_at m tags path b at name t need r =
+      type path (type_in m t) (name_at tags b name r) >>= λ s. need_at ms b.marked m at t need s >>= λ u. Ok (after true b.marked, u)
 
-  -- behind the opening brace
-  unfoldable pub braces_at : Place → List Tag → List Place → Elements → Room → Read Room
-  braces_at p tags path es r = elements_at p.«module» tags path first es r >>= λ x. closed ms p x.0 x.1
+  -- where so is that of COMPONENTS OF at a place, behind other elements or not, and whether there are elements by then
+  module _ (roots : List Place → Bool → Place → Tree → Room → Read (Bool × Room)) where
+    -- COMPONENTS OF isn't taken among additions.
+    abbrev pub element_at : ℕ → List Tag → List Place → Before → Element → Room → Read (After × Room)
+    element_at m tags path b (marker at x) r = marker_at m at b r >>= λ s. Ok (after true true, s)
+    element_at m tags path b (group at es) r = refused m at parts.Group
+    element_at m tags path b (components_of at t) r =
+        if b.marked then refused m at parts.ComponentsOf
+        else (roots path b.any (place_in m at) t r >>= λ x. Ok (after x.0 false, x.1))
+    element_at m tags path b (component at name t need) r = component_at m tags path b at name t need r
 
-  abbrev pub structure_at : Place → Builtin → Elements → List Place → Room → Read Room
-  structure_at p bi.Sequence es path r = braces_at p [] path es (put (codes "SEQUENCE {") r)
-  structure_at p bi.Choice es path r =
-      alternative_tags ms p.«module» es >>= λ tags. braces_at p tags path es (put (codes "CHOICE {") r)
-  structure_at p b es path r = refused p.«module» p.at parts.Set
+    -- elements behind others
+    abbrev pub elements_at : ℕ → List Tag → List Place → Before → Elements → Room → Read (After × Room)
+    elements_at m tags path b no_elements r = Ok (after b.any b.marked, r)
+    elements_at m tags path b (element e es) r =
+        element_at m tags path b e r >>= λ x. elements_at m tags path (behind b x.0) es x.1
 
-  abbrev pub list_at : Place → Builtin → Tree → List Place → Room → Read Room
-  list_at p bi.Sequence t path r = type path (type_in p.«module» t) (put (codes "SEQUENCE OF ") r)
-  list_at p b t path r = refused p.«module» p.at parts.SetOf
+    -- one of a SEQUENCE for the root of which COMPONENTS OF stands: its marker and its additions are left out (X.680, 25.5)
+    abbrev pub root_element_at : ℕ → List Tag → List Place → Before → Element → Room → Read (After × Room)
+    root_element_at m tags path b (marker at x) r =
+        if b.marked then refused m at parts.SecondMarker else Ok (after b.any true, r)
+    root_element_at m tags path b e r = if b.marked then Ok (after b.any true, r) else element_at m tags path b e r
+
+    -- all of them, and whether there are elements by then
+    abbrev pub root_at : ℕ → List Tag → List Place → Before → Elements → Room → Read (Bool × Room)
+    root_at m tags path b no_elements r = Ok (b.any, r)
+    root_at m tags path b (element e es) r =
+        root_element_at m tags path b e r >>= λ x. root_at m tags path (behind b x.0) es x.1
+
+    -- those of a SEQUENCE for which COMPONENTS OF at a place stands
+    abbrev pub included_at : Place → List Place → Bool → ℕ → Option Elements → Room → Read (Bool × Room)
+    included_at p path any m None r = refused p.«module» p.at parts.ComponentsOf
+    included_at p path any m (Some es) r = root_at m [] path (first any) es r
+
+    -- behind the opening brace
+    unfoldable pub braces_at : Place → List Tag → List Place → Elements → Room → Read Room
+    braces_at p tags path es r =
+        elements_at p.«module» tags path (first false) es r >>= λ x. closed ms p x.0.marked x.1
+
+    abbrev pub inside_at : Place → Builtin → Elements → List Place → Room → Read Room
+    inside_at p bi.Sequence es path r = braces_at p [] path es (put (codes "SEQUENCE {") r)
+    inside_at p bi.Choice es path r =
+        alternative_tags ms p.«module» es >>= λ tags. braces_at p tags path es (put (codes "CHOICE {") r)
+    inside_at p b es path r = refused p.«module» p.at parts.Set
+
+    -- with a comment on its constraints
+    unfoldable pub structure_at : Place → Builtin → Elements → Written → List Place → Room → Read Room
+    structure_at p b es w path r = inside_at p b es path r >>= λ s. Ok (unchecked_at Nothing false w s)
 
 -- what is in a type at a place; its end, where the place stands on the path as often as types may nest
 unfoldable pub nested_at : ℕ → ℕ → (List Place → Room → Read Room) → Place → List Place → Room → Read Room
 nested_at nesting levels inside p path r =
     if is_full nesting p path then end_at levels p r else inside (path ++ p ∷ []) r
 
-module _ (ms : List Module) (nesting : ℕ) where
-  -- A type in which so many levels of types may nest, and the type that it stands for.
-  abbrev pub meant_by : ℕ → (List Place → TypeIn → Room → Read Room) → List Place → TypeIn → ℕ → Tree → Room → Read Room
-  meant_by levels type path t m (plain at b items cs) r = leaf_at ms t (type_in m (plain at b items cs)) r
-  meant_by levels type path t m (structure at b es cs) r =
-      nested_at nesting levels (structure_at ms type (place_in m at) b es) (place_in m at) path r
-  meant_by levels type path t m (list_of at b sized size name item) r =
-      nested_at nesting levels (list_at ms type (place_in m at) b item) (place_in m at) path r
-  meant_by levels type path t m (named at name steps ps cs) r = field_at ms m at name steps ps r
-  meant_by levels type path t m (tagged at ts mode u) r = type path (type_in m u) r
-  meant_by levels type path t m (selection at name u) r = refused m at parts.Selection
-  meant_by levels type path t m (instance_of at class steps cs) r = refused m at parts.InstanceOf
-  meant_by levels type path t m (any_defined_by at name) r = refused m at parts.AnyDefinedBy
+-- a type that holds no other, or that isn't taken
+abbrev pub IsSingle : Tree → Type 0
+IsSingle (tagged at ts mode t) = ⊥
+IsSingle (structure at b es cs) = ⊥
+IsSingle (list_of at b sized size name item) = ⊥
+IsSingle _ = Unit {0}
 
-  -- A type behind a path of the types that it stands in. The number is how many levels of types may nest.
-  unfoldable pub type_at : ℕ → List Place → TypeIn → Room → Read Room
-  type_at zero path t r = error (type_place t) too_deep
-  type_at (suc levels) path t r = do
-    u ← stands_for ms t
-    s ← take_part (type_place u) r
-    meant_by levels (type_at levels) path t u.«module» u.type s
+module _ (ms : List Module) where
+  abbrev pub single_by : TypeIn → TypeIn → ℕ → Tree → List Given → Room → Read Room
+  single_by t u m (plain at b items cs) gs r = leaf_at ms t u gs r
+  single_by t u m (named at name steps ps cs) gs r = field_at ms (place_in m at) name steps ps (written m cs gs) r
+  single_by t u m (selection at name v) gs r = refused m at parts.Selection
+  single_by t u m (instance_of at class steps cs) gs r = refused m at parts.InstanceOf
+  single_by t u m (any_defined_by at name) gs r = refused m at parts.AnyDefinedBy
+  single_by t u m v gs r = refused m (place_of v) parts.Word
+
+  -- a type as it is written where it is used, such a type that it stands for, and what is given on the way
+  unfoldable pub single_at : TypeIn → TypeIn → List Given → Room → Read Room
+  single_at t u gs r = single_by t u u.«module» u.type gs r
+
+module _ (ms : List Module) (nesting : ℕ) where
+  module _ (levels : ℕ) (type : List Place → TypeIn → Room → Read Room) (roots : List Place → Bool → Place → Tree → Room → Read (Bool × Room)) where
+    abbrev pub meant_as : List Place → TypeIn → List Given → ℕ → Tree → Room → Read Room
+    meant_as path t gs m (structure at b es cs) r =
+        nested_at nesting levels (structure_at ms type roots (place_in m at) b es (written m cs gs)) (place_in m at) path r
+    meant_as path t gs m (list_of at b sized size name item) r =
+        nested_at nesting levels (list_at ms type (place_in m at) b sized item (written m size gs)) (place_in m at) path r
+    meant_as path t gs m u r = single_at ms t (type_in m u) gs r
+
+    -- A type in which so many levels of types may nest, and what it stands for.
+    abbrev pub meant_by : List Place → TypeIn → Meaning → Room → Read Room
+    meant_by path t m r = meant_as path t m.given m.of.«module» m.of.type r
+
+  -- The number is how many levels may nest, of types and of COMPONENTS OF.
+  unfoldable mutual
+    -- a type behind a path of the types that it stands in
+    pub type_at : ℕ → List Place → TypeIn → Room → Read Room
+    type_at zero path t r = error (type_place t) too_deep
+    type_at (suc levels) path t r = do
+      m ← stands_for ms t
+      s ← take_part (type_place m.of) r
+      meant_by levels (type_at levels) (roots_at levels) path t m s
+
+    -- COMPONENTS OF a type: the root of the SEQUENCE that it stands for (X.680, 25.5), which takes a part
+    pub roots_at : ℕ → List Place → Bool → Place → Tree → Room → Read (Bool × Room)
+    roots_at zero path any p t r = error p too_deep
+    roots_at (suc levels) path any p t r = do
+      m ← stands_for ms (type_in p.«module» t)
+      s ← take_part (type_place m.of) r
+      included_at ms (type_at levels) (roots_at levels) p path any m.of.«module» (sequence_of m.of.type) s
 
   -- the text of a type that stands in none
   unfoldable pub type_text : TypeIn → Read (List ℕ)

@@ -5,7 +5,7 @@ ghost use Rattle.oer_module_syntax.specs.Tree.{need_of, tree_of};
 ghost use Rattle.oer_module_text.specs.Errors.{Gives};
 ghost use Rattle.oer_module_text.specs.Room.{room_of};
 ghost use Rattle.oer_module_values.specs.Views.{type_in};
-ghost use Rattle.oer_module_types.specs.Types.{added_at, closed, first, index_of, marker_at, name_at, need_at, needed_at, put_comma, tag_if};
+ghost use Rattle.oer_module_types.specs.Types.{added_at, after, closed, first, index_of, marker_at, name_at, need_at, needed_at, put_comma, tag_if};
 
 use oer_module_defaults::write_default;
 use oer_module_leaves::is_implied;
@@ -17,20 +17,38 @@ use oer_module_values::TypeIn;
 use oer_units::Tag;
 use std::alloc::{AllocError, Global};
 
-/// How many elements stand before one, and whether the marker is among them.
+/// How many elements of a type stand before one, whether the text has some by then, and whether the marker is among them.
 #[derive(Clone, Copy)]
 pub struct Before {
     pub elements: usize,
+    pub any: bool,
     pub marked: bool,
 }
 
+/// Behind an element: whether the text has some by then, and whether the marker is among them.
+#[derive(Clone, Copy)]
+pub struct After {
+    pub any: bool,
+    pub marked: bool,
+}
+
+impl After {
+    /// Whether the text has elements by then, and whether the marker is among them.
+    pub fn new(any: bool, marked: bool) -> After
+        ensures { result ≡ after any marked }
+    {
+        After { any, marked }
+    }
+}
+
 impl Before {
-    /// Before the first element.
-    pub fn first() -> Before
-        ensures { result ≡ first }
+    /// Before the first element of a type, where the text has some of another or not.
+    pub fn first(any: bool) -> Before
+        ensures { result ≡ first any }
     {
         Before {
             elements: 0,
+            any,
             marked: false,
         }
     }
@@ -49,7 +67,7 @@ impl Before {
 fn put_comma(before: Before, room: &mut Room) -> Result<(), AllocError>
     ensures { OnOk result (room_of room.new ≡ put_comma before (room_of room.old)) }
 {
-    if before.elements == 0 {
+    if !before.any {
         return Ok(());
     }
     room.put(", ")

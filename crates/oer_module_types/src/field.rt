@@ -1,6 +1,7 @@
 //! Names behind which actual parameters or fields of a class stand.
 ghost use Rattle.std.specs.Prelude.{◌≡◌, ◌<◌, length, option_map};
 ghost use Rattle.oer_module_lexer.specs.Token.{spots_of, token_of};
+ghost use Rattle.oer_module_limits.specs.Views.{written_of};
 ghost use Rattle.oer_module_names.specs.Views.{modules_in};
 ghost use Rattle.oer_module_syntax.specs.Tree.{body_of};
 ghost use Rattle.oer_module_text.specs.Errors.{Gives};
@@ -8,11 +9,14 @@ ghost use Rattle.oer_module_text.specs.Room.{room_of};
 ghost use Rattle.oer_module_values.specs.Views.{referent_of};
 ghost use Rattle.oer_module_types.specs.Fields.{begins_field, ends_field, field_at, field_by, field_of, has_field, has_type_field, is_field, is_open, is_open_by, is_type_field, open_at};
 
+use oer_module_leaves::put_open;
 use oer_module_lexer::{Sign, Spot, Token};
+use oer_module_limits::Written;
 use oer_module_names::{Names, Place};
 use oer_module_syntax::{Body, is_useful_class};
 use oer_module_text::{Error, Part, Room, refused};
 use oer_module_values::{Path, Referent, referred};
+use std::alloc::Global;
 
 fn field_by<'t>(first: Token<'t>, second: Token<'t>) -> Option<&'t str>
     ensures { option_map (λ w. w.now) result ≡ field_by (token_of first.entry) (token_of second.entry) }
@@ -138,29 +142,38 @@ fn names_type<'t>(
     }
 }
 
-/// A name at a place, with steps and actual parameters. A field of a class that is a type's is an open type: its octets
-/// stand behind their length (X.696, 30), as those of an OCTET STRING do.
+/// A name at a place, with the steps and the actual parameters behind it, and its constraints.
+#[derive(Clone, Copy)]
+pub struct Field<'g, 'm, 's, 't> {
+    pub place: Place,
+    pub name: &'t str,
+    pub steps: &'m [Spot<'t>],
+    pub parameters: &'m [Spot<'t>],
+    pub written: Written<'g, 's, 't>,
+}
+
+/// A name with steps and actual parameters. A field of a class that is a type's is an open type: its octets stand behind
+/// their length (X.696, 30), as those of an OCTET STRING do.
 ///
 /// # Errors
 /// NotTaken at actual parameters, and at any other field; Unresolved, if the class isn't found; or Unresolved, with Memory.
 #[tactic(auto, unfolding(crate::specs::Fields::field_at))]
 pub fn write_field<'t>(
+    alloc: Global,
     names: &Names<'_, '_, 't>,
-    place: Place,
-    name: &'t str,
-    steps: &[Spot<'t>],
-    parameters: &[Spot<'t>],
+    field: Field<'_, '_, '_, 't>,
     room: &mut Room,
 ) -> Result<(), Error<'t>>
-    requires { place.«module» < length (modules_in names.now) }
-    ensures { Gives (λ _. room_of room.new) result (field_at (modules_in names.now) place.«module» place.at name.now (spots_of steps.now) (spots_of parameters.now) (room_of room.old)) }
+    requires { field.place.«module» < length (modules_in names.now) }
+    ensures { Gives (λ _. room_of room.new) result (field_at (modules_in names.now) field.entry.place field.entry.name.now (spots_of field.entry.steps.now) (spots_of field.entry.parameters.now) (written_of field.entry.written) (room_of room.old)) }
 {
-    if !parameters.is_empty() {
+    let place = field.place;
+    if !field.parameters.is_empty() {
         return Err(refused(place.module, place.at, Part::Parameters));
     }
-    if !names_type(names, place, name, steps)? {
+    if !names_type(names, place, field.name, field.steps)? {
         return Err(refused(place.module, place.at, Part::Field));
     }
-    room.put("OCTET STRING /* open type */")?;
+    put_open(alloc, field.written, room)?;
     Ok(())
 }

@@ -1,27 +1,29 @@
 //! The text of a type, with the types in it.
-ghost use Rattle.std.specs.Prelude.{◌≡◌, ◌<◌, IfOk, OnOk, length, map, string_bytes};
+ghost use Rattle.std.specs.Prelude.{◌≡◌, ◌<◌, IfOk, OnOk, length, map, option_map, string_bytes};
+ghost use Rattle.oer_module_limits.specs.Views.{written_of};
 ghost use Rattle.oer_module_names.specs.Views.{modules_in};
-ghost use Rattle.oer_module_syntax.specs.Tree.{element_of, elements_from, tree_of};
+ghost use Rattle.oer_module_syntax.specs.Tree.{element_of, elements_from, need_of, tree_of};
 ghost use Rattle.oer_module_text.specs.Errors.{Gives};
 ghost use Rattle.oer_module_text.specs.Room.{room_of};
 ghost use Rattle.oer_module_values.specs.Types.{IsFinal};
-ghost use Rattle.oer_module_values.specs.Views.{type_in};
-ghost use Rattle.oer_module_types.specs.Types.{braces_at, element_at, elements_at, first, list_at, meant_by, nested_at, stands_for, structure_at, type_place, type_text};
-ghost use Rattle.oer_module_types.specs.Views.{modules_of, types_of};
+ghost use Rattle.oer_module_values.specs.Views.{given_of, meaning_of, type_in};
+ghost use Rattle.oer_module_types.specs.Types.{IsSingle, braces_at, component_at, element_at, elements_at, first, inside_at, list_at, meant_by, nested_at, root_at, root_element_at, sequence_of, single_at, stands_for, structure_at, type_place, type_text};
+ghost use Rattle.oer_module_types.specs.Views.{modules_of, roots_of, types_of};
 
-use crate::element::{Before, close, write_marker, write_name, write_need};
-use crate::field::write_field;
+use crate::element::{After, Before, close, write_marker, write_name, write_need};
+use crate::field::{Field, write_field};
 use crate::level::{is_full, write_end};
-use oer_module_leaves::write_leaf;
+use oer_module_leaves::{Checked, put_unchecked, write_leaf};
+use oer_module_limits::Written;
 use oer_module_names::{Names, Place};
-use oer_module_syntax::{Builtin, Element, TypeSyntax};
+use oer_module_syntax::{Builtin, Element, Need, TypeSyntax};
 use oer_module_tags::alternative_tags;
 use oer_module_text::{Error, Part, Room, Why, refused};
-use oer_module_values::{TypeIn, place_of, resolve};
+use oer_module_values::{Given, Meaning, TypeIn, place_of, resolve};
 use oer_units::Tag;
 use std::alloc::Global;
 
-/// How many levels of types may nest.
+/// How many levels may nest, of types and of COMPONENTS OF.
 pub const MOST_LEVELS: u8 = 32;
 
 /// What goes along while a type is written: the modules, and how often a type may stand in itself, itself included.
@@ -32,11 +34,41 @@ pub struct Scope<'n, 'm, 's, 't> {
     pub nesting: u8,
 }
 
-/// The type whose elements are written, and the tags of these, if it is a CHOICE.
+/// The type whose elements are written, the tags of these, if it is a CHOICE, and whether the text has elements of another
+/// before them.
 #[derive(Clone, Copy)]
 struct Frame<'a> {
     place: Place,
     tags: &'a [Tag],
+    any: bool,
+}
+
+/// A component or an alternative at a byte.
+#[derive(Clone, Copy)]
+struct Component<'m, 's, 't> {
+    at: usize,
+    name: &'t str,
+    from: &'m TypeSyntax<'s, 't>,
+    need: Need<'s, 't>,
+}
+
+/// A SEQUENCE, SET or CHOICE at a place, with its constraints.
+#[derive(Clone, Copy)]
+struct Structure<'g, 'm, 's, 't> {
+    place: Place,
+    builtin: Builtin,
+    elements: &'m [Element<'s, 't>],
+    written: Written<'g, 's, 't>,
+}
+
+/// A SEQUENCE OF or SET OF at a place, with its constraints. Whether the word SIZE stands before the first of these.
+#[derive(Clone, Copy)]
+struct ListOf<'g, 'm, 's, 't> {
+    place: Place,
+    builtin: Builtin,
+    sized: bool,
+    item: &'m TypeSyntax<'s, 't>,
+    written: Written<'g, 's, 't>,
 }
 
 fn type_place(of: TypeIn<'_, '_, '_>) -> Place
@@ -48,19 +80,19 @@ fn type_place(of: TypeIn<'_, '_, '_>) -> Place
     }
 }
 
-/// The type that a type stands for, through references and tags.
+/// What a type stands for, through references and tags.
 #[tactic(auto, unfolding(crate::specs::Types::stands_for))]
 fn stands_for<'m, 's, 't>(
     scope: Scope<'_, 'm, 's, 't>,
     of: TypeIn<'m, 's, 't>,
-) -> Result<TypeIn<'m, 's, 't>, Error<'t>>
+) -> Result<Meaning<'m, 's, 't>, Error<'t>>
     requires { of.«module» < length (modules_of scope) }
-    ensures value { Gives type_in result (stands_for (modules_of scope.entry) (type_in of.entry)) }
-    ensures within { IfOk result (λ t. t.«module» < length (modules_of scope.entry)) }
-    ensures settled { IfOk result (λ t. IsFinal (tree_of t.syntax.now)) }
+    ensures value { Gives meaning_of result (stands_for (modules_of scope.entry) (type_in of.entry)) }
+    ensures within { IfOk result (λ m. m.of.«module» < length (modules_of scope.entry)) }
+    ensures settled { IfOk result (λ m. IsFinal (tree_of m.of.syntax.now)) }
 {
     let meaning = resolve(scope.alloc, scope.names, of)?;
-    Ok(meaning.of)
+    Ok(meaning)
 }
 
 /// Adds the text of a type. So many levels of types may nest. The path has the places of the SEQUENCEs, CHOICEs and
@@ -69,8 +101,8 @@ fn stands_for<'m, 's, 't>(
 ///
 /// # Errors
 /// The first on the way, at the place of the type or the element that it is. Unresolved, where a name stands for nothing,
-/// tokens can't be read, or an allocation failed. TooDeep, where a level is one too many; TooManyParts and TooLong. NotTaken
-/// at a part of ASN.1 that isn't taken. The errors of leaves, tags and defaults.
+/// tokens can't be read, or an allocation failed. TooDeep, where a level of types or of COMPONENTS OF is one too many;
+/// TooManyParts and TooLong. NotTaken at a part of ASN.1 that isn't taken. The errors of leaves, tags and defaults.
 #[cycle(types)]
 #[tactic(auto, unfolding(crate::specs::Types::type_at))]
 pub fn write_type<'m, 's, 't>(
@@ -90,12 +122,12 @@ pub fn write_type<'m, 's, 't>(
             why: Why::TooDeep,
         });
     }
-    let is = stands_for(scope, of)?;
-    room.take_part(type_place(is))?;
-    write_meant(scope, levels - 1, path, of, is, room)
+    let meaning = stands_for(scope, of)?;
+    room.take_part(type_place(meaning.of))?;
+    write_meant(scope, levels - 1, path, of, &meaning, room)
 }
 
-/// A type, by the type that it stands for, in which so many levels may nest.
+/// A type, by what it stands for, in which so many levels may nest.
 #[cycle(types)]
 #[tactic(auto, using(oer_module_syntax::proofs::Trees::trees))]
 fn write_meant<'m, 's, 't>(
@@ -103,75 +135,149 @@ fn write_meant<'m, 's, 't>(
     levels: u8,
     path: &mut Vec<Place>,
     of: TypeIn<'m, 's, 't>,
-    is: TypeIn<'m, 's, 't>,
+    meaning: &Meaning<'m, 's, 't>,
     room: &mut Room,
 ) -> Result<(), Error<'t>>
     requires of { of.«module» < length (modules_of scope) }
-    requires is { is.«module» < length (modules_of scope) }
-    requires settled { IsFinal (tree_of is.syntax.now) }
-    ensures text { Gives (λ _. room_of room.new) result (meant_by (modules_of scope.entry) scope.entry.nesting levels (types_of scope.entry levels) path.old.items (type_in of.entry) is.entry.«module» (tree_of is.entry.syntax.now) (room_of room.old)) }
+    requires is { meaning.now.of.«module» < length (modules_of scope) }
+    requires settled { IsFinal (tree_of meaning.now.of.syntax.now) }
+    ensures text { Gives (λ _. room_of room.new) result (meant_by (modules_of scope.entry) scope.entry.nesting levels (types_of scope.entry levels) (roots_of scope.entry levels) path.old.items (type_in of.entry) (meaning_of meaning.now) (room_of room.old)) }
     ensures path { OnOk result (path.new.items ≡ path.old.items) }
 {
+    let is = meaning.of;
     let module = is.module;
+    let given: &[Given<'s, 't>] = &meaning.given;
     match is.syntax {
-        TypeSyntax::Plain { .. } => write_leaf(scope.alloc, scope.names, of, is, room),
         TypeSyntax::Structure {
             at,
             builtin,
             elements,
-            ..
+            constraints: own,
         } => {
-            let place = Place { module, at: *at };
-            write_structure(scope, levels, path, place, *builtin, elements, room)
+            let structure = Structure {
+                place: Place { module, at: *at },
+                builtin: *builtin,
+                elements,
+                written: Written { module, own, given },
+            };
+            write_structure(scope, levels, path, structure, room)
         }
         TypeSyntax::ListOf {
             at,
             builtin,
+            sized,
+            size: own,
             item,
             ..
         } => {
-            let place = Place { module, at: *at };
-            write_list(scope, levels, path, place, *builtin, item, room)
+            let list = ListOf {
+                place: Place { module, at: *at },
+                builtin: *builtin,
+                sized: *sized,
+                item,
+                written: Written { module, own, given },
+            };
+            write_list(scope, levels, path, list, room)
         }
+        _ => write_single(scope, of, is, given, room),
+    }
+}
+
+/// A type that holds no other, or that isn't taken.
+#[tactic(auto, unfolding(crate::specs::Types::single_at), using(oer_module_syntax::proofs::Trees::trees))]
+fn write_single<'m, 's, 't>(
+    scope: Scope<'_, 'm, 's, 't>,
+    of: TypeIn<'m, 's, 't>,
+    is: TypeIn<'m, 's, 't>,
+    given: &[Given<'s, 't>],
+    room: &mut Room,
+) -> Result<(), Error<'t>>
+    requires of { of.«module» < length (modules_of scope) }
+    requires is { is.«module» < length (modules_of scope) }
+    requires single { IsSingle (tree_of is.syntax.now) }
+    ensures { Gives (λ _. room_of room.new) result (single_at (modules_of scope.entry) (type_in of.entry) (type_in is.entry) (map given_of given.now) (room_of room.old)) }
+{
+    let module = is.module;
+    match is.syntax {
+        TypeSyntax::Plain { .. } => write_leaf(scope.alloc, scope.names, of, is, given, room),
         TypeSyntax::Named {
             at,
             name,
             path: steps,
             parameters,
-            ..
+            constraints: own,
         } => {
-            let place = Place { module, at: *at };
-            write_field(scope.names, place, name, steps, parameters, room)
+            let field = Field {
+                place: Place { module, at: *at },
+                name,
+                steps,
+                parameters,
+                written: Written { module, own, given },
+            };
+            write_field(scope.alloc, scope.names, field, room)
         }
         TypeSyntax::Selection { at, .. } => Err(refused(module, *at, Part::Selection)),
         TypeSyntax::InstanceOf { at, .. } => Err(refused(module, *at, Part::InstanceOf)),
         TypeSyntax::AnyDefinedBy { at, .. } => Err(refused(module, *at, Part::AnyDefinedBy)),
-        TypeSyntax::Tagged { .. } => unreachable!(),
+        TypeSyntax::Structure { .. } | TypeSyntax::ListOf { .. } | TypeSyntax::Tagged { .. } =>
+            unreachable!(),
     }
 }
 
-/// A SEQUENCE, SET or CHOICE at a place, or the end of nesting.
+/// A SEQUENCE, SET or CHOICE, or the end of nesting.
 #[cycle(types)]
 #[tactic(auto, unfolding(crate::specs::Types::nested_at))]
 fn write_structure<'m, 's, 't>(
     scope: Scope<'_, 'm, 's, 't>,
     levels: u8,
     path: &mut Vec<Place>,
-    place: Place,
-    builtin: Builtin,
-    elements: &'m [Element<'s, 't>],
+    structure: Structure<'_, 'm, 's, 't>,
     room: &mut Room,
 ) -> Result<(), Error<'t>>
-    requires { place.«module» < length (modules_of scope) }
-    ensures text { Gives (λ _. room_of room.new) result (nested_at scope.entry.nesting levels (structure_at (modules_of scope.entry) (types_of scope.entry levels) place builtin (elements_from (map element_of elements.now))) place path.old.items (room_of room.old)) }
+    requires { structure.place.«module» < length (modules_of scope) }
+    ensures text { Gives (λ _. room_of room.new) result (nested_at scope.entry.nesting levels (structure_at (modules_of scope.entry) (types_of scope.entry levels) (roots_of scope.entry levels) structure.entry.place structure.entry.builtin (elements_from (map element_of structure.entry.elements.now)) (written_of structure.entry.written)) structure.entry.place path.old.items (room_of room.old)) }
     ensures path { OnOk result (path.new.items ≡ path.old.items) }
 {
+    let place = structure.place;
     if is_full(scope.nesting, path, place) {
         return write_end(levels, place, room);
     }
     path.push(place)?;
-    write_inside(scope, levels, path, place, builtin, elements, room)?;
+    write_narrowed(scope, levels, path, structure, room)?;
     path.pop();
+    Ok(())
+}
+
+/// A SEQUENCE, SET or CHOICE, and a comment on its constraints.
+#[cycle(types)]
+#[tactic(auto, unfolding(crate::specs::Types::structure_at))]
+fn write_narrowed<'m, 's, 't>(
+    scope: Scope<'_, 'm, 's, 't>,
+    levels: u8,
+    path: &mut Vec<Place>,
+    structure: Structure<'_, 'm, 's, 't>,
+    room: &mut Room,
+) -> Result<(), Error<'t>>
+    requires { structure.place.«module» < length (modules_of scope) }
+    ensures text { Gives (λ _. room_of room.new) result (structure_at (modules_of scope.entry) (types_of scope.entry levels) (roots_of scope.entry levels) structure.entry.place structure.entry.builtin (elements_from (map element_of structure.entry.elements.now)) (written_of structure.entry.written) path.old.items (room_of room.old)) }
+    ensures path { OnOk result (path.new.items ≡ path.old.items) }
+{
+    write_inside(
+        scope,
+        levels,
+        path,
+        structure.place,
+        structure.builtin,
+        structure.elements,
+        room,
+    )?;
+    put_unchecked(
+        scope.alloc,
+        structure.written,
+        Checked::Nothing,
+        false,
+        room,
+    )?;
     Ok(())
 }
 
@@ -187,45 +293,49 @@ fn write_inside<'m, 's, 't>(
     room: &mut Room,
 ) -> Result<(), Error<'t>>
     requires { place.«module» < length (modules_of scope) }
-    ensures text { Gives (λ _. room_of room.new) result (structure_at (modules_of scope.entry) (types_of scope.entry levels) place builtin (elements_from (map element_of elements.now)) path.old.items (room_of room.old)) }
+    ensures text { Gives (λ _. room_of room.new) result (inside_at (modules_of scope.entry) (types_of scope.entry levels) (roots_of scope.entry levels) place builtin (elements_from (map element_of elements.now)) path.old.items (room_of room.old)) }
     ensures path { OnOk result (path.new.items ≡ path.old.items) }
 {
     match builtin {
         Builtin::Sequence => {
             room.put("SEQUENCE {")?;
-            let frame = Frame { place, tags: &[] };
-            write_braces(scope, levels, path, frame, elements, room)
+            write_braces(scope, levels, path, place, &[], elements, room)
         }
         Builtin::Choice => {
             let tags = alternative_tags(scope.alloc, scope.names, place.module, elements)?;
             room.put("CHOICE {")?;
-            let frame = Frame { place, tags: &tags };
-            write_braces(scope, levels, path, frame, elements, room)
+            write_braces(scope, levels, path, place, &tags, elements, room)
         }
         _ => Err(refused(place.module, place.at, Part::Set)),
     }
 }
 
-/// What stands in braces, and the closing one.
+/// What stands in braces at a place, where alternatives have these tags, and the closing one.
 #[cycle(types)]
 #[tactic(auto, unfolding(crate::specs::Types::braces_at))]
 fn write_braces<'m, 's, 't>(
     scope: Scope<'_, 'm, 's, 't>,
     levels: u8,
     path: &mut Vec<Place>,
-    frame: Frame<'_>,
+    place: Place,
+    tags: &[Tag],
     elements: &'m [Element<'s, 't>],
     room: &mut Room,
 ) -> Result<(), Error<'t>>
-    requires { frame.place.«module» < length (modules_of scope) }
-    ensures text { Gives (λ _. room_of room.new) result (braces_at (modules_of scope.entry) (types_of scope.entry levels) frame.entry.place frame.entry.tags.now path.old.items (elements_from (map element_of elements.now)) (room_of room.old)) }
+    requires { place.«module» < length (modules_of scope) }
+    ensures text { Gives (λ _. room_of room.new) result (braces_at (modules_of scope.entry) (types_of scope.entry levels) (roots_of scope.entry levels) place tags.now path.old.items (elements_from (map element_of elements.now)) (room_of room.old)) }
     ensures path { OnOk result (path.new.items ≡ path.old.items) }
 {
-    let marked = write_elements(scope, levels, path, frame, elements, room)?;
-    close(scope.names, frame.place, marked, room)
+    let frame = Frame {
+        place,
+        tags,
+        any: false,
+    };
+    let behind = write_elements(scope, levels, path, frame, elements, room)?;
+    close(scope.names, place, behind.marked, room)
 }
 
-/// The elements, joined by commas. Whether there is a marker.
+/// The elements, joined by commas.
 #[cycle(types)]
 fn write_elements<'m, 's, 't>(
     scope: Scope<'_, 'm, 's, 't>,
@@ -234,23 +344,132 @@ fn write_elements<'m, 's, 't>(
     frame: Frame<'_>,
     elements: &'m [Element<'s, 't>],
     room: &mut Room,
-) -> Result<bool, Error<'t>>
+) -> Result<After, Error<'t>>
     requires { frame.place.«module» < length (modules_of scope) }
-    ensures text { Gives (λ b. (b, room_of room.new)) result (elements_at (modules_of scope.entry) (types_of scope.entry levels) frame.entry.place.«module» frame.entry.tags.now path.old.items first (elements_from (map element_of elements.now)) (room_of room.old)) }
+    ensures text { Gives (λ a. (a, room_of room.new)) result (elements_at (modules_of scope.entry) (types_of scope.entry levels) (roots_of scope.entry levels) frame.entry.place.«module» frame.entry.tags.now path.old.items (first frame.entry.any) (elements_from (map element_of elements.now)) (room_of room.old)) }
     ensures path { OnOk result (path.new.items ≡ path.old.items) }
 {
-    let mut before = Before::first();
+    let mut before = Before::first(frame.any);
     for element in elements.iter() {
-        let marked = write_element(scope, levels, path, frame, before, element, room)?;
+        let behind = write_element(scope, levels, path, frame, before, element, room)?;
         before = Before {
             elements: before.elements + 1,
-            marked,
+            any: behind.any,
+            marked: behind.marked,
         };
     }
-    Ok(before.marked)
+    Ok(After::new(before.any, before.marked))
 }
 
-/// An element behind others. Whether there is a marker by then.
+/// The elements of a SEQUENCE that stand in its root, joined by commas. Whether the text has some by then.
+#[cycle(types)]
+fn write_root<'m, 's, 't>(
+    scope: Scope<'_, 'm, 's, 't>,
+    levels: u8,
+    path: &mut Vec<Place>,
+    frame: Frame<'_>,
+    elements: &'m [Element<'s, 't>],
+    room: &mut Room,
+) -> Result<bool, Error<'t>>
+    requires { frame.place.«module» < length (modules_of scope) }
+    ensures text { Gives (λ any. (any, room_of room.new)) result (root_at (modules_of scope.entry) (types_of scope.entry levels) (roots_of scope.entry levels) frame.entry.place.«module» frame.entry.tags.now path.old.items (first frame.entry.any) (elements_from (map element_of elements.now)) (room_of room.old)) }
+    ensures path { OnOk result (path.new.items ≡ path.old.items) }
+{
+    let mut before = Before::first(frame.any);
+    for element in elements.iter() {
+        let behind = write_root_element(scope, levels, path, frame, before, element, room)?;
+        before = Before {
+            elements: before.elements + 1,
+            any: behind.any,
+            marked: behind.marked,
+        };
+    }
+    Ok(before.any)
+}
+
+/// An element of a SEQUENCE behind others, if it stands in its root.
+#[cycle(types)]
+#[tactic(auto, using(oer_module_syntax::proofs::Trees::trees))]
+fn write_root_element<'m, 's, 't>(
+    scope: Scope<'_, 'm, 's, 't>,
+    levels: u8,
+    path: &mut Vec<Place>,
+    frame: Frame<'_>,
+    before: Before,
+    element: &'m Element<'s, 't>,
+    room: &mut Room,
+) -> Result<After, Error<'t>>
+    requires { frame.place.«module» < length (modules_of scope) }
+    ensures text { Gives (λ a. (a, room_of room.new)) result (root_element_at (modules_of scope.entry) (types_of scope.entry levels) (roots_of scope.entry levels) frame.entry.place.«module» frame.entry.tags.now path.old.items before (element_of element.now) (room_of room.old)) }
+    ensures path { OnOk result (path.new.items ≡ path.old.items) }
+{
+    match element {
+        Element::Marker { at, .. } if before.marked => {
+            Err(refused(frame.place.module, *at, Part::SecondMarker))
+        }
+        Element::Marker { .. } => Ok(After::new(before.any, true)),
+        _ if before.marked => Ok(After::new(before.any, true)),
+        _ => write_element(scope, levels, path, frame, before, element, room),
+    }
+}
+
+/// The elements of a SEQUENCE.
+#[tactic(auto, using(oer_module_syntax::proofs::Trees::trees))]
+fn sequence_of<'m, 's, 't>(of: &'m TypeSyntax<'s, 't>) -> Option<&'m [Element<'s, 't>]>
+    ensures { option_map (λ es. elements_from (map element_of es.now)) result ≡ sequence_of (tree_of of.now) }
+{
+    match of {
+        TypeSyntax::Structure {
+            builtin: Builtin::Sequence,
+            elements,
+            ..
+        } => Some(elements),
+        _ => None,
+    }
+}
+
+/// COMPONENTS OF a type: the components of the root of the SEQUENCE that it stands for (X.680, 25.5), each of the module
+/// where that stands. Whether the text has elements by then. It takes the room of one part, and a level.
+#[cycle(types)]
+#[tactic(auto, unfolding(crate::specs::Types::roots_at))]
+fn write_included<'m, 's, 't>(
+    scope: Scope<'_, 'm, 's, 't>,
+    levels: u8,
+    path: &mut Vec<Place>,
+    place: Place,
+    any: bool,
+    from: &'m TypeSyntax<'s, 't>,
+    room: &mut Room,
+) -> Result<bool, Error<'t>>
+    requires { place.«module» < length (modules_of scope) }
+    ensures text { Gives (λ a. (a, room_of room.new)) result (roots_of scope.entry levels path.old.items any place (tree_of from.now) (room_of room.old)) }
+    ensures path { OnOk result (path.new.items ≡ path.old.items) }
+{
+    if levels == 0 {
+        return Err(Error {
+            place,
+            why: Why::TooDeep,
+        });
+    }
+    let of = TypeIn {
+        module: place.module,
+        syntax: from,
+    };
+    let meaning = stands_for(scope, of)?;
+    let is = type_place(meaning.of);
+    room.take_part(is)?;
+    let Some(elements) = sequence_of(meaning.of.syntax) else {
+        return Err(refused(place.module, place.at, Part::ComponentsOf));
+    };
+    let frame = Frame {
+        place: is,
+        tags: &[],
+        any,
+    };
+    write_root(scope, levels - 1, path, frame, elements, room)
+}
+
+/// An element behind others.
 #[cycle(types)]
 #[tactic(auto, using(oer_module_syntax::proofs::Trees::trees))]
 fn write_element<'m, 's, 't>(
@@ -261,95 +480,129 @@ fn write_element<'m, 's, 't>(
     before: Before,
     element: &'m Element<'s, 't>,
     room: &mut Room,
-) -> Result<bool, Error<'t>>
+) -> Result<After, Error<'t>>
     requires { frame.place.«module» < length (modules_of scope) }
-    ensures text { Gives (λ b. (b, room_of room.new)) result (element_at (modules_of scope.entry) (types_of scope.entry levels) frame.entry.place.«module» frame.entry.tags.now path.old.items before (element_of element.now) (room_of room.old)) }
+    ensures text { Gives (λ a. (a, room_of room.new)) result (element_at (modules_of scope.entry) (types_of scope.entry levels) (roots_of scope.entry levels) frame.entry.place.«module» frame.entry.tags.now path.old.items before (element_of element.now) (room_of room.old)) }
     ensures path { OnOk result (path.new.items ≡ path.old.items) }
 {
     let module = frame.place.module;
     match element {
         Element::Marker { at, .. } => {
             write_marker(Place { module, at: *at }, before, room)?;
-            Ok(true)
+            Ok(After::new(true, true))
         }
         Element::Group { at, .. } => Err(refused(module, *at, Part::Group)),
-        Element::ComponentsOf { at, .. } => Err(refused(module, *at, Part::ComponentsOf)),
+        Element::ComponentsOf { at, .. } if before.marked => {
+            Err(refused(module, *at, Part::ComponentsOf))
+        }
+        Element::ComponentsOf { at, from } => {
+            let place = Place { module, at: *at };
+            let any = write_included(scope, levels, path, place, before.any, from, room)?;
+            Ok(After::new(any, false))
+        }
         Element::Component {
             at,
             name,
             from,
             need,
         } => {
-            let of = TypeIn {
-                module,
-                syntax: from,
+            let component = Component {
+                at: *at,
+                name,
+                from,
+                need: *need,
             };
-            write_name(scope.alloc, frame.tags, before, name, room)?;
-            write_type(scope, levels, path, of, room)?;
-            write_need(
-                scope.alloc,
-                scope.names,
-                before.marked,
-                *at,
-                of,
-                *need,
-                room,
-            )?;
-            Ok(before.marked)
+            write_component(scope, levels, path, frame, before, component, room)
         }
     }
 }
 
-/// A SEQUENCE OF or SET OF at a place, or the end of nesting. Its sizes are no part of the text: OER doesn't see them.
+/// A component or an alternative behind others.
+#[cycle(types)]
+fn write_component<'m, 's, 't>(
+    scope: Scope<'_, 'm, 's, 't>,
+    levels: u8,
+    path: &mut Vec<Place>,
+    frame: Frame<'_>,
+    before: Before,
+    component: Component<'m, 's, 't>,
+    room: &mut Room,
+) -> Result<After, Error<'t>>
+    requires { frame.place.«module» < length (modules_of scope) }
+    ensures text { Gives (λ a. (a, room_of room.new)) result (component_at (modules_of scope.entry) (types_of scope.entry levels) frame.entry.place.«module» frame.entry.tags.now path.old.items before component.entry.at component.entry.name.now (tree_of component.entry.from.now) (need_of component.entry.need) (room_of room.old)) }
+    ensures path { OnOk result (path.new.items ≡ path.old.items) }
+{
+    let of = TypeIn {
+        module: frame.place.module,
+        syntax: component.from,
+    };
+    write_name(scope.alloc, frame.tags, before, component.name, room)?;
+    write_type(scope, levels, path, of, room)?;
+    write_need(
+        scope.alloc,
+        scope.names,
+        before.marked,
+        component.at,
+        of,
+        component.need,
+        room,
+    )?;
+    Ok(After::new(true, before.marked))
+}
+
+/// A SEQUENCE OF or SET OF, or the end of nesting.
 #[cycle(types)]
 #[tactic(auto, unfolding(crate::specs::Types::nested_at))]
 fn write_list<'m, 's, 't>(
     scope: Scope<'_, 'm, 's, 't>,
     levels: u8,
     path: &mut Vec<Place>,
-    place: Place,
-    builtin: Builtin,
-    item: &'m TypeSyntax<'s, 't>,
+    list: ListOf<'_, 'm, 's, 't>,
     room: &mut Room,
 ) -> Result<(), Error<'t>>
-    requires { place.«module» < length (modules_of scope) }
-    ensures text { Gives (λ _. room_of room.new) result (nested_at scope.entry.nesting levels (list_at (modules_of scope.entry) (types_of scope.entry levels) place builtin (tree_of item.now)) place path.old.items (room_of room.old)) }
+    requires { list.place.«module» < length (modules_of scope) }
+    ensures text { Gives (λ _. room_of room.new) result (nested_at scope.entry.nesting levels (list_at (modules_of scope.entry) (types_of scope.entry levels) list.entry.place list.entry.builtin list.entry.sized (tree_of list.entry.item.now) (written_of list.entry.written)) list.entry.place path.old.items (room_of room.old)) }
     ensures path { OnOk result (path.new.items ≡ path.old.items) }
 {
+    let place = list.place;
     if is_full(scope.nesting, path, place) {
         return write_end(levels, place, room);
     }
     path.push(place)?;
-    write_items(scope, levels, path, place, builtin, item, room)?;
+    write_items(scope, levels, path, list, room)?;
     path.pop();
     Ok(())
 }
 
-/// A SEQUENCE OF or SET OF at a place.
+/// A SEQUENCE OF or SET OF. Its sizes are no part of the text but for a comment: OER doesn't see them.
 #[cycle(types)]
 fn write_items<'m, 's, 't>(
     scope: Scope<'_, 'm, 's, 't>,
     levels: u8,
     path: &mut Vec<Place>,
-    place: Place,
-    builtin: Builtin,
-    item: &'m TypeSyntax<'s, 't>,
+    list: ListOf<'_, 'm, 's, 't>,
     room: &mut Room,
 ) -> Result<(), Error<'t>>
-    requires { place.«module» < length (modules_of scope) }
-    ensures text { Gives (λ _. room_of room.new) result (list_at (modules_of scope.entry) (types_of scope.entry levels) place builtin (tree_of item.now) path.old.items (room_of room.old)) }
+    requires { list.place.«module» < length (modules_of scope) }
+    ensures text { Gives (λ _. room_of room.new) result (list_at (modules_of scope.entry) (types_of scope.entry levels) list.entry.place list.entry.builtin list.entry.sized (tree_of list.entry.item.now) (written_of list.entry.written) path.old.items (room_of room.old)) }
     ensures path { OnOk result (path.new.items ≡ path.old.items) }
 {
-    match builtin {
+    let module = list.place.module;
+    match list.builtin {
         Builtin::Sequence => {
-            room.put("SEQUENCE OF ")?;
-            let of = TypeIn {
-                module: place.module,
-                syntax: item,
-            };
-            write_type(scope, levels, path, of, room)
+            room.put("SEQUENCE")?;
+            put_unchecked(
+                scope.alloc,
+                list.written,
+                Checked::Nothing,
+                list.sized,
+                room,
+            )?;
+            room.put(" OF ")?;
+            let syntax = list.item;
+            write_type(scope, levels, path, TypeIn { module, syntax }, room)
         }
-        _ => Err(refused(place.module, place.at, Part::SetOf)),
+        _ => Err(refused(module, list.place.at, Part::SetOf)),
     }
 }
 

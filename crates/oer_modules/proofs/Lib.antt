@@ -1,5 +1,9 @@
+pub mod Definitions
 pub mod Listings
 pub mod Nestings
+pub mod Orders
 pub mod Readings
+pub mod Shown
+pub mod Strides
 pub mod Walks
 pub mod Wholes

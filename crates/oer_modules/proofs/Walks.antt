@@ -37,7 +37,7 @@ token_here : (at : ℕ) (s : RawSpot) (ss : List RawSpot) → (s.at == at) ≡ t
 unfolding token_at
 token_here at s ss h = rw h refl
 
-token_on : (at : ℕ) (s : RawSpot) (ss : List RawSpot) → (s.at == at) ≡ false → token_at at (spots_of (s ∷ ss)) ≡ token_at at (spots_of ss)
+pub token_on : (at : ℕ) (s : RawSpot) (ss : List RawSpot) → (s.at == at) ≡ false → token_at at (spots_of (s ∷ ss)) ≡ token_at at (spots_of ss)
 unfolding token_at
 token_on at s ss h = rw h refl
 
@@ -48,7 +48,7 @@ pub token_more : (at : ℕ) (ss : List RawSpot) (i : ℕ) (d : RawSpot) → i < 
     → token_at at (spots_of (drop i ss)) ≡ token_at at (spots_of (drop (i + 1) ss))
 token_more at ss i d l h = ap (λ x. token_at at (spots_of x)) (at_drop ss i d l) ∙ token_on at (get_or ss i d) (drop (i + 1) ss) (ne_eqb (get_or ss i d).at at h)
 
-token_none : (at : ℕ) → token_at at (spots_of []) ≡ None
+pub token_none : (at : ℕ) → token_at at (spots_of []) ≡ None
 unfolding token_at
 token_none at = refl
 

@@ -5,7 +5,9 @@ use Rattle.oer_module_lexer.specs.Lexing.{lex}
 use Rattle.oer_module_lexer.specs.declared.lexing.Tokens.{Tokens}
 use Rattle.oer_modules.proofs.Walks.{lexed_texts}
 use Rattle.oer_modules.specs.Causes.{Cause}
-use Rattle.oer_modules.specs.Modules.{ComesFirst, definitions_of_modules, lines, named_text, of_texts, or_misread, or_refused, type_of_modules}
+use Rattle.oer_modules.specs.Listed.{Printed, entries_from, nothing, printed_after}
+use Rattle.oer_modules.specs.Modules.{ComesFirst, definitions_of_modules, of_texts, or_misread, or_refused, type_of_modules}
+use Rattle.oer_modules.specs.Named.{named_text}
 use Rattle.oer_modules.specs.Places.{lexed_of}
 use Rattle.oer_modules.specs.Refusals.{Refusal, unreadable}
 use Rattle.oer_modules.specs.Texts.{Library, no_modules, read_each}
@@ -34,14 +36,13 @@ module _ (ks : List Tokens) (ts : List (Bor (List ℕ))) (same : map lexed_of ks
 
   pub listed_misread : (n : ℕ) (e : Misread) → read_each 0 (map lexed_of ks) no_modules ≡ Err e → definitions_of_modules (texts_of ts) n ≡ Err (unreadable (texts_of ts) e)
   unfolding definitions_of_modules
-  listed_misread n e h = of_read (λ l. Ok (lines l.modules n l.modules)) (Err e) h
+  listed_misread n e h = of_read (λ l. Ok (printed_after nothing (entries_from (texts_of ts) l l.modules n l.modules))) (Err e) h
 
-  pub listed : (n : ℕ) (l : Library) (s taken refused : List ℕ) → read_each 0 (map lexed_of ks) no_modules ≡ Ok l → taken ≡ [] ++ lines l.modules n l.modules → s ≡ taken ++ refused
-      → ComesFirst s (definitions_of_modules (texts_of ts) n)
+  pub listed : (n : ℕ) (l : Library) (s : List ℕ) (p : Printed) → read_each 0 (map lexed_of ks) no_modules ≡ Ok l → p ≡ printed_after nothing (entries_from (texts_of ts) l l.modules n l.modules)
+      → s ≡ p.lines ++ p.comments → ComesFirst s (definitions_of_modules (texts_of ts) n)
   unfolding definitions_of_modules
-  listed n l s taken refused h is e = record {
-    lines = lines l.modules n l.modules;
-    rest = refused;
-    are = of_read (λ l. Ok (lines l.modules n l.modules)) (Ok l) h;
-    whole = e ∙ ap (λ x. x ++ refused) is;
+  listed n l s p h is e = record {
+    printed = p;
+    are = of_read (λ l. Ok (printed_after nothing (entries_from (texts_of ts) l l.modules n l.modules))) (Ok l) h ∙ ap Ok (sym is);
+    whole = e;
   }

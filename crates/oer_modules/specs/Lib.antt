@@ -1,7 +1,12 @@
 pub mod Asked
 pub mod Causes
+pub mod Laws
+pub mod Listed
+pub mod Marks
 pub mod Modules
+pub mod Named
 pub mod Nesting
 pub mod Places
 pub mod Refusals
 pub mod Texts
+pub mod Words

@@ -1,8 +1,10 @@
 -- Where a byte of a text stands: its line, its column, and the token that begins there.
-use Rattle.std.specs.Prelude.{ℕ, suc, List, [], ◌∷◌, take, ◌==◌, nat_lt, ◌&&◌, Bool, Option, Some, None, option_map, slice_get, if◌then◌else◌}
+use Rattle.std.specs.Prelude.{◌<◌, ◌≤◌, ℕ, suc, List, [], ◌∷◌, take, ◌==◌, nat_lt, ◌&&◌, Bool, Option, Some, None, option_map, slice_get, slice_index_or, length, if◌then◌else◌}
+use Rattle.std.specs.List.Sorted.{IsNonDecreasingBy}
 use Rattle.oer_module_lexer.specs.Lexing.{Lexed, lex}
 use Rattle.oer_module_lexer.specs.Token.{Spot, Token, spots_of, token_of}
 use Rattle.oer_module_lexer.specs.declared.lexing.Tokens.{Tokens}
+use Rattle.oer_module_lexer.specs.declared.token.Spot.{Spot as RawSpot}
 use Rattle.oer_modules.specs.declared.place.Point.{Point as RawPoint}
 use Rattle.oer_modules.specs.declared.place.Position.{Position}
 
@@ -33,6 +35,15 @@ position_at at bs = behind (take at bs) first_position
 unfoldable pub token_at : ℕ → List Spot → Option Token
 token_at at [] = None
 token_at at (s ∷ ss) = if s.at == at then Some s.token else token_at at ss
+
+-- tokens in the order of their bytes
+abbrev pub AreInOrder : List RawSpot → Type 0
+AreInOrder ss = IsNonDecreasingBy (λ s. s.at) ss
+
+-- The first n begin before the byte, the others don't.
+pub record ArePartedAt (at : ℕ) (ss : List RawSpot) (n : ℕ) : Type 0 where
+  pub before : (k : ℕ) (d : RawSpot) → k < n → (slice_index_or ss k d).at < at
+  pub rest : (k : ℕ) (d : RawSpot) → n ≤ k → k < length ss → at ≤ (slice_index_or ss k d).at
 
 -- a place in one of the texts, which count from 1
 pub record Point : Type 0 where

@@ -3,7 +3,9 @@
 
 mod asked;
 mod cause;
+pub mod laws;
 mod listing;
+mod marks;
 mod modules;
 mod nesting;
 mod place;

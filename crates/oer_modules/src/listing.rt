@@ -1,14 +1,20 @@
 //! All definitions of modules.
-ghost use Rattle.std.specs.Prelude.{◌≡◌, ◌++◌, [], IfOk, OnOk, map, string_bytes};
+ghost use Rattle.std.specs.Prelude.{◌≡◌, ◌++◌, IfOk, OnOk, map, string_bytes};
 ghost use Rattle.oer_module_lexer.specs.Lexing.{lex};
 ghost use Rattle.oer_module_names.specs.Views.{modules_in};
-ghost use Rattle.oer_module_syntax.specs.Tree.{assignment_of, body_of, module_of};
+ghost use Rattle.oer_module_syntax.specs.Tree.{assignment_of, module_of};
 ghost use Rattle.oer_modules.specs.Causes.{IsGiven};
-ghost use Rattle.oer_modules.specs.Modules.{is_memory, line_of, lines, lines_in, named_text, one_line};
+ghost use Rattle.oer_modules.specs.Listed.{as_comment, as_line, entries_from, entries_of, entry_of, nothing, printed_after, printed_of, with_entry};
+ghost use Rattle.oer_modules.specs.Marks.{AreMarked};
+ghost use Rattle.oer_modules.specs.Named.{is_memory, named_text};
 ghost use Rattle.oer_modules.specs.Places.{lexed_of};
+ghost use Rattle.oer_modules.specs.Refusals.{refusal_of};
+ghost use Rattle.oer_modules.specs.Texts.{library_of};
+ghost use Rattle.oer_modules.specs.Words.{refusal_words};
 
 use crate::asked::{asked, type_at};
 use crate::cause::Cause;
+use crate::marks::Marks;
 use crate::nesting::text_by;
 use crate::refusal::{Refusal, refuse};
 use crate::texts::Library;
@@ -19,7 +25,7 @@ use oer_module_text::Why;
 use std::alloc::{AllocError, Global};
 
 /// The text of the type that a name has.
-#[tactic(auto, unfolding(crate::specs::Modules::named_text))]
+#[tactic(auto, unfolding(crate::specs::Named::named_text))]
 pub fn named_text<'n, 't>(
     alloc: Global,
     names: &Names<'_, '_, 't>,
@@ -50,12 +56,13 @@ fn is_memory(why: Why<'_>) -> bool
 pub struct Sources<'a, 'b, 'c, 'd, 'm, 's, 't> {
     pub texts: &'a [&'t str],
     pub tokens: &'b [Tokens<'t>],
+    pub marks: &'a [Marks],
     pub library: &'c Library<'s, 't>,
     pub names: &'d Names<'m, 's, 't>,
     pub nesting: u8,
 }
 
-/// The lines of the definitions that have a text, and of those that have none.
+/// The lines of the definitions that have a text, and the comments on those that have none.
 #[derive(Drop)]
 pub struct Listing {
     pub taken: String,
@@ -65,7 +72,7 @@ pub struct Listing {
 impl Listing {
     /// No lines.
     pub fn new(alloc: Global) -> Listing
-        ensures { string_bytes result.taken ≡ [] }
+        ensures { printed_of result ≡ nothing }
     {
         Listing {
             taken: String::new(alloc),
@@ -75,7 +82,7 @@ impl Listing {
 
     /// A definition that has a text.
     fn take(&mut self, name: &str, text: &str) -> Result<(), AllocError>
-        ensures { OnOk result (string_bytes self.new.taken ≡ string_bytes self.old.taken ++ one_line name.now text.now) }
+        ensures { OnOk result (printed_of self.new ≡ with_entry (printed_of self.old) (as_line name.now text.now)) }
     {
         self.taken.push_str(name)?;
         self.taken.push_str(" ::= ")?;
@@ -85,21 +92,23 @@ impl Listing {
 
     /// A definition that has none.
     fn refuse(&mut self, alloc: Global, name: &str, refusal: Refusal<'_>) -> Result<(), AllocError>
-        ensures { string_bytes self.new.taken ≡ string_bytes self.old.taken }
+        ensures { OnOk result (printed_of self.new ≡ with_entry (printed_of self.old) (as_comment name.now (refusal_words (refusal_of refusal.entry)))) }
     {
         let line = format!(in alloc; "-- {name}: {refusal}\n")?;
         self.refused.push_str(line.as_str())
     }
 
-    /// The line of a definition, if it is one of a type.
+    /// A definition, if it is one of a type.
     fn add<'t>(
         &mut self,
         alloc: Global,
         sources: Sources<'_, '_, '_, '_, '_, '_, 't>,
         assignment: &Assignment<'_, 't>,
     ) -> Result<(), AllocError>
-        requires { map lexed_of sources.tokens.now ≡ map (λ t. lex t.now) sources.texts.now }
-        ensures { OnOk result (string_bytes self.new.taken ≡ string_bytes self.old.taken ++ line_of (modules_in sources.entry.names.now) sources.entry.nesting assignment.now.name.now (body_of assignment.now.body)) }
+        requires lexed { map lexed_of sources.tokens.now ≡ map (λ t. lex t.now) sources.texts.now }
+        requires marked { AreMarked (map (λ t. t.now) sources.texts.now) sources.marks.now }
+        ensures { OnOk result (printed_of self.new ≡ with_entry (printed_of self.old)
+            (entry_of (map (λ t. t.now) sources.entry.texts.now) (library_of sources.entry.library.now) (modules_in sources.entry.names.now) sources.entry.nesting (assignment_of «assignment».now))) }
     {
         let Body::Type(_) = &assignment.body else {
             return Ok(());
@@ -108,21 +117,29 @@ impl Listing {
             Ok(text) => self.take(assignment.name, text.as_str()),
             Err(cause) if is_memory(cause.why) => Err(AllocError),
             Err(cause) => {
-                let refusal = refuse(sources.texts, sources.tokens, sources.library, cause);
+                let refusal = refuse(
+                    sources.texts,
+                    sources.tokens,
+                    sources.marks,
+                    sources.library,
+                    cause,
+                );
                 self.refuse(alloc, assignment.name, refusal)
             }
         }
     }
 
-    /// The lines of the definitions of a module.
+    /// The definitions of a module.
     fn add_module<'t>(
         &mut self,
         alloc: Global,
         sources: Sources<'_, '_, '_, '_, '_, '_, 't>,
         module: &Module<'_, 't>,
     ) -> Result<(), AllocError>
-        requires { map lexed_of sources.tokens.now ≡ map (λ t. lex t.now) sources.texts.now }
-        ensures { OnOk result (string_bytes self.new.taken ≡ string_bytes self.old.taken ++ lines_in (modules_in sources.entry.names.now) sources.entry.nesting (module_of «module».now).assignments) }
+        requires lexed { map lexed_of sources.tokens.now ≡ map (λ t. lex t.now) sources.texts.now }
+        requires marked { AreMarked (map (λ t. t.now) sources.texts.now) sources.marks.now }
+        ensures { OnOk result (printed_of self.new ≡ printed_after (printed_of self.old)
+            (entries_of (map (λ t. t.now) sources.entry.texts.now) (library_of sources.entry.library.now) (modules_in sources.entry.names.now) sources.entry.nesting (module_of «module».now).assignments)) }
     {
         for assignment in module.assignments.iter() {
             self.add(alloc, sources, assignment)?;
@@ -130,15 +147,17 @@ impl Listing {
         Ok(())
     }
 
-    /// The lines of the definitions of all modules.
+    /// The definitions of all modules.
     pub fn add_modules<'t>(
         &mut self,
         alloc: Global,
         sources: Sources<'_, '_, '_, '_, '_, '_, 't>,
         modules: &[Module<'_, 't>],
     ) -> Result<(), AllocError>
-        requires { map lexed_of sources.tokens.now ≡ map (λ t. lex t.now) sources.texts.now }
-        ensures { OnOk result (string_bytes self.new.taken ≡ string_bytes self.old.taken ++ lines (modules_in sources.entry.names.now) sources.entry.nesting (map module_of modules.now)) }
+        requires lexed { map lexed_of sources.tokens.now ≡ map (λ t. lex t.now) sources.texts.now }
+        requires marked { AreMarked (map (λ t. t.now) sources.texts.now) sources.marks.now }
+        ensures { OnOk result (printed_of self.new ≡ printed_after (printed_of self.old)
+            (entries_from (map (λ t. t.now) sources.entry.texts.now) (library_of sources.entry.library.now) (modules_in sources.entry.names.now) sources.entry.nesting (map module_of modules.now))) }
     {
         for module in modules {
             self.add_module(alloc, sources, module)?;

@@ -4,6 +4,7 @@ ghost use Rattle.oer_modules.specs.Modules.{IsListed, definitions_of_modules, ty
 ghost use Rattle.oer_modules.specs.Refusals.{Gives};
 
 use crate::listing::{Listing, Sources, named_text};
+use crate::marks::mark_each;
 use crate::refusal::{Refusal, refuse, unreadable};
 use crate::texts::{lex_each, read_each};
 use oer_module_names::Names;
@@ -36,7 +37,7 @@ pub fn type_of_modules<'t>(
     let names = Names::new(alloc, &library.modules)?;
     match named_text(alloc, &names, name, nesting) {
         Ok(text) => Ok(text),
-        Err(cause) => Err(refuse(texts, &tokens, &library, cause)),
+        Err(cause) => Err(refuse(texts, &tokens, &[], &library, cause)),
     }
 }
 
@@ -59,10 +60,13 @@ pub fn definitions_of_modules<'t>(
         Err(error) => return Err(unreadable(texts, &tokens, error)),
     };
     let names = Names::new(alloc, &library.modules)?;
+    let marks = mark_each(alloc, texts)?;
     let read = tokens.as_slice();
+    let marked = marks.as_slice();
     let sources = Sources {
         texts,
         tokens: read,
+        marks: marked,
         library: &library,
         names: &names,
         nesting,

@@ -1,21 +1,27 @@
 //! Why modules give no text, in words.
-ghost use Rattle.std.specs.Prelude.{◌≡◌, map, option_map};
+ghost use Rattle.std.specs.Prelude.{◌≡◌, Some, map, option_map};
+ghost use Rattle.std.specs.Fmt.{WritesOnOk};
 ghost use Rattle.oer_module_lexer.specs.Lexing.{lex};
+ghost use Rattle.oer_module_lexer.specs.Token.{token_of};
 ghost use Rattle.oer_module_syntax.specs.Tree.{module_of};
 ghost use Rattle.oer_module_syntax.specs.declared.fault.Why.TheVariants as fault;
+ghost use Rattle.oer_module_values.specs.Errors.{why_of as told_of};
 ghost use Rattle.oer_module_values.specs.declared.error.Why.TheVariants as told;
 ghost use Rattle.oer_module_text.specs.Errors.{why_of};
 ghost use Rattle.oer_module_text.specs.declared.error.Why.TheVariants.{Unresolved};
 ghost use Rattle.oer_modules.specs.Causes.{cause_of};
+ghost use Rattle.oer_modules.specs.Marks.{AreMarked};
 ghost use Rattle.oer_modules.specs.Places.{lexed_of, point_of};
 ghost use Rattle.oer_modules.specs.Refusals.{both_names, name_at, point_place, refusal_of, refuse, unreadable};
 ghost use Rattle.oer_modules.specs.Texts.{library_of};
+ghost use Rattle.oer_modules.specs.Words.{both_words, fault_words, missing_words, name_words, plain, reason_words, reference_words, refusal_words, token_in, with_token};
 
 use crate::cause::{Cause, MEMORY};
-use crate::place::{Point, point_at};
+use crate::marks::Marks;
+use crate::place::{Before, Point, point_at};
 use crate::texts::{Library, Misread};
-use crate::words::{Found, Plain, Seek, limit_words, part_words, told_words};
-use oer_module_lexer::Tokens;
+use crate::words::{At, Found, Plain, Seek, limit_words, part_words, told_words};
+use oer_module_lexer::{Token, Tokens};
 use oer_module_names::{NameError, Place};
 use oer_module_syntax::Module;
 use oer_module_text::Why;
@@ -81,7 +87,7 @@ pub fn unreadable<'t>(texts: &[&'t str], tokens: &[Tokens<'t>], error: Misread) 
 {
     Refusal {
         why: Why::Unresolved(oer_module_values::Why::Unread(error.fault.why)),
-        point: point_at(texts, tokens, error.text, error.fault.at),
+        point: point_at(texts, tokens, &[], error.text, error.fault.at),
         modules: None,
     }
 }
@@ -90,31 +96,35 @@ pub fn unreadable<'t>(texts: &[&'t str], tokens: &[Tokens<'t>], error: Misread) 
 fn point_place<'t>(
     texts: &[&'t str],
     tokens: &[Tokens<'t>],
+    marks: &[Marks],
     homes: &[usize],
     place: Place,
 ) -> Option<Point<'t>>
-    requires { map lexed_of tokens.now ≡ map (λ t. lex t.now) texts.now }
+    requires lexed { map lexed_of tokens.now ≡ map (λ t. lex t.now) texts.now }
+    requires marked { AreMarked (map (λ t. t.now) texts.now) marks.now }
     ensures { option_map point_of result ≡ point_place (map (λ t. t.now) texts.now) homes.now place }
 {
     if place.module >= homes.len() {
         return None;
     }
-    point_at(texts, tokens, homes[place.module], place.at)
+    point_at(texts, tokens, marks, homes[place.module], place.at)
 }
 
-/// What is refused of modules that could be read.
+/// What is refused of modules that could be read. Where much of them is refused, marks save time.
 pub fn refuse<'t>(
     texts: &[&'t str],
     tokens: &[Tokens<'t>],
+    marks: &[Marks],
     library: &Library<'_, 't>,
     cause: Cause<'t>,
 ) -> Refusal<'t>
-    requires { map lexed_of tokens.now ≡ map (λ t. lex t.now) texts.now }
+    requires lexed { map lexed_of tokens.now ≡ map (λ t. lex t.now) texts.now }
+    requires marked { AreMarked (map (λ t. t.now) texts.now) marks.now }
     ensures value { refusal_of result ≡ refuse (map (λ t. t.now) texts.now) (library_of library.now) (cause_of cause.entry) }
     ensures why { result.why ≡ cause.entry.why }
 {
     let point = match cause.place {
-        Some(place) => point_place(texts, tokens, &library.homes, place),
+        Some(place) => point_place(texts, tokens, marks, &library.homes, place),
         None => None,
     };
     Refusal {
@@ -125,20 +135,44 @@ pub fn refuse<'t>(
 }
 
 impl<'t> Refusal<'t> {
+    fn show_missing<W: fmt::Write>(&self, f: &mut fmt::Formatter<W>, name: Plain<'t>) -> fmt::Result
+        ensures { WritesOnOk W.write_str_gives f.old result (missing_words (plain name.entry.0.now) (option_map point_of self.now.point)) f.new }
+    {
+        match self.point {
+            Some(_) => write!(f, "{name} is neither assigned nor imported here"),
+            None => write!(f, "no module assigns {name}"),
+        }
+    }
+
+    fn show_both<W: fmt::Write>(&self, f: &mut fmt::Formatter<W>, name: Plain<'t>) -> fmt::Result
+        ensures { WritesOnOk W.write_str_gives f.old result (both_words (plain name.entry.0.now) (option_map (λ x. (x.0.now, x.1.now)) self.now.modules)) f.new }
+    {
+        match self.modules {
+            Some((first, second)) => {
+                let first = Plain(first);
+                let second = Plain(second);
+                write!(f, "two modules assign {name}: {first} and {second}")
+            }
+            None => write!(f, "two modules assign {name}"),
+        }
+    }
+
     fn show_name<W: fmt::Write>(
         &self,
         f: &mut fmt::Formatter<W>,
         error: NameError<'t>,
-    ) -> fmt::Result {
+    ) -> fmt::Result
+        ensures { WritesOnOk W.write_str_gives f.old result (name_words (refusal_of self.now) error.entry.why (plain error.entry.name.now)) f.new }
+    {
         let name = Plain(error.name);
         match error.why {
-            oer_module_names::Why::Missing => match self.point {
-                Some(_) => write!(f, "{name} is neither assigned nor imported here"),
-                None => write!(f, "no module assigns {name}"),
-            },
+            oer_module_names::Why::Missing => self.show_missing(f, name),
             oer_module_names::Why::NoModule => write!(f, "no module has the name {name}"),
             oer_module_names::Why::NotImported => {
                 write!(f, "nothing is imported from {name} here")
+            }
+            oer_module_names::Why::OtherVersion => {
+                write!(f, "the import asks for another version of {name}")
             }
             oer_module_names::Why::NotExported => write!(f, "the module doesn't export {name}"),
             oer_module_names::Why::Circular => write!(f, "the imports of {name} go round"),
@@ -151,39 +185,35 @@ impl<'t> Refusal<'t> {
             oer_module_names::Why::ModuleTwice { .. } => {
                 write!(f, "two modules have the name {name}")
             }
-            oer_module_names::Why::InTwoModules { .. } => match self.modules {
-                Some((first, second)) => {
-                    let first = Plain(first);
-                    let second = Plain(second);
-                    write!(f, "two modules assign {name}: {first} and {second}")
-                }
-                None => write!(f, "two modules assign {name}"),
-            },
+            oer_module_names::Why::InTwoModules { .. } => self.show_both(f, name),
+        }
+    }
+
+    /// The token at the place, if there is one.
+    fn token(&self) -> Option<Token<'t>>
+        ensures { option_map token_of result ≡ token_in (option_map point_of self.now.point) }
+    {
+        match self.point {
+            Some(point) => point.token,
+            None => None,
         }
     }
 
     /// A reason that has words of its own, and the token that shows it.
-    fn show_words<W: fmt::Write>(&self, f: &mut fmt::Formatter<W>, words: &str) -> fmt::Result {
-        f.write_str(words)?;
-        match self.point {
-            Some(
-                Point {
-                    token: Some(token),
-                    ..
-                },
-            ) => {
-                let found = Found(Some(token));
-                write!(f, ", at {found}")
-            }
-            _ => Ok(()),
-        }
+    fn show_words<W: fmt::Write>(&self, f: &mut fmt::Formatter<W>, words: &str) -> fmt::Result
+        ensures { WritesOnOk W.write_str_gives f.old result (with_token (refusal_of self.now) words.now) f.new }
+    {
+        let at = At(self.token());
+        write!(f, "{words}{at}")
     }
 
     fn show_fault<W: fmt::Write>(
         &self,
         f: &mut fmt::Formatter<W>,
         why: oer_module_syntax::Why,
-    ) -> fmt::Result {
+    ) -> fmt::Result
+        ensures { WritesOnOk W.write_str_gives f.old result (fault_words (refusal_of self.now) why) f.new }
+    {
         match why {
             oer_module_syntax::Why::Memory => f.write_str("out of memory"),
             oer_module_syntax::Why::Token => {
@@ -192,20 +222,31 @@ impl<'t> Refusal<'t> {
             oer_module_syntax::Why::TooDeep => self.show_words(f, "types or values nest too deep"),
             oer_module_syntax::Why::Expected(sought) => {
                 let seek = Seek(sought);
-                let found = Found(match self.point {
-                    Some(point) => point.token,
-                    None => None,
-                });
+                let found = Found(self.token());
                 write!(f, "expected {seek}, found {found}")
             }
         }
     }
 
-    fn show_why<W: fmt::Write>(&self, f: &mut fmt::Formatter<W>) -> fmt::Result {
+    fn show_reference<W: fmt::Write>(
+        &self,
+        f: &mut fmt::Formatter<W>,
+        why: oer_module_values::Why<'t>,
+    ) -> fmt::Result
+        ensures { WritesOnOk W.write_str_gives f.old result (reference_words (refusal_of self.now) (told_of why.entry)) f.new }
+    {
+        match why {
+            oer_module_values::Why::Unread(why) => self.show_fault(f, why),
+            oer_module_values::Why::Unnamed(error) => self.show_name(f, error),
+            why => self.show_words(f, told_words(why)),
+        }
+    }
+
+    fn show_why<W: fmt::Write>(&self, f: &mut fmt::Formatter<W>) -> fmt::Result
+        ensures { WritesOnOk W.write_str_gives f.old result (reason_words (refusal_of self.now) (why_of self.now.why)) f.new }
+    {
         match self.why {
-            Why::Unresolved(oer_module_values::Why::Unread(why)) => self.show_fault(f, why),
-            Why::Unresolved(oer_module_values::Why::Unnamed(error)) => self.show_name(f, error),
-            Why::Unresolved(why) => self.show_words(f, told_words(why)),
+            Why::Unresolved(why) => self.show_reference(f, why),
             Why::Unlimited(why) => self.show_words(f, limit_words(why)),
             Why::NotTaken(part) => self.show_words(f, part_words(part)),
             Why::Misnumbered => self.show_words(
@@ -225,14 +266,11 @@ impl<'t> Refusal<'t> {
 }
 
 impl fmt::Display for Refusal<'_> {
+    ghost output = { λ refusal. Some (refusal_words (refusal_of refusal)) };
+
     fn fmt<W: fmt::Write>(&self, f: &mut fmt::Formatter<W>) -> fmt::Result {
-        if let Some(point) = self.point {
-            write!(
-                f,
-                "text {}, line {}, column {}: ",
-                point.text, point.line, point.column
-            )?;
-        }
+        let place = Before(self.point);
+        write!(f, "{place}")?;
         self.show_why(f)
     }
 }

@@ -1,6 +1,12 @@
 //! The words for what is refused.
-ghost use Rattle.std.specs.Prelude.{◌≡◌};
+ghost use Rattle.std.specs.Prelude.{◌≡◌, Some, option_map};
+ghost use Rattle.std.specs.List.{before_first};
+ghost use Rattle.oer_module_lexer.specs.Token.{token_of};
+ghost use Rattle.oer_module_limits.specs.Errors.{why_of as limit_of};
+ghost use Rattle.oer_module_values.specs.Errors.{why_of as told_of};
+ghost use Rattle.oer_modules.specs.Words.{dots, found_words, front, is_hidden, limit_words, part_words, plain, sign_text, sought_words, token_words, told_words};
 
+use crate::place;
 use oer_module_lexer::{Sign, Token};
 use oer_module_syntax::Sought;
 use oer_module_text::Part;
@@ -9,17 +15,39 @@ use std::{fmt, str};
 /// How many characters of a name are shown.
 const MOST: usize = 60;
 
+/// Whether the byte isn't a printable character of ASCII.
+fn is_hidden(byte: u8) -> bool
+    ensures { result ≡ is_hidden byte }
+{
+    byte < 32 || 126 < byte
+}
+
+/// What stands before the first byte that is hidden.
+fn printable(bytes: &[u8]) -> &[u8]
+    ensures { result.now ≡ before_first is_hidden bytes.now }
+{
+    match bytes.iter().position(|byte| is_hidden(*byte)) {
+        Some(count) => &bytes[..count],
+        None => bytes,
+    }
+}
+
 /// The front of a text, as far as it has printable characters of ASCII, and 60 at most.
-fn front(text: &str) -> &str {
-    let bytes = text.as_bytes();
-    let mut count = 0;
-    while count < bytes.len() && count < MOST && bytes[count] > 31 && bytes[count] < 127 {
-        count += 1;
-    }
-    match str::from_utf8(&bytes[..count]) {
+#[tactic(auto, unfolding(crate::specs::Words::front))]
+fn front(text: &str) -> &str
+    ensures { result.now ≡ front text.now }
+{
+    match str::from_utf8(printable(place::front(text.as_bytes(), MOST))) {
         Ok(front) => front,
-        Err(_) => "",
+        Err(_) => unreachable!(),
     }
+}
+
+/// What stands behind the front of a name, where that isn't all of it.
+fn dots(front: &str, name: &str) -> &'static str
+    ensures { result.now ≡ dots front.now name.now }
+{
+    if front.len() < name.len() { ".." } else { "" }
 }
 
 /// A name, cut where it is long or has a character that isn't printable, with `..` then.
@@ -27,13 +55,12 @@ fn front(text: &str) -> &str {
 pub struct Plain<'t>(pub &'t str);
 
 impl fmt::Display for Plain<'_> {
+    ghost output = { λ name. Some (plain name.0.now) };
+
     fn fmt<W: fmt::Write>(&self, f: &mut fmt::Formatter<W>) -> fmt::Result {
         let shown = front(self.0);
-        f.write_str(shown)?;
-        if shown.len() < self.0.len() {
-            return f.write_str("..");
-        }
-        Ok(())
+        let behind = dots(shown, self.0);
+        write!(f, "{shown}{behind}")
     }
 }
 
@@ -42,6 +69,8 @@ impl fmt::Display for Plain<'_> {
 pub struct Found<'t>(pub Option<Token<'t>>);
 
 impl fmt::Display for Found<'_> {
+    ghost output = { λ found. Some (found_words (option_map token_of found.0)) };
+
     fn fmt<W: fmt::Write>(&self, f: &mut fmt::Formatter<W>) -> fmt::Result {
         match self.0 {
             Some(
@@ -59,11 +88,31 @@ impl fmt::Display for Found<'_> {
     }
 }
 
+/// The token that shows a reason, behind it; nothing where there is none.
+#[derive(Clone, Copy)]
+pub struct At<'t>(pub Option<Token<'t>>);
+
+impl fmt::Display for At<'_> {
+    ghost output = { λ at. Some (token_words (option_map token_of at.0)) };
+
+    fn fmt<W: fmt::Write>(&self, f: &mut fmt::Formatter<W>) -> fmt::Result {
+        match self.0 {
+            Some(token) => {
+                let found = Found(Some(token));
+                write!(f, ", at {found}")
+            }
+            None => Ok(()),
+        }
+    }
+}
+
 /// What the grammar has in place of a token.
 #[derive(Clone, Copy)]
 pub struct Seek(pub Sought);
 
 impl fmt::Display for Seek {
+    ghost output = { λ seek. Some (sought_words seek.0) };
+
     fn fmt<W: fmt::Write>(&self, f: &mut fmt::Formatter<W>) -> fmt::Result {
         match self.0 {
             Sought::Sign(sign) => write!(f, "\"{}\"", sign_text(sign)),
@@ -79,7 +128,9 @@ impl fmt::Display for Seek {
 }
 
 /// How a sign is written.
-fn sign_text(sign: Sign) -> &'static str {
+fn sign_text(sign: Sign) -> &'static str
+    ensures { result.now ≡ sign_text sign }
+{
     match sign {
         Sign::OpenBrace => "{",
         Sign::CloseBrace => "}",
@@ -108,7 +159,9 @@ fn sign_text(sign: Sign) -> &'static str {
 }
 
 /// Why a reference stands for nothing, where this names no Name and no fault of the syntax.
-pub fn told_words(why: oer_module_values::Why<'_>) -> &'static str {
+pub fn told_words(why: oer_module_values::Why<'_>) -> &'static str
+    ensures { result.now ≡ told_words (told_of why.entry) }
+{
     use oer_module_values::Why;
     match why {
         Why::Unread(_) => "this can't be read",
@@ -124,7 +177,9 @@ pub fn told_words(why: oer_module_values::Why<'_>) -> &'static str {
 }
 
 /// Why a type has no limits.
-pub fn limit_words(why: oer_module_limits::Why<'_>) -> &'static str {
+pub fn limit_words(why: oer_module_limits::Why<'_>) -> &'static str
+    ensures { result.now ≡ limit_words (limit_of why.entry) }
+{
     use oer_module_limits::Why;
     match why {
         Why::Unresolved(why) => told_words(why),
@@ -141,7 +196,9 @@ pub fn limit_words(why: oer_module_limits::Why<'_>) -> &'static str {
 }
 
 /// What isn't taken.
-pub fn part_words(part: Part) -> &'static str {
+pub fn part_words(part: Part) -> &'static str
+    ensures { result.now ≡ part_words part }
+{
     match part {
         Part::Word => "this type isn't taken",
         Part::Set => "SET isn't taken",

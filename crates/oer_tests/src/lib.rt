@@ -1,34 +1,18 @@
-//! Tests of units, types and values, of reading, writing and checking them, of the notation and of JSON, through public
-//! items alone. What can be called from C is tested by `tools/test_vectors`.
+//! Tests of what no row reaches: sources and sinks that stop, types and values that no text spells, and public calls that neither
+//! the programs nor the library for C make; through public items alone.
 #![tactic(auto)]
 
 #[cfg(test)]
-mod checker;
+mod devices;
 #[cfg(test)]
-mod drawing;
-#[cfg(test)]
-mod encodings;
-#[cfg(test)]
-mod helpers;
-#[cfg(test)]
-mod lexer;
-#[cfg(test)]
-mod literals;
-#[cfg(test)]
-mod printing;
-#[cfg(test)]
-mod refusals;
-#[cfg(test)]
-mod rows;
+mod parts;
 #[cfg(test)]
 mod shared;
 #[cfg(test)]
-mod sinks;
-#[cfg(test)]
 mod types;
 #[cfg(test)]
-mod units_reading;
-#[cfg(test)]
-mod units_writing;
+mod units;
 #[cfg(test)]
 mod values;
+#[cfg(test)]
+mod writing;

@@ -1,2 +1,4 @@
+pub mod Answer
 pub mod Asking
-pub mod Listed
+pub mod Ending
+pub mod Stops

@@ -1,5 +1,6 @@
 //! Why nothing is printed.
-ghost use Rattle.std.specs.Prelude.{◌≤◌};
+ghost use Rattle.std.specs.Prelude.{◌≡◌, ◌≤◌};
+ghost use Rattle.oer_types_cmd.specs.Stops.{Tells, TellsMachine, stop_of};
 
 use oer_cmd::{Fault, put_all};
 use oer_module_cmd::Error;
@@ -17,8 +18,12 @@ pub enum Stop<'a> {
     NoNotation,
 }
 
-/// Writes the line of an error in one call, and returns the status of the program. A failure to write it is ignored.
+/// Writes the line of an error in one call, and returns the status of the program. If memory for the line is refused, the
+/// line says so, and the status is 3. A failure to write it is ignored.
 pub fn tell<E: Write>(alloc: Global, stop: Stop<'_>, errors: &mut E) -> u8
+    ensures status { result ≤ 2 → result ≡ (stop_of stop.entry).status }
+    ensures line { result ≤ 2 → Tells (stop_of stop.entry) (E.contents errors.old) (E.contents errors.new) }
+    ensures machine { result ≡ 3 → TellsMachine (E.contents errors.old) (E.contents errors.new) }
     ensures least { 1 ≤ result }
     ensures most { result ≤ 3 }
 {

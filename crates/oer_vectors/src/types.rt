@@ -9,6 +9,7 @@ a | Syntax at 0
 B | Name at 0
 REAL | Syntax at 0
 5 | Syntax at 0
+ é | Token at 1
 INTEGER (05) | Token at 9
 INTEGER (12a) | Token at 9
 INTEGER (-0) | Token at 9
@@ -19,6 +20,7 @@ INTEGER (5..4) | BoundOrder at 0
 INTEGER (5..4) $ | BoundOrder at 0
 INTEGER (5..5) $ | Token at 15
 INTEGER (170141183460469231731687303715884105728) | Number at 9
+INTEGER (-170141183460469231731687303715884105729) | Number at 9
 OCTET NULL | Syntax at 6
 OBJECT | Syntax at 6
 OCTET STRING (SIZE(18446744073709551616)) | Number at 19
@@ -44,6 +46,7 @@ ENUMERATED {a(1), b} | Mixed at 19
 ENUMERATED {a(1), b c} | Syntax at 20
 ENUMERATED {a, b(1)} | Mixed at 16
 ENUMERATED {a(9223372036854775808)} | Number at 14
+ENUMERATED {a(-9223372036854775809)} | Number at 14
 CHOICE {} | Syntax at 8
 CHOICE {..., a NULL} | Syntax at 8
 CHOICE {a [0] NULL, b NULL} | Mixed at 22
@@ -63,9 +66,11 @@ SEQUENCE {a INTEGER DEFAULT 170141183460469231731687303715884105728} | Number at
 SEQUENCE {a ENUMERATED {b} DEFAULT c} | Default at 35
 SEQUENCE {a OCTET STRING DEFAULT 'ABC'H} | Default at 33
 SEQUENCE {a OCTET STRING DEFAULT '01'B} | Default at 33
+SEQUENCE {a BIT STRING DEFAULT '012'B} | Token at 31
 SEQUENCE {a OBJECT IDENTIFIER DEFAULT {1}} | Syntax at 40
 SEQUENCE {a OBJECT IDENTIFIER DEFAULT {1 a}} | Syntax at 41
 SEQUENCE {a OBJECT IDENTIFIER DEFAULT {1 -2}} | Number at 41
+SEQUENCE {a OBJECT IDENTIFIER DEFAULT {1 2 340282366920938463463374607431768211456}} | Number at 43
 SEQUENCE {a INTEGER (0..5) DEFAULT 6} | DefaultMisfit at 0
 SEQUENCE {a PrintableString DEFAULT "*"} | DefaultMisfit at 0
 SEQUENCE {a NULL, ..., a NULL} | RepeatedName at 0
@@ -92,6 +97,7 @@ A ::= A | Name at 6
 A ::= NULL A | Repeated at 11
 A ::= NULL B ::= SEQUENCE OF A | EmptyElement at 17
 A ::= NULL 5 | Syntax at 11
+A ::= INTEGER (-5..MAX) -- five -- OF | Syntax at 35
 A ::= NULL $ | Token at 11
 A ::= BOOLEAN A ::= NULL | Repeated at 14
 BOOLEAN | Syntax at 0

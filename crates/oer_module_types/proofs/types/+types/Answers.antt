@@ -1,12 +1,35 @@
-use Rattle.oer_module_syntax.proofs.Trees.{tree_of-Structure, tree_of-ListOf}
+use Rattle.std.proofs.Common.{◌-◌, ◌∙◌, sym, ap, map, arith}
+use Rattle.std.proofs.lemmas.Result.{err_from_is_err_and}
+use Rattle.oer_module_names.specs.Views.{modules_in}
+use Rattle.oer_module_syntax.proofs.Trees.{tree_of-ListOf}
+use Rattle.oer_module_syntax.specs.Tree.{element_of, elements_from, tree_of}
+use Rattle.oer_module_text.specs.Room.{room_of, take_part}
+use Rattle.oer_module_values.specs.Views.{meaning_of, type_in}
+use Rattle.oer_module_types.proofs.Parts.{no_part, no_root, root_of}
 use Rattle.oer_module_types.proofs.types.+types.Goals as goal
-
-pub write_meant-returns-in-Structure-clause-text : goal.write_meant-returns-in-Structure-clause-text
-write_meant-returns-in-Structure-clause-text t c =
-    let s = c.in-Structure in
-    rw s.is (rw (tree_of-Structure s.at s.builtin s.elements s.constraints) (rw c.deref.ensures.value at c.write_structure.ensures.text))
 
 pub write_meant-returns-in-ListOf-clause-text : goal.write_meant-returns-in-ListOf-clause-text
 write_meant-returns-in-ListOf-clause-text t c =
     let s = c.in-ListOf in
-    rw s.is (rw (tree_of-ListOf s.at s.builtin s.sized s.size s.name s.item) (rw c.deref-in-ListOf.ensures at c.write_list.ensures.text))
+    rw s.is (rw (tree_of-ListOf s.at s.builtin s.sized s.own s.name s.item) (rw (c.deref-in-ListOf.ensures, c.deref-given.ensures.value) at c.write_list.ensures.text))
+
+pub write_type-returns-in_err-take_part-clause-text : goal.write_type-returns-in_err-take_part-clause-text
+write_type-returns-in_err-take_part-clause-text t c =
+    let p = err_from_is_err_and c.from_residual-in_err-take_part.result c.from_residual-in_err-take_part.ensures.1 in
+    rw (p.1, p.2) (λ not_memory. no_part (modules_in c.args.scope.names.now) c.args.scope.nesting c.args.levels c.args.path.now.items
+    (type_in c.args.of) (room_of c.args.room.now) (meaning_of c.in_ok-meaning.meaning) _ (omega arith) c.in_ok-meaning.ensures.value
+    (ap (λ q. take_part q (room_of c.args.room.now)) (sym c.type_place-2.ensures) ∙ c.in_err-take_part.ensures not_memory))
+
+pub write_included-returns-in_err-take_part-clause-text : goal.write_included-returns-in_err-take_part-clause-text
+write_included-returns-in_err-take_part-clause-text t c =
+    let p = err_from_is_err_and c.from_residual-in_err-take_part.result c.from_residual-in_err-take_part.ensures.1 in
+    rw (p.1, p.2) (λ not_memory. no_root (modules_in c.args.scope.names.now) c.args.scope.nesting c.args.levels c.args.path.now.items
+    c.args.any c.args.place (tree_of c.args.from.now) (room_of c.args.room.now) (meaning_of c.in_ok-meaning.meaning) _ (omega arith) c.in_ok-meaning.ensures.value
+    (ap (λ q. take_part q (room_of c.args.room.now)) (sym c.type_place-is.ensures) ∙ c.in_err-take_part.ensures not_memory))
+
+pub write_included-returns-clause-text : goal.write_included-returns-clause-text
+write_included-returns-clause-text t c =
+    rw (root_of (modules_in c.args.scope.names.now) c.args.scope.nesting c.args.levels (c.args.levels - 1) c.args.path.now.items c.args.any c.args.place
+    c.type_place-is.result (tree_of c.args.from.now) (room_of c.args.room.now) (room_of c.take_part.new.self) (meaning_of c.in_ok-meaning.meaning)
+    (elements_from (map element_of c.in-Some.elements.now)) (omega arith) c.in_ok-meaning.ensures.value c.type_place-is.ensures c.in_ok-take_part.ensures c.in-Some.ensures)
+    c.write_root.ensures.text

@@ -1,10 +1,10 @@
-use Rattle.std.proofs.Common.{Err, [], ◌++◌, map, sym, ap, ◌∙◌, string_bytes}
+use Rattle.std.proofs.Common.{Err, map, sym, ap, ◌∙◌}
 use Rattle.oer_module_names.specs.Views.{modules_in}
 use Rattle.oer_module_syntax.specs.Tree.{module_of}
 use Rattle.oer_module_text.specs.declared.error.Why.TheVariants.{Unresolved}
 use Rattle.oer_module_values.specs.declared.error.Why.TheVariants.{Unread}
-use Rattle.oer_modules.proofs.Wholes.{listed, listed_misread}
-use Rattle.oer_modules.specs.Modules.{lines}
+use Rattle.oer_modules.proofs.Wholes.{listed, listed_misread, texts_of}
+use Rattle.oer_modules.specs.Listed.{entries_from, nothing, printed_after, printed_of}
 use Rattle.oer_modules.specs.Places.{lexed_of}
 use Rattle.oer_modules.specs.Texts.{library_of, no_modules, read_each}
 use Rattle.oer_modules.proofs.modules.definitions_of_modules.Goals as goal
@@ -22,7 +22,7 @@ returns c =
     let modules = c.in_ok-names.ensures ∙ ap (map module_of) c.deref-2.ensures.value in
     let n = c.args.nesting in
     let l = library_of c.in-Ok.library in
-    let all = c.in_ok-add_modules.ensures ∙ ap (λ x. x ++ lines (modules_in c.in_ok-names.names) n (map module_of c.modules-modules.result.now)) c.new-listing.ensures
-    ∙ ap (λ ms. [] ++ lines (modules_in c.in_ok-names.names) n ms) (c.modules-modules.ensures.value ∙ modules) ∙ ap (λ ms. [] ++ lines ms n l.modules) modules in
-    listed c.in_ok-tokens.tokens.items c.args.texts.now c.in_ok-tokens.ensures n l _ (string_bytes c.add_modules.new.self.taken) (string_bytes c.add_modules.new.self.refused) (read ∙ c.in-Ok.ensures) all
-    c.in_ok-text.ensures
+    let ts = texts_of c.args.texts.now in
+    let all = c.in_ok-add_modules.ensures ∙ ap (λ p. printed_after p (entries_from ts l (modules_in c.in_ok-names.names) n (map module_of c.modules-modules.result.now))) c.new-listing.ensures
+    ∙ ap (λ ms. printed_after nothing (entries_from ts l (modules_in c.in_ok-names.names) n ms)) (c.modules-modules.ensures.value ∙ modules) ∙ ap (λ ms. printed_after nothing (entries_from ts l ms n l.modules)) modules in
+    listed c.in_ok-tokens.tokens.items c.args.texts.now c.in_ok-tokens.ensures n l _ (printed_of c.add_modules.new.self) (read ∙ c.in-Ok.ensures) all c.in_ok-text.ensures

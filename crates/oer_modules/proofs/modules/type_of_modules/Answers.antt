@@ -4,7 +4,7 @@ use Rattle.oer_module_text.specs.declared.error.Why.TheVariants.{Unresolved}
 use Rattle.oer_module_values.specs.declared.error.Why.TheVariants.{Unread}
 use Rattle.oer_modules.proofs.Wholes.{type_answer, type_misread}
 use Rattle.oer_modules.specs.Causes.{cause_of}
-use Rattle.oer_modules.specs.Modules.{named_text}
+use Rattle.oer_modules.specs.Named.{named_text}
 use Rattle.oer_modules.specs.Places.{lexed_of}
 use Rattle.oer_modules.specs.Texts.{library_of, no_modules, read_each}
 use Rattle.oer_modules.proofs.modules.type_of_modules.Goals as goal

@@ -8,7 +8,8 @@ pub returns-in_err-read : goal.returns-in_err-read
 returns-in_err-read c =
     let l = c.loop-text in
     let p = err_from_is_err_and c.from_residual.result c.from_residual.ensures.1 in
-    rw (p.1, p.2) (λ not_memory. read_err c.args.tokens.now l.text (library_of l.library) _ l.invariant c.index-tokens-text.result _ c.loop-text-test.true c.index-tokens-text.is (c.in_err-read.ensures not_memory))
+    rw (p.1, p.2) (λ not_memory. read_err c.args.tokens.now l.text (library_of l.library) _ l.invariant c.index-tokens-text.result _
+    c.loop-text-test.true c.index-tokens-text.is (c.in_err-read.ensures not_memory))
 
 pub loop-text-preserved : goal.loop-text-preserved
 loop-text-preserved c =

@@ -1,0 +1,128 @@
+-- What reading modules answers, and which types there are then.
+use Rattle.std.specs.Prelude.{◌≡◌, ◌<◌, ◌≤◌, ◌+◌, ℕ, List, length, map, take, slice_get, Option, Some, None, option_map, Result, Err, ◌⊎◌, ⊤, string_bytes}
+use Rattle.std.specs.List.{All, between}
+use Rattle.std.specs.Str.{IsUtf8, IsValidUpTo}
+use Rattle.oer_module_syntax.specs.declared.fault.Why.TheVariants as fault
+use Rattle.oer_module_text.specs.declared.error.Why.TheVariants as raws
+use Rattle.oer_module_values.specs.declared.error.Why.TheVariants as told
+use Rattle.oer_modules.specs.Listed.{Printed}
+use Rattle.oer_modules.specs.Modules.{ComesFirst, definitions_of_modules}
+use Rattle.oer_modules.specs.Places.{Point, point_of}
+use Rattle.oer_modules.specs.Refusals.{Refusal, refusal_of}
+use Rattle.oer_modules.specs.declared.refusal.Refusal.{Refusal as RawRefusal}
+use Rattle.oer_notation.specs.Grammar.{SpellsAll}
+use Rattle.oer_notation.specs.Views.{knowns}
+use Rattle.oer_notation.specs.declared.types.Types.{Types}
+use Rattle.oer_c.specs.Buffers.{IsFront}
+use Rattle.oer_c.specs.Definitions.{IsRejected}
+use Rattle.oer_c.specs.Messages.{end}
+use Rattle.oer_c.specs.Reasons.{modules_number}
+use Rattle.oer_c.specs.declared.definitions.Parsed.{Parsed}
+use Rattle.oer_c.specs.declared.many.Message.{Message}
+use Rattle.oer_c.specs.declared.modules.Stop.{Stop}
+use Rattle.oer_c.specs.declared.modules.Stop.TheVariants.{Memory, Outside, NotUtf8, Refused, NoTypes}
+use Rattle.oer_c.specs.declared.modules.Understood.{Understood}
+
+-- ---- texts
+
+-- the octets at a place
+abbrev pub at_place : List ℕ → Message → List ℕ
+at_place octets m = between m.at (end m) octets
+
+-- A text is at the place: all of it is in the octets, and it is UTF-8.
+abbrev pub IsText : List ℕ → Message → Type 0
+IsText octets m = (end m ≤ length octets) × IsUtf8 (at_place octets m)
+
+-- the texts at the places
+abbrev pub texts_of : List ℕ → List Message → List (List ℕ)
+texts_of octets places = map (at_place octets) places
+
+-- Why no text is at the place, with this number: it is not all in the octets; or it is not UTF-8, and so many octets are its longest front
+-- that is.
+abbrev pub IsNoText : List ℕ → Message → ℕ → Stop → Type 0
+IsNoText octets m n Memory = ⊥
+IsNoText octets m n (Outside k) = (k ≡ n) × (length octets < end m)
+IsNoText octets m n (NotUtf8 k at) = (k ≡ n) × (end m ≤ length octets) × (IsUtf8 (at_place octets m) → ⊥) × IsValidUpTo (at_place octets m) at
+IsNoText octets m n (Refused r) = ⊥
+IsNoText octets m n (NoTypes printed) = ⊥
+
+-- An allocation failed; or no text is at a place, the first such one. They count from 1.
+abbrev pub IsTextless : List ℕ → List Message → Stop → Type 0
+IsTextless octets places s = (s ≡ Memory)
+    ⊎ ((k : ℕ) × (m : Message) × All (IsText octets) (take k places) × (slice_get places k ≡ Some m) × IsNoText octets m (k + 1) s)
+
+-- ---- types
+
+-- The types are those that a listing spells, in which what is understood of modules comes first.
+abbrev pub AreUnderstood : Result Printed Refusal → Types → Type 0
+AreUnderstood plain t = (printed : List ℕ) × ComesFirst printed plain × SpellsAll (knowns t) printed
+
+-- Why texts give no types: an allocation failed; or they can't be read, and this is the first fault; or `oer_types_read` rejects what is
+-- understood of them.
+abbrev pub IsTypeless : Result Printed Refusal → Stop → Type 0
+IsTypeless plain Memory = ⊤
+IsTypeless plain (Outside n) = ⊥
+IsTypeless plain (NotUtf8 n at) = ⊥
+IsTypeless plain (Refused r) = plain ≡ Err (refusal_of r)
+IsTypeless plain (NoTypes printed) = ComesFirst (string_bytes printed) plain × ((p : Parsed) × (p.status ≡ 1) × IsRejected (string_bytes printed) p)
+
+-- A refusal says that an allocation failed, or it is told.
+abbrev pub IsStopBy : RawRefusal → Stop → Type 0
+IsStopBy r Memory = ⊤
+IsStopBy r (Outside n) = ⊥
+IsStopBy r (NotUtf8 n at) = ⊥
+IsStopBy r (Refused x) = (x ≡ r) × (r.why ≡ raws.Unresolved (told.Unread fault.Memory) → ⊥)
+IsStopBy r (NoTypes printed) = ⊥
+
+-- ---- answers
+
+-- a status and nothing else
+abbrev pub only : ℕ → Understood
+only status = record { status = status; why = 0; text = 0; place = 0; line = 0; column = 0; words = 0 }
+
+-- a place in the text of this number
+abbrev pub at_text : ℕ → ℕ → ℕ → Understood
+at_text status n place = record { status = status; why = 0; text = n; place = place; line = 0; column = 0; words = 0 }
+
+-- a rejection that has no place
+abbrev pub rejected : ℕ → Understood
+rejected why = record { status = 1; why = why; text = 0; place = 0; line = 0; column = 0; words = 0 }
+
+-- a text that can't be read for this reason, and where that shows
+abbrev pub refused : ℕ → Option Point → Understood
+refused why None = rejected why
+refused why (Some p) = record { status = 1; why = why; text = p.text; place = p.at; line = p.line; column = p.column; words = 0 }
+
+abbrev pub with_words : Understood → ℕ → Understood
+with_words a n = record { status = a.status; why = a.why; text = a.text; place = a.place; line = a.line; column = a.column; words = n }
+
+-- The answer says how much of some words is in the buffer, as much as it has room for; or an allocation failed, and it is as before.
+abbrev pub IsSaid : Understood → List ℕ → List ℕ → Understood → Type 0
+IsSaid answer old new a = ((a ≡ only 4) × (new ≡ old))
+    ⊎ ((w : List ℕ) × (n : ℕ) × IsFront w old new n × (a ≡ with_words answer n))
+
+-- what is answered of a stop
+abbrev pub Tells : Stop → List ℕ → List ℕ → Understood → Type 0
+Tells Memory old new a = (a ≡ only 4) × (new ≡ old)
+Tells (Outside n) old new a = (a ≡ at_text 10 n 0) × (new ≡ old)
+Tells (NotUtf8 n at) old new a = IsSaid (at_text 1 n at) old new a
+Tells (Refused r) old new a = IsSaid (refused (modules_number r.why) (option_map point_of r.point)) old new a
+Tells (NoTypes printed) old new a = IsSaid (rejected 4) old new a
+
+-- ---- the call
+
+-- A text is at each place, and the types are those that are understood of them.
+abbrev pub Understands : List ℕ → List Message → ℕ → Types → Type 0
+Understands octets places nesting t =
+    All (IsText octets) places × AreUnderstood (definitions_of_modules (texts_of octets places) nesting) t
+
+-- Why there are no types: at a place is no text; or the texts give none.
+abbrev pub IsStopped : List ℕ → List Message → ℕ → Stop → Type 0
+IsStopped octets places nesting s = IsTextless octets places s
+    ⊎ (All (IsText octets) places × IsTypeless (definitions_of_modules (texts_of octets places) nesting) s)
+
+-- There are types that are understood of the texts; or there are those from before, and the answer and the words say why.
+abbrev pub AreRead : List ℕ → List Message → ℕ → Option Types → Option Types → List ℕ → List ℕ → Understood → Type 0
+AreRead octets places nesting old new before after a =
+    ((t : Types) × (new ≡ Some t) × Understands octets places nesting t × (a ≡ only 0) × (after ≡ before))
+    ⊎ ((s : Stop) × (new ≡ old) × IsStopped octets places nesting s × Tells s before after a)

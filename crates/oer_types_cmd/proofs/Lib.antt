@@ -1,0 +1,4 @@
+mod Ends
+mod Inputs
+mod Meeting
+mod Scans
