@@ -137,7 +137,8 @@ reasons! {
         Syntax = 2,
         /// Types or values nest too deep at the place.
         TooDeep = 3,
-        /// No definition is understood. The words say why the first one is refused.
+        /// No definition is understood, and the words say why the first one is refused; or one isn't a
+        /// well-formed type.
         NoTypes = 4,
     }
 }
