@@ -137,8 +137,8 @@ enum oer_modules_reason {
     OER_MODULES_TOKEN = 1,    /* no token begins at `place`, or it has no end */
     OER_MODULES_SYNTAX = 2,   /* a token that the grammar doesn't have at `place`, or the text ends there */
     OER_MODULES_TOO_DEEP = 3, /* types or values nest too deep at `place` */
-    OER_MODULES_NO_TYPES = 4  /* what is understood of the modules spells no types: each definition is refused, and
-                                 the words say why the first one is; or one isn't a well-formed type */
+    OER_MODULES_NO_TYPES = 4  /* no definition of the modules is understood: each is refused, and the words say why the
+                                 first one is; or there is none */
 };
 
 /* Why JSON is rejected: `why` of oer_written at OER_REJECTED, in oer_from_json (docs/JSON.md). */
@@ -252,8 +252,7 @@ oer_parsed oer_types_read_within(oer_types *types, const char *text, size_t text
 /* Reads published ASN.1 modules (X.680), in place of the types that were there. The types are those of all
  * definitions that are understood (docs/MODULES.md), each by its Name: what the command `oer types` prints. A
  * definition that is refused has no type, so its Name is OER_UNNAMED in later calls, and `oer types` says why.
- * One that is understood and isn't a well-formed type (docs/NOTATION.md, as with one name twice) makes all be
- * rejected, for OER_MODULES_NO_TYPES.
+ * So has one that isn't a well-formed type (docs/NOTATION.md, as with one name twice).
  * The texts stand in one buffer: each is the `length` octets from texts + at on, by its place, and holds one module
  * or more, in any order. A type that contains itself is written out so often, one in the other, as `nesting` says;
  * 0 stands for the most that fits, up to 8. Each type has at most 4,096 parts. Together they may have many more, so

@@ -543,9 +543,8 @@ public:
      * each by its Name. `texts` has texts, each with one module or more, in any order: what a range-based
      * `for` goes through and text_in takes, as a vector of strings, or {one, other}. A type that contains
      * itself is written out so often as `nesting` says; 0 stands for the most that fits, up to 8.
-     *   OER_REJECTED  a text is not UTF-8, or can't be read, no definition is understood, or one isn't a
-     *                well-formed type: `why` is an oer_modules_reason, and `text`, `line`, `column` and
-     *                `words` say more
+     *   OER_REJECTED  a text is not UTF-8, or can't be read, or no definition is understood: `why` is an
+     *                oer_modules_reason, and `text`, `line`, `column` and `words` say more
      *   OER_MEMORY   an allocation failed, here or in the library
      *   OER_OUTSIDE  a text is missing() */
     template <class Texts>

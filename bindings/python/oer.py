@@ -103,7 +103,7 @@ class ModulesReason(enum.IntEnum):
     TOKEN = 1  # no token begins at the place, or it has no end
     SYNTAX = 2  # a token that the grammar doesn't have at the place, or the text ends there
     TOO_DEEP = 3  # types or values nest too deep at the place
-    NO_TYPES = 4  # no definition is understood, and the words say why the first one is refused; or one isn't a well-formed type
+    NO_TYPES = 4  # no definition is understood, and the words say why the first one is refused
 
 
 class JsonReason(enum.IntEnum):
@@ -551,8 +551,8 @@ class Types:
         are understood, each by its name. A file has one module or more. A type that contains itself is written out so
         often as `nesting` says, from 1 to 255; 0 stands for the most that fits, up to 8.
 
-        Raises ModulesRejected if a text is not UTF-8 or can't be read, or if no definition is understood or one isn't a
-        well-formed type; and what open() raises.
+        Raises ModulesRejected if a text is not UTF-8 or can't be read, or if no definition is understood; and what open()
+        raises.
         """
         return cls.from_module_texts(*(_contents(path) for path in paths), nesting=nesting)
 

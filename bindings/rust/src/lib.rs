@@ -227,8 +227,8 @@ impl Types {
     ///
     /// # Errors
     ///
-    /// [`ModulesError::Rejected`] if a text is not UTF-8 or can't be read, or if no definition is understood or one
-    /// isn't a well-formed type, and [`ModulesError::Memory`].
+    /// [`ModulesError::Rejected`] if a text is not UTF-8 or can't be read, or if no definition is understood, and
+    /// [`ModulesError::Memory`].
     ///
     /// ```
     /// let text = "M DEFINITIONS ::= BEGIN Hops ::= INTEGER (0..most) most INTEGER ::= 15 END";

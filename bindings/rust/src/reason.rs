@@ -137,8 +137,7 @@ reasons! {
         Syntax = 2,
         /// Types or values nest too deep at the place.
         TooDeep = 3,
-        /// No definition is understood, and the words say why the first one is refused; or one isn't a
-        /// well-formed type.
+        /// No definition is understood, and the words say why the first one is refused.
         NoTypes = 4,
     }
 }

@@ -1,6 +1,7 @@
 -- What reading modules answers, and which types there are then.
-use Rattle.std.specs.Prelude.{◌≡◌, ◌<◌, ◌≤◌, ◌+◌, ℕ, List, length, map, take, slice_get, Option, Some, None, option_map, Result, Err, ◌⊎◌, ⊤, string_bytes}
-use Rattle.std.specs.List.{All, between}
+use Rattle.std.specs.Prelude.{◌≡◌, ◌<◌, ◌≤◌, ◌+◌, ℕ, List, [], ◌∷◌, ◌++◌, Bool, length, map, drop, take, slice_get, ◌==◌, Option, Some, None, option_map, Result, Err, ◌⊎◌, ⊤, codes, string_bytes}
+use Rattle.std.specs.Fmt.{decimal}
+use Rattle.std.specs.List.{All, before_first, between}
 use Rattle.std.specs.Str.{IsUtf8, IsValidUpTo}
 use Rattle.oer_module_syntax.specs.declared.fault.Why.TheVariants as fault
 use Rattle.oer_module_text.specs.declared.error.Why.TheVariants as raws
@@ -9,6 +10,7 @@ use Rattle.oer_modules.specs.Listed.{Printed}
 use Rattle.oer_modules.specs.Modules.{ComesFirst, definitions_of_modules}
 use Rattle.oer_modules.specs.Places.{Point, point_of}
 use Rattle.oer_modules.specs.Refusals.{Refusal, refusal_of}
+use Rattle.oer_modules.specs.Words.{refusal_words}
 use Rattle.oer_modules.specs.declared.refusal.Refusal.{Refusal as RawRefusal}
 use Rattle.oer_notation.specs.Grammar.{SpellsAll}
 use Rattle.oer_notation.specs.Views.{knowns}
@@ -96,18 +98,33 @@ refused why (Some p) = record { status = 1; why = why; text = p.text; place = p.
 abbrev pub with_words : Understood → ℕ → Understood
 with_words a n = record { status = a.status; why = a.why; text = a.text; place = a.place; line = a.line; column = a.column; words = n }
 
--- The answer says how much of some words is in the buffer, as much as it has room for; or an allocation failed, and it is as before.
-abbrev pub IsSaid : Understood → List ℕ → List ℕ → Understood → Type 0
-IsSaid answer old new a = ((a ≡ only 4) × (new ≡ old))
-    ⊎ ((w : List ℕ) × (n : ℕ) × IsFront w old new n × (a ≡ with_words answer n))
+-- The answer says how much of these words is in the buffer: as much as it has room for.
+abbrev pub IsSaid : List ℕ → Understood → List ℕ → List ℕ → Understood → Type 0
+IsSaid w answer old new a = (n : ℕ) × IsFront w old new n × (a ≡ with_words answer n)
+
+-- The same, or an allocation failed, and the buffer is as before.
+abbrev pub IsSaidIfRoom : List ℕ → Understood → List ℕ → List ℕ → Understood → Type 0
+IsSaidIfRoom w answer old new a = ((a ≡ only 4) × (new ≡ old)) ⊎ IsSaid w answer old new a
+
+abbrev pub is_line_feed : ℕ → Bool
+is_line_feed c = c == 10
+
+-- what a listing says that spells no types: its first comment, behind `-- `, which is on a definition that is refused
+abbrev pub first_words : List ℕ → List ℕ
+first_words [] = codes "the modules give no types"
+first_words (c ∷ cs) = drop 3 (before_first is_line_feed (c ∷ cs))
+
+-- what is said of a text that isn't UTF-8, by its number
+abbrev pub not_utf8_words : ℕ → List ℕ
+not_utf8_words n = codes "text " ++ decimal n ++ codes ": not UTF-8"
 
 -- what is answered of a stop
 abbrev pub Tells : Stop → List ℕ → List ℕ → Understood → Type 0
 Tells Memory old new a = (a ≡ only 4) × (new ≡ old)
 Tells (Outside n) old new a = (a ≡ at_text 10 n 0) × (new ≡ old)
-Tells (NotUtf8 n at) old new a = IsSaid (at_text 1 n at) old new a
-Tells (Refused r) old new a = IsSaid (refused (modules_number r.why) (option_map point_of r.point)) old new a
-Tells (NoTypes printed) old new a = IsSaid (rejected 4) old new a
+Tells (NotUtf8 n at) old new a = IsSaidIfRoom (not_utf8_words n) (at_text 1 n at) old new a
+Tells (Refused r) old new a = IsSaidIfRoom (refusal_words (refusal_of r)) (refused (modules_number r.why) (option_map point_of r.point)) old new a
+Tells (NoTypes printed) old new a = IsSaid (first_words (string_bytes printed)) (rejected 4) old new a
 
 -- ---- the call
 

@@ -1,10 +1,10 @@
 //! Reading published ASN.1 modules.
-ghost use Rattle.std.specs.Prelude.{◌≡◌, IfErr, IfOk, OnOk, map, option_map};
-ghost use Rattle.std.specs.List.{All};
+ghost use Rattle.std.specs.Prelude.{◌≡◌, IfErr, IfOk, MatchResult, OnOk, map, option_map, string_bytes};
+ghost use Rattle.std.specs.List.{All, before_first};
 ghost use Rattle.oer_modules.specs.Modules.{definitions_of_modules};
 ghost use Rattle.oer_modules.specs.Named.{is_memory};
 ghost use Rattle.oer_modules.specs.Places.{point_of};
-ghost use Rattle.oer_c.specs.Modules.{AreRead, AreUnderstood, IsNoText, IsSaid, IsStopBy, IsStopped, IsText, IsTextless, IsTypeless, Tells, Understands, at_place, at_text, only, refused, rejected, texts_of, with_words};
+ghost use Rattle.oer_c.specs.Modules.{AreRead, AreUnderstood, IsNoText, IsSaid, IsStopBy, IsStopped, IsText, IsTextless, IsTypeless, Tells, Understands, at_place, at_text, first_words, is_line_feed, not_utf8_words, only, refused, rejected, texts_of, with_words};
 ghost use Rattle.oer_c.specs.Reasons.{modules_number};
 ghost use Rattle.oer_c.specs.Sharing.{types_in, types_of};
 
@@ -228,26 +228,63 @@ fn read_modules<'a>(
     read_texts(alloc, &texts, nesting)
 }
 
-// Why there are no types where the listing spells none: what stands in its first comment, on a definition that is
-// refused.
-fn first_words(printed: &str) -> &str {
-    let Some(comment) = printed.strip_prefix("-- ") else {
-        return "the modules give no types";
-    };
-    match comment.split_once('\n') {
-        Some((line, _)) => line,
-        None => comment,
+fn is_line_feed(byte: u8) -> bool
+    ensures { result ≡ is_line_feed byte }
+{
+    byte == b'\n'
+}
+
+// The first line of a listing.
+fn first_line(printed: &[u8]) -> &[u8]
+    ensures { result.now ≡ before_first is_line_feed printed.now }
+{
+    match printed.iter().position(|byte| is_line_feed(*byte)) {
+        Some(end) => &printed[..end],
+        None => printed,
     }
 }
 
-// The answer, and as much of the words as the buffer has room for.
-fn say(answer: Understood, text: Result<String, AllocError>, words: &mut [u8]) -> Understood
-    ensures { IsSaid answer words.old words.new result }
+// Why there are no types where the listing spells none: what its first comment says, behind `-- `, of a definition that is
+// refused.
+fn first_words(printed: &[u8]) -> &[u8]
+    ensures { result.now ≡ first_words printed.now }
 {
-    match text {
-        Ok(text) => with_words(answer, put_front(words, text.as_bytes())),
+    if printed.is_empty() {
+        return b"the modules give no types";
+    }
+    let line = first_line(printed);
+    if line.len() < 3 {
+        return &[];
+    }
+    &line[3..]
+}
+
+// The answer, and as much of the words as the buffer has room for.
+fn say(answer: Understood, said: &[u8], words: &mut [u8]) -> Understood
+    ensures { IsSaid said.now answer words.old words.new result }
+{
+    with_words(answer, put_front(words, said))
+}
+
+// The same of words for which memory may be refused.
+fn say_text(
+    answer: Understood,
+    said: Result<String, AllocError>,
+    words: &mut [u8],
+) -> Understood
+    ensures { MatchResult said (λ text. IsSaid (string_bytes text) answer words.old words.new result)
+        (λ _. (result ≡ only 4) × (words.new ≡ words.old)) }
+{
+    match said {
+        Ok(text) => say(answer, text.as_bytes(), words),
         Err(_) => only(MEMORY),
     }
+}
+
+fn not_utf8_words(alloc: Global, text: usize) -> Result<String, AllocError>
+    ensures { IfOk result (λ said. string_bytes said ≡ not_utf8_words text) }
+{
+    format!(in alloc; "text {text}: not UTF-8")
 }
 
 // What is answered where there are no types.
@@ -258,21 +295,19 @@ fn tell(alloc: Global, stop: Stop<'_>, words: &mut [u8]) -> Understood
         Stop::Memory => only(MEMORY),
         Stop::Outside(text) => at_text(OUTSIDE, text, 0),
         Stop::NotUtf8 { text, at } => {
-            let said = format!(in alloc; "text {text}: not UTF-8");
-            say(at_text(REJECTED, text, at), said, words)
+            let said = not_utf8_words(alloc, text);
+            say_text(at_text(REJECTED, text, at), said, words)
         }
         Stop::Refused(refusal) => {
             let said = format!(in alloc; "{refusal}");
-            say(
-                refused(reason::of_modules(refusal.why), refusal.point),
-                said,
-                words,
-            )
+            let why = reason::of_modules(refusal.why);
+            say_text(refused(why, refusal.point), said, words)
         }
-        Stop::NoTypes(printed) => {
-            let said = String::from_str(alloc, first_words(printed.as_str()));
-            say(rejected(reason::MODULES_NO_TYPES), said, words)
-        }
+        Stop::NoTypes(printed) => say(
+            rejected(reason::MODULES_NO_TYPES),
+            first_words(printed.as_bytes()),
+            words,
+        ),
     }
 }
 

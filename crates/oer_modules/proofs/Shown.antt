@@ -20,20 +20,21 @@ shown_text bs =
     let passes : not (is_hidden (get_or bs k 0)) ≡ true = prefix_len_passes (λ x. not (is_hidden x)) bs k 0 within in
     rw (get_or-take n bs k 0 within) (shown_ascii (get_or bs k 0) passes)))
 
--- ---- where the first byte is that isn't shown
+-- ---- where the first byte of a kind is
 
 some_at : (b : Bool) (n k : ℕ) → ◌≡◌ {A = Option ℕ} (Some n) (cond b (Some k) None) → n ≡ k
 some_at true n k h = cc
 some_at false n k h = absurd (cc)
 
-pub some_hidden : (n : ℕ) (bs : List ℕ) → Some n ≡ cond (ltb (position_or_len is_hidden bs) (length bs)) (Some (position_or_len is_hidden bs)) None → take n bs ≡ before_first is_hidden bs
-some_hidden n bs h = ap (λ k. take k bs) (some_at (ltb (position_or_len is_hidden bs) (length bs)) n (position_or_len is_hidden bs) h)
+pub some_before : (p : ℕ → Bool) (n : ℕ) (bs : List ℕ) → Some n ≡ cond (ltb (position_or_len p bs) (length bs)) (Some (position_or_len p bs)) None
+    → take n bs ≡ before_first p bs
+some_before p n bs h = ap (λ k. take k bs) (some_at (ltb (position_or_len p bs) (length bs)) n (position_or_len p bs) h)
 
 none_at : (b : Bool) (k : ℕ) → ◌≡◌ {A = Option ℕ} None (cond b (Some k) None) → b ≡ false
 none_at true k h = absurd (cc)
 none_at false k h = refl
 
-pub none_hidden : (bs : List ℕ) → None ≡ cond (ltb (position_or_len is_hidden bs) (length bs)) (Some (position_or_len is_hidden bs)) None → bs ≡ before_first is_hidden bs
-none_hidden bs h =
-    let all : length bs ≤ position_or_len is_hidden bs = ltb-false _ _ (none_at (ltb (position_or_len is_hidden bs) (length bs)) (position_or_len is_hidden bs) h) in
-    sym (take_all (position_or_len is_hidden bs) bs all)
+pub none_before : (p : ℕ → Bool) (bs : List ℕ) → None ≡ cond (ltb (position_or_len p bs) (length bs)) (Some (position_or_len p bs)) None → bs ≡ before_first p bs
+none_before p bs h =
+    let all : length bs ≤ position_or_len p bs = ltb-false _ _ (none_at (ltb (position_or_len p bs) (length bs)) (position_or_len p bs) h) in
+    sym (take_all (position_or_len p bs) bs all)

@@ -36,13 +36,13 @@ module _ (ks : List Tokens) (ts : List (Bor (List ℕ))) (same : map lexed_of ks
 
   pub listed_misread : (n : ℕ) (e : Misread) → read_each 0 (map lexed_of ks) no_modules ≡ Err e → definitions_of_modules (texts_of ts) n ≡ Err (unreadable (texts_of ts) e)
   unfolding definitions_of_modules
-  listed_misread n e h = of_read (λ l. Ok (printed_after nothing (entries_from (texts_of ts) l l.modules n l.modules))) (Err e) h
+  listed_misread n e h = of_read (λ l. Ok (printed_after nothing (entries_from (texts_of ts) l l.modules n 0 l.modules))) (Err e) h
 
-  pub listed : (n : ℕ) (l : Library) (s : List ℕ) (p : Printed) → read_each 0 (map lexed_of ks) no_modules ≡ Ok l → p ≡ printed_after nothing (entries_from (texts_of ts) l l.modules n l.modules)
+  pub listed : (n : ℕ) (l : Library) (s : List ℕ) (p : Printed) → read_each 0 (map lexed_of ks) no_modules ≡ Ok l → p ≡ printed_after nothing (entries_from (texts_of ts) l l.modules n 0 l.modules)
       → s ≡ p.lines ++ p.comments → ComesFirst s (definitions_of_modules (texts_of ts) n)
   unfolding definitions_of_modules
   listed n l s p h is e = record {
     printed = p;
-    are = of_read (λ l. Ok (printed_after nothing (entries_from (texts_of ts) l l.modules n l.modules))) (Ok l) h ∙ ap Ok (sym is);
+    are = of_read (λ l. Ok (printed_after nothing (entries_from (texts_of ts) l l.modules n 0 l.modules))) (Ok l) h ∙ ap Ok (sym is);
     whole = e;
   }

@@ -33,7 +33,7 @@ type_of_modules ts w n = of_texts ts (λ l. or_refused ts l (named_text l.module
 -- ---- all definitions
 
 unfoldable pub definitions_of_modules : List (List ℕ) → ℕ → Result Printed Refusal
-definitions_of_modules ts n = of_texts ts (λ l. Ok (printed_after nothing (entries_from ts l l.modules n l.modules)))
+definitions_of_modules ts n = of_texts ts (λ l. Ok (printed_after nothing (entries_from ts l l.modules n 0 l.modules)))
 
 -- The definitions come first, and then the comments.
 pub record ComesFirst (s : List ℕ) (plain : Result Printed Refusal) : Type 0 where

@@ -10,6 +10,7 @@ mod modules;
 mod nesting;
 mod place;
 mod refusal;
+mod rejection;
 mod texts;
 mod words;
 

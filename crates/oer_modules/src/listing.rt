@@ -1,27 +1,31 @@
 //! All definitions of modules.
-ghost use Rattle.std.specs.Prelude.{◌≡◌, ◌++◌, IfOk, OnOk, map, string_bytes};
+ghost use Rattle.std.specs.Prelude.{◌≡◌, ◌++◌, IfOk, OnOk, map, option_map, string_bytes};
 ghost use Rattle.oer_module_lexer.specs.Lexing.{lex};
 ghost use Rattle.oer_module_names.specs.Views.{modules_in};
 ghost use Rattle.oer_module_syntax.specs.Tree.{assignment_of, module_of};
+ghost use Rattle.oer_module_text.specs.Errors.{place_in};
 ghost use Rattle.oer_modules.specs.Causes.{IsGiven};
-ghost use Rattle.oer_modules.specs.Listed.{as_comment, as_line, entries_from, entries_of, entry_of, nothing, printed_after, printed_of, with_entry};
+ghost use Rattle.oer_modules.specs.Listed.{as_comment, as_line, entries_from, entries_of, entry_by_fault, entry_of, fault_in, nothing, printed_after, printed_of, rejected_words, with_entry};
 ghost use Rattle.oer_modules.specs.Marks.{AreMarked};
 ghost use Rattle.oer_modules.specs.Named.{is_memory, named_text};
-ghost use Rattle.oer_modules.specs.Places.{lexed_of};
+ghost use Rattle.oer_modules.specs.Places.{lexed_of, point_of};
 ghost use Rattle.oer_modules.specs.Refusals.{refusal_of};
 ghost use Rattle.oer_modules.specs.Texts.{library_of};
 ghost use Rattle.oer_modules.specs.Words.{refusal_words};
+ghost use Rattle.oer_notation.specs.Parsing.{parse};
 
 use crate::asked::{asked, type_at};
 use crate::cause::Cause;
 use crate::marks::Marks;
 use crate::nesting::text_by;
-use crate::refusal::{Refusal, refuse};
+use crate::refusal::{Refusal, point_place, refuse};
+use crate::rejection::Rejection;
 use crate::texts::Library;
 use oer_module_lexer::Tokens;
-use oer_module_names::Names;
+use oer_module_names::{Names, Place};
 use oer_module_syntax::{Assignment, Body, Module};
 use oer_module_text::Why;
+use oer_notation::{TextWhy, parse_type};
 use std::alloc::{AllocError, Global};
 
 /// The text of the type that a name has.
@@ -51,6 +55,19 @@ fn is_memory(why: Why<'_>) -> bool
     )
 }
 
+/// Why a text isn't that of a well-formed type, if it isn't.
+fn fault_in(alloc: Global, text: &str) -> Result<Option<TextWhy>, AllocError>
+    ensures { IfOk result (λ found. found ≡ fault_in (parse text.now)) }
+{
+    match parse_type(alloc, text) {
+        Ok(_) => Ok(None),
+        Err(fault) => match fault.why {
+            TextWhy::Memory => Err(AllocError),
+            why => Ok(Some(why)),
+        },
+    }
+}
+
 /// Texts, what was read of them, and how often a type that contains itself is written out.
 #[derive(Clone, Copy)]
 pub struct Sources<'a, 'b, 'c, 'd, 'm, 's, 't> {
@@ -62,7 +79,7 @@ pub struct Sources<'a, 'b, 'c, 'd, 'm, 's, 't> {
     pub nesting: u8,
 }
 
-/// The lines of the definitions that have a text, and the comments on those that have none.
+/// The lines of the definitions that are well-formed types, and of those that are refused.
 #[derive(Drop)]
 pub struct Listing {
     pub taken: String,
@@ -80,7 +97,7 @@ impl Listing {
         }
     }
 
-    /// A definition that has a text.
+    /// A definition whose text is that of a well-formed type.
     fn take(&mut self, name: &str, text: &str) -> Result<(), AllocError>
         ensures { OnOk result (printed_of self.new ≡ with_entry (printed_of self.old) (as_line name.now text.now)) }
     {
@@ -90,7 +107,7 @@ impl Listing {
         self.taken.push_str("\n")
     }
 
-    /// A definition that has none.
+    /// A definition that has no text.
     fn refuse(&mut self, alloc: Global, name: &str, refusal: Refusal<'_>) -> Result<(), AllocError>
         ensures { OnOk result (printed_of self.new ≡ with_entry (printed_of self.old) (as_comment name.now (refusal_words (refusal_of refusal.entry)))) }
     {
@@ -98,23 +115,63 @@ impl Listing {
         self.refused.push_str(line.as_str())
     }
 
-    /// A definition, if it is one of a type.
+    /// A definition whose text isn't that of a well-formed type.
+    fn reject(&mut self, alloc: Global, name: &str, rejection: Rejection<'_>) -> Result<(), AllocError>
+        ensures { OnOk result (printed_of self.new ≡ with_entry (printed_of self.old) (as_comment name.now (rejected_words (option_map point_of rejection.entry.point) rejection.entry.why))) }
+    {
+        let line = format!(in alloc; "-- {name}: {rejection}\n")?;
+        self.refused.push_str(line.as_str())
+    }
+
+    /// A definition in the module of this number, which has this text.
+    fn add_text<'t>(
+        &mut self,
+        alloc: Global,
+        sources: Sources<'_, '_, '_, '_, '_, '_, 't>,
+        module: usize,
+        assignment: &Assignment<'_, 't>,
+        text: &str,
+    ) -> Result<(), AllocError>
+        requires lexed { map lexed_of sources.tokens.now ≡ map (λ t. lex t.now) sources.texts.now }
+        requires marked { AreMarked (map (λ t. t.now) sources.texts.now) sources.marks.now }
+        ensures { OnOk result (printed_of self.new ≡ with_entry (printed_of self.old)
+            (entry_by_fault (map (λ t. t.now) sources.entry.texts.now) (library_of sources.entry.library.now) (place_in «module» assignment.now.at) assignment.now.name.now text.now (fault_in (parse text.now)))) }
+    {
+        let Some(why) = fault_in(alloc, text)? else {
+            return self.take(assignment.name, text);
+        };
+        let place = Place {
+            module,
+            at: assignment.at,
+        };
+        let point = point_place(
+            sources.texts,
+            sources.tokens,
+            sources.marks,
+            &sources.library.homes,
+            place,
+        );
+        self.reject(alloc, assignment.name, Rejection { point, why })
+    }
+
+    /// A definition in the module of this number, if it is one of a type.
     fn add<'t>(
         &mut self,
         alloc: Global,
         sources: Sources<'_, '_, '_, '_, '_, '_, 't>,
+        module: usize,
         assignment: &Assignment<'_, 't>,
     ) -> Result<(), AllocError>
         requires lexed { map lexed_of sources.tokens.now ≡ map (λ t. lex t.now) sources.texts.now }
         requires marked { AreMarked (map (λ t. t.now) sources.texts.now) sources.marks.now }
         ensures { OnOk result (printed_of self.new ≡ with_entry (printed_of self.old)
-            (entry_of (map (λ t. t.now) sources.entry.texts.now) (library_of sources.entry.library.now) (modules_in sources.entry.names.now) sources.entry.nesting (assignment_of «assignment».now))) }
+            (entry_of (map (λ t. t.now) sources.entry.texts.now) (library_of sources.entry.library.now) (modules_in sources.entry.names.now) sources.entry.nesting «module» (assignment_of «assignment».now))) }
     {
         let Body::Type(_) = &assignment.body else {
             return Ok(());
         };
         match named_text(alloc, sources.names, assignment.name, sources.nesting) {
-            Ok(text) => self.take(assignment.name, text.as_str()),
+            Ok(text) => self.add_text(alloc, sources, module, assignment, text.as_str()),
             Err(cause) if is_memory(cause.why) => Err(AllocError),
             Err(cause) => {
                 let refusal = refuse(
@@ -129,20 +186,21 @@ impl Listing {
         }
     }
 
-    /// The definitions of a module.
+    /// The definitions of the module of this number.
     fn add_module<'t>(
         &mut self,
         alloc: Global,
         sources: Sources<'_, '_, '_, '_, '_, '_, 't>,
+        number: usize,
         module: &Module<'_, 't>,
     ) -> Result<(), AllocError>
         requires lexed { map lexed_of sources.tokens.now ≡ map (λ t. lex t.now) sources.texts.now }
         requires marked { AreMarked (map (λ t. t.now) sources.texts.now) sources.marks.now }
         ensures { OnOk result (printed_of self.new ≡ printed_after (printed_of self.old)
-            (entries_of (map (λ t. t.now) sources.entry.texts.now) (library_of sources.entry.library.now) (modules_in sources.entry.names.now) sources.entry.nesting (module_of «module».now).assignments)) }
+            (entries_of (map (λ t. t.now) sources.entry.texts.now) (library_of sources.entry.library.now) (modules_in sources.entry.names.now) sources.entry.nesting number (module_of «module».now).assignments)) }
     {
         for assignment in module.assignments.iter() {
-            self.add(alloc, sources, assignment)?;
+            self.add(alloc, sources, number, assignment)?;
         }
         Ok(())
     }
@@ -157,15 +215,15 @@ impl Listing {
         requires lexed { map lexed_of sources.tokens.now ≡ map (λ t. lex t.now) sources.texts.now }
         requires marked { AreMarked (map (λ t. t.now) sources.texts.now) sources.marks.now }
         ensures { OnOk result (printed_of self.new ≡ printed_after (printed_of self.old)
-            (entries_from (map (λ t. t.now) sources.entry.texts.now) (library_of sources.entry.library.now) (modules_in sources.entry.names.now) sources.entry.nesting (map module_of modules.now))) }
+            (entries_from (map (λ t. t.now) sources.entry.texts.now) (library_of sources.entry.library.now) (modules_in sources.entry.names.now) sources.entry.nesting 0 (map module_of modules.now))) }
     {
-        for module in modules {
-            self.add_module(alloc, sources, module)?;
+        for (number, module) in modules.iter().enumerate() {
+            self.add_module(alloc, sources, number, module)?;
         }
         Ok(())
     }
 
-    /// All lines: those of the definitions that have a text come first.
+    /// All lines: those of the definitions that aren't refused come first.
     pub fn end(self) -> Result<String, AllocError>
         ensures { IfOk result (λ s. string_bytes s ≡ string_bytes self.taken ++ string_bytes self.refused) }
     {

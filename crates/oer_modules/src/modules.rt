@@ -41,9 +41,11 @@ pub fn type_of_modules<'t>(
     }
 }
 
-/// The text of all definitions of these modules that are types and have a text, `Name ::= type` on a line each, in the
-/// order written, by what `type_of_modules` gives for the Name alone. Behind them stand those that have none, as comments
-/// on a line each: `-- Name: text 1, line 12, column 5: SET isn't taken`.
+/// The text of all definitions of these modules that are well-formed types and have a text, `Name ::= type` on a line
+/// each, in the order written, by what `type_of_modules` gives for the Name alone. Behind them stand the others, as
+/// comments on a line each: `-- Name: text 1, line 12, column 5: SET isn't taken`. Where `parse_type` rejects the text,
+/// the place is that of the Name, and the reason ends with the name of the `TextWhy`:
+/// `-- Name: text 1, line 12, column 5: the type is rejected: EmptyElement`.
 ///
 /// # Errors
 /// The first fault of the first text that can't be read; Memory, if an allocation fails.

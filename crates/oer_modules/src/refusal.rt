@@ -93,7 +93,7 @@ pub fn unreadable<'t>(texts: &[&'t str], tokens: &[Tokens<'t>], error: Misread) 
 }
 
 /// A place in a module, as one in its text.
-fn point_place<'t>(
+pub fn point_place<'t>(
     texts: &[&'t str],
     tokens: &[Tokens<'t>],
     marks: &[Marks],

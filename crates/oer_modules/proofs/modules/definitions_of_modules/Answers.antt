@@ -23,6 +23,7 @@ returns c =
     let n = c.args.nesting in
     let l = library_of c.in-Ok.library in
     let ts = texts_of c.args.texts.now in
-    let all = c.in_ok-add_modules.ensures ∙ ap (λ p. printed_after p (entries_from ts l (modules_in c.in_ok-names.names) n (map module_of c.modules-modules.result.now))) c.new-listing.ensures
-    ∙ ap (λ ms. printed_after nothing (entries_from ts l (modules_in c.in_ok-names.names) n ms)) (c.modules-modules.ensures.value ∙ modules) ∙ ap (λ ms. printed_after nothing (entries_from ts l ms n l.modules)) modules in
+    let all = c.in_ok-add_modules.ensures ∙ ap (λ p. printed_after p (entries_from ts l (modules_in c.in_ok-names.names) n 0 (map module_of c.modules-modules.result.now))) c.new-listing.ensures
+    ∙ ap (λ ms. printed_after nothing (entries_from ts l (modules_in c.in_ok-names.names) n 0 ms)) (c.modules-modules.ensures.value ∙ modules)
+    ∙ ap (λ ms. printed_after nothing (entries_from ts l ms n 0 l.modules)) modules in
     listed c.in_ok-tokens.tokens.items c.args.texts.now c.in_ok-tokens.ensures n l _ (printed_of c.add_modules.new.self) (read ∙ c.in-Ok.ensures) all c.in_ok-text.ensures

@@ -9,6 +9,7 @@ use Rattle.oer_modules.proofs.listing.Listing.add_module.Given as goal
 abbrev pub invariant-loop-assignment : goal.invariant-loop-assignment
 invariant-loop-assignment l =
     printed_after (printed_of l.self)
-    (entries_of (map (λ t. t.now) l.sources.texts.now) (library_of l.sources.library.now) (modules_in l.sources.names.now) l.sources.nesting (map assignment_of (drop l.assignment-index l.module.assignments.items)))
+    (entries_of (map (λ t. t.now) l.sources.texts.now) (library_of l.sources.library.now) (modules_in l.sources.names.now) l.sources.nesting l.number
+    (map assignment_of (drop l.assignment-index l.module.assignments.items)))
     ≡ printed_after (printed_of l.fn.self)
-    (entries_of (map (λ t. t.now) l.sources.texts.now) (library_of l.sources.library.now) (modules_in l.sources.names.now) l.sources.nesting (map assignment_of l.module.assignments.items))
+    (entries_of (map (λ t. t.now) l.sources.texts.now) (library_of l.sources.library.now) (modules_in l.sources.names.now) l.sources.nesting l.number (map assignment_of l.module.assignments.items))
