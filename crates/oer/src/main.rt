@@ -1,8 +1,8 @@
 //! The program `oer`: values and their octets at the command line.
 #![tactic(auto)]
 
-use oer_cmd::{NoStart, run, stop};
-use oer_module_cmd::rewrite;
+use oer_cmd::{NoStart, run, run_for, stop};
+use oer_module_cmd::type_given;
 use oer_module_options::Command;
 use oer_types_cmd::run_types;
 use std::alloc::Global;
@@ -34,12 +34,18 @@ fn answer<R: Read, W: Write, E: Write>(
     if let Some(status) = run_types(alloc, words.as_slice(), input, output, errors) {
         return status;
     }
-    let rewritten = rewrite(alloc, Command::Oer, words.as_slice(), input, errors);
-    let words = match rewritten {
-        Ok(rewritten) => rewritten.unwrap_or(words),
-        Err(status) => return status,
-    };
-    run(alloc, words.as_slice(), input, output, errors)
+    match type_given(alloc, Command::Oer, words.as_slice(), input, errors) {
+        Ok(Some(given)) => run_for(
+            alloc,
+            &given.schema,
+            given.words.as_slice(),
+            input,
+            output,
+            errors,
+        ),
+        Ok(None) => run(alloc, words.as_slice(), input, output, errors),
+        Err(status) => status,
+    }
 }
 
 fn main(rt: HostRuntime) -> ExitCode {

@@ -132,6 +132,16 @@ for_later o untouched status status' told told' less h = either (reads_types (te
 -- ---- the type
 
 -- It is told whether there is one.
+-- The same of a type that is given.
+pub given_later : (T : AsnType) (o : Options) (untouched : Type 0) (status status' : ℕ) (told told' : Option (List ℕ)) → (status' ≤ 2 → status ≤ 2)
+    → ((path : Expected (List Step)) → IsPathOf (path_text o.task) path
+    → GivesIfAsked (value T) (source_text o.task) path untouched (λ U. GivesTask (kind o.task) U o.limit status told told'))
+    → (path : Expected (List Step)) → IsPathOf (path_text o.task) path
+    → GivesIfAsked (value T) (source_text o.task) path untouched (λ U. GivesTask (kind o.task) U o.limit status' told told')
+given_later T o untouched status status' told told' less own path of = asked_later (value T) (source_text o.task) path untouched
+    (λ U. GivesTask (kind o.task) U o.limit status told told') (λ U. GivesTask (kind o.task) U o.limit status' told told')
+    (λ U. task_later (kind o.task) U o.limit status status' told told' less) (own path of)
+
 abbrev pub IsTold : {A : Type 0} → Expected A → Type 0
 IsTold unknown = ⊥
 IsTold (value x) = ⊤

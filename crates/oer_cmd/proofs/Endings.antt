@@ -19,7 +19,7 @@ use Rattle.oer_options.specs.Words.{Asks, Texts, oer, path_text, source_text, te
 use Rattle.oer_options.specs.declared.options.Options.{Options}
 use Rattle.oer_options.specs.declared.options.Task.{Task}
 use Rattle.oer_cmd.specs.Answer.{IsPathOf, answer_of, expected_answer, expected_type, given_answer, named_as, parsed, task_answer, types_input}
-use Rattle.oer_cmd.specs.Ending.{Delivers, Breaks, Does, HoldsFront, IsMachineLine, IsNotTaken, IsUnstarted, MayPrint, Streams, refusal_line}
+use Rattle.oer_cmd.specs.Ending.{Delivers, Breaks, Does, DoesFor, HoldsFront, IsMachineLine, IsNotTaken, IsUnstarted, MayPrint, Streams, refusal_line}
 use Rattle.oer_cmd.specs.Expected.{Expected, Meets, refusal, stop, unknown, value, ◌>>=◌}
 use Rattle.oer_cmd.specs.Faults.{AppendsFront, Printed, Reports, error_line, status_of}
 use Rattle.oer_cmd.specs.Run.{IsLineGiven}
@@ -186,14 +186,20 @@ pub does : (words : List Text) (told : Option (List ℕ)) (untouched : Type 0) (
     → (source_text o.task ≢ None → reads_types (texts_of o) ≡ false → untouched) → Does words told untouched status s
 does words told untouched status s o asks answers keeps = record { options = o; asks = asks; answers = answers; keeps = keeps }
 
+pub does_for : (T : AsnType) (words : List Text) (told : Option (List ℕ)) (untouched : Type 0) (status : ℕ) (s : Streams) (o : Options) → Asks words o
+    → ((path : Expected (List Step)) → IsPathOf (path_text o.task) path
+    → Delivers (task_answer o.task T o.limit path told) status s ⊎ Breaks (task_answer o.task T o.limit path told) status s)
+    → (source_text o.task ≢ None → untouched) → DoesFor T words told untouched status s
+does_for T words told untouched status s o asks answers keeps = record { options = o; asks = asks; answers = answers; keeps = keeps }
+
 pub keeps_same : (known : Option (List ℕ)) → Keeps known known
 keeps_same None = tt
 keeps_same (Some xs) = refl
 
 -- What `clap` says of the words.
-pub words_end : (words : List Text) (told : Option (List ℕ)) (untouched : Type 0) (e : Error) (status : ℕ) (s : Streams) → HasKind (fault_of oer words) e → (takes oer words ≡ true → kind_of e ≡ OutOfMemory)
+pub words_end : {D : Type 0} (words : List Text) (untouched : Type 0) (e : Error) (status : ℕ) (s : Streams) → HasKind (fault_of oer words) e → (takes oer words ≡ true → kind_of e ≡ OutOfMemory)
     → (kind_of e ≡ OutOfMemory → status ≡ 3) → (status ≡ 0 → (kind_of e ≡ DisplayHelp) ⊎ (kind_of e ≡ DisplayVersion)) → (status ≡ 0 → Keeps s.errors s.errors') → (1 ≤ status → status ≤ 2 → status ≡ 2)
     → (1 ≤ status → status ≤ 2 → Keeps s.output s.output') → (status ≡ 3 → Reports Memory 3 s.errors s.errors' ⊎ Reports Output 3 s.errors s.errors') → (kind_of e ≡ OutOfMemory → Keeps s.output s.output')
-    → (kind_of e ≡ OutOfMemory → Reports Memory 3 s.errors s.errors') → untouched → IsUnstarted untouched status s ⊎ Does words told untouched status s ⊎ IsNotTaken words untouched status s
-words_end words told untouched e status s (inl kind) passes memory shows alone two quiet failed kept line same = inl (memory kind, same, kept kind, unread_end 3 s.errors s.errors' (line kind))
-words_end words told untouched e status s (inr among) passes memory shows alone two quiet failed kept line same = inr (inr (not_taken words untouched e status s among passes memory kept shows alone two quiet failed same))
+    → (kind_of e ≡ OutOfMemory → Reports Memory 3 s.errors s.errors') → untouched → IsUnstarted untouched status s ⊎ D ⊎ IsNotTaken words untouched status s
+words_end words untouched e status s (inl kind) passes memory shows alone two quiet failed kept line same = inl (memory kind, same, kept kind, unread_end 3 s.errors s.errors' (line kind))
+words_end words untouched e status s (inr among) passes memory shows alone two quiet failed kept line same = inr (inr (not_taken words untouched e status s among passes memory kept shows alone two quiet failed same))

@@ -3,10 +3,11 @@ use Rattle.std.specs.Prelude.{◌≡◌, ◌≢◌, ◌≤◌, ◌⊎◌, ℕ, L
 use Rattle.std.specs.Io.KnownBytes.{Appends, Keeps}
 use Rattle.clap.specs.Words.{IsAmong, Text, fault_of, takes}
 use Rattle.clap.specs.declared.error.kind.ErrorKind.TheVariants.{DisplayHelp, DisplayVersion}
+use Rattle.oer_model.specs.AsnType.{AsnType}
 use Rattle.oer_model.specs.Parts.{Step}
 use Rattle.oer_options.specs.Words.{Asks, oer, path_text, source_text, texts_of}
 use Rattle.oer_options.specs.declared.options.Options.{Options}
-use Rattle.oer_cmd.specs.Answer.{IsPathOf, expected_answer}
+use Rattle.oer_cmd.specs.Answer.{IsPathOf, expected_answer, task_answer}
 use Rattle.oer_cmd.specs.Expected.{Expected, refusal, unknown, value}
 use Rattle.oer_cmd.specs.Faults.{AppendsFront, error_line}
 use Rattle.oer_cmd.specs.Types.{reads_types}
@@ -64,6 +65,14 @@ pub record Does (words : List Text) (told : Option (List ℕ)) (untouched : Type
       → Delivers (expected_answer options path told) status s ⊎ Breaks (expected_answer options path told) status s
   pub keeps : source_text options.task ≢ None → reads_types (texts_of options) ≡ false → untouched
 
+-- The same for values of a type that is given, whatever the options on types say.
+pub record DoesFor (T : AsnType) (words : List Text) (told : Option (List ℕ)) (untouched : Type 0) (status : ℕ) (s : Streams) : Type 0 where
+  pub options : Options
+  pub asks : Asks words options
+  pub answers : (path : Expected (List Step)) → IsPathOf (path_text options.task) path
+      → Delivers (task_answer options.task T options.limit path told) status s ⊎ Breaks (task_answer options.task T options.limit path told) status s
+  pub keeps : source_text options.task ≢ None → untouched
+
 -- The words ask for help, or for the version.
 abbrev pub AsksForHelp : List Text → Type 0
 AsksForHelp words = IsAmong DisplayHelp (fault_of oer words) ⊎ IsAmong DisplayVersion (fault_of oer words)
@@ -85,3 +94,10 @@ abbrev pub Ends : List Text → Option (List ℕ) → Type 0 → ℕ
 Ends words told untouched status output output' errors errors' =
     let s : Streams = record { output = output; output' = output'; errors = errors; errors' = errors' } in
     IsUnstarted untouched status s ⊎ Does words told untouched status s ⊎ IsNotTaken words untouched status s
+
+-- The same for values of a type that is given.
+abbrev pub EndsFor : AsnType → List Text → Option (List ℕ) → Type 0 → ℕ
+    → Option (List ℕ) → Option (List ℕ) → Option (List ℕ) → Option (List ℕ) → Type 0
+EndsFor T words told untouched status output output' errors errors' =
+    let s : Streams = record { output = output; output' = output'; errors = errors; errors' = errors' } in
+    IsUnstarted untouched status s ⊎ DoesFor T words told untouched status s ⊎ IsNotTaken words untouched status s

@@ -90,3 +90,9 @@ TakesFor o untouched status told told' = TakesBy (texts_of o) o.task o.limit unt
 abbrev pub TakesInput : List Text → Type 0 → ℕ → Option (List ℕ) → Option (List ℕ) → Type 0
 TakesInput words untouched status told told' = (untouched × (status ≤ 2 → takes oer words ≡ true → ⊥))
     ⊎ ((o : Options) × Asks words o × TakesFor o untouched status told told')
+
+-- The same for values of a type that is given, whatever the options on types say.
+abbrev pub TakesFrom : AsnType → List Text → Type 0 → ℕ → Option (List ℕ) → Option (List ℕ) → Type 0
+TakesFrom T words untouched status told told' = (untouched × (status ≤ 2 → takes oer words ≡ true → ⊥))
+    ⊎ ((o : Options) × Asks words o × ((path : Expected (List Step)) → IsPathOf (path_text o.task) path
+    → GivesIfAsked (value T) (source_text o.task) path untouched (λ U. GivesTask (kind o.task) U o.limit status told told')))

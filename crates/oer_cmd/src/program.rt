@@ -29,7 +29,7 @@ use std::alloc::{AllocError, Global};
 use std::io::{Read, Write};
 
 // The line of the task.
-fn line_of<'a, R: Read>(
+pub(crate) fn line_of<'a, R: Read>(
     alloc: Global,
     schema: &Schema,
     options: Options<'a>,
@@ -164,7 +164,7 @@ pub fn put_all<W: Write>(octets: &[u8], w: &mut W) -> bool
 }
 
 // Writes the line and its line feed in one call, and flushes.
-fn print_line<'a, W: Write>(mut line: String, output: &mut W) -> Result<(), Fault<'a>>
+pub(crate) fn print_line<'a, W: Write>(mut line: String, output: &mut W) -> Result<(), Fault<'a>>
     ensures printed { Printed (string_bytes line) (W.contents output.old) (W.contents output.new) result }
     ensures fails { IfErr result (λ fault. status_of fault ≡ 3) }
 {

@@ -5,12 +5,13 @@ mod pipe;
 
 use crate::pipe::{Errors, Output};
 use oer_cmd::{NoStart, stop};
-use oer_dump_cmd::{run, usual_width};
-use oer_module_cmd::rewrite;
+use oer_dump_cmd::{run, run_for, usual_width};
+use oer_module_cmd::type_given;
 use oer_module_options::Command;
+use std::alloc::Global;
 use std::cell::Cell;
 use std::env::{self, Env};
-use std::io::{BufReader, ErrorKind, IsTerminal};
+use std::io::{BufReader, ErrorKind, IsTerminal, Read, Write};
 use std::process::ExitCode;
 
 // How many characters a line may have if the arguments don't say. COLUMNS is asked for a terminal alone;
@@ -22,6 +23,30 @@ fn width_of<R: Env + Alloc>(rt: &R, is_terminal: bool) -> u64 {
     match env::var(rt, "COLUMNS") {
         Ok(text) => usual_width(true, Some(text.as_str())),
         Err(_) => usual_width(true, None),
+    }
+}
+
+// Does what the arguments ask for. The status.
+fn answer<R: Read, W: Write, E: Write>(
+    alloc: Global,
+    words: &[String],
+    width: u64,
+    input: &mut R,
+    output: &mut W,
+    errors: &mut E,
+) -> u8 {
+    match type_given(alloc, Command::Dump, words, input, errors) {
+        Ok(Some(given)) => run_for(
+            alloc,
+            &given.schema,
+            given.words.as_slice(),
+            width,
+            input,
+            output,
+            errors,
+        ),
+        Ok(None) => run(alloc, words, width, input, output, errors),
+        Err(status) => status,
     }
 }
 
@@ -41,20 +66,9 @@ fn main(rt: HostRuntime) -> ExitCode {
     let Ok(mut input) = BufReader::new(alloc, rt.reader()) else {
         return ExitCode::from(stop(NoStart::NoMemory, &mut errors));
     };
-    let rewritten = rewrite(
-        alloc,
-        Command::Dump,
-        words.as_slice(),
-        &mut input,
-        &mut errors,
-    );
-    let words = match rewritten {
-        Ok(rewritten) => rewritten.unwrap_or(words),
-        Err(status) => return ExitCode::from(status),
-    };
     let is_terminal = rt.stdout().is_terminal();
     let is_closed = Cell::new(false);
-    let status = run(
+    let status = answer(
         alloc,
         words.as_slice(),
         width_of(&rt, is_terminal),

@@ -12,8 +12,8 @@ use Rattle.oer_cmd.specs.Faults.{Reports, error_line, status_of, text_of}
 use Rattle.oer_cmd.specs.declared.fault.Fault.{Fault}
 use Rattle.oer_cmd.specs.declared.fault.Fault.TheVariants.{Memory, Output}
 use Rattle.oer_cmd.proofs.Endings.{by_status, moved}
-use Rattle.oer_dump_cmd.specs.Ending.{Accepts, Answers, Breaks, Ends, IsNotTaken, Outputs, Tells}
-use Rattle.oer_dump_cmd.specs.Showing.{AreOneFor, Displays, IsReasonLine, Rejection, Shows, judged_as, octets_as}
+use Rattle.oer_dump_cmd.specs.Ending.{Accepts, AcceptsFor, Answers, Breaks, Ends, EndsFor, IsNotTaken, Outputs, Tells}
+use Rattle.oer_dump_cmd.specs.Showing.{AreOne, AreOneFor, Displays, IsReasonLine, Rejection, Shows, judged_as, judged_octets, octets_as, octets_at}
 use Rattle.oer_dump_cmd.specs.Words.{Asks, given, oer_dump, texts_asked, texts_given}
 use Rattle.oer_model.specs.AsnType.{AsnType}
 use Rattle.oer_dump_cmd.specs.declared.options.Form.{Form}
@@ -71,6 +71,16 @@ accepts words told o asks h =
       octets = subst (λ t. AreOneFor t (given words (codes "hex")) o.limit told) texts (subst (λ x. AreOneFor (texts_asked o) x o.limit told) (sym asks.hex) h);
     }
 
+pub accepts_for : (T : AsnType) (words : List Text) (told : Option (List ℕ)) (o : Options) → Asks words o → AreOne T (behind o.hex) o.limit told
+    → AcceptsFor T words told
+accepts_for T words told o asks h = record {
+  limit = o.limit;
+  limit_text = asks.limit.0;
+  limit_is = asks.limit.1;
+  number = asks.limit.2;
+  octets = subst (λ x. AreOne T x o.limit told) (sym asks.hex) h;
+}
+
 among_help : (kinds : Kinds) (kind : ErrorKind) → IsAmong kind kinds → (kind ≡ DisplayHelp) ⊎ (kind ≡ DisplayVersion) → IsAmong DisplayHelp kinds ⊎ IsAmong DisplayVersion kinds
 among_help kinds kind among (inl is) = inl (subst (λ k. IsAmong k kinds) is among)
 among_help kinds kind among (inr is) = inr (subst (λ k. IsAmong k kinds) is among)
@@ -123,3 +133,9 @@ undisplayed f (refusal r) fault status s shown same silent small = kept s.output
 pub does : (words : List Text) (told : Option (List ℕ)) (untouched : Type 0) (status : ℕ) (s : Streams) (o : Options) → Asks words o
     → Answers (judged_as o told) status s ⊎ Breaks status s → (status ≤ 2 → Outputs o.form (octets_as o told) s) → (behind o.hex ≢ None → untouched) → Ends words told untouched status s
 does words told untouched status s o asks answers outputs keeps = inl (record { options = o; asks = asks; answers = answers; outputs = outputs; keeps = keeps })
+
+pub does_for : (T : AsnType) (words : List Text) (told : Option (List ℕ)) (untouched : Type 0) (status : ℕ) (s : Streams) (o : Options) → Asks words o
+    → Answers (judged_octets (behind o.hex) o.limit told T) status s ⊎ Breaks status s
+    → (status ≤ 2 → Outputs o.form (octets_at (behind o.hex) o.limit told T) s) → (behind o.hex ≢ None → untouched) → EndsFor T words told untouched status s
+does_for T words told untouched status s o asks answers outputs keeps =
+    inl (record { options = o; asks = asks; answers = answers; outputs = outputs; keeps = keeps })

@@ -19,6 +19,7 @@ with_all w cs = record {
   path = max w.path (largest (map (λ c. length c.path) cs));
   names = max w.names (largest (map (λ c. length c.names) cs));
   kind = max w.kind (largest (map (λ c. length c.kind) cs));
+  note = max w.note (largest (map (λ c. length c.note) cs));
   value = max w.value (largest (map value_count cs));
 }
 
@@ -38,7 +39,7 @@ all_measured widths (e ∷ es) s t (j, step, more) =
     all_measured widths es j t more ∙ ap (λ w. with_all w (map cells_of es)) step ∙ one_more (widths s) (cells_of e) (map cells_of es)
 
 abbrev pub none : Widths
-none = record { offset = 0; count = 0; path = 0; names = 0; kind = 0; value = 0 }
+none = record { offset = 0; count = 0; path = 0; names = 0; kind = 0; note = 0; value = 0 }
 
 from_none : (cs : List Cells) → with_all none cs ≡ most_of cs
 from_none cs = simp zero-max

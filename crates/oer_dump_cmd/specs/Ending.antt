@@ -7,7 +7,7 @@ use Rattle.oer_options.specs.Words.{NumberOf, behind}
 use Rattle.oer_cmd.specs.Ending.{IsMachineLine, Streams}
 use Rattle.oer_cmd.specs.Expected.{Expected, refusal, unknown, value}
 use Rattle.oer_cmd.specs.Faults.{AppendsFront}
-use Rattle.oer_dump_cmd.specs.Showing.{AreOneFor, IsReasonLine, PrintsPage, Rejection, judged_as, octets_as}
+use Rattle.oer_dump_cmd.specs.Showing.{AreOne, AreOneFor, IsReasonLine, PrintsPage, Rejection, judged_as, judged_octets, octets_as, octets_at}
 use Rattle.oer_dump_cmd.specs.Words.{Asks, given, given_number, oer_dump, texts_given}
 use Rattle.oer_model.specs.AsnType.{AsnType}
 use Rattle.oer_dump_cmd.specs.declared.options.Form.{Form}
@@ -70,3 +70,22 @@ pub record Accepts (words : List Text) (told : Option (List ℕ)) : Type 0 where
   pub limit_is : given_number words (codes "limit") ≡ Some limit_text
   pub number : NumberOf limit_text limit
   pub octets : AreOneFor (texts_given words) (given words (codes "hex")) limit told
+
+-- ---- for a type that is given, whatever the options on types say
+
+pub record DoesFor (T : AsnType) (words : List Text) (told : Option (List ℕ)) (untouched : Type 0) (status : ℕ) (s : Streams) : Type 0 where
+  pub options : Options
+  pub asks : Asks words options
+  pub answers : Answers (judged_octets (behind options.hex) options.limit told T) status s ⊎ Breaks status s
+  pub outputs : status ≤ 2 → Outputs options.form (octets_at (behind options.hex) options.limit told T) s
+  pub keeps : behind options.hex ≢ None → untouched
+
+abbrev pub EndsFor : AsnType → List Text → Option (List ℕ) → Type 0 → ℕ → Streams → Type 0
+EndsFor T words told untouched status s = DoesFor T words told untouched status s ⊎ IsNotTaken words untouched status s
+
+pub record AcceptsFor (T : AsnType) (words : List Text) (told : Option (List ℕ)) : Type 0 where
+  pub limit : ℕ
+  pub limit_text : Text
+  pub limit_is : given_number words (codes "limit") ≡ Some limit_text
+  pub number : NumberOf limit_text limit
+  pub octets : AreOne T (given words (codes "hex")) limit told

@@ -28,11 +28,11 @@ abbrev pub room : Widths → ℕ → ℕ
 room w width = width - (10 + w.offset + w.count + w.path + w.kind)
 
 -- The widths for lines of so many characters. Names and values share the room that the other columns leave, and each has half of it if it
--- needs that. Both have twelve characters at least.
+-- needs that, but names leave room for the longest note and twelve characters of a value. Both have twelve characters at least.
 abbrev pub within : ℕ → Widths → Widths
 within width w =
     let all = room w width in
-    let names = min w.names (max (max (all / 2) (all - w.value)) 12) in
+    let names = min w.names (max (min (max (all / 2) (all - w.value)) (all - w.note - 12)) 12) in
     record w { names = names; value = max (all - names) 12 }
 
 -- the largest of numbers; 0 where there are none
@@ -52,6 +52,7 @@ most_of cs = record {
   path = largest (map (λ c. length c.path) cs);
   names = largest (map (λ c. length c.names) cs);
   kind = largest (map (λ c. length c.kind) cs);
+  note = largest (map (λ c. length c.note) cs);
   value = largest (map value_count cs);
 }
 
@@ -61,7 +62,7 @@ widest cs = record (most_of cs) { offset = digits_of (most_of cs).offset; count 
 
 -- the same for entries of these extents: an empty text has a dash in its place, and no value is so long that it is cut
 abbrev pub unbounded : Extents → Widths
-unbounded x = record { offset = digits_of x.offset; count = digits_of x.count; path = max x.path 1; names = max x.names 1; kind = x.kind; value = 2 ^ 64 - 1 }
+unbounded x = record { offset = digits_of x.offset; count = digits_of x.count; path = max x.path 1; names = max x.names 1; kind = x.kind; note = 0; value = 2 ^ 64 - 1 }
 
 -- The widths for lines of octets, with a bound on their characters: those within the bound of the widest cells that entries of the octets
 -- have. 0 is no bound: those of some extents.
@@ -77,6 +78,7 @@ with_cells w c = record {
   path = max w.path (length c.path);
   names = max w.names (length c.names);
   kind = max w.kind (length c.kind);
+  note = max w.note (length c.note);
   value = max w.value (value_count c);
 }
 

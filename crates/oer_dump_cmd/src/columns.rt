@@ -20,6 +20,8 @@ pub(crate) struct Widths {
     pub path: usize,
     pub names: usize,
     pub kind: usize,
+    /// Of the longest note.
+    pub note: usize,
     pub value: usize,
 }
 
@@ -58,6 +60,7 @@ impl Widths {
             path: extents.path.max(1),
             names: extents.names.max(1),
             kind: extents.kind,
+            note: 0,
             value: usize::MAX,
         }
     }
@@ -73,6 +76,7 @@ impl Widths {
             path: self.path.max(line.path.len()),
             names: self.names.max(line.names.len()),
             kind: self.kind.max(line.kind.len()),
+            note: self.note.max(line.note.len()),
             value: self.value.max(value),
         }
     }
@@ -91,12 +95,14 @@ impl Widths {
     }
 
     /// Such that a line has so many characters. Names and values share what is left, and each has half
-    /// of it if it needs that.
+    /// of it if it needs that; but names leave room for the longest note, and for a value before it.
     pub(crate) fn within(self, width: usize) -> Widths
         ensures { result ≡ within width self }
     {
         let left = self.left(width);
-        let room = (left / 2).max(left.saturating_sub(self.value)).max(LEAST);
+        let beside = left.saturating_sub(self.note).saturating_sub(LEAST);
+        let share = (left / 2).max(left.saturating_sub(self.value));
+        let room = share.min(beside).max(LEAST);
         let names = self.names.min(room);
         let mut widths = self;
         widths.names = names;

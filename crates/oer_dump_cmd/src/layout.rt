@@ -181,6 +181,7 @@ fn measured(alloc: Global, schema: &Schema, octets: &[u8]) -> Result<Widths, Sto
         path: 0,
         names: 0,
         kind: 0,
+        note: 0,
         value: 0,
     };
     let (widest, _) = each_entry(alloc, schema, octets, Widest { alloc, widths })?;

@@ -5,6 +5,7 @@
 mod as_json;
 mod columns;
 mod cut;
+mod given;
 mod help;
 mod layout;
 mod line;
@@ -15,5 +16,6 @@ mod tag;
 mod visible;
 mod width;
 
+pub use given::run_for;
 pub use program::run;
 pub use width::usual_width;

@@ -120,7 +120,7 @@ fn print_octets<'a, W: Write>(
 }
 
 // Prints a value of the type.
-fn print_value<'a, R: Read, W: Write>(
+pub(crate) fn print_value<'a, R: Read, W: Write>(
     alloc: Global,
     schema: &Schema,
     options: Options<'a>,
@@ -210,7 +210,7 @@ fn print_asked<'a, R: Read, W: Write>(
 }
 
 // Says why the octets are rejected, if they are. The status.
-fn tell<E: Write>(rejection: &Option<String>, errors: &mut E) -> u8
+pub(crate) fn tell<E: Write>(rejection: &Option<String>, errors: &mut E) -> u8
     ensures { Tells rejection.now result (E.contents errors.old) (E.contents errors.new) }
 {
     let Some(line) = rejection else {

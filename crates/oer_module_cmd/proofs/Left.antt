@@ -5,10 +5,12 @@ use Rattle.oer_module_syntax.specs.declared.fault.Why.TheVariants as fault
 use Rattle.oer_module_text.specs.declared.error.Why.TheVariants as raws
 use Rattle.oer_module_values.specs.declared.error.Why.TheVariants as told
 use Rattle.oer_modules.specs.Refusals.{Refusal, refusal_of}
+use Rattle.oer_modules.specs.Schemas.{IsMemory, NoType, no_type_of}
 use Rattle.oer_modules.specs.declared.refusal.Refusal.{Refusal as RawRefusal}
-use Rattle.oer_module_cmd.specs.Errors.{Gives, IsByRefusal, Read, error_of, status_of}
+use Rattle.oer_modules.specs.declared.schema.NoType.{NoType as RawNoType}
+use Rattle.oer_module_cmd.specs.Errors.{Gives, IsByNone, IsByRefusal, Read, error_of, status_of}
 use Rattle.oer_module_cmd.specs.Input.{MayBeLeft, input_for, reads_input}
-use Rattle.oer_module_cmd.specs.Rewriting.{by_modules}
+use Rattle.oer_module_cmd.specs.Given.{by_modules, by_types}
 use Rattle.oer_module_cmd.specs.declared.error.Error.{Error as RawError}
 
 -- what holds of all octets holds of some that may be left
@@ -31,6 +33,12 @@ pub refuses : {X Y : Type 0} (view : X → Y) (plain : Result Y Refusal) (r : Ra
 refuses view plain r e by gives = λ two.
     let no : r.why ≡ raws.Unresolved (told.Unread fault.Memory) → ⊥ = λ m. absurd (omega (sym (ap (λ x. status_of (error_of x)) (by.memory m)) ∙ two, arith)) in
     ap by_modules (gives no) ∙ ap (λ x. Err (error_of x)) (sym (by.other no))
+
+pub none_given : {X Y : Type 0} (view : X → Y) (plain : Result Y NoType) (n : RawNoType) (e : RawError) → IsByNone n e
+    → ((IsMemory n → ⊥) → plain ≡ Err (no_type_of n)) → Gives view (Err e) (by_types plain)
+none_given view plain n e by gives = λ two.
+    let no : IsMemory n → ⊥ = λ m. absurd (omega (sym (ap (λ x. status_of (error_of x)) (by.memory m)) ∙ two, arith)) in
+    ap by_types (gives no) ∙ ap (λ x. Err (error_of x)) (sym (by.other no))
 
 -- no text is read
 pub unread : (ts : List (List ℕ)) (xs t : List ℕ) → reads_input ts ≡ false → t ≡ [] → input_for ts xs ≡ Ok t

@@ -3,9 +3,10 @@ use Rattle.std.specs.Prelude.{◌≡◌, ◌≤◌, ◌⊎◌, ℕ, List, [], �
 use Rattle.std.specs.Io.KnownBytes.{Appends}
 use Rattle.oer_module_options.specs.Errors.{Error as OptionError, error_of as option_error_of, text_of as option_text_of}
 use Rattle.oer_module_options.specs.Words.{Text}
-use Rattle.oer_modules.specs.Refusals.{Refusal, refusal_of}
-use Rattle.oer_modules.specs.Words.{refusal_words}
+use Rattle.oer_modules.specs.Schemas.{IsMemory, NoType, no_type_of, no_type_words}
 use Rattle.oer_modules.specs.declared.refusal.Refusal.{Refusal as RawRefusal}
+use Rattle.oer_modules.specs.declared.schema.NoType.{NoType as RawNoType}
+use Rattle.oer_modules.specs.declared.schema.NoType.TheVariants.{Refused}
 use Rattle.oer_module_syntax.specs.declared.fault.Why.TheVariants as fault
 use Rattle.oer_module_text.specs.declared.error.Why.TheVariants as raws
 use Rattle.oer_module_values.specs.declared.error.Why.TheVariants as told
@@ -15,7 +16,8 @@ use Rattle.oer_module_cmd.specs.declared.error.Error.TheVariants as raw
 pub data Error : Type 0 where
   options : OptionError → Error
   not_text : Error
-  refused : Refusal → Error
+  -- the modules give no type
+  refused : NoType → Error
   -- A read failed, or an allocation.
   input : Error
   memory : Error
@@ -23,14 +25,19 @@ pub data Error : Type 0 where
 abbrev pub error_of : RawError → Error
 error_of (raw.Options e) = options (option_error_of e)
 error_of raw.NotText = not_text
-error_of (raw.Modules r) = refused (refusal_of r)
+error_of (raw.Modules n) = refused (no_type_of n)
 error_of raw.Input = input
 error_of raw.Memory = memory
 
 -- An allocation failed, or it is another refusal.
 pub record IsByRefusal (r : RawRefusal) (e : RawError) : Type 0 where
   pub memory : r.why ≡ raws.Unresolved (told.Unread fault.Memory) → e ≡ raw.Memory
-  pub other : (r.why ≡ raws.Unresolved (told.Unread fault.Memory) → ⊥) → e ≡ raw.Modules r
+  pub other : (r.why ≡ raws.Unresolved (told.Unread fault.Memory) → ⊥) → e ≡ raw.Modules (Refused r)
+
+-- The same of modules that give no type.
+pub record IsByNone (n : RawNoType) (e : RawError) : Type 0 where
+  pub memory : IsMemory n → e ≡ raw.Memory
+  pub other : (IsMemory n → ⊥) → e ≡ raw.Modules n
 
 -- 2 where the words are at fault, 3 where the machine fails
 abbrev pub status_of : Error → ℕ
@@ -57,7 +64,7 @@ Gives view (Err e) plain = status_of (error_of e) ≡ 2 → plain ≡ Err (error
 abbrev pub text_of : Error → Text
 text_of (options e) = option_text_of e
 text_of not_text = codes "modules: not UTF-8"
-text_of (refused r) = codes "modules: " ++ refusal_words r
+text_of (refused n) = codes "modules: " ++ no_type_words n
 text_of input = codes "input failed"
 text_of memory = codes "out of memory"
 

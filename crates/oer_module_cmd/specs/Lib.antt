@@ -1,3 +1,3 @@
 pub mod Errors
 pub mod Input
-pub mod Rewriting
+pub mod Given

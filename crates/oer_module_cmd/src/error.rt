@@ -1,10 +1,10 @@
 //! Why the words aren't rewritten.
 ghost use Rattle.std.specs.Prelude.{◌≡◌, ◌≤◌, IfOk, Some, string_bytes};
-ghost use Rattle.oer_module_cmd.specs.Errors.{AppendsFront, IsByRefusal, Reports, error_of, line_of, status_of, text_of};
+ghost use Rattle.oer_module_cmd.specs.Errors.{AppendsFront, IsByNone, IsByRefusal, Reports, error_of, line_of, status_of, text_of};
 ghost use Rattle.oer_module_cmd.specs.declared.error.Error.TheVariants as raw;
 
 use oer_module_text::Why;
-use oer_modules::Refusal;
+use oer_modules::{NoType, Refusal};
 use oer_units::Metered;
 use std::alloc::{AllocError, Global};
 use std::fmt;
@@ -18,7 +18,7 @@ pub enum Error<'a> {
     /// Standard input isn't UTF-8.
     NotText,
     /// The modules give no type of the Name.
-    Modules(Refusal<'a>),
+    Modules(NoType<'a>),
     /// A read of standard input failed.
     Input,
     /// An allocation failed.
@@ -46,7 +46,7 @@ impl fmt::Display for Error<'_> {
         match self {
             Error::Options(error) => write!(f, "{error}"),
             Error::NotText => f.write_str("modules: not UTF-8"),
-            Error::Modules(refusal) => write!(f, "modules: {refusal}"),
+            Error::Modules(none) => write!(f, "modules: {none}"),
             Error::Input => f.write_str("input failed"),
             Error::Memory => f.write_str("out of memory"),
         }
@@ -69,7 +69,18 @@ impl<'a> From<Refusal<'a>> for Error<'a> {
             Why::Unresolved(oer_module_values::Why::Unread(oer_module_syntax::Why::Memory)) => {
                 Error::Memory
             }
-            _ => Error::Modules(refusal),
+            _ => Error::Modules(NoType::Refused(refusal)),
+        }
+    }
+}
+
+impl<'a> From<NoType<'a>> for Error<'a> {
+    ghost from_gives = { λ none r. IsByNone none r };
+
+    fn from(none: NoType<'a>) -> Error<'a> {
+        match none {
+            NoType::Refused(refusal) => Error::from(refusal),
+            NoType::Rejected(_) => Error::Modules(none),
         }
     }
 }

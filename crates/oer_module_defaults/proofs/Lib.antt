@@ -1,4 +1,5 @@
 pub mod Loops
 pub mod Members
+pub mod Numbers
 pub mod Shorts
 pub mod Turns

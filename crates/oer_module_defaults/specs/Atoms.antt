@@ -1,11 +1,15 @@
--- Values that are one token: the words that our notation has for them.
-use Rattle.std.specs.Prelude.{ℕ, List, [], ◌∷◌, length, ◌%◌, ◌==◌, nat_lt, Bool, false, ◌||◌, Option, Some, None, Ok}
+-- Values that are one token: which values they are, and the text with the words that our notation has for them.
+use Rattle.std.specs.Prelude.{ℕ, List, [], ◌∷◌, map, nat_lt, Bool, true, false, ◌||◌, Option, Some, None, Ok}
 use Rattle.std.specs.Prelude.{codes, if◌then◌else◌}
+use Rattle.oer_literals.specs.Bits.{is_one}
+use Rattle.oer_model.specs.AsnValue.{AsnValue, bool, nothing, bit_list, octets, text as string}
 use Rattle.oer_module_names.specs.declared.error.Place.{Place}
-use Rattle.oer_module_terms.specs.Trees.{named, Atom, amount, fixed, bits, digits, text, Value, atom}
+use Rattle.oer_module_terms.specs.Trees.{Atom, fixed, bits, digits, text, Value, atom}
 use Rattle.oer_module_terms.specs.declared.tree.Fixed.TheVariants.{True, False, Null}
 use Rattle.oer_module_text.specs.Errors.{Read, error, not_taken, no_such_value}
+use Rattle.oer_module_text.specs.Room.{Room, put}
 use Rattle.oer_module_text.specs.declared.error.Part.TheVariants as part
+use Rattle.oer_value_notation.specs.Values.{digit_bits, inside, octets_in, text_in}
 
 -- a value that holds no other
 abbrev pub single : Value → Option Atom
@@ -24,37 +28,41 @@ abbrev pub no_text : {A : Type 0} → Place → Read A
 no_text p = error p (not_taken part.Value)
 
 -- BOOLEAN (18.3)
-abbrev pub boolean_word : Place → Option Atom → Read (List ℕ)
-boolean_word p (Some (fixed True)) = Ok (codes "TRUE")
-boolean_word p (Some (fixed False)) = Ok (codes "FALSE")
-boolean_word p _ = none_such p
+abbrev pub boolean_at : Place → Option Atom → Room → Read (AsnValue × Room)
+boolean_at p (Some (fixed True)) r = Ok (bool true, put (codes "TRUE") r)
+boolean_at p (Some (fixed False)) r = Ok (bool false, put (codes "FALSE") r)
+boolean_at p _ r = none_such p
 
 -- NULL (24.3)
-abbrev pub null_word : Place → Option Atom → Read (List ℕ)
-null_word p (Some (fixed Null)) = Ok (codes "NULL")
-null_word p _ = none_such p
+abbrev pub null_at : Place → Option Atom → Room → Read (AsnValue × Room)
+null_at p (Some (fixed Null)) r = Ok (nothing, put (codes "NULL") r)
+null_at p _ r = none_such p
 
--- an item of an ENUMERATED (20)
-abbrev pub item_word : Place → Option Atom → Read (List ℕ)
-item_word p (Some (amount (named w steps))) = Ok w
-item_word p _ = none_such p
+-- hexadecimal digits, where they stand for something; white space stands for nothing
+abbrev pub digits_at : {A : Type 0} → (A → AsnValue) → Place → List ℕ → Option A → Room → Read (AsnValue × Room)
+digits_at make p w None r = no_text p
+digits_at make p w (Some x) r = Ok (make x, put w r)
 
--- digits of octets (23): two for each, beside two quotes and a letter; no white space
-abbrev pub octet_word : Place → Option Atom → Read (List ℕ)
-octet_word p (Some (digits w)) = if has_below 33 w || length w % 2 == 0 then no_text p else Ok w
-octet_word p (Some (bits w)) = no_text p
-octet_word p _ = none_such p
+-- OCTET STRING (23): two digits for each octet
+abbrev pub octet_string_at : Place → Option Atom → Room → Read (AsnValue × Room)
+octet_string_at p (Some (digits w)) r = digits_at octets p w (octets_in (inside w)) r
+octet_string_at p (Some (bits w)) r = no_text p
+octet_string_at p _ r = none_such p
 
--- bits, or digits for four of them (22); no white space
-abbrev pub spelt : ℕ → Place → List ℕ → Read (List ℕ)
-spelt least p w = if has_below least w then no_text p else Ok w
+-- digits 0 and 1, without white space
+abbrev pub zeros_and_ones_at : Place → List ℕ → Room → Read (AsnValue × Room)
+zeros_and_ones_at p w r = if has_below 33 w then no_text p else Ok (bit_list (map is_one (inside w)), put w r)
 
-abbrev pub bit_word : Place → Option Atom → Read (List ℕ)
-bit_word p (Some (bits w)) = spelt 33 p w
-bit_word p (Some (digits w)) = spelt 33 p w
-bit_word p _ = none_such p
+-- BIT STRING (22): bits, or digits for four of them
+abbrev pub bit_token_at : Place → Option Atom → Room → Read (AsnValue × Room)
+bit_token_at p (Some (bits w)) r = zeros_and_ones_at p w r
+bit_token_at p (Some (digits w)) r = digits_at bit_list p w (digit_bits (inside w)) r
+bit_token_at p _ r = none_such p
 
 -- a text on one line (12.14)
-abbrev pub text_word : Place → Option Atom → Read (List ℕ)
-text_word p (Some (text w)) = spelt 32 p w
-text_word p _ = none_such p
+abbrev pub line_at : Place → List ℕ → Room → Read (AsnValue × Room)
+line_at p w r = if has_below 32 w then no_text p else Ok (string (text_in w), put w r)
+
+abbrev pub text_at : Place → Option Atom → Room → Read (AsnValue × Room)
+text_at p (Some (text w)) r = line_at p w r
+text_at p _ r = none_such p

@@ -1,8 +1,10 @@
 -- Values of BIT STRING by the names of their bits (X.680, 22).
-use Rattle.std.specs.Prelude.{ℕ, zero, suc, ℤ, pos, negsuc, List, [], ◌∷◌, ◌++◌, nat_lt, nat_le, nat_eq, Option, Some, None}
+use Rattle.std.specs.Prelude.{ℕ, zero, suc, ℤ, pos, negsuc, List, [], ◌∷◌, map, nat_lt, nat_le, nat_eq, Bool, Option, Some, None}
 use Rattle.std.specs.Prelude.{Ok, codes, if◌then◌else◌}
 use Rattle.std.specs.List.{list_any}
 use Rattle.std.specs.Ordering.{int_eq}
+use Rattle.oer_literals.specs.Bits.{bit_digit}
+use Rattle.oer_model.specs.AsnValue.{AsnValue, bit_list}
 use Rattle.oer_module_bounds.specs.Sets.{Span}
 use Rattle.oer_module_limits.specs.Limits.{size_limits}
 use Rattle.oer_module_names.specs.declared.error.Place.{Place}
@@ -59,16 +61,22 @@ abbrev pub bit_within : Place → ℕ → Option ℕ → Read ℕ
 bit_within p size None = none_such p
 bit_within p size (Some n) = if nat_lt n size then Ok n else none_such p
 
--- bits from i on, so many: 1 at these numbers
-abbrev pub bit_at : List ℕ → ℕ → List ℕ
-bit_at ns i = if list_any (λ n. nat_eq n i) ns then codes "1" else codes "0"
+-- whether these numbers name the bit at i
+abbrev pub is_named : List ℕ → ℕ → Bool
+is_named ns i = list_any (λ n. nat_eq n i) ns
 
-abbrev pub bits_from : List ℕ → ℕ → ℕ → List ℕ
+-- bits from i on, so many
+abbrev pub bits_from : List ℕ → ℕ → ℕ → List Bool
 bits_from ns i zero = []
-bits_from ns i (suc k) = bit_at ns i ++ bits_from ns (suc i) k
+bits_from ns i (suc k) = is_named ns i ∷ bits_from ns (suc i) k
 
-abbrev pub quoted : List ℕ → Room → Room
-quoted w r = put (codes "'B") (put w (put (codes "'") r))
+-- a digit for each, in quotes
+abbrev pub quoted : List Bool → Room → Room
+quoted bs r = put (codes "'B") (put (map bit_digit bs) (put (codes "'") r))
+
+-- bits and their text
+abbrev pub written : List Bool → Room → AsnValue × Room
+written bs r = (bit_list bs, quoted bs r)
 
 module _ (ms : List Module) where
   abbrev pub amount_bit : Place → ℕ → Place → Option Amount → Read ℕ
@@ -96,12 +104,12 @@ module _ (ms : List Module) where
   bit_numbers p m size is (member vs more) =
       bit_named p m size is vs >>= λ n. bit_numbers p m size is more >>= λ ns. Ok (n ∷ ns)
 
-  -- bits in quotes, so many: 1 where members name them
-  abbrev pub these_bits : Place → ℕ → ℕ → List Item → Members → Room → Read Room
-  these_bits p m size is members r = bit_numbers p m size is members >>= λ ns. Ok (quoted (bits_from ns 0 size) r)
+  -- so many bits: 1 where members name them
+  abbrev pub these_bits : Place → ℕ → ℕ → List Item → Members → Room → Read (AsnValue × Room)
+  these_bits p m size is members r = bit_numbers p m size is members >>= λ ns. Ok (written (bits_from ns 0 size) r)
 
   -- the value of a type with one size in which the bits that members name are 1
-  abbrev pub some_bits : TypeIn → Place → Governor → Members → Room → Read Room
+  abbrev pub some_bits : TypeIn → Place → Governor → Members → Room → Read (AsnValue × Room)
   some_bits t p g members r = do
     is ← bits_of g
     sizes ← limited_by (size_limits ms t)
@@ -109,5 +117,5 @@ module _ (ms : List Module) where
     these_bits p g.«module» size is members r
 
   -- where the type has named bits
-  unfoldable pub named_bits : TypeIn → Place → Governor → Members → Room → Read Room
+  unfoldable pub named_bits : TypeIn → Place → Governor → Members → Room → Read (AsnValue × Room)
   named_bits t p g members r = if none_left g.items then no_text p else some_bits t p g members r

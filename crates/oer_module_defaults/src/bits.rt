@@ -1,12 +1,15 @@
 //! Values of BIT STRING by the names of their bits.
-ghost use Rattle.std.specs.Prelude.{◌≡◌, ◌<◌, OnOk, length, map, option_map};
+ghost use Rattle.std.specs.Prelude.{◌≡◌, ◌<◌, IfOk, OnOk, length, map, option_map};
+ghost use Rattle.oer_literals.specs.Bits.{is_one};
 ghost use Rattle.oer_module_bounds.specs.Sets.{span_of};
 ghost use Rattle.oer_module_names.specs.Views.{modules_in};
 ghost use Rattle.oer_module_terms.specs.Trees.{item_of, members_from, member_of, parts_from, value_of};
 ghost use Rattle.oer_module_text.specs.Errors.{Gives, seen};
-ghost use Rattle.oer_module_text.specs.Room.{put, room_of};
+ghost use Rattle.oer_module_text.specs.Room.{room_of};
 ghost use Rattle.oer_module_values.specs.Views.{type_in};
-ghost use Rattle.oer_module_defaults.specs.Bits.{bit_at, bit_named, bit_name, bit_numbers, bits_from, fixed_size, named_bits, numbered_bit, own_name, short, these_bits};
+ghost use Rattle.oer_values.specs.ValueView.{value_of as asn_value_of};
+ghost use Rattle.oer_module_defaults.specs.Bits.{bit_named, bit_name, bit_numbers, bits_from, fixed_size, is_named, named_bits};
+ghost use Rattle.oer_module_defaults.specs.Bits.{numbered_bit, own_name, quoted, short, these_bits};
 ghost use Rattle.oer_module_defaults.specs.Governors.{governor_of};
 ghost use Rattle.oer_module_defaults.specs.Views.{name_seen};
 
@@ -14,12 +17,14 @@ use crate::atoms::{no_text, none_such};
 use crate::governor::Governor;
 use crate::items::{bits_of, item_named};
 use crate::step::{Name, name_in};
+use oer_literals::{bits_of_digits, push_bits};
 use oer_module_bounds::Range;
 use oer_module_limits::size_limits;
 use oer_module_names::{Names, Place};
 use oer_module_terms::{Item, Member, Value};
 use oer_module_text::{Error, Part, Room, Why};
 use oer_module_values::{Path, TypeIn, integer};
+use oer_values::{Bits, Value as AsnValue};
 use std::alloc::{AllocError, Global};
 
 /// How many bits a value that names its bits may have.
@@ -157,7 +162,8 @@ fn bit_numbers<'m, 's, 't>(
     members: &[Member<'s, 't>],
 ) -> Result<Vec<u16>, Error<'t>>
     requires { «module» < length (modules_in names.now) }
-    ensures { Gives (λ v. v.items) result (bit_numbers (modules_in names.now) place «module» size (map item_of items.now) (members_from (map member_of members.now))) }
+    ensures { Gives (λ v. v.items) result
+        (bit_numbers (modules_in names.now) place «module» size (map item_of items.now) (members_from (map member_of members.now))) }
 {
     let mut numbers = Vec::new(alloc);
     for member in members {
@@ -167,24 +173,42 @@ fn bit_numbers<'m, 's, 't>(
     Ok(numbers)
 }
 
-/// The bit at this number: 1 if it is among these.
-fn bit_at(numbers: &[u16], bit: u16) -> &'static str
-    ensures { result.now ≡ bit_at numbers.now bit }
+/// The digit of the bit at this number: 1 if it is among these.
+fn digit_at(numbers: &[u16], bit: u16) -> u8
+    ensures { is_one result ≡ is_named numbers.now bit }
 {
     if numbers.contains(&bit) {
-        return "1";
+        return b'1';
     }
-    "0"
+    b'0'
 }
 
-/// Writes so many bits: 1 at these numbers, and 0 at all others.
-fn write_bits(numbers: &[u16], size: u16, room: &mut Room) -> Result<(), AllocError>
-    ensures { OnOk result (room_of room.new ≡ put (bits_from numbers.now 0 size) (room_of room.old)) }
+/// A digit for each of so many bits: 1 at these numbers, and 0 at all others.
+fn digits_of(alloc: Global, numbers: &[u16], size: u16) -> Result<Vec<u8>, AllocError>
+    ensures { IfOk result (λ v. map is_one v.items ≡ bits_from numbers.now 0 size) }
 {
+    let mut digits = Vec::new(alloc);
     for bit in 0..size {
-        room.put(bit_at(numbers, bit))?;
+        digits.push(digit_at(numbers, bit))?;
     }
-    Ok(())
+    Ok(digits)
+}
+
+/// So many bits: 1 at these numbers, and 0 at all others.
+fn bits_at(alloc: Global, numbers: &[u16], size: u16) -> Result<Bits, AllocError>
+    ensures { IfOk result (λ b. b ≡ bits_from numbers.now 0 size) }
+{
+    let digits = digits_of(alloc, numbers, size)?;
+    bits_of_digits(alloc, &digits)
+}
+
+/// Writes a digit for each bit, in quotes.
+fn write_bits(bits: &Bits, room: &mut Room) -> Result<(), AllocError>
+    ensures { OnOk result (room_of room.new ≡ quoted bits.now (room_of room.old)) }
+{
+    room.put("'")?;
+    push_bits(&mut room.text, bits)?;
+    room.put("'B")
 }
 
 /// Writes so many bits: 1 where members name them.
@@ -197,15 +221,16 @@ fn write_these<'m, 's, 't>(
     items: &[Item<'s, 't>],
     members: &[Member<'s, 't>],
     room: &mut Room,
-) -> Result<(), Error<'t>>
+) -> Result<AsnValue, Error<'t>>
     requires { «module» < length (modules_in names.now) }
-    ensures { Gives (λ _. room_of room.new) result (these_bits (modules_in names.now) place «module» size (map item_of items.now) (members_from (map member_of members.now)) (room_of room.old)) }
+    ensures { Gives (λ v. (asn_value_of v, room_of room.new)) result
+        (these_bits (modules_in names.now) place «module» size (map item_of items.now)
+            (members_from (map member_of members.now)) (room_of room.old)) }
 {
     let numbers = bit_numbers(alloc, names, place, module, size, items, members)?;
-    room.put("'")?;
-    write_bits(&numbers, size, room)?;
-    room.put("'B")?;
-    Ok(())
+    let bits = bits_at(alloc, &numbers, size)?;
+    write_bits(&bits, room)?;
+    Ok(AsnValue::Bits(bits))
 }
 
 /// Writes the value in which the bits that members name are 1, where the type has one size (X.680, 22).
@@ -218,10 +243,12 @@ pub fn write_named_bits<'m, 's, 't>(
     governor: Governor<'s, 't>,
     members: &[Member<'s, 't>],
     room: &mut Room,
-) -> Result<(), Error<'t>>
+) -> Result<AsnValue, Error<'t>>
     requires of { of.«module» < length (modules_in names.now) }
     requires governor { governor.«module» < length (modules_in names.now) }
-    ensures { Gives (λ _. room_of room.new) result (named_bits (modules_in names.now) (type_in of.entry) place (governor_of governor.entry) (members_from (map member_of members.now)) (room_of room.old)) }
+    ensures { Gives (λ v. (asn_value_of v, room_of room.new)) result
+        (named_bits (modules_in names.now) (type_in of.entry) place (governor_of governor.entry)
+            (members_from (map member_of members.now)) (room_of room.old)) }
 {
     if governor.items.is_empty() {
         return Err(no_text(place));

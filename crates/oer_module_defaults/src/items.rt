@@ -1,19 +1,25 @@
-//! The items of an ENUMERATED, and the named bits of a BIT STRING.
-ghost use Rattle.std.specs.Prelude.{◌≡◌, map, option_map};
+//! The items of an ENUMERATED and their numbers, and the named bits of a BIT STRING.
+ghost use Rattle.std.specs.Prelude.{◌≡◌, ◌<◌, length, map, option_map};
+ghost use Rattle.oer_module_leaves.specs.Numbered.{item_of as numbered_item_of};
 ghost use Rattle.oer_module_lexer.specs.Token.{spots_of};
+ghost use Rattle.oer_module_names.specs.Views.{modules_in};
 ghost use Rattle.oer_module_terms.specs.Trees.{enumeration_of, item_of};
-ghost use Rattle.oer_module_text.specs.Errors.{Gives};
+ghost use Rattle.oer_module_text.specs.Errors.{Gives, seen};
 ghost use Rattle.oer_module_values.specs.Looks.{path_seen};
 ghost use Rattle.oer_module_values.specs.Numbers.{item_named};
+ghost use Rattle.oer_module_values.specs.Views.{type_in};
 ghost use Rattle.oer_module_defaults.specs.Governors.{governor_of};
-ghost use Rattle.oer_module_defaults.specs.Items.{bits_of, has_item, is_among, is_own};
+ghost use Rattle.oer_module_defaults.specs.Items.{bits_of, in_64_bits, has_item, is_among, is_own, item_number, number_named};
 
+use crate::atoms::{none_such, too_wide};
 use crate::governor::{Governor, Kind};
 use crate::kept::{over_kept, unread};
+use oer_module_leaves::{NumberedItem, numbered_items};
 use oer_module_lexer::Spot;
+use oer_module_names::{Names, Place};
 use oer_module_terms::{Enumeration, Item, Numbering, read_enumeration, read_items};
 use oer_module_text::Error;
-use oer_module_values::Path;
+use oer_module_values::{Path, TypeIn, resolve};
 use std::alloc::Global;
 
 /// The first item of that name.
@@ -86,5 +92,48 @@ pub fn bits_of<'s, 't>(
     match read_items(alloc, &mut cursor, Numbering::Unsigned) {
         Ok(items) => Ok(items),
         Err(fault) => Err(unread(governor.module, fault)),
+    }
+}
+
+/// The number of the first item of that name.
+fn number_named(items: &[NumberedItem<'_>], name: &str) -> Option<i128>
+    ensures { result ≡ number_named name.now (map numbered_item_of items.now) }
+{
+    for item in items {
+        if item.name == name {
+            return Some(item.number);
+        }
+    }
+    None
+}
+
+/// The number of an item, if it has 64 bits with its sign.
+fn in_64_bits<'t>(place: Place, number: i128) -> Result<i64, Error<'t>>
+    ensures { seen (λ z. z) result ≡ in_64_bits place number }
+{
+    match i64::try_from(number) {
+        Ok(number) => Ok(number),
+        Err(_) => Err(too_wide(place)),
+    }
+}
+
+/// The number of the item of that name, of an ENUMERATED that a type is or stands for (X.680, 20). The name stands at a
+/// place.
+#[tactic(auto, unfolding(crate::specs::Items::item_number))]
+pub fn item_number<'m, 's, 't>(
+    alloc: Global,
+    names: &Names<'m, 's, 't>,
+    of: TypeIn<'m, 's, 't>,
+    place: Place,
+    name: &str,
+) -> Result<i64, Error<'t>>
+    requires { of.«module» < length (modules_in names.now) }
+    ensures { Gives (λ z. z) result (item_number (modules_in names.now) (type_in of.entry) place name.now) }
+{
+    let meaning = resolve(alloc, names, of)?;
+    let items = numbered_items(alloc, names, meaning.of)?;
+    match number_named(&items, name) {
+        Some(number) => in_64_bits(place, number),
+        None => Err(none_such(place)),
     }
 }

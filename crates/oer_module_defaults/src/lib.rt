@@ -1,4 +1,4 @@
-//! Values after DEFAULT in ASN.1 modules (X.680), written in our notation.
+//! Values after DEFAULT in ASN.1 modules (X.680): which values they are, and their text in our notation.
 #![tactic(auto)]
 
 mod arcs;

@@ -1,3 +1,4 @@
 pub mod Counted
+pub mod Items
 pub mod Lengths
 pub mod Stages

@@ -1,8 +1,9 @@
 -- The text of ranges, sizes and items, as docs/NOTATION.md has it in "Printing".
-use Rattle.std.specs.Prelude.{ℕ, suc, ℤ, pos, int_lt, List, [], ◌∷◌, ◌++◌, length, ◌==◌, Bool, false, Option, Some, None, Ok, codes}
-use Rattle.std.specs.Prelude.{if◌then◌else◌}
+use Rattle.std.specs.Prelude.{ℕ, suc, ◌^◌, ℤ, pos, negsuc, int_lt, nat_lt, List, [], ◌∷◌, ◌++◌, length, ◌==◌, Bool, false}
+use Rattle.std.specs.Prelude.{Option, Some, None, option_and_then, option_map, Ok, codes, if◌then◌else◌}
 use Rattle.std.specs.Fmt.{signed_decimal}
 use Rattle.std.specs.Ordering.{int_eq}
+use Rattle.oer_model.specs.declared.size.Size.{Size}
 use Rattle.oer_module_bounds.specs.Sets.{Span}
 use Rattle.oer_module_text.specs.Errors.{Read, place_in, ◌>>=◌}
 use Rattle.oer_module_text.specs.Room.{Room, put, take_part}
@@ -48,6 +49,19 @@ fixed_by low (Some high) = if int_eq low high then Some high else None
 -- the one size, if there is one alone
 abbrev pub fixed : Sizes → Option ℤ
 fixed s = fixed_by s.low s.high
+
+-- a number of 64 bits without a sign
+abbrev pub long : ℤ → Option ℕ
+long (pos n) = if nat_lt n (2 ^ 64) then Some n else None
+long (negsuc n) = None
+
+abbrev pub size_above : Option ℤ → ℕ → Option Size
+size_above None low = Some (record { low = low; high = None })
+size_above (Some high) low = option_map (λ n. record { low = low; high = Some n }) (long high)
+
+-- the size as our types have it, if 64 bits hold both ends
+abbrev pub size_of : Sizes → Option Size
+size_of s = option_and_then (size_above s.high) (long s.low)
 
 -- nothing where every size is allowed
 abbrev pub size_text : ℤ → Option ℤ → List ℕ

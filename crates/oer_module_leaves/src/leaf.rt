@@ -1,4 +1,4 @@
-//! The text of types that hold no other.
+//! The type and the text of types that hold no other.
 ghost use Rattle.std.specs.Prelude.{◌≡◌, ◌<◌, length, map, OnOk};
 ghost use Rattle.oer_module_lexer.specs.Token.{spots_of};
 ghost use Rattle.oer_module_names.specs.Views.{modules_in};
@@ -6,11 +6,14 @@ ghost use Rattle.oer_module_syntax.specs.Tree.{tree_of};
 ghost use Rattle.oer_module_text.specs.Errors.{Gives};
 ghost use Rattle.oer_module_text.specs.Room.{put, room_of};
 ghost use Rattle.oer_module_values.specs.Views.{given_of, type_in};
-ghost use Rattle.oer_module_leaves.specs.Leaves.{bits_at, enumerated_at, integer_at, is_implied, leaf_at, plain_at, put_sized, sized_at, sizes_at};
+ghost use Rattle.oer_values.specs.ShapeView.{type_of};
+ghost use Rattle.oer_module_leaves.specs.Leaves.{bits_at, counted_at, enumerated_at, integer_at, is_implied, lacks_marker, leaf_at, listed_at, plain_at, put_sized, sized_at, sizes_at};
+ghost use Rattle.oer_module_leaves.specs.Numbered.{numbered_of};
 ghost use Rattle.oer_module_leaves.specs.Texts.{sizes_of};
 
 use crate::comment::{checked_of, put_unchecked};
-use crate::numbered::numbered_at;
+use crate::numbered::{Numbered, numbered_at};
+use crate::shape::{Counted, enumerated_shape, size_at};
 use crate::text::{Sizes, put_numbered, put_range, put_size};
 use oer_module_lexer::Spot;
 use oer_module_limits::{Written, integer_limits, size_limits};
@@ -18,6 +21,7 @@ use oer_module_names::{Names, Place};
 use oer_module_syntax::{Builtin, TypeSyntax};
 use oer_module_text::{Error, Part, Room, refused};
 use oer_module_values::{Given, TypeIn, place_of};
+use oer_values::Shape;
 use std::alloc::{AllocError, Global};
 
 /// Whether the module's header has EXTENSIBILITY IMPLIED (X.680, 13.4).
@@ -52,20 +56,35 @@ fn put_sized(alloc: Global, words: &str, sizes: Sizes, room: &mut Room) -> Resul
     put_size(alloc, sizes, room)
 }
 
-/// A type with these words, and its sizes.
+/// A type at a place whose values SIZE counts, with these sizes.
+fn write_counted<'t>(
+    alloc: Global,
+    place: Place,
+    counted: Counted,
+    sizes: Sizes,
+    room: &mut Room,
+) -> Result<Shape, Error<'t>>
+    ensures { Gives (λ s. (type_of s, room_of room.new)) result (counted_at place counted (room_of room.old) (sizes_of sizes)) }
+{
+    let size = size_at(place, sizes)?;
+    put_sized(alloc, counted.words(), sizes, room)?;
+    Ok(counted.shape(size))
+}
+
+/// A type at a place whose values SIZE counts.
 fn write_sized<'m, 's, 't>(
     alloc: Global,
     names: &Names<'m, 's, 't>,
     of: TypeIn<'m, 's, 't>,
-    words: &str,
+    place: Place,
+    counted: Counted,
     room: &mut Room,
-) -> Result<(), Error<'t>>
+) -> Result<Shape, Error<'t>>
     requires { of.«module» < length (modules_in names.now) }
-    ensures { Gives (λ _. room_of room.new) result (sized_at (modules_in names.now) words.now (type_in of.entry) (room_of room.old)) }
+    ensures { Gives (λ s. (type_of s, room_of room.new)) result (sized_at (modules_in names.now) counted (type_in of.entry) place (room_of room.old)) }
 {
     let sizes = sizes_of(alloc, names, of)?;
-    put_sized(alloc, words, sizes, room)?;
-    Ok(())
+    write_counted(alloc, place, counted, sizes, room)
 }
 
 /// A BIT STRING at a place, with these tokens for its named bits. Where it has some, the size must be
@@ -77,16 +96,15 @@ fn write_bits<'m, 's, 't>(
     place: Place,
     items: &[Spot<'t>],
     room: &mut Room,
-) -> Result<(), Error<'t>>
+) -> Result<Shape, Error<'t>>
     requires { of.«module» < length (modules_in names.now) }
-    ensures { Gives (λ _. room_of room.new) result (bits_at (modules_in names.now) (type_in of.entry) place (spots_of items.now) (room_of room.old)) }
+    ensures { Gives (λ s. (type_of s, room_of room.new)) result (bits_at (modules_in names.now) (type_in of.entry) place (spots_of items.now) (room_of room.old)) }
 {
     let sizes = sizes_of(alloc, names, of)?;
     if !items.is_empty() && sizes.fixed().is_none() {
         return Err(refused(place.module, place.at, Part::NamedBits));
     }
-    put_sized(alloc, "BIT STRING", sizes, room)?;
-    Ok(())
+    write_counted(alloc, place, Counted::Bits, sizes, room)
 }
 
 /// An INTEGER, with its range.
@@ -95,14 +113,40 @@ fn write_integer<'m, 's, 't>(
     names: &Names<'m, 's, 't>,
     of: TypeIn<'m, 's, 't>,
     room: &mut Room,
-) -> Result<(), Error<'t>>
+) -> Result<Shape, Error<'t>>
     requires { of.«module» < length (modules_in names.now) }
-    ensures { Gives (λ _. room_of room.new) result (integer_at (modules_in names.now) (type_in of.entry) (room_of room.old)) }
+    ensures { Gives (λ s. (type_of s, room_of room.new)) result (integer_at (modules_in names.now) (type_in of.entry) (room_of room.old)) }
 {
     let range = integer_limits(alloc, names, of)?;
     room.put("INTEGER")?;
     put_range(alloc, range, room)?;
-    Ok(())
+    Ok(Shape::Integer {
+        low: range.low(),
+        high: range.high(),
+    })
+}
+
+/// The items of an ENUMERATED in a module. That there are too many parts comes before a number that is too wide.
+#[tactic(auto, unfolding(crate::specs::Leaves::listed_at))]
+fn write_items<'t>(
+    alloc: Global,
+    module: usize,
+    numbered: &Numbered<'t>,
+    room: &mut Room,
+) -> Result<Shape, Error<'t>>
+    ensures { Gives (λ s. (type_of s, room_of room.new)) result (listed_at «module» (numbered_of numbered.now) (room_of room.old)) }
+{
+    put_numbered(alloc, module, numbered, room)?;
+    let shape = enumerated_shape(alloc, module, numbered)?;
+    Ok(shape)
+}
+
+/// Whether these items have no marker where the module's header implies one.
+fn lacks_marker(names: &Names<'_, '_, '_>, module: usize, numbered: &Numbered<'_>) -> bool
+    requires { «module» < length (modules_in names.now) }
+    ensures { result ≡ lacks_marker (modules_in names.now) «module» (numbered_of numbered.now) }
+{
+    numbered.marker.is_none() && is_implied(names, module)
 }
 
 /// An ENUMERATED at a place, with these tokens for its items.
@@ -112,16 +156,16 @@ fn write_enumerated<'m, 's, 't>(
     place: Place,
     items: &'s [Spot<'t>],
     room: &mut Room,
-) -> Result<(), Error<'t>>
+) -> Result<Shape, Error<'t>>
     requires { place.«module» < length (modules_in names.now) }
-    ensures { Gives (λ _. room_of room.new) result (enumerated_at (modules_in names.now) place (spots_of items.now) (room_of room.old)) }
+    ensures { Gives (λ s. (type_of s, room_of room.new)) result (enumerated_at (modules_in names.now) place (spots_of items.now) (room_of room.old)) }
 {
     let numbered = numbered_at(alloc, names, place, items)?;
-    if numbered.marker.is_none() && is_implied(names, place.module) {
+    if lacks_marker(names, place.module, &numbered) {
         return Err(refused(place.module, place.at, Part::Implied));
     }
     room.put("ENUMERATED {")?;
-    put_numbered(alloc, place.module, &numbered, room)
+    write_items(alloc, place.module, &numbered, room)
 }
 
 /// A type with words of its own, at a place, which `of` stands for.
@@ -133,43 +177,53 @@ fn write_plain<'m, 's, 't>(
     builtin: Builtin,
     items: &'s [Spot<'t>],
     room: &mut Room,
-) -> Result<(), Error<'t>>
+) -> Result<Shape, Error<'t>>
     requires of { of.«module» < length (modules_in names.now) }
     requires place { place.«module» < length (modules_in names.now) }
-    ensures { Gives (λ _. room_of room.new) result (plain_at (modules_in names.now) (type_in of.entry) place builtin (spots_of items.now) (room_of room.old)) }
+    ensures { Gives (λ s. (type_of s, room_of room.new)) result (plain_at (modules_in names.now) (type_in of.entry) place builtin (spots_of items.now) (room_of room.old)) }
 {
     match builtin {
-        Builtin::Boolean => Ok(room.put("BOOLEAN")?),
-        Builtin::Null => Ok(room.put("NULL")?),
-        Builtin::ObjectIdentifier => Ok(room.put("OBJECT IDENTIFIER")?),
+        Builtin::Boolean => {
+            room.put("BOOLEAN")?;
+            Ok(Shape::Boolean)
+        }
+        Builtin::Null => {
+            room.put("NULL")?;
+            Ok(Shape::Null)
+        }
+        Builtin::ObjectIdentifier => {
+            room.put("OBJECT IDENTIFIER")?;
+            Ok(Shape::ObjectId)
+        }
         Builtin::Integer => write_integer(alloc, names, of, room),
         Builtin::Enumerated => write_enumerated(alloc, names, place, items, room),
         Builtin::BitString => write_bits(alloc, names, of, place, items, room),
-        Builtin::OctetString => write_sized(alloc, names, of, "OCTET STRING", room),
-        Builtin::Ia5String => write_sized(alloc, names, of, "IA5String", room),
-        Builtin::VisibleString => write_sized(alloc, names, of, "VisibleString", room),
-        Builtin::Iso646String => write_sized(alloc, names, of, "VisibleString", room),
-        Builtin::NumericString => write_sized(alloc, names, of, "NumericString", room),
-        Builtin::PrintableString => write_sized(alloc, names, of, "PrintableString", room),
-        Builtin::Utf8String => write_sized(alloc, names, of, "UTF8String", room),
+        Builtin::OctetString => write_sized(alloc, names, of, place, Counted::Octets, room),
+        Builtin::Ia5String => write_sized(alloc, names, of, place, Counted::Ia5, room),
+        Builtin::VisibleString => write_sized(alloc, names, of, place, Counted::Visible, room),
+        Builtin::Iso646String => write_sized(alloc, names, of, place, Counted::Visible, room),
+        Builtin::NumericString => write_sized(alloc, names, of, place, Counted::Numeric, room),
+        Builtin::PrintableString => write_sized(alloc, names, of, place, Counted::Printable, room),
+        Builtin::Utf8String => write_sized(alloc, names, of, place, Counted::Utf8, room),
         _ => Err(refused(place.module, place.at, Part::Word)),
     }
 }
 
-/// Adds a type that holds no other: its words, with the range of an INTEGER, the sizes of a string, or the items of an
-/// ENUMERATED and their numbers behind them, as `print_type` of oer_printer has them, and a comment on constraints that
-/// aren't in it. `of` is the type as it is written where it is used, `is` what `resolve` says that it stands for, and
-/// `given` what is given on the way. Each item of an ENUMERATED takes the room of one part, at the item; the room of the
-/// type itself isn't taken.
+/// A type that holds no other. Its text is added: its words, with the range of an INTEGER, the sizes of a string, or the
+/// items of an ENUMERATED and their numbers behind them, as `print_type` of oer_printer has them, and a comment on
+/// constraints that aren't in it. `of` is the type as it is written where it is used, `is` what `resolve` says that it
+/// stands for, and `given` what is given on the way. Each item of an ENUMERATED takes the room of one part, at the item; the
+/// room of the type itself isn't taken.
 ///
 /// # Errors
 /// NotTaken, with Word, at a type with other words than BOOLEAN, NULL, OBJECT IDENTIFIER, INTEGER, ENUMERATED, BIT STRING,
 /// OCTET STRING, IA5String, VisibleString, ISO646String, NumericString, PrintableString and UTF8String, and at one that
 /// holds others or is a reference. Of an INTEGER, those of `integer_limits`; of strings, those of `size_limits`. NotTaken,
 /// with NamedBits, at a BIT STRING with named bits whose size isn't fixed: canonical octets leave out its last bits that
-/// are 0 (X.680, 22.7; X.696, 13). Of an ENUMERATED, those of `enumeration_numbers`; then NotTaken, with Implied, where it has no
-/// marker and the module's header has EXTENSIBILITY IMPLIED; then TooManyParts and TooLong, at an item. What was added by
-/// then stays.
+/// are 0 (X.680, 22.7; X.696, 13). Then TooWide, at the type, where 64 bits don't hold an end of its sizes. Of an
+/// ENUMERATED, those of `enumeration_numbers`; then NotTaken, with Implied, where it has no marker and the module's header
+/// has EXTENSIBILITY IMPLIED; then TooManyParts and TooLong, at an item; then TooWide, at an item whose number 64 bits with
+/// a sign don't hold. What was added by then stays.
 #[tactic(auto, unfolding(crate::specs::Leaves::leaf_at), using(oer_module_syntax::proofs::Trees::trees))]
 pub fn write_leaf<'m, 's, 't>(
     alloc: Global,
@@ -178,10 +232,10 @@ pub fn write_leaf<'m, 's, 't>(
     is: TypeIn<'m, 's, 't>,
     given: &[Given<'s, 't>],
     room: &mut Room,
-) -> Result<(), Error<'t>>
+) -> Result<Shape, Error<'t>>
     requires of { of.«module» < length (modules_in names.now) }
     requires is { is.«module» < length (modules_in names.now) }
-    ensures { Gives (λ _. room_of room.new) result (leaf_at (modules_in names.now) (type_in of.entry) (type_in is.entry) (map given_of given.now) (room_of room.old)) }
+    ensures { Gives (λ s. (type_of s, room_of room.new)) result (leaf_at (modules_in names.now) (type_in of.entry) (type_in is.entry) (map given_of given.now) (room_of room.old)) }
 {
     let module = is.module;
     match is.syntax {
@@ -192,10 +246,10 @@ pub fn write_leaf<'m, 's, 't>(
             constraints: own,
         } => {
             let place = Place { module, at: *at };
-            write_plain(alloc, names, of, place, *builtin, items, room)?;
+            let shape = write_plain(alloc, names, of, place, *builtin, items, room)?;
             let written = Written { module, own, given };
             put_unchecked(alloc, written, checked_of(*builtin), false, room)?;
-            Ok(())
+            Ok(shape)
         }
         _ => Err(refused(module, place_of(is.syntax), Part::Word)),
     }

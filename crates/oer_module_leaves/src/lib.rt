@@ -1,9 +1,11 @@
-//! Types of modules that hold no other, written in our notation (docs/NOTATION.md, "Printing").
+//! Types of modules that hold no other: which of our types they stand for, and how these are written in our notation
+//! (docs/NOTATION.md, "Printing").
 #![tactic(auto)]
 
 mod comment;
 mod leaf;
 mod numbered;
+mod shape;
 mod text;
 
 pub use comment::{Checked, put_open, put_unchecked};

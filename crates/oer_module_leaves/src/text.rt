@@ -5,9 +5,10 @@ ghost use Rattle.oer_module_names.specs.Views.{modules_in};
 ghost use Rattle.oer_module_text.specs.Errors.{Gives};
 ghost use Rattle.oer_module_text.specs.Room.{put, room_of};
 ghost use Rattle.oer_module_leaves.specs.Numbered.{item_of, numbered_of};
-ghost use Rattle.oer_module_leaves.specs.Texts.{before, closing, fixed, is_at, item_text, items_at, items_from, low_end, put_range, put_size, range_text, size_text, sizes_of, sizes_within};
+ghost use Rattle.oer_module_leaves.specs.Texts.{before, closing, fixed, is_at, item_text, items_at, items_from, long, low_end, put_range, put_size, range_text, size_of, size_text, sizes_of, sizes_within};
 
 use crate::numbered::{Numbered, NumberedItem};
+use oer_model::Size;
 use oer_module_bounds::Range;
 use oer_module_names::Place;
 use oer_module_text::{Error, Room};
@@ -31,6 +32,16 @@ fn low_end(low: Option<i128>) -> i128
     }
 }
 
+/// The number, if it has 64 bits and no sign.
+fn long(number: i128) -> Option<u64>
+    ensures { result ≡ long number }
+{
+    match u64::try_from(number) {
+        Ok(number) => Some(number),
+        Err(_) => None,
+    }
+}
+
 impl Sizes {
     /// Those of a range of whole numbers. No size is below 0, whatever the range says.
     pub fn within(range: Range) -> Sizes
@@ -49,6 +60,23 @@ impl Sizes {
         match self.high {
             Some(high) if self.low == high => Some(high),
             _ => None,
+        }
+    }
+
+    /// The same as our types have them, if 64 bits hold both ends.
+    pub fn size(self) -> Option<Size>
+        ensures { result ≡ size_of (sizes_of self) }
+    {
+        let low = long(self.low)?;
+        match self.high {
+            None => Some(Size { low, high: None }),
+            Some(high) => {
+                let high = long(high)?;
+                Some(Size {
+                    low,
+                    high: Some(high),
+                })
+            }
         }
     }
 }

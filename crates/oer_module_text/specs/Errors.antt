@@ -17,7 +17,7 @@ pub data Why : Type 0 where
   unresolved : Told → Why
   unlimited : Limited → Why
   not_taken : Part → Why
-  misnumbered tag_number no_such_value too_deep too_many_parts too_long : Why
+  misnumbered tag_number no_such_value too_deep too_many_parts too_long too_wide : Why
 
 pub record Error : Type 0 where
   pub place : Place
@@ -36,6 +36,7 @@ why_of raws.NoSuchValue = no_such_value
 why_of raws.TooDeep = too_deep
 why_of raws.TooManyParts = too_many_parts
 why_of raws.TooLong = too_long
+why_of raws.TooWide = too_wide
 
 abbrev pub error_of : RawError → Error
 error_of e = record { place = e.place; why = why_of e.why }

@@ -68,6 +68,8 @@ pub enum Why<'n> {
     TooManyParts,
     /// The text of a type has more octets than it may have.
     TooLong,
+    /// A size that 64 bits don't hold, or the number of an item that 64 bits with a sign don't.
+    TooWide,
 }
 
 /// Why a type of a module has no text in our notation, and where that shows. Where memory couldn't be had, the place says

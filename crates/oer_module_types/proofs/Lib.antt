@@ -1,3 +1,4 @@
 pub mod ClassFields
+pub mod Ends
 pub mod Parts
 pub mod Settled

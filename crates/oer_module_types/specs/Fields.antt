@@ -1,6 +1,8 @@
 -- Names behind which actual parameters or fields of a class stand (X.681, 14; X.683, 9).
 use Rattle.std.specs.Prelude.{ℕ, List, [], ◌∷◌, Bool, false, ◌&&◌, ◌||◌, Option, Some, None, Ok, codes, if◌then◌else◌}
 use Rattle.std.specs.Str.{bytes_eq}
+use Rattle.oer_model.specs.AsnType.{AsnType, octet_string}
+use Rattle.oer_model.specs.Constraints.{any_size}
 use Rattle.oer_module_lexer.specs.Token.{Token, Spot, field}
 use Rattle.oer_module_lexer.specs.declared.token.Sign.TheVariants.{Point, OpenBrace, CloseBrace, Comma}
 use Rattle.oer_module_leaves.specs.Comments.{open_at as open_text}
@@ -55,6 +57,10 @@ abbrev pub is_open_by : List ℕ → Option Referent → Bool
 is_open_by w None = false
 is_open_by w (Some c) = has_field w c.assignment.body
 
+-- an open type stands as its octets, of which there may be any number (X.696, 30)
+abbrev pub if_open : Place → Written → Room → Bool → Read (AsnType × Room)
+if_open p w r o = if o then Ok (octet_string any_size, open_text w r) else refused p.«module» p.at Field
+
 module _ (ms : List Module) where
   -- whether a field of a class, by its name, is a type's; TYPE-IDENTIFIER and ABSTRACT-SYNTAX have one (X.681, annexes A and B)
   abbrev pub is_open : ℕ → ℕ → List ℕ → List ℕ → Read Bool
@@ -67,7 +73,7 @@ module _ (ms : List Module) where
   open_at m at class (Some w) = is_open m at class w
 
   -- a name at a place, with steps, actual parameters and constraints
-  unfoldable pub field_at : Place → List ℕ → List Spot → List Spot → Written → Room → Read Room
+  unfoldable pub field_at : Place → List ℕ → List Spot → List Spot → Written → Room → Read (AsnType × Room)
   field_at p name steps ps w r =
-      if none_left ps then (open_at p.«module» p.at name (field_of steps) >>= λ o. if o then Ok (open_text w r) else refused p.«module» p.at Field)
+      if none_left ps then (open_at p.«module» p.at name (field_of steps) >>= if_open p w r)
       else refused p.«module» p.at Parameters

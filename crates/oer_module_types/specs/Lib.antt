@@ -1,4 +1,5 @@
 pub mod Fields
+pub mod Gathered
 pub mod Levels
 pub mod Types
 pub mod Views

@@ -1,11 +1,12 @@
 //! What stands between the commas of a SEQUENCE or CHOICE, without the types.
-ghost use Rattle.std.specs.Prelude.{◌≡◌, ◌<◌, OnOk, length, slice_get};
+ghost use Rattle.std.specs.Prelude.{◌≡◌, ◌<◌, OnOk, length};
 ghost use Rattle.oer_module_names.specs.Views.{modules_in};
 ghost use Rattle.oer_module_syntax.specs.Tree.{need_of, tree_of};
 ghost use Rattle.oer_module_text.specs.Errors.{Gives};
 ghost use Rattle.oer_module_text.specs.Room.{room_of};
 ghost use Rattle.oer_module_values.specs.Views.{type_in};
-ghost use Rattle.oer_module_types.specs.Types.{added_at, after, closed, first, index_of, marker_at, name_at, need_at, needed_at, put_comma, tag_if};
+ghost use Rattle.oer_values.specs.ShapeView.{need_of as need_seen};
+ghost use Rattle.oer_module_types.specs.Types.{added_at, after, closed, first, index_of, marker_at, name_at, need_at, needed_at, put_comma, tag_at, tag_if};
 
 use oer_module_defaults::write_default;
 use oer_module_leaves::is_implied;
@@ -73,34 +74,43 @@ fn put_comma(before: Before, room: &mut Room) -> Result<(), AllocError>
     room.put(", ")
 }
 
-/// The tag of an alternative, if there is one at the index.
-fn put_tag(alloc: Global, tags: &[Tag], index: usize, room: &mut Room) -> Result<(), AllocError>
-    ensures { OnOk result (room_of room.new ≡ tag_if (slice_get tags.now index) (room_of room.old)) }
+/// The tag of an alternative behind others, if there are tags.
+pub fn tag_at(tags: &[Tag], before: Before) -> Option<Tag>
+    ensures { result ≡ tag_at tags.now before }
 {
-    match tags.get(index) {
+    match tags.get(before.index()) {
+        Some(tag) => Some(*tag),
+        None => None,
+    }
+}
+
+fn put_tag(alloc: Global, tag: Option<Tag>, room: &mut Room) -> Result<(), AllocError>
+    ensures { OnOk result (room_of room.new ≡ tag_if tag (room_of room.old)) }
+{
+    match tag {
         Some(tag) => {
-            write_tag(alloc, room, *tag)?;
+            write_tag(alloc, room, tag)?;
             room.put(" ")
         }
         None => Ok(()),
     }
 }
 
-/// The name of a component or an alternative, behind others, and its tag, if there are tags.
+/// The name of a component or an alternative, behind others, and its tag, if it has one.
 #[tactic(auto, unfolding(crate::specs::Types::name_at))]
 pub fn write_name(
     alloc: Global,
-    tags: &[Tag],
+    tag: Option<Tag>,
     before: Before,
     name: &str,
     room: &mut Room,
 ) -> Result<(), AllocError>
-    ensures { OnOk result (room_of room.new ≡ name_at tags.now before name.now (room_of room.old)) }
+    ensures { OnOk result (room_of room.new ≡ name_at tag before name.now (room_of room.old)) }
 {
     put_comma(before, room)?;
     room.put(name)?;
     room.put(" ")?;
-    put_tag(alloc, tags, before.index(), room)
+    put_tag(alloc, tag, room)
 }
 
 /// The marker, behind others.
@@ -119,12 +129,16 @@ pub fn write_marker<'t>(place: Place, before: Before, room: &mut Room) -> Result
 }
 
 /// What makes an addition optional: nothing, since each may be absent.
-fn check_added<'t>(place: Place, need: Need<'_, 't>, room: &mut Room) -> Result<(), Error<'t>>
-    ensures { Gives (λ _. room_of room.new) result (added_at place.«module» place.at (need_of need.entry) (room_of room.old)) }
+fn check_added<'t>(
+    place: Place,
+    need: Need<'_, 't>,
+    room: &mut Room,
+) -> Result<oer_values::Need, Error<'t>>
+    ensures { Gives (λ n. (need_seen n, room_of room.new)) result (added_at place.«module» place.at (need_of need.entry) (room_of room.old)) }
 {
     match need {
         Need::Default(_) => Err(refused(place.module, place.at, Part::AddedDefault)),
-        _ => Ok(()),
+        _ => Ok(oer_values::Need::May),
     }
 }
 
@@ -135,19 +149,20 @@ fn write_root_need<'m, 's, 't>(
     of: TypeIn<'m, 's, 't>,
     need: Need<'s, 't>,
     room: &mut Room,
-) -> Result<(), Error<'t>>
+) -> Result<oer_values::Need, Error<'t>>
     requires { of.«module» < length (modules_in names.now) }
-    ensures { Gives (λ _. room_of room.new) result (needed_at (modules_in names.now) of.entry.«module» (tree_of of.entry.syntax.now) (need_of need.entry) (room_of room.old)) }
+    ensures { Gives (λ n. (need_seen n, room_of room.new)) result (needed_at (modules_in names.now) of.entry.«module» (tree_of of.entry.syntax.now) (need_of need.entry) (room_of room.old)) }
 {
     match need {
-        Need::Must => Ok(()),
+        Need::Must => Ok(oer_values::Need::Must),
         Need::May => {
             room.put(" OPTIONAL")?;
-            Ok(())
+            Ok(oer_values::Need::May)
         }
         Need::Default(value) => {
             room.put(" DEFAULT ")?;
-            write_default(alloc, names, of, of.module, value, room)
+            let value = write_default(alloc, names, of, of.module, value, room)?;
+            Ok(oer_values::Need::Default(value))
         }
     }
 }
@@ -162,9 +177,9 @@ pub fn write_need<'m, 's, 't>(
     of: TypeIn<'m, 's, 't>,
     need: Need<'s, 't>,
     room: &mut Room,
-) -> Result<(), Error<'t>>
+) -> Result<oer_values::Need, Error<'t>>
     requires { of.«module» < length (modules_in names.now) }
-    ensures { Gives (λ _. room_of room.new) result (need_at (modules_in names.now) added of.entry.«module» at (tree_of of.entry.syntax.now) (need_of need.entry) (room_of room.old)) }
+    ensures { Gives (λ n. (need_seen n, room_of room.new)) result (need_at (modules_in names.now) added of.entry.«module» at (tree_of of.entry.syntax.now) (need_of need.entry) (room_of room.old)) }
 {
     if added {
         let module = of.module;

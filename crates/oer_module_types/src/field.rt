@@ -7,8 +7,10 @@ ghost use Rattle.oer_module_syntax.specs.Tree.{body_of};
 ghost use Rattle.oer_module_text.specs.Errors.{Gives};
 ghost use Rattle.oer_module_text.specs.Room.{room_of};
 ghost use Rattle.oer_module_values.specs.Views.{referent_of};
+ghost use Rattle.oer_values.specs.ShapeView.{type_of};
 ghost use Rattle.oer_module_types.specs.Fields.{begins_field, ends_field, field_at, field_by, field_of, has_field, has_type_field, is_field, is_open, is_open_by, is_type_field, open_at};
 
+use crate::shape::open_shape;
 use oer_module_leaves::put_open;
 use oer_module_lexer::{Sign, Spot, Token};
 use oer_module_limits::Written;
@@ -16,6 +18,7 @@ use oer_module_names::{Names, Place};
 use oer_module_syntax::{Body, is_useful_class};
 use oer_module_text::{Error, Part, Room, refused};
 use oer_module_values::{Path, Referent, referred};
+use oer_values::Shape;
 use std::alloc::Global;
 
 fn field_by<'t>(first: Token<'t>, second: Token<'t>) -> Option<&'t str>
@@ -163,9 +166,9 @@ pub fn write_field<'t>(
     names: &Names<'_, '_, 't>,
     field: Field<'_, '_, '_, 't>,
     room: &mut Room,
-) -> Result<(), Error<'t>>
+) -> Result<Shape, Error<'t>>
     requires { field.place.«module» < length (modules_in names.now) }
-    ensures { Gives (λ _. room_of room.new) result (field_at (modules_in names.now) field.entry.place field.entry.name.now (spots_of field.entry.steps.now) (spots_of field.entry.parameters.now) (written_of field.entry.written) (room_of room.old)) }
+    ensures { Gives (λ s. (type_of s, room_of room.new)) result (field_at (modules_in names.now) field.entry.place field.entry.name.now (spots_of field.entry.steps.now) (spots_of field.entry.parameters.now) (written_of field.entry.written) (room_of room.old)) }
 {
     let place = field.place;
     if !field.parameters.is_empty() {
@@ -175,5 +178,5 @@ pub fn write_field<'t>(
         return Err(refused(place.module, place.at, Part::Field));
     }
     put_open(alloc, field.written, room)?;
-    Ok(())
+    Ok(open_shape())
 }

@@ -1,11 +1,15 @@
-//! Where types nest too deep, and what is written where one would stand in itself too often.
+//! Where types nest too deep, and what stands where one would stand in itself too often.
 ghost use Rattle.std.specs.Prelude.{◌≡◌, ◌≤◌, length};
 ghost use Rattle.oer_module_text.specs.Errors.{Gives};
 ghost use Rattle.oer_module_text.specs.Room.{room_of};
+ghost use Rattle.oer_values.specs.ShapeView.{type_of};
 ghost use Rattle.oer_module_types.specs.Levels.{end_at, is_full, is_same, times};
 
+use crate::shape::end_shape;
 use oer_module_names::Place;
 use oer_module_text::{Error, Room, Why};
+use oer_values::Shape;
+use std::alloc::Global;
 
 fn is_same(one: Place, other: Place) -> bool
     ensures { result ≡ is_same one other }
@@ -40,8 +44,13 @@ pub fn is_full(nesting: u8, path: &[Place], place: Place) -> bool
 /// # Errors
 /// TooDeep, if no level is left; TooManyParts, TooLong, or Unresolved, with Memory.
 #[tactic(auto, unfolding(crate::specs::Levels::end_at))]
-pub fn write_end<'t>(levels: u8, place: Place, room: &mut Room) -> Result<(), Error<'t>>
-    ensures { Gives (λ _. room_of room.new) result (end_at levels place (room_of room.old)) }
+pub fn write_end<'t>(
+    alloc: Global,
+    levels: u8,
+    place: Place,
+    room: &mut Room,
+) -> Result<Shape, Error<'t>>
+    ensures { Gives (λ s. (type_of s, room_of room.new)) result (end_at levels place (room_of room.old)) }
 {
     if levels == 0 {
         return Err(Error {
@@ -51,5 +60,6 @@ pub fn write_end<'t>(levels: u8, place: Place, room: &mut Room) -> Result<(), Er
     }
     room.take_part(place)?;
     room.put("CHOICE {too-deep [PRIVATE 4294967295] NULL} /* nesting ends */")?;
-    Ok(())
+    let shape = end_shape(alloc)?;
+    Ok(shape)
 }

@@ -1,5 +1,5 @@
-//! The text of a type, with the types in it.
-ghost use Rattle.std.specs.Prelude.{◌≡◌, ◌<◌, IfOk, OnOk, length, map, option_map, string_bytes};
+//! A type and its text, with the types in it.
+ghost use Rattle.std.specs.Prelude.{◌≡◌, ◌<◌, IfOk, OnOk, length, map, option_map};
 ghost use Rattle.oer_module_limits.specs.Views.{written_of};
 ghost use Rattle.oer_module_names.specs.Views.{modules_in};
 ghost use Rattle.oer_module_syntax.specs.Tree.{element_of, elements_from, need_of, tree_of};
@@ -7,12 +7,16 @@ ghost use Rattle.oer_module_text.specs.Errors.{Gives};
 ghost use Rattle.oer_module_text.specs.Room.{room_of};
 ghost use Rattle.oer_module_values.specs.Types.{IsFinal};
 ghost use Rattle.oer_module_values.specs.Views.{given_of, meaning_of, type_in};
-ghost use Rattle.oer_module_types.specs.Types.{IsSingle, braces_at, component_at, element_at, elements_at, first, inside_at, list_at, meant_by, nested_at, root_at, root_element_at, sequence_of, single_at, stands_for, structure_at, type_place, type_text};
+ghost use Rattle.oer_values.specs.ShapeView.{type_of};
+ghost use Rattle.oer_module_types.specs.Gathered.{gathered_of};
+ghost use Rattle.oer_module_types.specs.Types.{IsSingle, braces_at, component_at, components_of_at, element_at, elements_at, inside_at, list_at, meant_by, nested_at, root_at, root_element_at, sequence_of, single_at, stands_for, structure_at, type_place};
 ghost use Rattle.oer_module_types.specs.Views.{modules_of, roots_of, types_of};
 
-use crate::element::{After, Before, close, write_marker, write_name, write_need};
+use crate::element::{After, Before, close, tag_at, write_marker, write_name, write_need};
 use crate::field::{Field, write_field};
+use crate::gathered::Gathered;
 use crate::level::{is_full, write_end};
+use crate::shape::list_shape;
 use oer_module_leaves::{Checked, put_unchecked, write_leaf};
 use oer_module_limits::Written;
 use oer_module_names::{Names, Place};
@@ -21,10 +25,18 @@ use oer_module_tags::alternative_tags;
 use oer_module_text::{Error, Part, Room, Why, refused};
 use oer_module_values::{Given, Meaning, TypeIn, place_of, resolve};
 use oer_units::Tag;
+use oer_values::Shape;
 use std::alloc::Global;
 
 /// How many levels may nest, of types and of COMPONENTS OF.
 pub const MOST_LEVELS: u8 = 32;
+
+/// A type, and its text in our notation.
+#[derive(Drop)]
+pub struct Typed {
+    pub text: String,
+    pub shape: Shape,
+}
 
 /// What goes along while a type is written: the modules, and how often a type may stand in itself, itself included.
 #[derive(Clone, Copy)]
@@ -34,13 +46,12 @@ pub struct Scope<'n, 'm, 's, 't> {
     pub nesting: u8,
 }
 
-/// The type whose elements are written, the tags of these, if it is a CHOICE, and whether the text has elements of another
-/// before them.
+/// The type whose elements are written, the tags of these, if it is a CHOICE, and what stands before them.
 #[derive(Clone, Copy)]
 struct Frame<'a> {
     place: Place,
     tags: &'a [Tag],
-    any: bool,
+    before: Before,
 }
 
 /// A component or an alternative at a byte.
@@ -50,6 +61,14 @@ struct Component<'m, 's, 't> {
     name: &'t str,
     from: &'m TypeSyntax<'s, 't>,
     need: Need<'s, 't>,
+}
+
+/// COMPONENTS OF a type at a place, and what stands before it.
+#[derive(Clone, Copy)]
+struct Included<'m, 's, 't> {
+    place: Place,
+    before: Before,
+    from: &'m TypeSyntax<'s, 't>,
 }
 
 /// A SEQUENCE, SET or CHOICE at a place, with its constraints.
@@ -95,7 +114,7 @@ fn stands_for<'m, 's, 't>(
     Ok(meaning)
 }
 
-/// Adds the text of a type. So many levels of types may nest. The path has the places of the SEQUENCEs, CHOICEs and
+/// A type, whose text is added. So many levels of types may nest. The path has the places of the SEQUENCEs, CHOICEs and
 /// SEQUENCE OFs that the type stands in. Where one would stand on it more often than the scope's nesting, there is
 /// `CHOICE {too-deep [PRIVATE 4294967295] NULL} /* nesting ends */` in its place.
 ///
@@ -111,9 +130,9 @@ pub fn write_type<'m, 's, 't>(
     path: &mut Vec<Place>,
     of: TypeIn<'m, 's, 't>,
     room: &mut Room,
-) -> Result<(), Error<'t>>
+) -> Result<Shape, Error<'t>>
     requires { of.«module» < length (modules_of scope) }
-    ensures text { Gives (λ _. room_of room.new) result (types_of scope.entry levels path.old.items (type_in of.entry) (room_of room.old)) }
+    ensures text { Gives (λ s. (type_of s, room_of room.new)) result (types_of scope.entry levels path.old.items (type_in of.entry) (room_of room.old)) }
     ensures path { OnOk result (path.new.items ≡ path.old.items) }
 {
     if levels == 0 {
@@ -137,11 +156,11 @@ fn write_meant<'m, 's, 't>(
     of: TypeIn<'m, 's, 't>,
     meaning: &Meaning<'m, 's, 't>,
     room: &mut Room,
-) -> Result<(), Error<'t>>
+) -> Result<Shape, Error<'t>>
     requires of { of.«module» < length (modules_of scope) }
     requires is { meaning.now.of.«module» < length (modules_of scope) }
     requires settled { IsFinal (tree_of meaning.now.of.syntax.now) }
-    ensures text { Gives (λ _. room_of room.new) result (meant_by (modules_of scope.entry) scope.entry.nesting levels (types_of scope.entry levels) (roots_of scope.entry levels) path.old.items (type_in of.entry) (meaning_of meaning.now) (room_of room.old)) }
+    ensures text { Gives (λ s. (type_of s, room_of room.new)) result (meant_by (modules_of scope.entry) scope.entry.nesting levels (types_of scope.entry levels) (roots_of scope.entry levels) path.old.items (type_in of.entry) (meaning_of meaning.now) (room_of room.old)) }
     ensures path { OnOk result (path.new.items ≡ path.old.items) }
 {
     let is = meaning.of;
@@ -191,11 +210,11 @@ fn write_single<'m, 's, 't>(
     is: TypeIn<'m, 's, 't>,
     given: &[Given<'s, 't>],
     room: &mut Room,
-) -> Result<(), Error<'t>>
+) -> Result<Shape, Error<'t>>
     requires of { of.«module» < length (modules_of scope) }
     requires is { is.«module» < length (modules_of scope) }
     requires single { IsSingle (tree_of is.syntax.now) }
-    ensures { Gives (λ _. room_of room.new) result (single_at (modules_of scope.entry) (type_in of.entry) (type_in is.entry) (map given_of given.now) (room_of room.old)) }
+    ensures { Gives (λ s. (type_of s, room_of room.new)) result (single_at (modules_of scope.entry) (type_in of.entry) (type_in is.entry) (map given_of given.now) (room_of room.old)) }
 {
     let module = is.module;
     match is.syntax {
@@ -233,19 +252,19 @@ fn write_structure<'m, 's, 't>(
     path: &mut Vec<Place>,
     structure: Structure<'_, 'm, 's, 't>,
     room: &mut Room,
-) -> Result<(), Error<'t>>
+) -> Result<Shape, Error<'t>>
     requires { structure.place.«module» < length (modules_of scope) }
-    ensures text { Gives (λ _. room_of room.new) result (nested_at scope.entry.nesting levels (structure_at (modules_of scope.entry) (types_of scope.entry levels) (roots_of scope.entry levels) structure.entry.place structure.entry.builtin (elements_from (map element_of structure.entry.elements.now)) (written_of structure.entry.written)) structure.entry.place path.old.items (room_of room.old)) }
+    ensures text { Gives (λ s. (type_of s, room_of room.new)) result (nested_at scope.entry.nesting levels (structure_at (modules_of scope.entry) (types_of scope.entry levels) (roots_of scope.entry levels) structure.entry.place structure.entry.builtin (elements_from (map element_of structure.entry.elements.now)) (written_of structure.entry.written)) structure.entry.place path.old.items (room_of room.old)) }
     ensures path { OnOk result (path.new.items ≡ path.old.items) }
 {
     let place = structure.place;
     if is_full(scope.nesting, path, place) {
-        return write_end(levels, place, room);
+        return write_end(scope.alloc, levels, place, room);
     }
     path.push(place)?;
-    write_narrowed(scope, levels, path, structure, room)?;
+    let shape = write_narrowed(scope, levels, path, structure, room)?;
     path.pop();
-    Ok(())
+    Ok(shape)
 }
 
 /// A SEQUENCE, SET or CHOICE, and a comment on its constraints.
@@ -257,12 +276,12 @@ fn write_narrowed<'m, 's, 't>(
     path: &mut Vec<Place>,
     structure: Structure<'_, 'm, 's, 't>,
     room: &mut Room,
-) -> Result<(), Error<'t>>
+) -> Result<Shape, Error<'t>>
     requires { structure.place.«module» < length (modules_of scope) }
-    ensures text { Gives (λ _. room_of room.new) result (structure_at (modules_of scope.entry) (types_of scope.entry levels) (roots_of scope.entry levels) structure.entry.place structure.entry.builtin (elements_from (map element_of structure.entry.elements.now)) (written_of structure.entry.written) path.old.items (room_of room.old)) }
+    ensures text { Gives (λ s. (type_of s, room_of room.new)) result (structure_at (modules_of scope.entry) (types_of scope.entry levels) (roots_of scope.entry levels) structure.entry.place structure.entry.builtin (elements_from (map element_of structure.entry.elements.now)) (written_of structure.entry.written) path.old.items (room_of room.old)) }
     ensures path { OnOk result (path.new.items ≡ path.old.items) }
 {
-    write_inside(
+    let shape = write_inside(
         scope,
         levels,
         path,
@@ -278,7 +297,7 @@ fn write_narrowed<'m, 's, 't>(
         false,
         room,
     )?;
-    Ok(())
+    Ok(shape)
 }
 
 /// A SEQUENCE, SET or CHOICE at a place.
@@ -291,20 +310,22 @@ fn write_inside<'m, 's, 't>(
     builtin: Builtin,
     elements: &'m [Element<'s, 't>],
     room: &mut Room,
-) -> Result<(), Error<'t>>
+) -> Result<Shape, Error<'t>>
     requires { place.«module» < length (modules_of scope) }
-    ensures text { Gives (λ _. room_of room.new) result (inside_at (modules_of scope.entry) (types_of scope.entry levels) (roots_of scope.entry levels) place builtin (elements_from (map element_of elements.now)) path.old.items (room_of room.old)) }
+    ensures text { Gives (λ s. (type_of s, room_of room.new)) result (inside_at (modules_of scope.entry) (types_of scope.entry levels) (roots_of scope.entry levels) place builtin (elements_from (map element_of elements.now)) path.old.items (room_of room.old)) }
     ensures path { OnOk result (path.new.items ≡ path.old.items) }
 {
     match builtin {
         Builtin::Sequence => {
             room.put("SEQUENCE {")?;
-            write_braces(scope, levels, path, place, &[], elements, room)
+            let gathered = write_braces(scope, levels, path, place, &[], elements, room)?;
+            Ok(gathered.sequence())
         }
         Builtin::Choice => {
             let tags = alternative_tags(scope.alloc, scope.names, place.module, elements)?;
             room.put("CHOICE {")?;
-            write_braces(scope, levels, path, place, &tags, elements, room)
+            let gathered = write_braces(scope, levels, path, place, &tags, elements, room)?;
+            Ok(gathered.choice())
         }
         _ => Err(refused(place.module, place.at, Part::Set)),
     }
@@ -321,21 +342,23 @@ fn write_braces<'m, 's, 't>(
     tags: &[Tag],
     elements: &'m [Element<'s, 't>],
     room: &mut Room,
-) -> Result<(), Error<'t>>
+) -> Result<Gathered, Error<'t>>
     requires { place.«module» < length (modules_of scope) }
-    ensures text { Gives (λ _. room_of room.new) result (braces_at (modules_of scope.entry) (types_of scope.entry levels) (roots_of scope.entry levels) place tags.now path.old.items (elements_from (map element_of elements.now)) (room_of room.old)) }
+    ensures text { Gives (λ g. (gathered_of g, room_of room.new)) result (braces_at (modules_of scope.entry) (types_of scope.entry levels) (roots_of scope.entry levels) place tags.now path.old.items (elements_from (map element_of elements.now)) (room_of room.old)) }
     ensures path { OnOk result (path.new.items ≡ path.old.items) }
 {
     let frame = Frame {
         place,
         tags,
-        any: false,
+        before: Before::first(false),
     };
-    let behind = write_elements(scope, levels, path, frame, elements, room)?;
-    close(scope.names, place, behind.marked, room)
+    let mut gathered = Gathered::new(scope.alloc);
+    let behind = write_elements(scope, levels, path, frame, elements, &mut gathered, room)?;
+    close(scope.names, place, behind.marked, room)?;
+    Ok(gathered)
 }
 
-/// The elements, joined by commas.
+/// The elements, joined by commas; the first of them stands before all others of its type.
 #[cycle(types)]
 fn write_elements<'m, 's, 't>(
     scope: Scope<'_, 'm, 's, 't>,
@@ -343,15 +366,18 @@ fn write_elements<'m, 's, 't>(
     path: &mut Vec<Place>,
     frame: Frame<'_>,
     elements: &'m [Element<'s, 't>],
+    gathered: &mut Gathered,
     room: &mut Room,
 ) -> Result<After, Error<'t>>
-    requires { frame.place.«module» < length (modules_of scope) }
-    ensures text { Gives (λ a. (a, room_of room.new)) result (elements_at (modules_of scope.entry) (types_of scope.entry levels) (roots_of scope.entry levels) frame.entry.place.«module» frame.entry.tags.now path.old.items (first frame.entry.any) (elements_from (map element_of elements.now)) (room_of room.old)) }
+    requires within { frame.place.«module» < length (modules_of scope) }
+    requires first { frame.before.elements ≡ 0 }
+    ensures text { Gives (λ a. (a, gathered_of gathered.new, room_of room.new)) result (elements_at (modules_of scope.entry) (types_of scope.entry levels) (roots_of scope.entry levels) frame.entry.place.«module» frame.entry.tags.now path.old.items frame.entry.before (elements_from (map element_of elements.now)) (gathered_of gathered.old) (room_of room.old)) }
     ensures path { OnOk result (path.new.items ≡ path.old.items) }
 {
-    let mut before = Before::first(frame.any);
+    let mut before = frame.before;
     for element in elements.iter() {
-        let behind = write_element(scope, levels, path, frame, before, element, room)?;
+        let next = Frame { before, ..frame };
+        let behind = write_element(scope, levels, path, next, element, gathered, room)?;
         before = Before {
             elements: before.elements + 1,
             any: behind.any,
@@ -361,7 +387,8 @@ fn write_elements<'m, 's, 't>(
     Ok(After::new(before.any, before.marked))
 }
 
-/// The elements of a SEQUENCE that stand in its root, joined by commas. Whether the text has some by then.
+/// The elements of a SEQUENCE that stand in its root, joined by commas; the first of them stands before all others of its
+/// type. Whether the text has some by then.
 #[cycle(types)]
 fn write_root<'m, 's, 't>(
     scope: Scope<'_, 'm, 's, 't>,
@@ -369,15 +396,18 @@ fn write_root<'m, 's, 't>(
     path: &mut Vec<Place>,
     frame: Frame<'_>,
     elements: &'m [Element<'s, 't>],
+    gathered: &mut Gathered,
     room: &mut Room,
 ) -> Result<bool, Error<'t>>
-    requires { frame.place.«module» < length (modules_of scope) }
-    ensures text { Gives (λ any. (any, room_of room.new)) result (root_at (modules_of scope.entry) (types_of scope.entry levels) (roots_of scope.entry levels) frame.entry.place.«module» frame.entry.tags.now path.old.items (first frame.entry.any) (elements_from (map element_of elements.now)) (room_of room.old)) }
+    requires within { frame.place.«module» < length (modules_of scope) }
+    requires first { frame.before.elements ≡ 0 }
+    ensures text { Gives (λ any. (any, gathered_of gathered.new, room_of room.new)) result (root_at (modules_of scope.entry) (types_of scope.entry levels) (roots_of scope.entry levels) frame.entry.place.«module» frame.entry.tags.now path.old.items frame.entry.before (elements_from (map element_of elements.now)) (gathered_of gathered.old) (room_of room.old)) }
     ensures path { OnOk result (path.new.items ≡ path.old.items) }
 {
-    let mut before = Before::first(frame.any);
+    let mut before = frame.before;
     for element in elements.iter() {
-        let behind = write_root_element(scope, levels, path, frame, before, element, room)?;
+        let next = Frame { before, ..frame };
+        let behind = write_root_element(scope, levels, path, next, element, gathered, room)?;
         before = Before {
             elements: before.elements + 1,
             any: behind.any,
@@ -395,21 +425,22 @@ fn write_root_element<'m, 's, 't>(
     levels: u8,
     path: &mut Vec<Place>,
     frame: Frame<'_>,
-    before: Before,
     element: &'m Element<'s, 't>,
+    gathered: &mut Gathered,
     room: &mut Room,
 ) -> Result<After, Error<'t>>
     requires { frame.place.«module» < length (modules_of scope) }
-    ensures text { Gives (λ a. (a, room_of room.new)) result (root_element_at (modules_of scope.entry) (types_of scope.entry levels) (roots_of scope.entry levels) frame.entry.place.«module» frame.entry.tags.now path.old.items before (element_of element.now) (room_of room.old)) }
+    ensures text { Gives (λ a. (a, gathered_of gathered.new, room_of room.new)) result (root_element_at (modules_of scope.entry) (types_of scope.entry levels) (roots_of scope.entry levels) frame.entry.place.«module» frame.entry.tags.now path.old.items frame.entry.before (element_of element.now) (gathered_of gathered.old) (room_of room.old)) }
     ensures path { OnOk result (path.new.items ≡ path.old.items) }
 {
+    let before = frame.before;
     match element {
         Element::Marker { at, .. } if before.marked => {
             Err(refused(frame.place.module, *at, Part::SecondMarker))
         }
         Element::Marker { .. } => Ok(After::new(before.any, true)),
         _ if before.marked => Ok(After::new(before.any, true)),
-        _ => write_element(scope, levels, path, frame, before, element, room),
+        _ => write_element(scope, levels, path, frame, element, gathered, room),
     }
 }
 
@@ -436,15 +467,15 @@ fn write_included<'m, 's, 't>(
     scope: Scope<'_, 'm, 's, 't>,
     levels: u8,
     path: &mut Vec<Place>,
-    place: Place,
-    any: bool,
-    from: &'m TypeSyntax<'s, 't>,
+    included: Included<'m, 's, 't>,
+    gathered: &mut Gathered,
     room: &mut Room,
 ) -> Result<bool, Error<'t>>
-    requires { place.«module» < length (modules_of scope) }
-    ensures text { Gives (λ a. (a, room_of room.new)) result (roots_of scope.entry levels path.old.items any place (tree_of from.now) (room_of room.old)) }
+    requires { included.place.«module» < length (modules_of scope) }
+    ensures text { Gives (λ any. (any, gathered_of gathered.new, room_of room.new)) result (roots_of scope.entry levels path.old.items included.entry.before.any included.entry.place (tree_of included.entry.from.now) (gathered_of gathered.old) (room_of room.old)) }
     ensures path { OnOk result (path.new.items ≡ path.old.items) }
 {
+    let place = included.place;
     if levels == 0 {
         return Err(Error {
             place,
@@ -453,7 +484,7 @@ fn write_included<'m, 's, 't>(
     }
     let of = TypeIn {
         module: place.module,
-        syntax: from,
+        syntax: included.from,
     };
     let meaning = stands_for(scope, of)?;
     let is = type_place(meaning.of);
@@ -464,9 +495,31 @@ fn write_included<'m, 's, 't>(
     let frame = Frame {
         place: is,
         tags: &[],
-        any,
+        before: Before::first(included.before.any),
     };
-    write_root(scope, levels - 1, path, frame, elements, room)
+    write_root(scope, levels - 1, path, frame, elements, gathered, room)
+}
+
+/// COMPONENTS OF behind others. It isn't taken among additions.
+#[cycle(types)]
+fn write_components_of<'m, 's, 't>(
+    scope: Scope<'_, 'm, 's, 't>,
+    levels: u8,
+    path: &mut Vec<Place>,
+    included: Included<'m, 's, 't>,
+    gathered: &mut Gathered,
+    room: &mut Room,
+) -> Result<After, Error<'t>>
+    requires { included.place.«module» < length (modules_of scope) }
+    ensures text { Gives (λ a. (a, gathered_of gathered.new, room_of room.new)) result (components_of_at (roots_of scope.entry levels) included.entry.place path.old.items included.entry.before (tree_of included.entry.from.now) (gathered_of gathered.old) (room_of room.old)) }
+    ensures path { OnOk result (path.new.items ≡ path.old.items) }
+{
+    if included.before.marked {
+        let place = included.place;
+        return Err(refused(place.module, place.at, Part::ComponentsOf));
+    }
+    let any = write_included(scope, levels, path, included, gathered, room)?;
+    Ok(After::new(any, false))
 }
 
 /// An element behind others.
@@ -477,28 +530,29 @@ fn write_element<'m, 's, 't>(
     levels: u8,
     path: &mut Vec<Place>,
     frame: Frame<'_>,
-    before: Before,
     element: &'m Element<'s, 't>,
+    gathered: &mut Gathered,
     room: &mut Room,
 ) -> Result<After, Error<'t>>
     requires { frame.place.«module» < length (modules_of scope) }
-    ensures text { Gives (λ a. (a, room_of room.new)) result (element_at (modules_of scope.entry) (types_of scope.entry levels) (roots_of scope.entry levels) frame.entry.place.«module» frame.entry.tags.now path.old.items before (element_of element.now) (room_of room.old)) }
+    ensures text { Gives (λ a. (a, gathered_of gathered.new, room_of room.new)) result (element_at (modules_of scope.entry) (types_of scope.entry levels) (roots_of scope.entry levels) frame.entry.place.«module» frame.entry.tags.now path.old.items frame.entry.before (element_of element.now) (gathered_of gathered.old) (room_of room.old)) }
     ensures path { OnOk result (path.new.items ≡ path.old.items) }
 {
     let module = frame.place.module;
     match element {
         Element::Marker { at, .. } => {
-            write_marker(Place { module, at: *at }, before, room)?;
+            write_marker(Place { module, at: *at }, frame.before, room)?;
+            gathered.mark();
             Ok(After::new(true, true))
         }
         Element::Group { at, .. } => Err(refused(module, *at, Part::Group)),
-        Element::ComponentsOf { at, .. } if before.marked => {
-            Err(refused(module, *at, Part::ComponentsOf))
-        }
         Element::ComponentsOf { at, from } => {
-            let place = Place { module, at: *at };
-            let any = write_included(scope, levels, path, place, before.any, from, room)?;
-            Ok(After::new(any, false))
+            let included = Included {
+                place: Place { module, at: *at },
+                before: frame.before,
+                from,
+            };
+            write_components_of(scope, levels, path, included, gathered, room)
         }
         Element::Component {
             at,
@@ -512,7 +566,7 @@ fn write_element<'m, 's, 't>(
                 from,
                 need: *need,
             };
-            write_component(scope, levels, path, frame, before, component, room)
+            write_component(scope, levels, path, frame, component, gathered, room)
         }
     }
 }
@@ -524,21 +578,23 @@ fn write_component<'m, 's, 't>(
     levels: u8,
     path: &mut Vec<Place>,
     frame: Frame<'_>,
-    before: Before,
     component: Component<'m, 's, 't>,
+    gathered: &mut Gathered,
     room: &mut Room,
 ) -> Result<After, Error<'t>>
     requires { frame.place.«module» < length (modules_of scope) }
-    ensures text { Gives (λ a. (a, room_of room.new)) result (component_at (modules_of scope.entry) (types_of scope.entry levels) frame.entry.place.«module» frame.entry.tags.now path.old.items before component.entry.at component.entry.name.now (tree_of component.entry.from.now) (need_of component.entry.need) (room_of room.old)) }
+    ensures text { Gives (λ a. (a, gathered_of gathered.new, room_of room.new)) result (component_at (modules_of scope.entry) (types_of scope.entry levels) frame.entry.place.«module» frame.entry.tags.now path.old.items frame.entry.before component.entry.at component.entry.name.now (tree_of component.entry.from.now) (need_of component.entry.need) (gathered_of gathered.old) (room_of room.old)) }
     ensures path { OnOk result (path.new.items ≡ path.old.items) }
 {
     let of = TypeIn {
         module: frame.place.module,
         syntax: component.from,
     };
-    write_name(scope.alloc, frame.tags, before, component.name, room)?;
-    write_type(scope, levels, path, of, room)?;
-    write_need(
+    let before = frame.before;
+    let tag = tag_at(frame.tags, before);
+    write_name(scope.alloc, tag, before, component.name, room)?;
+    let shape = write_type(scope, levels, path, of, room)?;
+    let need = write_need(
         scope.alloc,
         scope.names,
         before.marked,
@@ -547,6 +603,8 @@ fn write_component<'m, 's, 't>(
         component.need,
         room,
     )?;
+    let name = String::from_str(scope.alloc, component.name)?;
+    gathered.add(tag, name, need, shape)?;
     Ok(After::new(true, before.marked))
 }
 
@@ -559,22 +617,22 @@ fn write_list<'m, 's, 't>(
     path: &mut Vec<Place>,
     list: ListOf<'_, 'm, 's, 't>,
     room: &mut Room,
-) -> Result<(), Error<'t>>
+) -> Result<Shape, Error<'t>>
     requires { list.place.«module» < length (modules_of scope) }
-    ensures text { Gives (λ _. room_of room.new) result (nested_at scope.entry.nesting levels (list_at (modules_of scope.entry) (types_of scope.entry levels) list.entry.place list.entry.builtin list.entry.sized (tree_of list.entry.item.now) (written_of list.entry.written)) list.entry.place path.old.items (room_of room.old)) }
+    ensures text { Gives (λ s. (type_of s, room_of room.new)) result (nested_at scope.entry.nesting levels (list_at (modules_of scope.entry) (types_of scope.entry levels) list.entry.place list.entry.builtin list.entry.sized (tree_of list.entry.item.now) (written_of list.entry.written)) list.entry.place path.old.items (room_of room.old)) }
     ensures path { OnOk result (path.new.items ≡ path.old.items) }
 {
     let place = list.place;
     if is_full(scope.nesting, path, place) {
-        return write_end(levels, place, room);
+        return write_end(scope.alloc, levels, place, room);
     }
     path.push(place)?;
-    write_items(scope, levels, path, list, room)?;
+    let shape = write_items(scope, levels, path, list, room)?;
     path.pop();
-    Ok(())
+    Ok(shape)
 }
 
-/// A SEQUENCE OF or SET OF. Its sizes are no part of the text but for a comment: OER doesn't see them.
+/// A SEQUENCE OF or SET OF. Its sizes are no part of the type, and of the text but for a comment: OER doesn't see them.
 #[cycle(types)]
 fn write_items<'m, 's, 't>(
     scope: Scope<'_, 'm, 's, 't>,
@@ -582,9 +640,9 @@ fn write_items<'m, 's, 't>(
     path: &mut Vec<Place>,
     list: ListOf<'_, 'm, 's, 't>,
     room: &mut Room,
-) -> Result<(), Error<'t>>
+) -> Result<Shape, Error<'t>>
     requires { list.place.«module» < length (modules_of scope) }
-    ensures text { Gives (λ _. room_of room.new) result (list_at (modules_of scope.entry) (types_of scope.entry levels) list.entry.place list.entry.builtin list.entry.sized (tree_of list.entry.item.now) (written_of list.entry.written) path.old.items (room_of room.old)) }
+    ensures text { Gives (λ s. (type_of s, room_of room.new)) result (list_at (modules_of scope.entry) (types_of scope.entry levels) list.entry.place list.entry.builtin list.entry.sized (tree_of list.entry.item.now) (written_of list.entry.written) path.old.items (room_of room.old)) }
     ensures path { OnOk result (path.new.items ≡ path.old.items) }
 {
     let module = list.place.module;
@@ -600,34 +658,10 @@ fn write_items<'m, 's, 't>(
             )?;
             room.put(" OF ")?;
             let syntax = list.item;
-            write_type(scope, levels, path, TypeIn { module, syntax }, room)
+            let item = write_type(scope, levels, path, TypeIn { module, syntax }, room)?;
+            let shape = list_shape(scope.alloc, item)?;
+            Ok(shape)
         }
         _ => Err(refused(module, list.place.at, Part::SetOf)),
     }
-}
-
-/// The text of a type, with the types in it, up to a nesting: how often a SEQUENCE, CHOICE or SEQUENCE OF may stand in
-/// itself, itself included.
-///
-/// # Errors
-/// Those of `write_type`, with 32 levels and 4,096 parts.
-#[tactic(auto, unfolding(crate::specs::Types::type_text))]
-pub fn type_text<'m, 's, 't>(
-    alloc: Global,
-    names: &Names<'m, 's, 't>,
-    nesting: u8,
-    of: TypeIn<'m, 's, 't>,
-) -> Result<String, Error<'t>>
-    requires { of.«module» < length (modules_in names.now) }
-    ensures { Gives string_bytes result (type_text (modules_in names.now) nesting (type_in of.entry)) }
-{
-    let scope = Scope {
-        alloc,
-        names,
-        nesting,
-    };
-    let mut path = Vec::new(alloc);
-    let mut room = Room::new(alloc);
-    write_type(scope, MOST_LEVELS, &mut path, of, &mut room)?;
-    Ok(room.text)
 }

@@ -6,12 +6,12 @@ use Rattle.oer_module_text.specs.declared.error.Why as raw
 use Rattle.oer_module_text.specs.declared.error.Why.TheVariants as raws
 use Rattle.oer_module_values.specs.declared.error.Why.TheVariants as told
 use Rattle.oer_module_syntax.specs.Tree.{Module}
-use Rattle.oer_module_types.specs.Types.{type_text}
+use Rattle.oer_module_types.specs.Types.{typed}
 use Rattle.oer_module_values.specs.Types.{TypeIn}
-use Rattle.oer_modules.specs.Nesting.{is_over, most, usual}
+use Rattle.oer_modules.specs.Nesting.{Typed, is_over, most, usual}
 
 -- the turns, of which `whole` is the answer in all, have come to n times
-module _ (f : ℕ → Read (List ℕ)) (whole : Read (List ℕ)) where
+module _ (f : ℕ → Read Typed) (whole : Read Typed) where
   over_at : (m : ℕ) (e : Error) → whole ≡ most f (suc m) → f (suc (suc m)) ≡ Err e → is_over e.why ≡ true → whole ≡ most f m
   unfolding most
   over_at m e is h over = is ∙ rw (h, over) refl
@@ -20,7 +20,7 @@ module _ (f : ℕ → Read (List ℕ)) (whole : Read (List ℕ)) where
   unfolding most
   ends_at m e is h over = is ∙ rw (h, over) refl
 
-  text_at : (m : ℕ) (t : List ℕ) → whole ≡ most f (suc m) → f (suc (suc m)) ≡ Ok t → whole ≡ Ok t
+  text_at : (m : ℕ) (t : Typed) → whole ≡ most f (suc m) → f (suc (suc m)) ≡ Ok t → whole ≡ Ok t
   unfolding most
   text_at m t is h = is ∙ rw h refl
 
@@ -39,7 +39,7 @@ module _ (f : ℕ → Read (List ℕ)) (whole : Read (List ℕ)) where
       let now : suc (suc m) - 1 ≡ suc m = omega arith in
       ends_at m e (is ∙ ap (most f) now) h over
 
-  pub turn_text : (n : ℕ) (t : List ℕ) → whole ≡ most f (n - 1) → 1 < n → f n ≡ Ok t → whole ≡ Ok t
+  pub turn_text : (n : ℕ) (t : Typed) → whole ≡ most f (n - 1) → 1 < n → f n ≡ Ok t → whole ≡ Ok t
   turn_text zero t is more h = absurd (omega arith)
   turn_text (suc zero) t is more h = absurd (omega arith)
   turn_text (suc (suc m)) t is more h =
@@ -55,7 +55,7 @@ module _ (f : ℕ → Read (List ℕ)) (whole : Read (List ℕ)) where
   turns_over (suc zero) is some last = at_last is
   turns_over (suc (suc m)) is some last = absurd (omega arith)
 
-pub first_usual : (ms : List Module) (of : TypeIn) → usual ms of ≡ most (λ n. type_text ms n of) 7
+pub first_usual : (ms : List Module) (of : TypeIn) → usual ms of ≡ most (λ n. typed ms n of) 7
 unfolding usual
 first_usual ms of = refl
 

@@ -10,6 +10,7 @@ use Rattle.oer_modules.specs.Modules.{ComesFirst, definitions_of_modules, of_tex
 use Rattle.oer_modules.specs.Named.{named_text}
 use Rattle.oer_modules.specs.Places.{lexed_of}
 use Rattle.oer_modules.specs.Refusals.{Refusal, unreadable}
+use Rattle.oer_modules.specs.Schemas.{schema_by, schema_of_modules}
 use Rattle.oer_modules.specs.Texts.{Library, no_modules, read_each}
 use Rattle.oer_modules.specs.declared.texts.Misread.{Misread}
 
@@ -22,8 +23,15 @@ lexed_same [] = refl
 lexed_same (t ∷ ts) = ap (λ ls. lex t.now ∷ ls) (lexed_same ts)
 
 module _ (ks : List Tokens) (ts : List (Bor (List ℕ))) (same : map lexed_of ks ≡ lexed_texts ts) where
+  library_read : (r : Result Library Misread) → read_each 0 (map lexed_of ks) no_modules ≡ r → read_each 0 (map lex (texts_of ts)) no_modules ≡ r
+  library_read r h = ap (λ ls. read_each 0 ls no_modules) (sym (lexed_same ts) ∙ sym same) ∙ h
+
   of_read : {A : Type 0} (f : Library → Result A Refusal) (r : Result Library Misread) → read_each 0 (map lexed_of ks) no_modules ≡ r → of_texts (texts_of ts) f ≡ or_misread (texts_of ts) f r
-  of_read f r h = ap (or_misread (texts_of ts) f) (ap (λ ls. read_each 0 ls no_modules) (sym (lexed_same ts) ∙ sym same) ∙ h)
+  of_read f r h = ap (or_misread (texts_of ts) f) (library_read r h)
+
+  pub schema_answer : (w : List ℕ) (n : ℕ) (r : Result Library Misread) → read_each 0 (map lexed_of ks) no_modules ≡ r → schema_of_modules (texts_of ts) w n ≡ schema_by (texts_of ts) w n r
+  unfolding schema_of_modules
+  schema_answer w n r h = ap (schema_by (texts_of ts) w n) (library_read r h)
 
   pub type_misread : (w : List ℕ) (n : ℕ) (e : Misread) → read_each 0 (map lexed_of ks) no_modules ≡ Err e → type_of_modules (texts_of ts) w n ≡ Err (unreadable (texts_of ts) e)
   unfolding type_of_modules

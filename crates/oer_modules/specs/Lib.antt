@@ -8,5 +8,6 @@ pub mod Named
 pub mod Nesting
 pub mod Places
 pub mod Refusals
+pub mod Schemas
 pub mod Texts
 pub mod Words

@@ -1,8 +1,9 @@
 -- How often a type that contains itself is written out.
 use Rattle.std.specs.Prelude.{ℕ, zero, suc, List, ◌==◌, Bool, true, false, Ok, Err, if◌then◌else◌}
+use Rattle.oer_model.specs.AsnType.{AsnType}
 use Rattle.oer_module_syntax.specs.Tree.{Module}
-use Rattle.oer_module_text.specs.Errors.{Read, Why, misnumbered, no_such_value, not_taken, tag_number, too_deep, too_long, too_many_parts, unlimited, unresolved}
-use Rattle.oer_module_types.specs.Types.{type_text}
+use Rattle.oer_module_text.specs.Errors.{Read, Why, misnumbered, no_such_value, not_taken, tag_number, too_deep, too_long, too_many_parts, too_wide, unlimited, unresolved}
+use Rattle.oer_module_types.specs.Types.{typed}
 use Rattle.oer_module_values.specs.Types.{TypeIn}
 
 -- the text is larger than it may be
@@ -16,19 +17,24 @@ is_over no_such_value = false
 is_over too_deep = true
 is_over too_many_parts = true
 is_over too_long = true
+is_over too_wide = false
 
-abbrev pub else_less : Read (List ℕ) → Read (List ℕ) → Read (List ℕ)
+-- a type and its text
+abbrev pub Typed : Type 0
+Typed = AsnType × List ℕ
+
+abbrev pub else_less : Read Typed → Read Typed → Read Typed
 else_less (Ok t) less = Ok t
 else_less (Err e) less = if is_over e.why then less else Err e
 
 -- so often and once more, or less often where the text is larger than it may be; but at least once
-unfoldable pub most : (ℕ → Read (List ℕ)) → ℕ → Read (List ℕ)
+unfoldable pub most : (ℕ → Read Typed) → ℕ → Read Typed
 most f zero = f 1
 most f (suc n) = else_less (f (suc (suc n))) (most f n)
 
-unfoldable pub usual : List Module → TypeIn → Read (List ℕ)
-usual ms of = most (λ n. type_text ms n of) 7
+unfoldable pub usual : List Module → TypeIn → Read Typed
+usual ms of = most (λ n. typed ms n of) 7
 
 -- so often; where nothing is said, at most 8 times
-abbrev pub text_by : List Module → ℕ → TypeIn → Read (List ℕ)
-text_by ms n of = if n == 0 then usual ms of else type_text ms n of
+abbrev pub typed_by : List Module → ℕ → TypeIn → Read Typed
+typed_by ms n of = if n == 0 then usual ms of else typed ms n of

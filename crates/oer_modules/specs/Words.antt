@@ -13,7 +13,7 @@ use Rattle.oer_module_syntax.specs.declared.fault.Sought.{Sought}
 use Rattle.oer_module_syntax.specs.declared.fault.Sought.TheVariants as sought
 use Rattle.oer_module_syntax.specs.declared.fault.Why.{Why as SyntaxWhy}
 use Rattle.oer_module_syntax.specs.declared.fault.Why.TheVariants as fault
-use Rattle.oer_module_text.specs.Errors.{Why, misnumbered, no_such_value, not_taken, tag_number, too_deep, too_long, too_many_parts, unlimited, unresolved}
+use Rattle.oer_module_text.specs.Errors.{Why, misnumbered, no_such_value, not_taken, tag_number, too_deep, too_long, too_many_parts, too_wide, unlimited, unresolved}
 use Rattle.oer_module_text.specs.declared.error.Part.{Part}
 use Rattle.oer_module_text.specs.declared.error.Part.TheVariants as part
 use Rattle.oer_module_values.specs.Errors as told
@@ -201,6 +201,7 @@ module _ (r : Refusal) where
   reason_words too_deep = with_token (codes "the type nests deeper than 32 levels")
   reason_words too_many_parts = with_token (codes "the type has more than 4096 parts")
   reason_words too_long = with_token (codes "the text of the type is too long")
+  reason_words too_wide = with_token (codes "the size or the number of an item is larger than our types have")
 
   -- text, line and column, the reason, and the token that shows it
   abbrev pub refusal_words : Text

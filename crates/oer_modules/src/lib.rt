@@ -11,9 +11,12 @@ mod nesting;
 mod place;
 mod refusal;
 mod rejection;
+mod schema;
 mod texts;
 mod words;
 
 pub use modules::{definitions_of_modules, type_of_modules};
 pub use place::Point;
 pub use refusal::Refusal;
+pub use rejection::Rejection;
+pub use schema::{NoType, schema_of_modules};

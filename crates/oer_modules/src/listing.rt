@@ -4,10 +4,11 @@ ghost use Rattle.oer_module_lexer.specs.Lexing.{lex};
 ghost use Rattle.oer_module_names.specs.Views.{modules_in};
 ghost use Rattle.oer_module_syntax.specs.Tree.{assignment_of, module_of};
 ghost use Rattle.oer_module_text.specs.Errors.{place_in};
+ghost use Rattle.oer_module_types.specs.Views.{typed_of};
 ghost use Rattle.oer_modules.specs.Causes.{IsGiven};
 ghost use Rattle.oer_modules.specs.Listed.{as_comment, as_line, entries_from, entries_of, entry_by_fault, entry_of, fault_in, nothing, printed_after, printed_of, rejected_words, with_entry};
 ghost use Rattle.oer_modules.specs.Marks.{AreMarked};
-ghost use Rattle.oer_modules.specs.Named.{is_memory, named_text};
+ghost use Rattle.oer_modules.specs.Named.{is_memory, named_text, named_type};
 ghost use Rattle.oer_modules.specs.Places.{lexed_of, point_of};
 ghost use Rattle.oer_modules.specs.Refusals.{refusal_of};
 ghost use Rattle.oer_modules.specs.Texts.{library_of};
@@ -17,7 +18,7 @@ ghost use Rattle.oer_notation.specs.Parsing.{parse};
 use crate::asked::{asked, type_at};
 use crate::cause::Cause;
 use crate::marks::Marks;
-use crate::nesting::text_by;
+use crate::nesting::typed_by;
 use crate::refusal::{Refusal, point_place, refuse};
 use crate::rejection::Rejection;
 use crate::texts::Library;
@@ -25,8 +26,27 @@ use oer_module_lexer::Tokens;
 use oer_module_names::{Names, Place};
 use oer_module_syntax::{Assignment, Body, Module};
 use oer_module_text::Why;
+use oer_module_types::Typed;
 use oer_notation::{TextWhy, parse_type};
 use std::alloc::{AllocError, Global};
+
+/// The type that a name has, and its text.
+#[tactic(auto, unfolding(crate::specs::Named::named_type))]
+fn named_type<'n, 't>(
+    alloc: Global,
+    names: &Names<'_, '_, 't>,
+    name: &'n str,
+    nesting: u8,
+) -> Result<Typed, Cause<'n>>
+where
+    't: 'n,
+    ensures { IsGiven typed_of result (named_type (modules_in names.now) name.now nesting) }
+{
+    let found = asked(names, name)?;
+    let of = type_at(names, found)?;
+    let typed = typed_by(alloc, names, nesting, of)?;
+    Ok(typed)
+}
 
 /// The text of the type that a name has.
 #[tactic(auto, unfolding(crate::specs::Named::named_text))]
@@ -40,10 +60,8 @@ where
     't: 'n,
     ensures { IsGiven string_bytes result (named_text (modules_in names.now) name.now nesting) }
 {
-    let found = asked(names, name)?;
-    let of = type_at(names, found)?;
-    let text = text_by(alloc, names, nesting, of)?;
-    Ok(text)
+    let typed = named_type(alloc, names, name, nesting)?;
+    Ok(typed.text)
 }
 
 fn is_memory(why: Why<'_>) -> bool

@@ -1,13 +1,14 @@
 //! How often a type that contains itself is written out.
-ghost use Rattle.std.specs.Prelude.{◌≡◌, ◌<◌, length, string_bytes};
+ghost use Rattle.std.specs.Prelude.{◌≡◌, ◌<◌, length};
 ghost use Rattle.oer_module_names.specs.Views.{modules_in};
 ghost use Rattle.oer_module_text.specs.Errors.{Gives, why_of};
+ghost use Rattle.oer_module_types.specs.Views.{typed_of};
 ghost use Rattle.oer_module_values.specs.Views.{type_in};
-ghost use Rattle.oer_modules.specs.Nesting.{is_over, text_by, usual};
+ghost use Rattle.oer_modules.specs.Nesting.{is_over, typed_by, usual};
 
 use oer_module_names::Names;
 use oer_module_text::{Error, Why};
-use oer_module_types::type_text;
+use oer_module_types::{Typed, typed};
 use oer_module_values::TypeIn;
 use std::alloc::Global;
 
@@ -24,40 +25,40 @@ fn is_over(why: Why<'_>) -> bool
     }
 }
 
-/// The text of a type, written out as often as it may be, from 8 times down to once.
+/// A type and its text, written out as often as it may be, from 8 times down to once.
 #[tactic(auto, unfolding(crate::specs::Nesting::usual))]
 fn usual<'m, 's, 't>(
     alloc: Global,
     names: &Names<'m, 's, 't>,
     of: TypeIn<'m, 's, 't>,
-) -> Result<String, Error<'t>>
+) -> Result<Typed, Error<'t>>
     requires { of.«module» < length (modules_in names.now) }
-    ensures { Gives string_bytes result (usual (modules_in names.now) (type_in of.entry)) }
+    ensures { Gives typed_of result (usual (modules_in names.now) (type_in of.entry)) }
 {
     let mut nesting = MOST;
     while nesting > 1 {
-        match type_text(alloc, names, nesting, of) {
-            Ok(text) => return Ok(text),
+        match typed(alloc, names, nesting, of) {
+            Ok(found) => return Ok(found),
             Err(error) if is_over(error.why) => nesting -= 1,
             Err(error) => return Err(error),
         }
     }
-    type_text(alloc, names, 1, of)
+    typed(alloc, names, 1, of)
 }
 
-/// The text of a type that is written out so often where it contains itself; 0 stands for as often as it may be, from 8
+/// A type and its text, written out so often where it contains itself; 0 stands for as often as it may be, from 8
 /// times down to once.
-pub fn text_by<'m, 's, 't>(
+pub fn typed_by<'m, 's, 't>(
     alloc: Global,
     names: &Names<'m, 's, 't>,
     nesting: u8,
     of: TypeIn<'m, 's, 't>,
-) -> Result<String, Error<'t>>
+) -> Result<Typed, Error<'t>>
     requires { of.«module» < length (modules_in names.now) }
-    ensures { Gives string_bytes result (text_by (modules_in names.now) nesting (type_in of.entry)) }
+    ensures { Gives typed_of result (typed_by (modules_in names.now) nesting (type_in of.entry)) }
 {
     if nesting == 0 {
         return usual(alloc, names, of);
     }
-    type_text(alloc, names, nesting, of)
+    typed(alloc, names, nesting, of)
 }

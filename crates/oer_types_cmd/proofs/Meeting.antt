@@ -11,7 +11,7 @@ use Rattle.oer_cmd.proofs.Meeting.{bytes}
 use Rattle.oer_model.specs.AsnType.{AsnType}
 use Rattle.oer_module_cmd.specs.Errors.{Error, Gives, Read, error_of, input, memory, not_text, options, refused, status_of as error_status}
 use Rattle.oer_module_cmd.specs.Input.{text_or, with_input}
-use Rattle.oer_module_cmd.specs.Rewriting.{by_modules}
+use Rattle.oer_module_cmd.specs.Given.{by_modules}
 use Rattle.oer_module_cmd.specs.declared.error.Error.{Error as RawError}
 use Rattle.oer_module_options.specs.Asked.{Listing, all, defined, one}
 use Rattle.oer_module_options.specs.Words.{Text}

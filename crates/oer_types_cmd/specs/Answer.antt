@@ -4,7 +4,7 @@ use Rattle.oer_cmd.specs.Answer.{input_octets, type_among, types_input}
 use Rattle.oer_cmd.specs.Expected.{Expected, refusal, unknown, value, ◌>>=◌}
 use Rattle.oer_module_cmd.specs.Errors.{Read, options}
 use Rattle.oer_module_cmd.specs.Input.{reads_input, text_in, text_or, with_input}
-use Rattle.oer_module_cmd.specs.Rewriting.{by_modules}
+use Rattle.oer_module_cmd.specs.Given.{by_modules}
 use Rattle.oer_module_options.specs.Asked.{Listing, all, defined, is_input, listing_asked, one}
 use Rattle.oer_module_options.specs.Errors.{Read as OptionRead}
 use Rattle.oer_module_options.specs.Scan.{Scan, scanned}

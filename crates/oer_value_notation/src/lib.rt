@@ -13,5 +13,5 @@ pub use fault::{TextFault, TextWhy};
 pub use number::{
     Bounds, read_bounds, read_bracketed_size, read_item_number, read_list_size, read_tag_number,
 };
-pub use value::read_need;
+pub use value::{digit_bits, inside, octets_in, read_need, text_in};
 pub use word::{TypeWord, is_name, type_word};

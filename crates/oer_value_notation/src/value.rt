@@ -1,5 +1,5 @@
 //! Values after DEFAULT.
-ghost use Rattle.std.specs.Prelude.{◌≡◌, [], suc, length, map, option_map, IfOk, Ok, string_bytes};
+ghost use Rattle.std.specs.Prelude.{◌≡◌, [], suc, length, map, option_map, IfOk, string_bytes};
 ghost use Rattle.oer_model.specs.AsnValue.{bit_list};
 ghost use Rattle.oer_values.specs.ShapeView.{named_number, need_of, type_of};
 ghost use Rattle.oer_values.specs.ValueView.{value_of};
@@ -140,7 +140,7 @@ fn read_item(cursor: &mut Cursor<'_, '_>, items: &[Item]) -> Result<Value, TextF
 }
 
 /// What stands between the quotes of digits or bits.
-fn inside(word: &str) -> &[u8]
+pub fn inside(word: &str) -> &[u8]
     ensures { result.now ≡ inside word.now }
 {
     let bytes = word.as_bytes();
@@ -152,16 +152,13 @@ fn inside(word: &str) -> &[u8]
 
 /// The octets of pairs of hexadecimal digits, if all have a pair.
 #[tactic(auto, using(crate::proofs::Turns::octets_given, crate::proofs::Turns::octets_none))]
-fn octets_in(alloc: Global, digits: &[u8]) -> Result<Option<Vec<u8>>, TextFault>
-    ensures { IsReading (λ o. option_map (λ v. v.items) o) result (Ok (octets_in digits.now)) }
+pub fn octets_in(alloc: Global, digits: &[u8]) -> Result<Option<Vec<u8>>, AllocError>
+    ensures { IfOk result (λ o. option_map (λ v. v.items) o ≡ octets_in digits.now) }
 {
     match hex::decode(alloc, digits) {
         Ok(octets) => Ok(Some(octets)),
         Err(fault) => match fault {
-            FromHexError::OutOfMemory => Err(TextFault {
-                at: 0,
-                why: TextWhy::Memory,
-            }),
+            FromHexError::OutOfMemory => Err(AllocError),
             _ => Ok(None),
         },
     }
@@ -179,8 +176,8 @@ fn bits_from(octets: Option<Vec<u8>>, count: u64) -> Option<Bits>
 
 /// The bits of hexadecimal digits, four each; none where they are too many to be counted.
 #[tactic(auto, unfolding(crate::specs::Values::digit_bits))]
-fn digit_bits(alloc: Global, digits: &[u8]) -> Result<Option<Bits>, TextFault>
-    ensures { IsReading (λ o. o) result (Ok (digit_bits digits.now)) }
+pub fn digit_bits(alloc: Global, digits: &[u8]) -> Result<Option<Bits>, AllocError>
+    ensures { IfOk result (λ o. o ≡ digit_bits digits.now) }
 {
     if digits.len() >= 4611686018427387904 {
         return Ok(None);
@@ -264,7 +261,7 @@ fn put_character(out: &mut String, quoting: Quoting, c: char) -> Result<Quoting,
 }
 
 /// What stands between the quotes of a text, each quote inside once.
-fn text_in(alloc: Global, word: &str) -> Result<String, AllocError>
+pub fn text_in(alloc: Global, word: &str) -> Result<String, AllocError>
     ensures { IfOk result (λ s. string_bytes s ≡ text_in word.now) }
 {
     let mut out = String::new(alloc);

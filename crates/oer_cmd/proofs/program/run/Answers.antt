@@ -10,7 +10,7 @@ returns-in-Err-answer-clause-refuses g c = λ taken low high.
     none_answers (map string_bytes c.args.words.now) c.in-Ok.options _ (g.R.Read.remaining c.args.input.now) c.in-Ok.ensures.ok (c.in-Err-answer.ensures.refused (omega (arith, c.report.ensures.status high, high))) refl
 
 pub returns-in-Err-clause-exact : goal.returns-in-Err-clause-exact
-returns-in-Err-clause-exact g c = words_end (map string_bytes c.args.words.now) _ _ c.in-Err.error c.refused.result _ c.in-Err.ensures.kinds c.in-Err.ensures.err c.refused.ensures.memory
+returns-in-Err-clause-exact g c = words_end (map string_bytes c.args.words.now) _ c.in-Err.error c.refused.result _ c.in-Err.ensures.kinds c.in-Err.ensures.err c.refused.ensures.memory
     c.refused.ensures.shows c.refused.ensures.alone c.refused.ensures.words c.refused.ensures.quiet c.refused.ensures.failed c.refused.ensures.kept c.refused.ensures.line refl
 
 pub returns-in-Err-answer-clause-exact : goal.returns-in-Err-answer-clause-exact

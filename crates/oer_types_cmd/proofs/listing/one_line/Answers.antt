@@ -1,7 +1,7 @@
 use Rattle.std.proofs.Common.{List, ℕ, String, Global, map}
 use Rattle.oer_cmd.proofs.Meeting.{bytes}
 use Rattle.oer_module_cmd.specs.Input.{with_input}
-use Rattle.oer_module_cmd.specs.Rewriting.{by_modules}
+use Rattle.oer_module_cmd.specs.Given.{by_modules}
 use Rattle.oer_module_options.specs.Scan.{text_of}
 use Rattle.oer_modules.specs.Modules.{type_of_modules}
 use Rattle.oer_types_cmd.specs.Answer.{from_modules, on_a_line}
