@@ -267,11 +267,7 @@ fn say(answer: Understood, said: &[u8], words: &mut [u8]) -> Understood
 }
 
 // The same of words for which memory may be refused.
-fn say_text(
-    answer: Understood,
-    said: Result<String, AllocError>,
-    words: &mut [u8],
-) -> Understood
+fn say_text(answer: Understood, said: Result<String, AllocError>, words: &mut [u8]) -> Understood
     ensures { MatchResult said (λ text. IsSaid (string_bytes text) answer words.old words.new result)
         (λ _. (result ≡ only 4) × (words.new ≡ words.old)) }
 {

@@ -3,9 +3,9 @@
 #![tactic(auto)]
 
 mod error;
-mod input;
 mod given;
+mod input;
 
 pub use error::{Error, report};
-pub use input::{input_for, reads_input, with_input};
 pub use given::{TypeAndWords, type_given, type_text};
+pub use input::{input_for, reads_input, with_input};

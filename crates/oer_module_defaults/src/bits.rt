@@ -225,7 +225,7 @@ fn write_these<'m, 's, 't>(
     requires { «module» < length (modules_in names.now) }
     ensures { Gives (λ v. (asn_value_of v, room_of room.new)) result
         (these_bits (modules_in names.now) place «module» size (map item_of items.now)
-            (members_from (map member_of members.now)) (room_of room.old)) }
+        (members_from (map member_of members.now)) (room_of room.old)) }
 {
     let numbers = bit_numbers(alloc, names, place, module, size, items, members)?;
     let bits = bits_at(alloc, &numbers, size)?;
@@ -248,7 +248,7 @@ pub fn write_named_bits<'m, 's, 't>(
     requires governor { governor.«module» < length (modules_in names.now) }
     ensures { Gives (λ v. (asn_value_of v, room_of room.new)) result
         (named_bits (modules_in names.now) (type_in of.entry) place (governor_of governor.entry)
-            (members_from (map member_of members.now)) (room_of room.old)) }
+        (members_from (map member_of members.now)) (room_of room.old)) }
 {
     if governor.items.is_empty() {
         return Err(no_text(place));

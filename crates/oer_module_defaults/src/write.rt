@@ -85,7 +85,7 @@ fn write_bit_string<'m, 's, 't>(
     requires literal { IsLiteralWithin (modules_in names.now) literal.now }
     ensures { Gives (λ v. (asn_value_of v, room_of room.new)) result
         (bit_string_at (modules_in names.now) (type_in of.entry) (literal_of literal.now).place (literal_of literal.now).governor
-            (literal_of literal.now).value (room_of room.old)) }
+        (literal_of literal.now).value (room_of room.old)) }
 {
     let place = literal.place;
     match &literal.value {

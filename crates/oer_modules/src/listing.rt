@@ -134,7 +134,12 @@ impl Listing {
     }
 
     /// A definition whose text isn't that of a well-formed type.
-    fn reject(&mut self, alloc: Global, name: &str, rejection: Rejection<'_>) -> Result<(), AllocError>
+    fn reject(
+        &mut self,
+        alloc: Global,
+        name: &str,
+        rejection: Rejection<'_>,
+    ) -> Result<(), AllocError>
         ensures { OnOk result (printed_of self.new ≡ with_entry (printed_of self.old) (as_comment name.now (rejected_words (option_map point_of rejection.entry.point) rejection.entry.why))) }
     {
         let line = format!(in alloc; "-- {name}: {rejection}\n")?;

@@ -261,7 +261,10 @@ impl<'t> Refusal<'t> {
             Why::TooDeep => self.show_words(f, "the type nests deeper than 32 levels"),
             Why::TooManyParts => self.show_words(f, "the type has more than 4096 parts"),
             Why::TooLong => self.show_words(f, "the text of the type is too long"),
-            Why::TooWide => self.show_words(f, "the size or the number of an item is larger than our types have"),
+            Why::TooWide => self.show_words(
+                f,
+                "the size or the number of an item is larger than our types have",
+            ),
         }
     }
 }
