@@ -10,4 +10,5 @@ pub mod Places
 pub mod Refusals
 pub mod Schemas
 pub mod Texts
+pub mod Unlisted
 pub mod Words

@@ -1,19 +1,21 @@
 -- What is printed of the definitions of modules.
 use Rattle.std.specs.Prelude.{ℕ, suc, List, [], ◌∷◌, ◌++◌, map, Option, Some, None, Result, Ok, Err, codes, string_bytes}
-use Rattle.oer_model.specs.AsnType.{AsnType}
 use Rattle.oer_module_names.specs.declared.error.Place.{Place as RawPlace}
 use Rattle.oer_module_syntax.specs.Tree.{Assignment, Body, Module, class_body, set_body, type_body, value_body}
 use Rattle.oer_module_text.specs.Errors.{place_in}
 use Rattle.oer_modules.specs.Causes.{Cause}
-use Rattle.oer_modules.specs.Named.{named_text}
+use Rattle.oer_modules.specs.Named.{named_type}
+use Rattle.oer_modules.specs.Nesting.{Typed}
 use Rattle.oer_modules.specs.Places.{Point as Place}
 use Rattle.oer_modules.specs.Refusals.{point_place, refuse}
 use Rattle.oer_modules.specs.Texts.{Library}
+use Rattle.oer_modules.specs.Unlisted.{unlisted_in}
 use Rattle.oer_modules.specs.Words.{Text, place_words, refusal_words}
 use Rattle.oer_modules.specs.declared.listing.Listing.{Listing}
+use Rattle.oer_modules.specs.declared.unlisted.Unlisted.{Unlisted}
+use Rattle.oer_modules.specs.declared.unlisted.Unlisted.TheVariants.{Rejected, Unspelled}
 use Rattle.oer_notation.specs.Parsing.{parse}
 use Rattle.oer_value_notation.specs.Faults.{text_why_name}
-use Rattle.oer_value_notation.specs.declared.fault.TextFault.{TextFault}
 use Rattle.oer_value_notation.specs.declared.fault.TextWhy.{TextWhy}
 
 -- ---- what is printed
@@ -56,30 +58,33 @@ printed_after p (e ∷ es) = printed_after (with_entry p e) es
 
 -- ---- which definitions are refused
 
--- why a text isn't that of a well-formed type, if it isn't
-abbrev pub fault_in : Result AsnType TextFault → Option TextWhy
-fault_in (Ok T) = None
-fault_in (Err e) = Some e.why
-
 abbrev pub why_words : TextWhy → Text
 why_words why = codes "the type is rejected: " ++ text_why_name why
 
--- why a type is refused that has such a text; the place is that of its Name
+-- why a type is refused that isn't well-formed, or has a text of none; the place is that of its Name
 abbrev pub rejected_words : Option Place → TextWhy → Text
 rejected_words p why = place_words p ++ why_words why
 
-module _ (ts : List Text) (l : Library) where
-  abbrev pub entry_by_fault : RawPlace → Text → Text → Option TextWhy → Entry
-  entry_by_fault p w t None = as_line w t
-  entry_by_fault p w t (Some why) = as_comment w (rejected_words (point_place ts l.homes p) why)
+abbrev pub unspelled_words : Option Place → Text
+unspelled_words p = place_words p ++ codes "the notation has no text for the type"
 
-  abbrev pub entry_by_text : RawPlace → Text → Result Text Cause → Entry
-  entry_by_text p w (Ok t) = entry_by_fault p w t (fault_in (parse t))
-  entry_by_text p w (Err c) = as_comment w (refusal_words (refuse ts l c))
+module _ (ts : List Text) (l : Library) where
+  abbrev pub entry_unless : RawPlace → Text → Text → Option Unlisted → Entry
+  entry_unless p w t None = as_line w t
+  entry_unless p w t (Some (Rejected why)) = as_comment w (rejected_words (point_place ts l.homes p) why)
+  entry_unless p w t (Some Unspelled) = as_comment w (unspelled_words (point_place ts l.homes p))
+
+  -- of a type and its text
+  abbrev pub entry_by_type : RawPlace → Text → Typed → Entry
+  entry_by_type p w x = entry_unless p w x.1 (unlisted_in x.0 (parse x.1))
+
+  abbrev pub entry_if_typed : RawPlace → Text → Result Typed Cause → Entry
+  entry_if_typed p w (Ok x) = entry_by_type p w x
+  entry_if_typed p w (Err c) = as_comment w (refusal_words (refuse ts l c))
 
   module _ (ms : List Module) (n : ℕ) where
     abbrev pub entry_by_body : RawPlace → Text → Body → Entry
-    entry_by_body p w (type_body t) = entry_by_text p w (named_text ms w n)
+    entry_by_body p w (type_body t) = entry_if_typed p w (named_type ms w n)
     entry_by_body p w (class_body fields syntax) = left_out
     entry_by_body p w (value_body governor value) = left_out
     entry_by_body p w (set_body governor set) = left_out

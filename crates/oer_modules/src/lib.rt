@@ -13,6 +13,7 @@ mod refusal;
 mod rejection;
 mod schema;
 mod texts;
+mod unlisted;
 mod words;
 
 pub use modules::{definitions_of_modules, type_of_modules};

@@ -6,28 +6,28 @@ ghost use Rattle.oer_module_syntax.specs.Tree.{assignment_of, module_of};
 ghost use Rattle.oer_module_text.specs.Errors.{place_in};
 ghost use Rattle.oer_module_types.specs.Views.{typed_of};
 ghost use Rattle.oer_modules.specs.Causes.{IsGiven};
-ghost use Rattle.oer_modules.specs.Listed.{as_comment, as_line, entries_from, entries_of, entry_by_fault, entry_of, fault_in, nothing, printed_after, printed_of, rejected_words, with_entry};
+ghost use Rattle.oer_modules.specs.Listed.{as_comment, as_line, entries_from, entries_of, entry_by_type, entry_of, nothing, printed_after, printed_of, rejected_words, unspelled_words, with_entry};
 ghost use Rattle.oer_modules.specs.Marks.{AreMarked};
 ghost use Rattle.oer_modules.specs.Named.{is_memory, named_text, named_type};
 ghost use Rattle.oer_modules.specs.Places.{lexed_of, point_of};
 ghost use Rattle.oer_modules.specs.Refusals.{refusal_of};
 ghost use Rattle.oer_modules.specs.Texts.{library_of};
 ghost use Rattle.oer_modules.specs.Words.{refusal_words};
-ghost use Rattle.oer_notation.specs.Parsing.{parse};
 
 use crate::asked::{asked, type_at};
 use crate::cause::Cause;
 use crate::marks::Marks;
 use crate::nesting::typed_by;
+use crate::place::{Before, Point};
 use crate::refusal::{Refusal, point_place, refuse};
 use crate::rejection::Rejection;
 use crate::texts::Library;
+use crate::unlisted::{Unlisted, unlisted_in};
 use oer_module_lexer::Tokens;
 use oer_module_names::{Names, Place};
 use oer_module_syntax::{Assignment, Body, Module};
 use oer_module_text::Why;
 use oer_module_types::Typed;
-use oer_notation::{TextWhy, parse_type};
 use std::alloc::{AllocError, Global};
 
 /// The type that a name has, and its text.
@@ -71,19 +71,6 @@ fn is_memory(why: Why<'_>) -> bool
         why,
         Why::Unresolved(oer_module_values::Why::Unread(oer_module_syntax::Why::Memory))
     )
-}
-
-/// Why a text isn't that of a well-formed type, if it isn't.
-fn fault_in(alloc: Global, text: &str) -> Result<Option<TextWhy>, AllocError>
-    ensures { IfOk result (λ found. found ≡ fault_in (parse text.now)) }
-{
-    match parse_type(alloc, text) {
-        Ok(_) => Ok(None),
-        Err(fault) => match fault.why {
-            TextWhy::Memory => Err(AllocError),
-            why => Ok(Some(why)),
-        },
-    }
 }
 
 /// Texts, what was read of them, and how often a type that contains itself is written out.
@@ -146,22 +133,37 @@ impl Listing {
         self.refused.push_str(line.as_str())
     }
 
-    /// A definition in the module of this number, which has this text.
-    fn add_text<'t>(
+    /// A definition whose type has no text.
+    fn leave_out(
+        &mut self,
+        alloc: Global,
+        name: &str,
+        point: Option<Point<'_>>,
+    ) -> Result<(), AllocError>
+        ensures { OnOk result (printed_of self.new ≡ with_entry (printed_of self.old) (as_comment name.now (unspelled_words (option_map point_of point.entry)))) }
+    {
+        let place = Before(point);
+        let line = format!(in alloc; "-- {name}: {place}the notation has no text for the type\n")?;
+        self.refused.push_str(line.as_str())
+    }
+
+    /// A definition in the module of this number, which has this type.
+    fn add_type<'t>(
         &mut self,
         alloc: Global,
         sources: Sources<'_, '_, '_, '_, '_, '_, 't>,
         module: usize,
         assignment: &Assignment<'_, 't>,
-        text: &str,
+        typed: Typed,
     ) -> Result<(), AllocError>
         requires lexed { map lexed_of sources.tokens.now ≡ map (λ t. lex t.now) sources.texts.now }
         requires marked { AreMarked (map (λ t. t.now) sources.texts.now) sources.marks.now }
         ensures { OnOk result (printed_of self.new ≡ with_entry (printed_of self.old)
-            (entry_by_fault (map (λ t. t.now) sources.entry.texts.now) (library_of sources.entry.library.now) (place_in «module» assignment.now.at) assignment.now.name.now text.now (fault_in (parse text.now)))) }
+            (entry_by_type (map (λ t. t.now) sources.entry.texts.now) (library_of sources.entry.library.now) (place_in «module» assignment.now.at) assignment.now.name.now (typed_of typed))) }
     {
-        let Some(why) = fault_in(alloc, text)? else {
-            return self.take(assignment.name, text);
+        let Typed { text, shape } = typed;
+        let Some(why) = unlisted_in(alloc, shape, text.as_str())? else {
+            return self.take(assignment.name, text.as_str());
         };
         let place = Place {
             module,
@@ -174,7 +176,12 @@ impl Listing {
             &sources.library.homes,
             place,
         );
-        self.reject(alloc, assignment.name, Rejection { point, why })
+        match why {
+            Unlisted::Rejected(why) => {
+                self.reject(alloc, assignment.name, Rejection { point, why })
+            }
+            Unlisted::Unspelled => self.leave_out(alloc, assignment.name, point),
+        }
     }
 
     /// A definition in the module of this number, if it is one of a type.
@@ -193,8 +200,8 @@ impl Listing {
         let Body::Type(_) = &assignment.body else {
             return Ok(());
         };
-        match named_text(alloc, sources.names, assignment.name, sources.nesting) {
-            Ok(text) => self.add_text(alloc, sources, module, assignment, text.as_str()),
+        match named_type(alloc, sources.names, assignment.name, sources.nesting) {
+            Ok(typed) => self.add_type(alloc, sources, module, assignment, typed),
             Err(cause) if is_memory(cause.why) => Err(AllocError),
             Err(cause) => {
                 let refusal = refuse(

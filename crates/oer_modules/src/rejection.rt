@@ -5,7 +5,7 @@ ghost use Rattle.oer_modules.specs.Listed.{rejected_words, why_words};
 ghost use Rattle.oer_modules.specs.Places.{point_of};
 
 use crate::place::{Before, Point};
-use oer_notation::TextWhy;
+use oer_text::TextWhy;
 use std::fmt;
 
 /// Why a type of modules is rejected that has a text in our notation: it isn't well-formed. It displays as

@@ -20,7 +20,7 @@ use crate::rejection::Rejection;
 use crate::texts::{Library, lex_each, read_each};
 use oer_module_lexer::Tokens;
 use oer_module_names::{Found, Names, Place};
-use oer_notation::TextWhy;
+use oer_text::TextWhy;
 use oer_types::Schema;
 use oer_types::laws::first_fault;
 use oer_values::Shape;
