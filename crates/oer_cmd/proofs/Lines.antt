@@ -1,18 +1,25 @@
 -- From the line of a task to that of the words.
 use Rattle.std.proofs.Common.{◌≡◌, ◌∙◌, ℕ, List, [], ◌∷◌, ◌++◌, length, Option, Some, None, refl, sym, ap, subst, arith, length-append, append-nil}
 use Rattle.std.specs.Str.Parse.{digits_value, without_leading_plus}
-use Rattle.std.specs.Prelude.{eqb, get_or, if◌then◌else◌}
+use Rattle.std.specs.Prelude.{codes, eqb, get_or, if◌then◌else◌}
 use Rattle.clap.specs.Words.{Text}
 use Rattle.hex.specs.Hex.{encode_lower}
 use Rattle.oer_model.specs.AsnType.{AsnType}
 use Rattle.oer_model.specs.Parts.{Step, Within}
 use Rattle.oer_parts.specs.Handing.{Begins}
-use Rattle.oer_options.specs.Words.{Asks, HasFlags, IsTask, Kind, asked, canon, check, given, given_number, kind, make, name_of, part, path_among, show, show_ascii, source_option, source_text, texts_in, texts_of}
+use Rattle.oer_options.specs.Words.{Asks, HasFlags, IsTask, Kind, NumberOf, asked, canon, check, given, given_number, kind, make, name_of, part, path_among, show, show_ascii, source_option, source_text, texts_in, texts_of}
 use Rattle.oer_options.specs.declared.options.Options.{Options}
 use Rattle.oer_options.specs.declared.options.Task.{Task}
 use Rattle.oer_cmd.specs.Octets.{AreAll, AreSpelt}
-use Rattle.oer_cmd.specs.Run.{IsLineGiven, IsLineAsked, IsEncoding, IsLine, IsLineBy, IsLineOf, IsNoFront, IsPart, MayBe, NoLine, NoLineAsked, OfOctets, OfText}
+use Rattle.oer_cmd.specs.Run.{IsLineGiven, IsLineAsked, IsLineAskedFor, IsEncoding, IsLine, IsLineBy, IsLineOf, IsNoFront, IsPart, MayBe, NoLine, NoLineAsked, NoLineAskedFor, NoLineOf, OfOctets, OfText}
 use Rattle.oer_cmd.specs.Types.{SpelledWith}
+
+line_by_words : (words : List Text) (task : Task) (told : Option (List ℕ)) (T : AsnType) (limit : ℕ) (line : Text)
+    → IsTask (asked words) (given words) (given_number words) task → IsLineOf task told T limit line
+    → IsLineBy (kind task) (given words (source_option (kind task))) (path_among (kind task) (given words)) told T limit line
+line_by_words words task told T limit line is h =
+    subst (λ o. IsLineBy (kind task) o (path_among (kind task) (given words)) told T limit line) (sym is.1)
+    (subst (λ p. IsLineBy (kind task) (source_text task) p told T limit line) (sym is.2) h)
 
 line_of_words : (words : List Text) (task : Task) (told : Option (List ℕ)) (T : AsnType) (limit : ℕ) (line : Text)
     → IsTask (asked words) (given words) (given_number words) task → SpelledWith (texts_in words) (source_text task) told T
@@ -22,8 +29,7 @@ line_of_words words task told T limit line is named h = (
   is.0,
   is.3,
   subst (λ o. SpelledWith (texts_in words) o told T) (sym is.1) named,
-  subst (λ o. IsLineBy (kind task) o (path_among (kind task) (given words)) told T limit line) (sym is.1)
-      (subst (λ p. IsLineBy (kind task) (source_text task) p told T limit line) (sym is.2) h),
+  line_by_words words task told T limit line is h,
 )
 
 -- The third letters of the names of tasks differ, but for the two of `show`.
@@ -89,17 +95,22 @@ one_kind : (o : Option Text) (flag : Text → Option Text) (j k : Kind) → o �
 one_kind o flag j k p q f g = one_flag j k flag (sym (named_is j) ∙ ap named (sym p ∙ q) ∙ named_is k) f g
 
 -- and back
+task_by_words : (words : List Text) (task : Task) (told : Option (List ℕ)) (T : AsnType) (limit : ℕ) (line : Text)
+    → IsTask (asked words) (given words) (given_number words) task → (k : Kind) → k ≡ kind task
+    → IsLineBy k (given words (source_option k)) (path_among k (given words)) told T limit line → IsLineOf task told T limit line
+task_by_words words task told T limit line is k same h =
+    subst (λ p. IsLineBy (kind task) (source_text task) p told T limit line) is.2
+    (subst (λ o. IsLineBy (kind task) o (path_among (kind task) (given words)) told T limit line) is.1
+    (subst (λ k. IsLineBy k (given words (source_option k)) (path_among k (given words)) told T limit line) same h))
+
 task_line : (words : List Text) (task : Task) (told : Option (List ℕ)) (T : AsnType) (limit : ℕ) (line : Text)
     → IsTask (asked words) (given words) (given_number words) task → IsLine words told T limit line
     → SpelledWith (texts_in words) (source_text task) told T × IsLineOf task told T limit line
 task_line words task told T limit line is h =
-    let same : h.0 ≡ kind task = one_kind (asked words) (given_number words) h.0 (kind task) h.1 is.0 h.2 is.3 in
-    let there : IsLineBy (kind task) (given words (source_option (kind task))) (path_among (kind task) (given words)) told T limit line =
-    subst (λ k. IsLineBy k (given words (source_option k)) (path_among k (given words)) told T limit line) same h.4 in (
+    let same : h.0 ≡ kind task = one_kind (asked words) (given_number words) h.0 (kind task) h.1 is.0 h.2 is.3 in (
       subst (λ o. SpelledWith (texts_in words) o told T) is.1
           (subst (λ k. SpelledWith (texts_in words) (given words (source_option k)) told T) same h.3),
-      subst (λ p. IsLineBy (kind task) (source_text task) p told T limit line) is.2
-          (subst (λ o. IsLineBy (kind task) o (path_among (kind task) (given words)) told T limit line) is.1 there),
+      task_by_words words task told T limit line is h.0 same h.4,
     )
 
 texts_are : (words : List Text) (o : Options) → Asks words o → texts_of o ≡ texts_in words
@@ -117,16 +128,17 @@ answers_words words o told line asks h = record {
       (subst (λ t. SpelledWith t (source_text o.task) told h.type) (texts_are words o asks) h.spelled) h.line_is;
 }
 
-same_limit : (words : List Text) (o : Options) (told : Option (List ℕ)) (line : Text) → Asks words o → (h : IsLineAsked words told line) → h.limit ≡ o.limit
-same_limit words o told line asks h =
-    let texts : h.limit_text ≡ asks.limit.0 = (let both = sym h.limit_is ∙ asks.limit.1 in cc) in
-    h.number.value ∙ ap (λ t. digits_value 10 (without_leading_plus t)) texts ∙ sym asks.limit.2.value
+same_limit : (words : List Text) (o : Options) (limit : ℕ) (text : Text) → Asks words o → given_number words (codes "limit") ≡ Some text
+    → NumberOf text limit → limit ≡ o.limit
+same_limit words o limit text asks is number =
+    let texts : text ≡ asks.limit.0 = (let both = sym is ∙ asks.limit.1 in cc) in
+    number.value ∙ ap (λ t. digits_value 10 (without_leading_plus t)) texts ∙ sym asks.limit.2.value
 
 answers_options : (words : List Text) (o : Options) (told : Option (List ℕ)) (line : Text) → Asks words o → IsLineAsked words told line
     → IsLineGiven (texts_of o) o.task o.limit told line
 answers_options words o told line asks h =
     let is = task_line words o.task told h.type o.limit line asks.task
-    (subst (λ n. IsLine words told h.type n line) (same_limit words o told line asks h) h.line_is) in
+    (subst (λ n. IsLine words told h.type n line) (same_limit words o h.limit h.limit_text asks h.limit_is h.number) h.line_is) in
     record {
       type = h.type;
       spelled = subst (λ t. SpelledWith t (source_text o.task) told h.type) (sym (texts_are words o asks)) is.0;
@@ -137,6 +149,32 @@ answers_options words o told line asks h =
 pub none_answers : (words : List Text) (o : Options) (known told : Option (List ℕ)) → Asks words o
     → NoLine known (IsLineGiven (texts_of o) o.task o.limit) → known ≡ told → NoLineAsked words told
 none_answers words o known told asks none same = λ line h. none line (λ b may. answers_options words o (Some b) line asks (h b (subst (λ k. MayBe k b) same may)))
+
+-- ---- for values of a type that is given
+
+pub answers_words_for : (T : AsnType) (words : List Text) (o : Options) (told : Option (List ℕ)) (line : Text) → Asks words o
+    → IsLineOf o.task told T o.limit line → IsLineAskedFor T words told line
+answers_words_for T words o told line asks h = record {
+  limit = o.limit;
+  limit_text = asks.limit.0;
+  limit_is = asks.limit.1;
+  number = asks.limit.2;
+  task = kind o.task;
+  asks = asks.task.0;
+  flags = asks.task.3;
+  line_is = line_by_words words o.task told T o.limit line asks.task h;
+}
+
+answers_options_for : (T : AsnType) (words : List Text) (o : Options) (told : Option (List ℕ)) (line : Text) → Asks words o
+    → IsLineAskedFor T words told line → IsLineOf o.task told T o.limit line
+answers_options_for T words o told line asks h =
+    let same = one_kind (asked words) (given_number words) h.task (kind o.task) h.asks asks.task.0 h.flags asks.task.3 in
+    subst (λ n. IsLineOf o.task told T n line) (same_limit words o h.limit h.limit_text asks h.limit_is h.number)
+    (task_by_words words o.task told T h.limit line asks.task h.task same h.line_is)
+
+pub none_answers_for : (T : AsnType) (words : List Text) (o : Options) (known told : Option (List ℕ)) → Asks words o
+    → NoLineOf o.task known T o.limit → known ≡ told → NoLineAskedFor T words told
+none_answers_for T words o known told asks none same = λ line h. none line (λ b may. answers_options_for T words o (Some b) line asks (h b (subst (λ k. MayBe k b) same may)))
 
 -- what holds of all the octets holds of those that the words give
 pub of_all : (hex : Option Text) (spelt told : Option (List ℕ)) (b : List ℕ) (P : List ℕ → Type 0) → AreSpelt hex spelt → AreAll spelt told b → P b → OfOctets hex told P

@@ -157,11 +157,32 @@ pub record IsLineAsked (words : List Text) (told : Option (List ℕ)) (line : Te
   pub type : AsnType
   pub line_is : IsLine words told type limit line
 
+-- The line that the words ask for, by their options, for values of a type that is given, where the input had these octets left.
+-- Options on types count for nothing.
+pub record IsLineAskedFor (T : AsnType) (words : List Text) (told : Option (List ℕ)) (line : Text) : Type 0 where
+  pub limit : ℕ
+  pub limit_text : Text
+  pub limit_is : given_number words (codes "limit") ≡ Some limit_text
+  pub number : NumberOf limit_text limit
+  pub task : Kind
+  pub asks : asked words ≡ Some (name_of task)
+  pub flags : HasFlags task (given_number words)
+  pub line_is : IsLineBy task (given words (source_option task)) (path_among task (given words)) told T limit line
+
 -- no line is what the words ask for, whatever the input had left
 abbrev pub NoLineAsked : List Text → Option (List ℕ) → Type 0
 NoLineAsked words told = NoLine told (IsLineAsked words)
+
+-- the same for values of a type that is given
+abbrev pub NoLineAskedFor : AsnType → List Text → Option (List ℕ) → Type 0
+NoLineAskedFor T words told = NoLine told (IsLineAskedFor T words)
 
 -- the output grew by that line alone, and nothing is on the errors
 abbrev pub Prints : List Text → Option (List ℕ) → Option (List ℕ) → Option (List ℕ) → Option (List ℕ) → Option (List ℕ) → Type 0
 Prints words told output output' errors errors' =
     (line : Text) × IsLineAsked words told line × Appends output output' (line ++ 10 ∷ []) × Keeps errors errors'
+
+-- the same for values of a type that is given
+abbrev pub PrintsFor : AsnType → List Text → Option (List ℕ) → Option (List ℕ) → Option (List ℕ) → Option (List ℕ) → Option (List ℕ) → Type 0
+PrintsFor T words told output output' errors errors' =
+    (line : Text) × IsLineAskedFor T words told line × Appends output output' (line ++ 10 ∷ []) × Keeps errors errors'

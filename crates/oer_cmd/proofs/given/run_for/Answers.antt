@@ -2,8 +2,14 @@ use Rattle.std.proofs.Common.{inl, inr, arith, map, refl, string_bytes}
 use Rattle.oer_types.specs.Schema.{the_type}
 use Rattle.oer_cmd.specs.Answer.{task_answer}
 use Rattle.oer_cmd.proofs.Asking.{given_later}
+use Rattle.oer_cmd.proofs.Lines.{none_answers_for}
 use Rattle.oer_cmd.proofs.Endings.{broken_end, does_for, keeps_same, printed_end, refused_end, words_end}
 use Rattle.oer_cmd.proofs.given.run_for.Goals as goal
+
+pub returns-in-Err-line_of-clause-refuses : goal.returns-in-Err-line_of-clause-refuses
+returns-in-Err-line_of-clause-refuses g c = λ taken low high.
+    none_answers_for (the_type c.args.schema.now) (map string_bytes c.args.words.now) c.in-Ok.options _ (g.R.Read.remaining c.args.input.now) c.in-Ok.ensures.ok
+    (c.in-Err-line_of.ensures.refused (omega (arith, c.report.ensures.status high, high))) refl
 
 pub returns-in-Err-clause-exact : goal.returns-in-Err-clause-exact
 returns-in-Err-clause-exact g c = words_end (map string_bytes c.args.words.now) _ c.in-Err.error c.refused.result _ c.in-Err.ensures.kinds c.in-Err.ensures.err
