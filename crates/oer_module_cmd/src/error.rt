@@ -1,4 +1,4 @@
-//! Why the words aren't rewritten.
+//! Why the words ask for no type.
 ghost use Rattle.std.specs.Prelude.{◌≡◌, ◌≤◌, IfOk, Some, string_bytes};
 ghost use Rattle.oer_module_cmd.specs.Errors.{AppendsFront, IsByNone, IsByRefusal, Reports, error_of, line_of, status_of, text_of};
 ghost use Rattle.oer_module_cmd.specs.declared.error.Error.TheVariants as raw;
@@ -10,7 +10,7 @@ use std::alloc::{AllocError, Global};
 use std::fmt;
 use std::io::Write;
 
-/// Why the words aren't rewritten. It displays as what stands after `oer: ` in the line on standard error.
+/// Why the words ask for no type. It displays as what stands after `oer: ` in the line on standard error.
 #[derive(Clone, Copy)]
 pub enum Error<'a> {
     /// The options are at fault.

@@ -1,4 +1,4 @@
-//! From the texts of ASN.1 modules to the text of a type in our notation.
+//! From the texts of ASN.1 modules to a type, and to its text in our notation.
 #![tactic(auto)]
 
 mod asked;
