@@ -148,7 +148,8 @@ answers_options words o told line asks h =
 -- Where the options have no line, the words have none.
 pub none_answers : (words : List Text) (o : Options) (known told : Option (List ℕ)) → Asks words o
     → NoLine known (IsLineGiven (texts_of o) o.task o.limit) → known ≡ told → NoLineAsked words told
-none_answers words o known told asks none same = λ line h. none line (λ b may. answers_options words o (Some b) line asks (h b (subst (λ k. MayBe k b) same may)))
+none_answers words o known told asks none same = λ line h. none line
+    (λ b may. answers_options words o (Some b) line asks (h b (subst (λ k. MayBe k b) same may)))
 
 -- ---- for values of a type that is given
 
@@ -174,7 +175,8 @@ answers_options_for T words o told line asks h =
 
 pub none_answers_for : (T : AsnType) (words : List Text) (o : Options) (known told : Option (List ℕ)) → Asks words o
     → NoLineOf o.task known T o.limit → known ≡ told → NoLineAskedFor T words told
-none_answers_for T words o known told asks none same = λ line h. none line (λ b may. answers_options_for T words o (Some b) line asks (h b (subst (λ k. MayBe k b) same may)))
+none_answers_for T words o known told asks none same = λ line h. none line
+    (λ b may. answers_options_for T words o (Some b) line asks (h b (subst (λ k. MayBe k b) same may)))
 
 -- what holds of all the octets holds of those that the words give
 pub of_all : (hex : Option Text) (spelt told : Option (List ℕ)) (b : List ℕ) (P : List ℕ → Type 0) → AreSpelt hex spelt → AreAll spelt told b → P b → OfOctets hex told P
