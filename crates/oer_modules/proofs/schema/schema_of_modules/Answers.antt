@@ -21,8 +21,9 @@ pub returns-in-Ok-placed_type : goal.returns-in-Ok-placed_type
 returns-in-Ok-placed_type c =
     let read = ap (λ ks. read_each 0 (map lexed_of ks) no_modules) (sym c.deref.ensures.value) in
     let modules = c.in_ok-names.ensures ∙ ap (map module_of) c.deref-2.ensures.value in
-    subst (λ r. GivesType c.sound.result r) (sym (schema_answer c.in_ok-tokens.tokens.items c.args.texts.now c.in_ok-tokens.ensures c.args.name.now c.args.nesting (Ok (library_of c.in-Ok.library)) (read ∙ c.in-Ok.ensures)
-    ∙ ap (sound_in (texts_of c.args.texts.now) (library_of c.in-Ok.library)) (ap (λ ms. placed_type ms c.args.name.now c.args.nesting) (sym modules) ∙ c.in-Ok-placed_type.ensures)))
+    subst (λ r. GivesType c.sound.result r)
+    (sym (schema_answer c.in_ok-tokens.tokens.items c.args.texts.now c.in_ok-tokens.ensures c.args.name.now c.args.nesting (Ok (library_of c.in-Ok.library))
+    (read ∙ c.in-Ok.ensures) ∙ ap (sound_in (texts_of c.args.texts.now) (library_of c.in-Ok.library)) (ap (λ ms. placed_type ms c.args.name.now c.args.nesting) (sym modules) ∙ c.in-Ok-placed_type.ensures)))
     c.sound.ensures
 
 pub returns : goal.returns
@@ -30,5 +31,6 @@ returns c =
     let read = ap (λ ks. read_each 0 (map lexed_of ks) no_modules) (sym c.deref.ensures.value) in
     let modules = c.in_ok-names.ensures ∙ ap (map module_of) c.deref-2.ensures.value in
     λ not_memory. schema_answer c.in_ok-tokens.tokens.items c.args.texts.now c.in_ok-tokens.ensures c.args.name.now c.args.nesting (Ok (library_of c.in-Ok.library)) (read ∙ c.in-Ok.ensures)
-    ∙ ap (sound_in (texts_of c.args.texts.now) (library_of c.in-Ok.library)) (ap (λ ms. placed_type ms c.args.name.now c.args.nesting) (sym modules) ∙ c.in-Err-placed_type.ensures (λ m. not_memory (c.refuse.ensures.why ∙ m)))
+    ∙ ap (sound_in (texts_of c.args.texts.now) (library_of c.in-Ok.library)) (ap (λ ms. placed_type ms c.args.name.now c.args.nesting) (sym modules)
+    ∙ c.in-Err-placed_type.ensures (λ m. not_memory (c.refuse.ensures.why ∙ m)))
     ∙ ap (λ r. Err (refused r)) (sym c.refuse.ensures.value)
