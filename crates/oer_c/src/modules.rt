@@ -5,7 +5,6 @@ ghost use Rattle.oer_modules.specs.Modules.{definitions_of_modules};
 ghost use Rattle.oer_modules.specs.Named.{is_memory};
 ghost use Rattle.oer_modules.specs.Places.{point_of};
 ghost use Rattle.oer_c.specs.Modules.{AreRead, AreUnderstood, IsNoText, IsSaid, IsStopBy, IsStopped, IsText, IsTextless, IsTypeless, Tells, Understands, at_place, at_text, first_words, is_line_feed, not_utf8_words, only, refused, rejected, texts_of, with_words};
-ghost use Rattle.oer_c.specs.Reasons.{modules_number};
 ghost use Rattle.oer_c.specs.Sharing.{types_in, types_of};
 
 use crate::buffer::put_front;

@@ -1,5 +1,5 @@
 //! The type that the options of modules ask for, and the words without these.
-ghost use Rattle.std.specs.Prelude.{◌≡◌, ◌∷◌, List, ℕ, IfOk, OnOk, false, map, option_map, string_bytes};
+ghost use Rattle.std.specs.Prelude.{◌≡◌, ◌∷◌, List, ℕ, IfOk, false, map, option_map, string_bytes};
 ghost use Rattle.oer_module_options.specs.Asked.{asked_of};
 ghost use Rattle.oer_module_options.specs.Scan.{item_of, scan_of, text_of};
 ghost use Rattle.oer_modules.specs.Modules.{type_of_modules};

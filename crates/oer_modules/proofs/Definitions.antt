@@ -1,5 +1,5 @@
 -- Each line that is printed before the comments is a definition.
-use Rattle.std.proofs.Common.{◌≡◌, ℕ, suc, List, [], ◌∷◌, ◌++◌, map, Bool, true, false, Option, Some, None, Result, Ok, Err, if◌then◌else◌, refl, sym, ap, ◌∙◌, subst}
+use Rattle.std.proofs.Common.{◌≡◌, ℕ, suc, List, [], ◌∷◌, map, Bool, true, false, Option, Some, None, Result, Ok, Err, if◌then◌else◌, refl, sym, ap, ◌∙◌, subst}
 use Rattle.std.specs.Str.{bytes_eq}
 use Rattle.std.proofs.lemmas.Slice.Eq.{bytes_eq-Decides}
 use Rattle.oer_model.specs.AsnType.{AsnType}
@@ -16,19 +16,17 @@ use Rattle.oer_module_values.specs.Types.{TypeIn}
 use Rattle.oer_modules.proofs.Listings.{after_append}
 use Rattle.oer_modules.specs.Asked.{asked, type_at}
 use Rattle.oer_modules.specs.Causes.{Cause, ◌>>=◌, by_name, by_type}
-use Rattle.oer_modules.specs.Laws.{AreDefinitions, IsDefinition, PrintsDefinitions, no_lines, one_more}
-use Rattle.oer_modules.specs.Listed.{Entry, Printed, as_line, entries_from, entries_of, entry_by_body, entry_by_type, entry_if_typed, entry_of, entry_unless, nothing, one_line, printed_after, as_comment, left_out, with_entry}
-use Rattle.oer_modules.specs.Modules.{definitions_of_modules, of_texts, or_misread, or_refused, type_of_modules}
+use Rattle.oer_modules.specs.Laws.{AreDefinitions, PrintsDefinitions, no_lines, one_more}
+use Rattle.oer_modules.specs.Listed.{Entry, Printed, entries_from, entries_of, entry_by_body, entry_if_typed, entry_of, entry_unless, nothing, one_line, printed_after, with_entry}
+use Rattle.oer_modules.specs.Modules.{definitions_of_modules, or_misread, or_refused, type_of_modules}
 use Rattle.oer_modules.specs.Named.{named_text, named_type}
 use Rattle.oer_modules.specs.Nesting.{Typed, typed_by}
-use Rattle.oer_modules.specs.Refusals.{Refusal, unreadable}
-use Rattle.oer_modules.specs.Schemas.{NoType, name_place, placed_type, schema_by, schema_of_modules, sound_by, sound_in}
+use Rattle.oer_modules.specs.Schemas.{name_place, placed_type, schema_by, schema_of_modules, sound_by, sound_in}
 use Rattle.oer_modules.specs.Texts.{Library, no_modules, read_each}
-use Rattle.oer_modules.specs.Unlisted.{are_alike, unlisted_by, unlisted_in}
+use Rattle.oer_modules.specs.Unlisted.{are_alike, unlisted_by}
 use Rattle.oer_modules.specs.Words.{Text}
 use Rattle.oer_modules.specs.declared.texts.Misread.{Misread}
-use Rattle.oer_modules.specs.declared.unlisted.Unlisted.{Unlisted}
-use Rattle.oer_modules.specs.declared.unlisted.Unlisted.TheVariants.{Rejected, Unspelled}
+use Rattle.oer_modules.specs.declared.unlisted.Unlisted.TheVariants.{Unspelled}
 use Rattle.oer_notation.specs.Laws.{ParseSound}
 use Rattle.oer_notation.specs.Parsing.{parse}
 use Rattle.oer_printer.specs.Printing.{printed}

@@ -1,6 +1,6 @@
 -- What the turns through definitions print.
 use Rattle.std.proofs.Common.{◌≡◌, ◌<◌, ◌≤◌, ◌+◌, ℕ, suc, List, [], ◌∷◌, ◌++◌, drop, length, map, get_or, add-one, refl, sym, ap, ◌∙◌}
-use Rattle.oer_module_syntax.specs.Tree.{Assignment, Module, assignment_of, module_of}
+use Rattle.oer_module_syntax.specs.Tree.{Module, assignment_of, module_of}
 use Rattle.oer_module_syntax.specs.declared.tree.Assignment.{Assignment as RawAssignment}
 use Rattle.oer_module_syntax.specs.declared.tree.Module.{Module as RawModule}
 use Rattle.oer_modules.proofs.Walks.{at_drop, past_drop}

@@ -1,6 +1,5 @@
 -- What is shown of a name is text.
-use Rattle.std.proofs.Common.{◌≡◌, ◌<◌, ◌≤◌, ℕ, Bool, true, false, not, cond, ltb, ltb-false, Option, Some, None, List, length, take, get_or, ◌||◌, refl, sym, ap, arith, IsUtf8}
-use Rattle.std.specs.Prelude.{nat_lt}
+use Rattle.std.proofs.Common.{◌≡◌, ◌<◌, ◌≤◌, ℕ, Bool, true, false, not, cond, ltb, ltb-false, Option, Some, None, List, length, take, get_or, refl, sym, ap, arith, IsUtf8}
 use Rattle.std.specs.List.{before_first, position_or_len}
 use Rattle.std.proofs.lemmas.Bool.Decides.{nat_tests}
 use Rattle.std.proofs.lemmas.List.{get_or-take, length-take, take_all}

@@ -1,5 +1,5 @@
 //! The text of a type of modules, and of all their definitions.
-ghost use Rattle.std.specs.Prelude.{◌≡◌, map, string_bytes};
+ghost use Rattle.std.specs.Prelude.{map, string_bytes};
 ghost use Rattle.oer_modules.specs.Modules.{IsListed, definitions_of_modules, type_of_modules};
 ghost use Rattle.oer_modules.specs.Refusals.{Gives};
 

@@ -2,9 +2,7 @@ use Rattle.std.proofs.Common.{Ok, Err, map, sym, ap, ◌∙◌, subst}
 use Rattle.oer_module_syntax.specs.Tree.{module_of}
 use Rattle.oer_module_text.specs.declared.error.Why.TheVariants.{Unresolved}
 use Rattle.oer_module_values.specs.declared.error.Why.TheVariants.{Unread}
-use Rattle.oer_values.specs.ShapeView.{type_of}
 use Rattle.oer_modules.proofs.Wholes.{schema_answer, texts_of}
-use Rattle.oer_modules.specs.Causes.{cause_of}
 use Rattle.oer_modules.specs.Places.{lexed_of}
 use Rattle.oer_modules.specs.Schemas.{GivesType, placed_type, refused, sound_in}
 use Rattle.oer_modules.specs.Texts.{library_of, no_modules, read_each}
