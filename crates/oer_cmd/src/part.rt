@@ -29,6 +29,7 @@ fn path_of<'a>(alloc: Global, text: Option<&str>) -> Result<Vec<Step>, Fault<'a>
     let Some(text) = text else {
         return Ok(Vec::new(alloc));
     };
+    // The law that a text spells at most one path.
     one_path();
     match read_path(alloc, text) {
         Ok(path) => Ok(path),
