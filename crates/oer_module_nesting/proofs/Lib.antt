@@ -1,0 +1,6 @@
+pub mod Alike
+pub mod Leaves
+pub mod Defaults
+pub mod Gathered
+pub mod Elements
+pub mod Types
