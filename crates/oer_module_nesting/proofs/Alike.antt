@@ -11,10 +11,6 @@ Related R (Err e) q = Unit {0}
 pub record Alike {A : Type 0} (R : A → A → Type 0) (p q : Read A) : Type 0 where
   pub related : Related R p q
 
--- whatever they are
-abbrev pub Any : {A : Type 0} → A → A → Type 0
-Any x y = Unit {0}
-
 -- the same, each with a room
 abbrev pub Same : {A : Type 0} → A × Room → A × Room → Type 0
 Same x y = x.0 ≡ y.0

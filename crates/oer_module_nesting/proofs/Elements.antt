@@ -41,7 +41,7 @@ abbrev pub Between : Gathered × Room → Gathered × Room → Type 0
 Between x y = AreNested x.0 y.0
 
 module _ (ms : List Module) where
-  -- what t is in modules: if it governs values, it holds no other type
+  -- what t is in modules: if its values have a kind, it holds no other type
   abbrev pub NestOf : TypeIn → AsnType × Room → AsnType × Room → Type 0
   NestOf t x y = IsNested x.0 y.0 × (Governs ms t → IsLeaf x.0)
 

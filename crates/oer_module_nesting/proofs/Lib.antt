@@ -4,3 +4,4 @@ pub mod Defaults
 pub mod Gathered
 pub mod Elements
 pub mod Types
+pub mod Example

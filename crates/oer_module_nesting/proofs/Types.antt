@@ -72,11 +72,11 @@ module _ (ms : List Module) where
   unfolding single_at
   single t u gs r s = single_of t u u.«module» u.type gs r s
 
--- what stands for a type that governs values at a place
+-- values of the tree in a module have a kind
 abbrev Admits : ℕ → Tree → Type 0
 Admits m u = (p : Place) × (g : Governor) × (or_refused p (governed m u) ≡ Ok g)
 
--- a tree in a module: if it governs values, it holds no other type
+-- what the tree in a module is: if its values have a kind, it holds no other type
 abbrev Meant : ℕ → Tree → AsnType × Room → AsnType × Room → Type 0
 Meant m u x y = IsNested x.0 y.0 × (Admits m u → IsLeaf x.0)
 

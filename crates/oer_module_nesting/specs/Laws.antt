@@ -36,6 +36,6 @@ CanonicalAlike = OfBoth (λ T U. (v : AsnValue) (b : List ℕ) → HasNoEnd T v 
 abbrev pub FreeEncodes : Type 0
 FreeEncodes = OfBoth (λ T U. (v : AsnValue) (b : List ℕ) → IsFree v → Encodes T v b → Encodes U v b)
 
--- So do its canonical octets.
+-- The canonical octets of such a value by the first are those by the second.
 abbrev pub FreeCanonical : Type 0
 FreeCanonical = OfBoth (λ T U. (v : AsnValue) (b : List ℕ) → IsFree v → IsCanonical T v b → IsCanonical U v b)

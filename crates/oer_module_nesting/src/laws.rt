@@ -1,5 +1,6 @@
 //! Each function does nothing; its contract is the law. They speak of a type of modules at a nesting, and of the same at a
 //! nesting that isn't less, where it has a text at both.
+ghost use Rattle.oer_module_nesting.specs.Example.{IsWrittenOut};
 ghost use Rattle.oer_module_nesting.specs.Laws.{CanonicalAlike, EncodesAlike, FreeCanonical, FreeEncodes, HaveLeafDefaults, IsDeeper};
 
 /// At the greater nesting the type is the same with some of its ends replaced.
@@ -23,4 +24,10 @@ pub fn encodings()
 pub fn free_values()
     ensures encodes { FreeEncodes }
     ensures canonical { FreeCanonical }
+{}
+
+/// A module with one type that contains itself, Nest ::= SEQUENCE OF Nest, at the nestings 1 and 2.
+pub fn example()
+    ensures once { IsWrittenOut 1 }
+    ensures twice { IsWrittenOut 2 }
 {}
