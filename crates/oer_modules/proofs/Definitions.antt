@@ -47,21 +47,24 @@ text_of ms w n x named = ap (λ r. r >>= λ y. Ok y.1) named
 
 -- ---- the type that the programs take
 
+abbrev with_type : RawPlace → Typed → Result (RawPlace × AsnType) Cause
+with_type p y = Ok (p, y.0)
+
 placed_by : (ms : List Module) (w : Text) (n : ℕ) (x : Typed) → named_type ms w n ≡ Ok x → (p : RawPlace) × (placed_type ms w n ≡ Ok (p, x.0))
 unfolding named_type placed_type
 placed_by ms w n x named = by_found (asked ms w) named where
   by_typed : (f : Found) (r : Read Typed) → by_type r ≡ Ok x
-      → (p : RawPlace) × ((by_type r >>= λ y. Ok (name_place ms f, y.0)) ≡ Ok (p, x.0))
-  by_typed f (Ok y) is = (name_place ms f, ap (λ z. Ok (name_place ms f, z.0)) (same_ok is))
+      → (p : RawPlace) × ((by_type r >>= with_type (name_place ms f)) ≡ Ok (p, x.0))
+  by_typed f (Ok y) is = (name_place ms f, ap (with_type (name_place ms f)) (same_ok is))
   by_typed f (Err e) is = absurd (cc)
 
   by_at : (f : Found) (r : Read TypeIn) → (by_type r >>= λ t. by_type (typed_by ms n t)) ≡ Ok x
-      → (p : RawPlace) × ((by_type r >>= λ t. by_type (typed_by ms n t) >>= λ y. Ok (name_place ms f, y.0)) ≡ Ok (p, x.0))
+      → (p : RawPlace) × ((by_type r >>= λ t. by_type (typed_by ms n t) >>= with_type (name_place ms f)) ≡ Ok (p, x.0))
   by_at f (Ok t) is = by_typed f (typed_by ms n t) is
   by_at f (Err e) is = absurd (cc)
 
   by_found : (r : Result Found NameFault) → (by_name r >>= λ f. by_type (type_at ms f) >>= λ t. by_type (typed_by ms n t)) ≡ Ok x
-      → (p : RawPlace) × ((by_name r >>= λ f. by_type (type_at ms f) >>= λ t. by_type (typed_by ms n t) >>= λ y. Ok (name_place ms f, y.0)) ≡ Ok (p, x.0))
+      → (p : RawPlace) × ((by_name r >>= λ f. by_type (type_at ms f) >>= λ t. by_type (typed_by ms n t) >>= with_type (name_place ms f)) ≡ Ok (p, x.0))
   by_found (Ok f) is = by_at f (type_at ms f) is
   by_found (Err e) is = absurd (cc)
 
@@ -80,7 +83,7 @@ both_printed None b h = absurd (cc)
 same_type : PrintedIsRead → (T U : AsnType) → are_alike (printed T) (printed U) ≡ true → IsWellFormed U → IsWellFormed T → U ≡ T
 same_type again T U alike u t =
     let x = both_printed (printed T) (printed U) alike in
-    same_ok (sym (again U x.0 u x.2.1) ∙ again T x.0 t x.2.0)
+    same_ok (sym (again U x.0 u x.2) ∙ again T x.0 t x.1)
 
 module _ (again : PrintedIsRead) (sound : ParseSound) (ts : List Text) (n : ℕ) (l : Library) (h : read_each 0 (map lex ts) no_modules ≡ Ok l) where
   -- what is printed before and with an entry
