@@ -1,6 +1,5 @@
 -- Each line that is printed before the comments is a definition.
 use Rattle.std.proofs.Common.{◌≡◌, ℕ, suc, List, [], ◌∷◌, map, Bool, true, false, Option, Some, None, Result, Ok, Err, if◌then◌else◌, refl, sym, ap, ◌∙◌, subst}
-use Rattle.std.specs.Str.{bytes_eq}
 use Rattle.std.proofs.lemmas.Slice.Eq.{bytes_eq-Decides}
 use Rattle.oer_model.specs.AsnType.{AsnType}
 use Rattle.oer_model.specs.FaultTest.{first_fault}

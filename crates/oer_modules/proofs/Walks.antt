@@ -1,5 +1,5 @@
 -- What the turns through a text and its tokens give.
-use Rattle.std.proofs.Common.{◌≡◌, ◌<◌, ◌≤◌, ◌+◌, ◌==◌, ℕ, zero, suc, Bool, true, false, List, [], ◌∷◌, drop, length, map, get_or, drop-cons, add-one, Option, Some, None, slice_get, option_map, refl, sym, ap, ◌∙◌, eq-eqb, arith, if◌then◌else◌}
+use Rattle.std.proofs.Common.{◌≡◌, ◌<◌, ◌≤◌, ◌+◌, ◌==◌, ℕ, suc, Bool, true, false, List, [], ◌∷◌, drop, length, map, get_or, drop-cons, add-one, Option, Some, None, slice_get, option_map, refl, sym, ap, ◌∙◌, eq-eqb, arith, if◌then◌else◌}
 use Rattle.std.proofs.Math.ListN.{drop_of_length-le}
 use Rattle.std.proofs.lemmas.Option.{slice_get-get_or, slice_get-map, slice_get_read}
 use Rattle.std.proofs.lemmas.Bool.{ne_eqb}

@@ -1,12 +1,12 @@
 -- The type that is asked for.
-use Rattle.std.specs.Prelude.{ℕ, List, [], ◌∷◌, length, ◌==◌, nat_lt, Bool, slice_get, Result, Ok, Err, if◌then◌else◌}
+use Rattle.std.specs.Prelude.{ℕ, List, [], ◌∷◌, length, ◌==◌, nat_lt, Bool, slice_get, Result, Ok, if◌then◌else◌}
 use Rattle.std.specs.List.{after_first, before_first, position_or_len}
 use Rattle.std.specs.Option.{option_map_or}
 use Rattle.oer_module_lexer.specs.Token.{Spot}
 use Rattle.oer_module_names.specs.Finding.{Fault as NameFault, ◌>>=◌, find, find_anywhere, find_module}
 use Rattle.oer_module_names.specs.Tables.{assignments_in}
 use Rattle.oer_module_names.specs.declared.error.Found.{Found}
-use Rattle.oer_module_syntax.specs.Tree.{Assignment, Body, Module, Tree, class_body, set_body, type_body, value_body}
+use Rattle.oer_module_syntax.specs.Tree.{Body, Module, Tree, class_body, set_body, type_body, value_body}
 use Rattle.oer_module_text.specs.Errors.{Read, error, place_in, refused, unresolved}
 use Rattle.oer_module_text.specs.declared.error.Part.TheVariants.{Parameters}
 use Rattle.oer_module_values.specs.Errors.{not_a_type}
