@@ -8,3 +8,4 @@ pub mod Canonical
 pub mod Reading
 pub mod Replaced
 pub mod Free
+pub mod FreeDefaults

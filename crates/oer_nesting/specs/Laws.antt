@@ -14,7 +14,7 @@ use Rattle.oer_model.specs.Laws.{rewritten}
 use Rattle.oer_model.specs.Reading.{read_value}
 use Rattle.oer_model.specs.Strict.{IsCanonical}
 use Rattle.oer_nesting.specs.Deeper.{Deeper, HasNoEnd}
-use Rattle.oer_nesting.specs.Defaults.{DefaultsHaveNoEnd, HasLeafDefaults}
+use Rattle.oer_nesting.specs.Defaults.{DefaultsHaveNoEnd, HasFreeDefaults, HasLeafDefaults}
 use Rattle.oer_nesting.specs.Free.{IsFree}
 
 -- A value that meets no end of T fits U exactly if it fits T.
@@ -62,3 +62,7 @@ LeafDefaultsHaveNoEnd = (T : AsnType) → HasLeafDefaults T → DefaultsHaveNoEn
 -- A value in which no CHOICE has chosen the tag of an end meets no end of a type that it fits.
 abbrev pub FreeHasNoEnd : Type 0
 FreeHasNoEnd = (T : AsnType) (v : AsnValue) → Fits T v → IsFree v → HasNoEnd T v
+
+-- Defaults that fit meet no end where no CHOICE in one has chosen the tag of an end.
+abbrev pub FreeDefaultsHaveNoEnd : Type 0
+FreeDefaultsHaveNoEnd = (T : AsnType) → DefaultsFit T → HasFreeDefaults T → DefaultsHaveNoEnd T

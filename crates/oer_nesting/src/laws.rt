@@ -1,7 +1,7 @@
 //! Each function does nothing; its contract is the law. They speak of two types, of which the second is the first with
 //! some of its ends replaced, and of a value no part of which stands where the first has an end.
 ghost use Rattle.oer_nesting.specs.Example.{NestsOnceMore};
-ghost use Rattle.oer_nesting.specs.Laws.{CanonicalAlike, ChecksAlike, EncodesAlike, FilledAlike, FitsAlike, FreeHasNoEnd, LeafDefaultsHaveNoEnd, NoneReplaced, ReadsAlike, RewritesAlike};
+ghost use Rattle.oer_nesting.specs.Laws.{CanonicalAlike, ChecksAlike, EncodesAlike, FilledAlike, FitsAlike, FreeDefaultsHaveNoEnd, FreeHasNoEnd, LeafDefaultsHaveNoEnd, NoneReplaced, ReadsAlike, RewritesAlike};
 
 /// The value has the same encodings by both types, and fits the one exactly if it fits the other.
 pub fn encodings()
@@ -29,9 +29,14 @@ pub fn replacing()
     ensures none { NoneReplaced }
 {}
 
-/// Defaults meet no end where only components whose types hold no other have them, as in the types of modules.
+/// Defaults meet no end where only components whose types hold no other have them.
 pub fn leaf_defaults()
     ensures meet_none { LeafDefaultsHaveNoEnd }
+{}
+
+/// Defaults that fit meet no end where no CHOICE in one has chosen the tag of an end.
+pub fn free_defaults()
+    ensures meet_none { FreeDefaultsHaveNoEnd }
 {}
 
 /// A value in which no CHOICE has chosen the tag of an end meets no end of a type that it fits.
