@@ -61,7 +61,7 @@ printed_after p (e ∷ es) = printed_after (with_entry p e) es
 abbrev pub why_words : TextWhy → Text
 why_words why = codes "the type is rejected: " ++ text_why_name why
 
--- why a type is refused that isn't well-formed, or has a text of none; the place is that of its Name
+-- why a type is refused that isn't well-formed; the place is that of its Name
 abbrev pub rejected_words : Option Place → TextWhy → Text
 rejected_words p why = place_words p ++ why_words why
 

@@ -15,9 +15,10 @@ abbrev pub are_alike : Option (List ℕ) → Option (List ℕ) → Bool
 are_alike (Some one) (Some other) = bytes_eq one other
 are_alike one other = false
 
+-- The text may be of a type that isn't well-formed, of another type, or of none, as where a default holds other values.
 abbrev pub unlisted_by : Option SchemaFault → AsnType → Result AsnType TextFault → Option Unlisted
 unlisted_by (Some f) T r = Some (Rejected (why.Schema f))
-unlisted_by None T (Err e) = Some (Rejected e.why)
+unlisted_by None T (Err e) = Some Unspelled
 unlisted_by None T (Ok U) = if are_alike (printed T) (printed U) then None else Some Unspelled
 
 -- Why a definition of a type has no line, if it has none. This is what is read of its text.

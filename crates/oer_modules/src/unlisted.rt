@@ -15,9 +15,9 @@ use std::alloc::{AllocError, Global};
 /// Why a definition has no line, though its type has a text.
 #[derive(Clone, Copy)]
 pub enum Unlisted {
-    /// The type isn't well-formed, or `parse_type` rejects the text.
+    /// The type isn't well-formed.
     Rejected(TextWhy),
-    /// `parse_type` doesn't read the text as this type.
+    /// `parse_type` rejects the text, or reads it as another type.
     Unspelled,
 }
 
@@ -58,7 +58,7 @@ pub fn unlisted_in(alloc: Global, shape: Shape, text: &str) -> Result<Option<Unl
         Ok(read) => read,
         Err(fault) => match fault.why {
             TextWhy::Memory => return Err(AllocError),
-            why => return Ok(Some(Unlisted::Rejected(why))),
+            _ => return Ok(Some(Unlisted::Unspelled)),
         },
     };
     if are_alike(alloc, &schema, &read)? {
