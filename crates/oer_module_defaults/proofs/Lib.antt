@@ -1,5 +1,11 @@
+pub mod Filling
+pub mod Levels
 pub mod Loops
 pub mod Members
 pub mod Numbers
+pub mod Parted
+pub mod Rounds
 pub mod Shorts
+pub mod Slices
+pub mod Slotting
 pub mod Turns

@@ -24,6 +24,10 @@ has_below least (c ∷ cs) = nat_lt c least || has_below least cs
 abbrev pub none_such : {A : Type 0} → Place → Read A
 none_such p = error p no_such_value
 
+abbrev pub or_none_such : {A : Type 0} → Place → Option A → Read A
+or_none_such p None = none_such p
+or_none_such p (Some x) = Ok x
+
 abbrev pub no_text : {A : Type 0} → Place → Read A
 no_text p = error p (not_taken part.Value)
 

@@ -1,9 +1,15 @@
+pub mod Alternatives
 pub mod Arcs
 pub mod Atoms
 pub mod Bits
+pub mod Components
 pub mod Defaults
+pub mod Filled
 pub mod Governors
 pub mod Items
+pub mod Laws
+pub mod Leaves
+pub mod Slots
 pub mod Values
 pub mod Views
 pub mod Walks

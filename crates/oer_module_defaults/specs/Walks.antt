@@ -48,6 +48,10 @@ name_of _ = None
 abbrev pub name_in : Value → Option Name
 name_in v = name_of (single v)
 
+abbrev pub outcome_by : Value → Option Source → Outcome
+outcome_by v None = reached v
+outcome_by v (Some u) = goes u
+
 abbrev pub after : (Source → Read Literal) → Source → Outcome → Read Literal
 after more s (reached v) = Ok (record { place = source_place s; governor = s.governor; value = v })
 after more s (goes u) = more u
@@ -72,15 +76,20 @@ module _ (ms : List Module) where
   unfoldable pub valued : Place → Kind → List ℕ → Path → Read Source
   valued p k w path = told_by (referred ms p w path) >>= valued_by p k
 
-  abbrev pub goes_to : Source → Name → Read Outcome
-  goes_to s n = valued (source_place s) s.governor.kind n.name n.path >>= λ u. Ok (goes u)
+  abbrev pub reference_by : Place → Governor → Option Name → Read (Option Source)
+  reference_by p g None = Ok None
+  reference_by p g (Some n) =
+      is_own g n.name n.path >>= λ b. if b then Ok None else (valued p g.kind n.name n.path >>= λ s. Ok (Some s))
 
-  abbrev pub step_by : Source → Value → Option Name → Read Outcome
-  step_by s v None = Ok (reached v)
-  step_by s v (Some n) = is_own s.governor n.name n.path >>= λ b. if b then Ok (reached v) else goes_to s n
+  -- the value for which another stands, if that is the name of one
+  abbrev pub reference_at : Place → Governor → Value → Read (Option Source)
+  reference_at p g v = reference_by p g (name_in v)
 
   unfoldable pub step : Source → Read Outcome
-  step s = value_in s.«module» s.spots >>= λ v. step_by s v (name_in v)
+  step s = do
+    v ← value_in s.«module» s.spots
+    o ← reference_at (source_place s) s.governor v
+    Ok (outcome_by v o)
 
   -- the value to which tokens come, in so many steps
   unfoldable pub walk : ℕ → Source → Read Literal

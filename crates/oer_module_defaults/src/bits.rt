@@ -66,7 +66,7 @@ fn fixed_size<'t>(place: Place, sizes: Range) -> Result<u16, Error<'t>>
 }
 
 /// The name, if nothing stands behind it.
-fn own_name(name: Option<Name<'_>>) -> Option<&str>
+pub fn own_name<'t>(name: Option<Name<'t>>) -> Option<&'t str>
     ensures { option_map (λ w. w.now) result ≡ own_name (option_map name_seen name.entry) }
 {
     match name {
@@ -240,7 +240,7 @@ pub fn write_named_bits<'m, 's, 't>(
     names: &Names<'m, 's, 't>,
     of: TypeIn<'m, 's, 't>,
     place: Place,
-    governor: Governor<'s, 't>,
+    governor: Governor<'_, 's, 't>,
     members: &[Member<'s, 't>],
     room: &mut Room,
 ) -> Result<AsnValue, Error<'t>>

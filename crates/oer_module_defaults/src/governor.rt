@@ -1,19 +1,21 @@
-//! What governs a value: a type that has values in our notation.
+//! What governs a value: a type whose values are taken.
 ghost use Rattle.std.specs.Prelude.{◌≡◌, ◌<◌, IfOk, IfSome, length, option_map};
+ghost use Rattle.oer_module_lexer.specs.Token.{spots_of};
 ghost use Rattle.oer_module_names.specs.Views.{modules_in};
 ghost use Rattle.oer_module_syntax.specs.Tree.{tree_of};
 ghost use Rattle.oer_module_text.specs.Errors.{Gives, seen};
 ghost use Rattle.oer_module_values.specs.Views.{type_in};
-ghost use Rattle.oer_module_defaults.specs.Governors.{governed, governor_of, governor_at, kind_of, of_kind, same_kind};
+ghost use Rattle.oer_module_defaults.specs.Governors.{governed, governor_of, governor_at, holds_others, is_same_type, is_taken_by, items_in};
+ghost use Rattle.oer_module_defaults.specs.Governors.{kind_in, kind_of, list_kind, of_kind, same_kind, structure_kind};
 
 use oer_module_lexer::Spot;
 use oer_module_names::{Names, Place};
 use oer_module_syntax::{Builtin, TypeSyntax};
 use oer_module_text::{Error, Part, Why};
-use oer_module_values::{TypeIn, resolve};
+use oer_module_values::{TypeIn, place_of, resolve};
 use std::alloc::Global;
 
-/// The kinds of values that our notation has.
+/// The kinds of values that are taken.
 #[derive(Clone, Copy, PartialEq, Eq)]
 pub enum Kind {
     Boolean,
@@ -26,12 +28,17 @@ pub enum Kind {
     Text,
     /// Those of OBJECT IDENTIFIER.
     Arcs,
+    Sequence,
+    SequenceOf,
+    Choice,
 }
 
-/// What governs a value (X.680, 3.8): the kind of its type, the items in braces, and which of the modules they stand in.
+/// What governs a value (X.680, 3.8): a type that is no reference, which of the modules it stands in, the kind of its
+/// values, and the items in its braces.
 #[derive(Clone, Copy)]
-pub struct Governor<'s, 't> {
+pub struct Governor<'m, 's, 't> {
     pub module: usize,
+    pub syntax: &'m TypeSyntax<'s, 't>,
     pub kind: Kind,
     pub items: &'s [Spot<'t>],
 }
@@ -57,20 +64,60 @@ fn kind_of(builtin: Builtin) -> Option<Kind>
     }
 }
 
-/// What a type that is no reference governs.
+fn structure_kind(builtin: Builtin) -> Option<Kind>
+    ensures { result ≡ structure_kind builtin }
+{
+    match builtin {
+        Builtin::Sequence => Some(Kind::Sequence),
+        Builtin::Choice => Some(Kind::Choice),
+        _ => None,
+    }
+}
+
+fn list_kind(builtin: Builtin) -> Option<Kind>
+    ensures { result ≡ list_kind builtin }
+{
+    match builtin {
+        Builtin::Sequence => Some(Kind::SequenceOf),
+        _ => None,
+    }
+}
+
+/// The kind of the values of a type that is no reference.
 #[tactic(auto, using(oer_module_syntax::proofs::Trees::trees))]
-fn governed<'s, 't>(of: TypeIn<'_, 's, 't>) -> Option<Governor<'s, 't>>
+fn kind_in(syntax: &TypeSyntax<'_, '_>) -> Option<Kind>
+    ensures { result ≡ kind_in (tree_of syntax.now) }
+{
+    match syntax {
+        TypeSyntax::Plain { builtin, .. } => kind_of(*builtin),
+        TypeSyntax::Structure { builtin, .. } => structure_kind(*builtin),
+        TypeSyntax::ListOf { builtin, .. } => list_kind(*builtin),
+        _ => None,
+    }
+}
+
+/// The tokens of the items in the braces of a type.
+#[tactic(auto, using(oer_module_syntax::proofs::Trees::trees))]
+fn items_in<'s, 't>(syntax: &TypeSyntax<'s, 't>) -> &'s [Spot<'t>]
+    ensures { spots_of result.now ≡ items_in (tree_of syntax.now) }
+{
+    match syntax {
+        TypeSyntax::Plain { items, .. } => items,
+        _ => &[],
+    }
+}
+
+/// What a type that is no reference governs.
+fn governed<'m, 's, 't>(of: TypeIn<'m, 's, 't>) -> Option<Governor<'m, 's, 't>>
     ensures value { option_map governor_of result ≡ governed of.entry.«module» (tree_of of.entry.syntax.now) }
     ensures module { IfSome result (λ g. g.«module» ≡ of.entry.«module») }
 {
-    let TypeSyntax::Plain { builtin, items, .. } = of.syntax else {
-        return None;
-    };
-    match kind_of(*builtin) {
+    match kind_in(of.syntax) {
         Some(kind) => Some(Governor {
             module: of.module,
+            syntax: of.syntax,
             kind,
-            items,
+            items: items_in(of.syntax),
         }),
         None => None,
     }
@@ -83,7 +130,7 @@ pub fn governing<'m, 's, 't>(
     names: &Names<'m, 's, 't>,
     place: Place,
     of: TypeIn<'m, 's, 't>,
-) -> Result<Governor<'s, 't>, Error<'t>>
+) -> Result<Governor<'m, 's, 't>, Error<'t>>
     requires { of.«module» < length (modules_in names.now) }
     ensures value { Gives governor_of result (governor_at (modules_in names.now) place (type_in of.entry)) }
     ensures within { IfOk result (λ g. g.«module» < length (modules_in names.now)) }
@@ -105,11 +152,11 @@ pub fn is_same_kind(one: Kind, other: Kind) -> bool
 }
 
 /// What governs a value, if it is of this kind.
-pub fn of_kind<'s, 't>(
+pub fn of_kind<'m, 's, 't>(
     place: Place,
     kind: Kind,
-    governor: Governor<'s, 't>,
-) -> Result<Governor<'s, 't>, Error<'t>>
+    governor: Governor<'m, 's, 't>,
+) -> Result<Governor<'m, 's, 't>, Error<'t>>
     ensures { seen governor_of result ≡ of_kind place kind (governor_of governor.entry) }
 {
     if !is_same_kind(kind, governor.kind) {
@@ -119,4 +166,31 @@ pub fn of_kind<'s, 't>(
         });
     }
     Ok(governor)
+}
+
+/// Whether values of this kind hold others.
+fn holds_others(kind: Kind) -> bool
+    ensures { result ≡ holds_others kind }
+{
+    match kind {
+        Kind::Sequence => true,
+        Kind::SequenceOf => true,
+        Kind::Choice => true,
+        _ => false,
+    }
+}
+
+/// Whether both are one definition.
+fn is_same_type(one: Governor<'_, '_, '_>, other: Governor<'_, '_, '_>) -> bool
+    ensures { result ≡ is_same_type (governor_of one.entry) (governor_of other.entry) }
+{
+    one.module == other.module && place_of(one.syntax) == place_of(other.syntax)
+}
+
+/// Whether a value that the second governs can be one of the first. What holds others is read by the names, tags and
+/// numbers of its own type, so this has to be the same definition.
+pub fn is_taken_by(one: Governor<'_, '_, '_>, other: Governor<'_, '_, '_>) -> bool
+    ensures { result ≡ is_taken_by (governor_of one.entry) (governor_of other.entry) }
+{
+    !holds_others(other.kind) || is_same_type(one, other)
 }

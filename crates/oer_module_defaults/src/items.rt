@@ -4,22 +4,21 @@ ghost use Rattle.oer_module_leaves.specs.Numbered.{item_of as numbered_item_of};
 ghost use Rattle.oer_module_lexer.specs.Token.{spots_of};
 ghost use Rattle.oer_module_names.specs.Views.{modules_in};
 ghost use Rattle.oer_module_terms.specs.Trees.{enumeration_of, item_of};
-ghost use Rattle.oer_module_text.specs.Errors.{Gives, seen};
+ghost use Rattle.oer_module_text.specs.Errors.{Gives};
 ghost use Rattle.oer_module_values.specs.Looks.{path_seen};
 ghost use Rattle.oer_module_values.specs.Numbers.{item_named};
-ghost use Rattle.oer_module_values.specs.Views.{type_in};
 ghost use Rattle.oer_module_defaults.specs.Governors.{governor_of};
-ghost use Rattle.oer_module_defaults.specs.Items.{bits_of, in_64_bits, has_item, is_among, is_own, item_number, number_named};
+ghost use Rattle.oer_module_defaults.specs.Items.{bits_of, has_item, is_among, is_own, item_number, number_in_both, number_named};
 
-use crate::atoms::{none_such, too_wide};
+use crate::atoms::none_such;
 use crate::governor::{Governor, Kind};
 use crate::kept::{over_kept, unread};
-use oer_module_leaves::{NumberedItem, numbered_items};
+use oer_module_leaves::{NumberedItem, in_64_bits, numbered_items};
 use oer_module_lexer::Spot;
 use oer_module_names::{Names, Place};
 use oer_module_terms::{Enumeration, Item, Numbering, read_enumeration, read_items};
 use oer_module_text::Error;
-use oer_module_values::{Path, TypeIn, resolve};
+use oer_module_values::{Path, TypeIn};
 use std::alloc::Global;
 
 /// The first item of that name.
@@ -67,7 +66,7 @@ fn has_item<'t>(
 /// Whether a name and the path behind it are told by the type itself: the item of an ENUMERATED, and each of an INTEGER.
 pub fn is_own<'t>(
     alloc: Global,
-    governor: Governor<'_, 't>,
+    governor: Governor<'_, '_, 't>,
     name: &str,
     path: Path<'t>,
 ) -> Result<bool, Error<'t>>
@@ -84,7 +83,7 @@ pub fn is_own<'t>(
 #[tactic(auto, unfolding(crate::specs::Items::bits_of))]
 pub fn bits_of<'s, 't>(
     alloc: Global,
-    governor: Governor<'s, 't>,
+    governor: Governor<'_, 's, 't>,
 ) -> Result<Vec<Item<'s, 't>>, Error<'t>>
     ensures { Gives (λ v. map item_of v.items) result (bits_of (governor_of governor.entry)) }
 {
@@ -107,33 +106,48 @@ fn number_named(items: &[NumberedItem<'_>], name: &str) -> Option<i128>
     None
 }
 
-/// The number of an item, if it has 64 bits with its sign.
-fn in_64_bits<'t>(place: Place, number: i128) -> Result<i64, Error<'t>>
-    ensures { seen (λ z. z) result ≡ in_64_bits place number }
-{
-    match i64::try_from(number) {
-        Ok(number) => Ok(number),
-        Err(_) => Err(too_wide(place)),
-    }
-}
-
-/// The number of the item of that name, of an ENUMERATED that a type is or stands for (X.680, 20). The name stands at a
-/// place.
+/// The number of the item of that name, of an ENUMERATED (X.680, 20). The name stands at a place.
 #[tactic(auto, unfolding(crate::specs::Items::item_number))]
-pub fn item_number<'m, 's, 't>(
+fn item_number<'m, 's, 't>(
     alloc: Global,
     names: &Names<'m, 's, 't>,
-    of: TypeIn<'m, 's, 't>,
+    governor: Governor<'m, 's, 't>,
     place: Place,
     name: &str,
 ) -> Result<i64, Error<'t>>
-    requires { of.«module» < length (modules_in names.now) }
-    ensures { Gives (λ z. z) result (item_number (modules_in names.now) (type_in of.entry) place name.now) }
+    requires { governor.«module» < length (modules_in names.now) }
+    ensures { Gives (λ z. z) result (item_number (modules_in names.now) (governor_of governor.entry) place name.now) }
 {
-    let meaning = resolve(alloc, names, of)?;
-    let items = numbered_items(alloc, names, meaning.of)?;
+    let of = TypeIn {
+        module: governor.module,
+        syntax: governor.syntax,
+    };
+    let items = numbered_items(alloc, names, of)?;
     match number_named(&items, name) {
         Some(number) => in_64_bits(place, number),
         None => Err(none_such(place)),
     }
+}
+
+/// The number of an item that the second type governs, as a value of the first: this has to give the name the same number.
+#[tactic(auto, unfolding(crate::specs::Items::number_in_both))]
+pub fn number_in_both<'m, 's, 't>(
+    alloc: Global,
+    names: &Names<'m, 's, 't>,
+    of: Governor<'m, 's, 't>,
+    governor: Governor<'m, 's, 't>,
+    place: Place,
+    name: &str,
+) -> Result<i64, Error<'t>>
+    requires of { of.«module» < length (modules_in names.now) }
+    requires governor { governor.«module» < length (modules_in names.now) }
+    ensures { Gives (λ z. z) result
+        (number_in_both (modules_in names.now) (governor_of of.entry) (governor_of governor.entry) place name.now) }
+{
+    let own = item_number(alloc, names, governor, place, name)?;
+    let number = item_number(alloc, names, of, place, name)?;
+    if own != number {
+        return Err(none_such(place));
+    }
+    Ok(number)
 }

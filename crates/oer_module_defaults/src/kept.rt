@@ -1,19 +1,19 @@
 //! Tokens that a tree keeps.
-ghost use Rattle.std.specs.Prelude.{◌≡◌};
+ghost use Rattle.std.specs.Prelude.{◌≡◌, map};
 ghost use Rattle.oer_module_lexer.specs.Token.{spots_of};
 ghost use Rattle.oer_module_syntax.specs.State.{state_of};
-ghost use Rattle.oer_module_terms.specs.Trees.{value_of};
+ghost use Rattle.oer_module_terms.specs.Trees.{member_of, parts_from, value_of};
 ghost use Rattle.oer_module_text.specs.Errors.{Gives};
 ghost use Rattle.oer_module_text.specs.declared.error.Why.TheVariants.{Unresolved};
 ghost use Rattle.oer_module_values.specs.Kept.{kept};
 ghost use Rattle.oer_module_values.specs.Numbers.{place_of_first};
 ghost use Rattle.oer_module_values.specs.declared.error.Why.TheVariants.{Unread};
-ghost use Rattle.oer_module_defaults.specs.Values.{value_in};
+ghost use Rattle.oer_module_defaults.specs.Values.{begin_of, member_place, value_in, value_place};
 
 use oer_module_lexer::Spot;
 use oer_module_names::Place;
 use oer_module_syntax::{Cursor, Fault};
-use oer_module_terms::{Value, read_value};
+use oer_module_terms::{Member, Value, read_value};
 use oer_module_text::{Error, Part, Why};
 use std::alloc::Global;
 
@@ -81,4 +81,45 @@ pub fn value_in<'s, 't>(
             Ok(value)
         }
     }
+}
+
+/// The byte at which a value begins.
+#[tactic(auto, using(oer_module_terms::proofs::Views::views))]
+pub fn begin_of(value: &Value<'_, '_>) -> usize
+    ensures { result ≡ begin_of (value_of value.now) }
+{
+    match value {
+        Value::Atom { at, .. }
+        | Value::Numbered { at, .. }
+        | Value::Choice { at, .. }
+        | Value::Braces { at, .. } => *at,
+    }
+}
+
+/// Where a value in a module stands.
+pub fn value_place(module: usize, value: &Value<'_, '_>) -> Place
+    ensures { result ≡ value_place «module» (value_of value.now) }
+{
+    Place {
+        module,
+        at: begin_of(value),
+    }
+}
+
+/// Where the first of some parts of a member stands; the place of the braces, if there are none.
+fn parts_place(place: Place, parts: &[Value<'_, '_>]) -> Place
+    ensures { result ≡ member_place place (parts_from (map value_of parts.now)) }
+{
+    match parts {
+        [] => place,
+        [first, ..] => value_place(place.module, first),
+    }
+}
+
+/// Where a member of braces at a place stands.
+#[tactic(auto, using(crate::proofs::Members::levels))]
+pub fn member_place(place: Place, member: &Member<'_, '_>) -> Place
+    ensures { result ≡ member_place place (member_of member.now) }
+{
+    parts_place(place, &member.parts)
 }

@@ -1,11 +1,12 @@
 //! From a value to the one for which its name stands.
-ghost use Rattle.std.specs.Prelude.{◌≡◌, ◌<◌, IfOk, length, option_map};
+ghost use Rattle.std.specs.Prelude.{◌≡◌, ◌<◌, IfOk, IfSome, length, option_map};
 ghost use Rattle.oer_module_names.specs.Views.{modules_in};
 ghost use Rattle.oer_module_terms.specs.Trees.{value_of};
-ghost use Rattle.oer_module_text.specs.Errors.{Gives, seen};
+ghost use Rattle.oer_module_text.specs.Errors.{Gives};
 ghost use Rattle.oer_module_values.specs.Looks.{path_seen};
 ghost use Rattle.oer_module_values.specs.Views.{referent_of};
-ghost use Rattle.oer_module_defaults.specs.Walks.{defined, name_in, source_place, step, valued};
+ghost use Rattle.oer_module_defaults.specs.Governors.{governor_of};
+ghost use Rattle.oer_module_defaults.specs.Walks.{defined, name_in, reference_at, source_place, step, valued};
 ghost use Rattle.oer_module_defaults.specs.Views.{IsOutcomeWithin, IsSourceWithin, name_seen, outcome_of, source_of};
 
 use crate::atoms::single;
@@ -22,17 +23,17 @@ use std::alloc::Global;
 
 /// The tokens of a value, what governs it, and which of the modules the tokens stand in.
 #[derive(Clone, Copy)]
-pub struct Source<'s, 't> {
+pub struct Source<'m, 's, 't> {
     pub module: usize,
-    pub governor: Governor<'s, 't>,
+    pub governor: Governor<'m, 's, 't>,
     pub spots: &'s [Spot<'t>],
 }
 
 /// What tokens are: a value, or a name that stands for the value of other tokens.
 #[derive(Drop)]
-pub enum Outcome<'s, 't> {
+pub enum Outcome<'m, 's, 't> {
     Reached(Value<'s, 't>),
-    Goes(Source<'s, 't>),
+    Goes(Source<'m, 's, 't>),
 }
 
 /// A name, and what stands behind it.
@@ -43,7 +44,7 @@ pub struct Name<'t> {
 }
 
 /// Where the tokens of a value stand.
-pub fn source_place(source: Source<'_, '_>) -> Place
+pub fn source_place(source: Source<'_, '_, '_>) -> Place
     ensures { result ≡ source_place (source_of source.entry) }
 {
     place_of_first(source.module, source.spots)
@@ -69,7 +70,7 @@ fn defined<'m, 's, 't>(
     place: Place,
     kind: Kind,
     referent: Referent<'m, 's, 't>,
-) -> Result<Source<'s, 't>, Error<'t>>
+) -> Result<Source<'m, 's, 't>, Error<'t>>
     requires { referent.«module» < length (modules_in names.now) }
     ensures value { Gives source_of result (defined (modules_in names.now) place kind (referent_of referent.entry)) }
     ensures within { IfOk result (IsSourceWithin (modules_in names.now)) }
@@ -108,7 +109,7 @@ fn valued<'m, 's, 't>(
     place: Place,
     kind: Kind,
     name: Name<'t>,
-) -> Result<Source<'s, 't>, Error<'t>>
+) -> Result<Source<'m, 's, 't>, Error<'t>>
     requires { place.«module» < length (modules_in names.now) }
     ensures value { Gives source_of result (valued (modules_in names.now) place kind name.entry.name.now (path_seen name.entry.path)) }
     ensures within { IfOk result (IsSourceWithin (modules_in names.now)) }
@@ -122,25 +123,44 @@ fn valued<'m, 's, 't>(
     defined(alloc, names, place, kind, referent)
 }
 
+/// The value for which another at a place stands, if that is the name of one.
+pub fn reference_in<'m, 's, 't>(
+    alloc: Global,
+    names: &Names<'m, 's, 't>,
+    place: Place,
+    governor: Governor<'m, 's, 't>,
+    value: &Value<'s, 't>,
+) -> Result<Option<Source<'m, 's, 't>>, Error<'t>>
+    requires { place.«module» < length (modules_in names.now) }
+    ensures value { Gives (option_map source_of) result
+        (reference_at (modules_in names.now) place (governor_of governor.entry) (value_of value.now)) }
+    ensures within { IfOk result (λ o. IfSome o (IsSourceWithin (modules_in names.now))) }
+{
+    let Some(name) = name_in(value) else {
+        return Ok(None);
+    };
+    if is_own(alloc, governor, name.name, name.path)? {
+        return Ok(None);
+    }
+    let next = valued(alloc, names, place, governor.kind, name)?;
+    Ok(Some(next))
+}
+
 /// One step from tokens to their value.
 #[tactic(auto, unfolding(crate::specs::Walks::step))]
 pub fn step<'m, 's, 't>(
     alloc: Global,
     names: &Names<'m, 's, 't>,
-    source: Source<'s, 't>,
-) -> Result<Outcome<'s, 't>, Error<'t>>
+    source: Source<'m, 's, 't>,
+) -> Result<Outcome<'m, 's, 't>, Error<'t>>
     requires { IsSourceWithin (modules_in names.now) source }
     ensures value { Gives outcome_of result (step (modules_in names.now) (source_of source.entry)) }
     ensures within { IfOk result (IsOutcomeWithin (modules_in names.now)) }
 {
-    let governor = source.governor;
     let value = value_in(alloc, source.module, source.spots)?;
-    let Some(name) = name_in(&value) else {
-        return Ok(Outcome::Reached(value));
-    };
-    if is_own(alloc, governor, name.name, name.path)? {
-        return Ok(Outcome::Reached(value));
+    let next = reference_in(alloc, names, source_place(source), source.governor, &value)?;
+    match next {
+        Some(next) => Ok(Outcome::Goes(next)),
+        None => Ok(Outcome::Reached(value)),
     }
-    let next = valued(alloc, names, source_place(source), governor.kind, name)?;
-    Ok(Outcome::Goes(next))
 }

@@ -15,9 +15,9 @@ use std::alloc::Global;
 
 /// A value that is no reference, where it stands, and what governs it there.
 #[derive(Drop)]
-pub struct Literal<'s, 't> {
+pub struct Literal<'m, 's, 't> {
     pub place: Place,
-    pub governor: Governor<'s, 't>,
+    pub governor: Governor<'m, 's, 't>,
     pub value: Value<'s, 't>,
 }
 
@@ -25,8 +25,8 @@ pub struct Literal<'s, 't> {
 pub fn literal_in<'m, 's, 't>(
     alloc: Global,
     names: &Names<'m, 's, 't>,
-    source: Source<'s, 't>,
-) -> Result<Literal<'s, 't>, Error<'t>>
+    source: Source<'m, 's, 't>,
+) -> Result<Literal<'m, 's, 't>, Error<'t>>
     requires { IsSourceWithin (modules_in names.now) source }
     ensures value { Gives literal_of result (walk (modules_in names.now) 255 (source_of source.entry)) }
     ensures within { IfOk result (IsLiteralWithin (modules_in names.now)) }

@@ -47,12 +47,12 @@ is_signed_long (pos n) = nat_lt n (2 ^ 63)
 is_signed_long (negsuc n) = nat_lt n (2 ^ 63)
 
 -- the number of an item at a place
-abbrev pub number_at : Place → ℤ → Read ℤ
-number_at p z = if is_signed_long z then Ok z else error p too_wide
+abbrev pub in_64_bits : Place → ℤ → Read ℤ
+in_64_bits p z = if is_signed_long z then Ok z else error p too_wide
 
 -- an item in a module
 abbrev pub named_at : ℕ → NumberedItem → Read NamedNumber
-named_at m i = number_at (place_in m i.at) i.number >>= λ z. Ok (record { name = i.name; number = z })
+named_at m i = in_64_bits (place_in m i.at) i.number >>= λ z. Ok (record { name = i.name; number = z })
 
 abbrev pub named_items : ℕ → List NumberedItem → Read (List NamedNumber)
 named_items m [] = Ok []

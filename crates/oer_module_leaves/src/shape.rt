@@ -3,7 +3,7 @@ ghost use Rattle.std.specs.Prelude.{◌≡◌, map};
 ghost use Rattle.oer_module_text.specs.Errors.{Gives, seen};
 ghost use Rattle.oer_values.specs.ShapeView.{named_number, type_of};
 ghost use Rattle.oer_module_leaves.specs.Numbered.{item_of, numbered_of};
-ghost use Rattle.oer_module_leaves.specs.Shapes.{counted_type, enumerated_type, named_at, named_items, number_at, size_at, words};
+ghost use Rattle.oer_module_leaves.specs.Shapes.{counted_type, enumerated_type, named_at, named_items, in_64_bits, size_at, words};
 ghost use Rattle.oer_module_leaves.specs.Texts.{sizes_of};
 
 use crate::numbered::{Numbered, NumberedItem};
@@ -74,12 +74,12 @@ pub fn size_at<'t>(place: Place, sizes: Sizes) -> Result<Size, Error<'t>>
     }
 }
 
-/// The number of an item at a place, as our types have it.
+/// The number of an item at a place, as our types and values have it.
 ///
 /// # Errors
 /// TooWide, if 64 bits with a sign don't hold it.
-fn number_at<'t>(place: Place, number: i128) -> Result<i64, Error<'t>>
-    ensures { seen (λ n. n) result ≡ number_at place number }
+pub fn in_64_bits<'t>(place: Place, number: i128) -> Result<i64, Error<'t>>
+    ensures { seen (λ n. n) result ≡ in_64_bits place number }
 {
     match i64::try_from(number) {
         Ok(number) => Ok(number),
@@ -98,7 +98,7 @@ fn named_at<'t>(alloc: Global, module: usize, item: &NumberedItem<'t>) -> Result
         module,
         at: item.at,
     };
-    let number = number_at(place, item.number)?;
+    let number = in_64_bits(place, item.number)?;
     let name = String::from_str(alloc, item.name)?;
     Ok(Item { name, number })
 }

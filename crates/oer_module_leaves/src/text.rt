@@ -1,7 +1,6 @@
 //! The text of ranges, sizes and items.
 ghost use Rattle.std.specs.Prelude.{◌≡◌, IfOk, OnOk, map, string_bytes};
 ghost use Rattle.oer_module_bounds.specs.Sets.{span_of};
-ghost use Rattle.oer_module_names.specs.Views.{modules_in};
 ghost use Rattle.oer_module_text.specs.Errors.{Gives};
 ghost use Rattle.oer_module_text.specs.Room.{put, room_of};
 ghost use Rattle.oer_module_leaves.specs.Numbered.{item_of, numbered_of};

@@ -1,8 +1,7 @@
 -- What a type has in it is nested where the types in it are: by any two functions for these, where the second gives the
 -- type of the first with some of its ends replaced.
 use Rattle.std.proofs.Common.{◌≡◌, ℕ, List, [], Bool, true, false, Option, Some, None, Ok, refl, ap}
-use Rattle.oer_model.specs.AsnType.{AsnType, Need, default, may, must}
-use Rattle.oer_model.specs.Fits.{DefaultFits}
+use Rattle.oer_model.specs.AsnType.{AsnType, default}
 use Rattle.oer_module_limits.specs.Written.{Written}
 use Rattle.oer_module_names.specs.declared.error.Place.{Place}
 use Rattle.oer_module_syntax.specs.Tree.{Module, Tree, Elements, no_elements, element, Element, marker, group, components_of, component}
@@ -17,11 +16,11 @@ use Rattle.oer_module_types.specs.Types.{added_at, after, behind, braces_at, clo
 use Rattle.oer_module_types.specs.Types.{inside_at, list_at, marker_at, need_at, needed_at, root_at, root_element_at, structure_at, tag_at}
 use Rattle.oer_module_types.specs.declared.element.Before.{Before}
 use Rattle.oer_module_values.specs.Types.{TypeIn, type_in}
-use Rattle.oer_nesting.specs.Defaults.{IsLeaf}
+use Rattle.oer_nesting.specs.Deeper.{Deeper}
 use Rattle.oer_units.specs.declared.tagging.Tag.{Tag}
-use Rattle.oer_module_nesting.proofs.Alike.{Alike, along, behind as behind_any, bind, choose, once}
-use Rattle.oer_module_nesting.proofs.Defaults.{Governs, SameDefault, default as default_alike}
-use Rattle.oer_module_nesting.proofs.Gathered.{AreNested, IsNested, choice_nests, marked_now, none_yet, part_more, sequence_nests}
+use Rattle.oer_module_nesting.proofs.Alike.{Alike, Same, along, behind as behind_any, bind, choose, once}
+use Rattle.oer_module_nesting.proofs.Defaults.{default as default_alike}
+use Rattle.oer_module_nesting.proofs.Gathered.{AreNested, choice_nests, marked_now, none_yet, part_more, sequence_nests}
 
 abbrev pub Types : Type 0
 Types = List Place → TypeIn → Room → Read (AsnType × Room)
@@ -31,7 +30,7 @@ Roots = List Place → Bool → Place → Tree → Gathered → Room → Read (B
 
 -- types with the text behind them
 abbrev pub Nest : AsnType × Room → AsnType × Room → Type 0
-Nest x y = IsNested x.0 y.0
+Nest x y = Deeper x.0 y.0
 
 -- what is gathered, with what stands before it
 abbrev pub Further : {A : Type 0} → A × Gathered × Room → A × Gathered × Room → Type 0
@@ -40,13 +39,8 @@ Further x y = (x.0 ≡ y.0) × AreNested x.1 y.1
 abbrev pub Between : Gathered × Room → Gathered × Room → Type 0
 Between x y = AreNested x.0 y.0
 
-module _ (ms : List Module) where
-  -- what t is in modules: if its values have a kind, it holds no other type
-  abbrev pub NestOf : TypeIn → AsnType × Room → AsnType × Room → Type 0
-  NestOf t x y = IsNested x.0 y.0 × (Governs ms t → IsLeaf x.0)
-
-  abbrev pub TypesNest : Types → Types → Type 0
-  TypesNest f g = (path : List Place) (t : TypeIn) (r s : Room) → Alike (NestOf t) (f path t r) (g path t s)
+abbrev pub TypesNest : Types → Types → Type 0
+TypesNest f g = (path : List Place) (t : TypeIn) (r s : Room) → Alike Nest (f path t r) (g path t s)
 
 abbrev pub RootsNest : Roots → Roots → Type 0
 RootsNest f f' = (path : List Place) (any : Bool) (p : Place) (t : Tree) (g h : Gathered) (r s : Room) → AreNested g h
@@ -54,56 +48,39 @@ RootsNest f f' = (path : List Place) (any : Bool) (p : Place) (t : Tree) (g h : 
 
 -- ---- whether a component may be absent
 
-abbrev SameNeed : Type 0 → Need × Room → Need × Room → Type 0
-SameNeed P x y = (x.0 ≡ y.0) × DefaultFits x.0 (λ d. P)
-
-default_keeps : (P Q : Type 0) → (P → Q) → (need : Need) → DefaultFits need (λ d. P) → DefaultFits need (λ d. Q)
-default_keeps P Q f must has = tt
-default_keeps P Q f may has = tt
-default_keeps P Q f (default d) has = f has
-
-added : (P : Type 0) (m at : ℕ) (need : Written_need) (r s : Room) → Alike (SameNeed P) (added_at m at need r) (added_at m at need s)
-added P m at is_there r s = record { related = (refl, tt) }
-added P m at may_be r s = record { related = (refl, tt) }
-added P m at (by_default v) r s = record { related = tt }
+added : (m at : ℕ) (need : Written_need) (r s : Room) → Alike Same (added_at m at need r) (added_at m at need s)
+added m at is_there r s = record { related = refl }
+added m at may_be r s = record { related = refl }
+added m at (by_default v) r s = record { related = tt }
 
 module _ (ms : List Module) where
-  needed : (m : ℕ) (t : Tree) (need : Written_need) (r s : Room)
-      → Alike (SameNeed (Governs ms (type_in m t))) (needed_at ms m t need r) (needed_at ms m t need s)
-  needed m t is_there r s = record { related = (refl, tt) }
-  needed m t may_be r s = record { related = (refl, tt) }
+  needed : (m : ℕ) (t : Tree) (need : Written_need) (r s : Room) → Alike Same (needed_at ms m t need r) (needed_at ms m t need s)
+  needed m t is_there r s = record { related = refl }
+  needed m t may_be r s = record { related = refl }
   needed m t (by_default v) r s =
-      bind (SameDefault ms (type_in m t)) (SameNeed (Governs ms (type_in m t))) _ _ _ _ (default_alike ms (type_in m t) m v _ _)
-      (λ x y same. record { related = (ap default same.0, same.1) })
+      bind Same Same _ _ _ _ (default_alike ms (type_in m t) m v _ _) (λ x y same. record { related = ap default same })
 
   need_same : (is_added : Bool) (m at : ℕ) (t : Tree) (need : Written_need) (r s : Room)
-      → Alike (SameNeed (Governs ms (type_in m t))) (need_at ms is_added m at t need r) (need_at ms is_added m at t need s)
+      → Alike Same (need_at ms is_added m at t need r) (need_at ms is_added m at t need s)
   unfolding need_at
-  need_same is_added m at t need r s = choose (SameNeed (Governs ms (type_in m t))) is_added _ _ _ _
-      (added (Governs ms (type_in m t)) m at need r s) (needed m t need r s)
+  need_same is_added m at t need r s = choose Same is_added _ _ _ _ (added m at need r s) (needed m t need r s)
 
 -- ---- components and alternatives
 
-module _ (ms : List Module) (type type' : Types) (types : TypesNest ms type type') where
+module _ (ms : List Module) (type type' : Types) (types : TypesNest type type') where
   pub list_nests : (p : Place) (b : Builtin) (sized : Bool) (t : Tree) (w : Written) (path : List Place) (r s : Room)
       → Alike Nest (list_at ms type p b sized t w path r) (list_at ms type' p b sized t w path s)
   list_nests p bi.Sequence sized t w path r s =
-      bind (NestOf ms (type_in p.«module» t)) Nest _ _ _ _ (types path (type_in p.«module» t) _ _)
-      (λ x y n. record { related = record { deeper = (y.0, refl, n.0.deeper); defaults = n.0.defaults } })
+      bind Nest Nest _ _ _ _ (types path (type_in p.«module» t) _ _) (λ x y n. record { related = (y.0, refl, n) })
   list_nests p b sized t w path r s = record { related = tt }
 
   component_nests : (m : ℕ) (tags : List Tag) (path : List Place) (b : Before) (at : ℕ) (name : List ℕ) (t : Tree) (need : Written_need)
       (g h : Gathered) (r s : Room) → AreNested g h
       → Alike Further (component_at ms type m tags path b at name t need g r) (component_at ms type' m tags path b at name t need h s)
   component_nests m tags path b at name t need g h r s n =
-      bind (NestOf ms (type_in m t)) Further _ _ _ _ (types path (type_in m t) _ _) (λ x y is.
-      bind (SameNeed (Governs ms (type_in m t))) Further _ _ _ _ (need_same ms b.marked m at t need x.1 y.1) (λ a c same. record {
-        related = (
-          refl,
-          part_more g h n (tag_at tags b) name a.0 c.0 x.0 y.0 same.0 is.0
-              (default_keeps (Governs ms (type_in m t)) (IsLeaf x.0) is.1 a.0 same.1),
-        );
-      }))
+      bind Nest Further _ _ _ _ (types path (type_in m t) _ _) (λ x y is.
+      bind Same Further _ _ _ _ (need_same ms b.marked m at t need x.1 y.1) (λ a c same.
+      record { related = (refl, part_more g h n (tag_at tags b) name a.0 c.0 x.0 y.0 same is) }))
 
   module _ (roots roots' : Roots) (rest : RootsNest roots roots') where
     included_here : (p : Place) (path : List Place) (b : Before) (t : Tree) (g h : Gathered) (r s : Room) → AreNested g h

@@ -2,33 +2,25 @@
 -- replaced make such types.
 use Rattle.std.proofs.Common.{◌≡◌, ℕ, List, [], ◌∷◌, ◌++◌, Bool, true, false, Option, Some, None, if◌then◌else◌, refl, subst, inr}
 use Rattle.oer_model.specs.AsnType.{Alternatives, AsnType, Need, no_alternatives}
-use Rattle.oer_model.specs.Fits.{DefaultFits}
 use Rattle.oer_module_types.specs.Gathered.{Gathered, choice_in, empty, sequence_in, with_addition, with_alternative, with_component, with_field}
 use Rattle.oer_module_types.specs.Gathered.{with_later, with_marker, with_part, with_root}
 use Rattle.oer_nesting.specs.Deeper.{Deeper, DeeperAdditions, DeeperAlternatives, DeeperFields}
-use Rattle.oer_nesting.specs.Defaults.{AdditionsHaveLeafDefaults, AlternativesHaveLeafDefaults, FieldsHaveLeafDefaults, HasLeafDefaults, IsLeaf}
 use Rattle.oer_units.specs.declared.tagging.Tag.{Tag}
 use Rattle.oer_values.specs.ShapeView.{SeenAddition, SeenAlternative, SeenField, additions_from, fields_from, later_from, root_from}
-
--- the second is the first with some of its ends replaced, and the first has defaults only where types hold no other
-pub record IsNested (T U : AsnType) : Type 0 where
-  pub deeper : Deeper T U
-  pub defaults : HasLeafDefaults T
 
 record FieldNests (f g : SeenField) : Type 0 where
   name : f.name ≡ g.name
   need : f.need ≡ g.need
-  nests : IsNested f.type g.type
-  leaf : DefaultFits f.need (λ d. IsLeaf f.type)
+  nests : Deeper f.type g.type
 
 record AdditionNests (a b : SeenAddition) : Type 0 where
   name : a.name ≡ b.name
-  nests : IsNested a.type b.type
+  nests : Deeper a.type b.type
 
 record AlternativeNests (a b : SeenAlternative) : Type 0 where
   name : a.name ≡ b.name
   tag : a.tag ≡ b.tag
-  nests : IsNested a.type b.type
+  nests : Deeper a.type b.type
 
 -- there are as many in both lists, and R holds of those at the same place
 abbrev Each : {A : Type 0} → (A → A → Type 0) → List A → List A → Type 0
@@ -107,25 +99,25 @@ module _ (g h : Gathered) (n : AreNested g h) where
   by_mark x x' y y' a c =
       subst (λ b. AreNested (if g.marked then x else y) (if b then x' else y')) n.marked (either g.marked x x' y y' a c)
 
-  component_more : (name : List ℕ) (need need' : Need) (T U : AsnType) → need ≡ need' → IsNested T U → DefaultFits need (λ d. IsLeaf T)
+  component_more : (name : List ℕ) (need need' : Need) (T U : AsnType) → need ≡ need' → Deeper T U
       → AreNested (with_component name need T g) (with_component name need' U h)
   unfolding with_component
-  component_more name need need' T U same nests leaf = by_mark _ _ _ _
+  component_more name need need' T U same nests = by_mark _ _ _ _
       (addition_more _ _ (record { name = refl; nests = nests }))
-      (field_more _ _ (record { name = refl; need = same; nests = nests; leaf = leaf }))
+      (field_more _ _ (record { name = refl; need = same; nests = nests }))
 
-  alternative_more : (name : List ℕ) (tag : Tag) (T U : AsnType) → IsNested T U
+  alternative_more : (name : List ℕ) (tag : Tag) (T U : AsnType) → Deeper T U
       → AreNested (with_alternative name tag T g) (with_alternative name tag U h)
   unfolding with_alternative
   alternative_more name tag T U nests = by_mark _ _ _ _
       (later_more _ _ (record { name = refl; tag = refl; nests = nests }))
       (root_more _ _ (record { name = refl; tag = refl; nests = nests }))
 
-  pub part_more : (tag : Option Tag) (name : List ℕ) (need need' : Need) (T U : AsnType) → need ≡ need' → IsNested T U
-      → DefaultFits need (λ d. IsLeaf T) → AreNested (with_part tag name need T g) (with_part tag name need' U h)
+  pub part_more : (tag : Option Tag) (name : List ℕ) (need need' : Need) (T U : AsnType) → need ≡ need' → Deeper T U
+      → AreNested (with_part tag name need T g) (with_part tag name need' U h)
   unfolding with_part
-  part_more None name need need' T U same nests leaf = component_more name need need' T U same nests leaf
-  part_more (Some tag) name need need' T U same nests leaf = alternative_more name tag T U nests
+  part_more None name need need' T U same nests = component_more name need need' T U same nests
+  part_more (Some tag) name need need' T U same nests = alternative_more name tag T U nests
 
 -- ---- all of them
 
@@ -133,19 +125,19 @@ fields_nest : (fs gs : List SeenField) → Each FieldNests fs gs → DeeperField
 fields_nest [] [] n = refl
 fields_nest [] (g ∷ gs) n = absurd n
 fields_nest (f ∷ fs) [] n = absurd n
-fields_nest (f ∷ fs) (g ∷ gs) n = (g.type, fields_from gs, rw (n.0.name, n.0.need) refl, n.0.nests.deeper, fields_nest fs gs n.1)
+fields_nest (f ∷ fs) (g ∷ gs) n = (g.type, fields_from gs, rw (n.0.name, n.0.need) refl, n.0.nests, fields_nest fs gs n.1)
 
 additions_nest : (xs ys : List SeenAddition) → Each AdditionNests xs ys → DeeperAdditions (additions_from xs) (additions_from ys)
 additions_nest [] [] n = refl
 additions_nest [] (y ∷ ys) n = absurd n
 additions_nest (x ∷ xs) [] n = absurd n
-additions_nest (x ∷ xs) (y ∷ ys) n = (y.type, additions_from ys, rw n.0.name refl, n.0.nests.deeper, additions_nest xs ys n.1)
+additions_nest (x ∷ xs) (y ∷ ys) n = (y.type, additions_from ys, rw n.0.name refl, n.0.nests, additions_nest xs ys n.1)
 
 later_nest : (xs ys : List SeenAlternative) → Each AlternativeNests xs ys → DeeperAlternatives (later_from xs) (later_from ys)
 later_nest [] [] n = refl
 later_nest [] (y ∷ ys) n = absurd n
 later_nest (x ∷ xs) [] n = absurd n
-later_nest (x ∷ xs) (y ∷ ys) n = (y.type, later_from ys, rw (n.0.name, n.0.tag) refl, n.0.nests.deeper, later_nest xs ys n.1)
+later_nest (x ∷ xs) (y ∷ ys) n = (y.type, later_from ys, rw (n.0.name, n.0.tag) refl, n.0.nests, later_nest xs ys n.1)
 
 root_nests : (xs ys : List SeenAlternative) (more others : Alternatives) → Each AlternativeNests xs ys → DeeperAlternatives more others
     → DeeperAlternatives (root_from xs more) (root_from ys others)
@@ -153,62 +145,31 @@ root_nests [] [] more others n d = d
 root_nests [] (y ∷ ys) more others n d = absurd n
 root_nests (x ∷ xs) [] more others n d = absurd n
 root_nests (x ∷ xs) (y ∷ ys) more others n d =
-    (y.type, root_from ys others, rw (n.0.name, n.0.tag) refl, n.0.nests.deeper, root_nests xs ys more others n.1 d)
-
-field_leaves : (fs gs : List SeenField) → Each FieldNests fs gs → FieldsHaveLeafDefaults (fields_from fs)
-field_leaves [] gs n = tt
-field_leaves (f ∷ fs) [] n = absurd n
-field_leaves (f ∷ fs) (g ∷ gs) n = (n.0.nests.defaults, n.0.leaf, field_leaves fs gs n.1)
-
-addition_leaves : (xs ys : List SeenAddition) → Each AdditionNests xs ys → AdditionsHaveLeafDefaults (additions_from xs)
-addition_leaves [] ys n = tt
-addition_leaves (x ∷ xs) [] n = absurd n
-addition_leaves (x ∷ xs) (y ∷ ys) n = (n.0.nests.defaults, addition_leaves xs ys n.1)
-
-later_leaves : (xs ys : List SeenAlternative) → Each AlternativeNests xs ys → AlternativesHaveLeafDefaults (later_from xs)
-later_leaves [] ys n = tt
-later_leaves (x ∷ xs) [] n = absurd n
-later_leaves (x ∷ xs) (y ∷ ys) n = (n.0.nests.defaults, later_leaves xs ys n.1)
-
-root_leaves : (xs ys : List SeenAlternative) (more : Alternatives) → Each AlternativeNests xs ys → AlternativesHaveLeafDefaults more
-    → AlternativesHaveLeafDefaults (root_from xs more)
-root_leaves [] ys more n d = d
-root_leaves (x ∷ xs) [] more n d = absurd n
-root_leaves (x ∷ xs) (y ∷ ys) more n d = (n.0.nests.defaults, root_leaves xs ys more n.1 d)
+    (y.type, root_from ys others, rw (n.0.name, n.0.tag) refl, n.0.nests, root_nests xs ys more others n.1 d)
 
 -- one way on both sides, of types
-types_by : (b c : Bool) → b ≡ c → (T T' U U' : AsnType) → IsNested T T' → IsNested U U'
-    → IsNested (if b then T else U) (if c then T' else U')
+types_by : (b c : Bool) → b ≡ c → (T T' U U' : AsnType) → Deeper T T' → Deeper U U'
+    → Deeper (if b then T else U) (if c then T' else U')
 types_by true true e T T' U U' a d = a
 types_by false false e T T' U U' a d = d
 types_by true false e T T' U U' a d = absurd (cc)
 types_by false true e T T' U U' a d = absurd (cc)
 
-pub sequence_nests : (g h : Gathered) → AreNested g h → IsNested (sequence_in g) (sequence_in h)
+pub sequence_nests : (g h : Gathered) → AreNested g h → Deeper (sequence_in g) (sequence_in h)
 unfolding sequence_in
 sequence_nests g h n =
     let fs = fields_nest g.fields h.fields n.fields in
-    let ls = field_leaves g.fields h.fields n.fields in
     types_by g.marked h.marked n.marked _ _ _ _
-    (record {
-      deeper = (fields_from h.fields, additions_from h.additions, refl, fs, additions_nest g.additions h.additions n.additions);
-      defaults = (ls, addition_leaves g.additions h.additions n.additions);
-    })
-    (record { deeper = (fields_from h.fields, refl, fs); defaults = ls })
+    (fields_from h.fields, additions_from h.additions, refl, fs, additions_nest g.additions h.additions n.additions)
+    (fields_from h.fields, refl, fs)
 
-pub choice_nests : (g h : Gathered) → AreNested g h → IsNested (choice_in g) (choice_in h)
+pub choice_nests : (g h : Gathered) → AreNested g h → Deeper (choice_in g) (choice_in h)
 unfolding choice_in
 choice_nests g h n =
     types_by g.marked h.marked n.marked _ _ _ _
-    (record {
-      deeper = inr (
-        root_from h.alternatives (later_from h.later),
-        refl,
-        root_nests g.alternatives h.alternatives _ _ n.alternatives (later_nest g.later h.later n.later),
-      );
-      defaults = root_leaves g.alternatives h.alternatives _ n.alternatives (later_leaves g.later h.later n.later);
-    })
-    (record {
-      deeper = inr (root_from h.alternatives no_alternatives, refl, root_nests g.alternatives h.alternatives _ _ n.alternatives refl);
-      defaults = root_leaves g.alternatives h.alternatives _ n.alternatives tt;
-    })
+    (inr (
+      root_from h.alternatives (later_from h.later),
+      refl,
+      root_nests g.alternatives h.alternatives _ _ n.alternatives (later_nest g.later h.later n.later),
+    ))
+    (inr (root_from h.alternatives no_alternatives, refl, root_nests g.alternatives h.alternatives _ _ n.alternatives refl))

@@ -1,12 +1,10 @@
 -- A type that holds no other doesn't depend on the room that its text has.
 use Rattle.std.proofs.Common.{◌≡◌, ℕ, List, Bool, true, false, not, ◌&&◌, is_none, refl}
-use Rattle.oer_model.specs.AsnType.{AsnType}
-use Rattle.oer_model.specs.declared.size.Size.{Size}
 use Rattle.oer_module_lexer.specs.Token.{Spot}
 use Rattle.oer_module_leaves.specs.Leaves.{bits_at, counted_at, enumerated_at, integer_at, lacks_marker, leaf_at, leaf_by}
 use Rattle.oer_module_leaves.specs.Leaves.{listed_at, plain_at, sized_at, sizes_at}
 use Rattle.oer_module_leaves.specs.Numbered.{Numbered, numbered_at}
-use Rattle.oer_module_leaves.specs.Shapes.{counted_type, enumerated_type, named_items, size_at}
+use Rattle.oer_module_leaves.specs.Shapes.{enumerated_type, size_at}
 use Rattle.oer_module_leaves.specs.Texts.{Sizes, fixed, items_at}
 use Rattle.oer_module_leaves.specs.declared.shape.Counted.{Counted}
 use Rattle.oer_module_leaves.specs.declared.shape.Counted.TheVariants.{Bits, Octets, Ia5, Visible, Numeric, Printable, Utf8}
@@ -21,59 +19,39 @@ use Rattle.oer_module_text.specs.Room.{Room}
 use Rattle.oer_module_types.specs.Fields.{field_at, field_of, if_open, open_at}
 use Rattle.oer_module_values.specs.Types.{TypeIn, Given}
 use Rattle.oer_module_limits.specs.Written.{Written}
-use Rattle.oer_nesting.specs.Defaults.{IsLeaf}
-use Rattle.oer_module_nesting.proofs.Alike.{Alike, behind, bind, choose, once}
+use Rattle.oer_module_nesting.proofs.Alike.{Alike, Same, behind, bind, choose, once}
 
--- the same type, which holds no other
-abbrev pub AreLeaves : AsnType → AsnType → Type 0
-AreLeaves T U = (T ≡ U) × IsLeaf T
+counted : (p : Place) (c : Counted) (z : Sizes) (r s : Room) → Alike Same (counted_at p c r z) (counted_at p c s z)
+counted p c z r s = once Same (size_at p z) _ _ (λ size is. record { related = refl })
 
-abbrev pub SameLeaf : AsnType × Room → AsnType × Room → Type 0
-SameLeaf x y = AreLeaves x.0 y.0
-
-counted_leaf : (c : Counted) (s : Size) → IsLeaf (counted_type c s)
-counted_leaf Bits s = tt
-counted_leaf Octets s = tt
-counted_leaf Ia5 s = tt
-counted_leaf Visible s = tt
-counted_leaf Numeric s = tt
-counted_leaf Printable s = tt
-counted_leaf Utf8 s = tt
-
-counted : (p : Place) (c : Counted) (z : Sizes) (r s : Room) → Alike SameLeaf (counted_at p c r z) (counted_at p c s z)
-counted p c z r s = once SameLeaf (size_at p z) _ _ (λ size is. record { related = (refl, counted_leaf c size) })
-
-numbers : (m : ℕ) (e : Numbered) → Alike AreLeaves (enumerated_type m e) (enumerated_type m e)
-numbers m e = once AreLeaves (named_items m e.items) _ _ (λ ns is. record { related = (refl, tt) })
-
-listed : (m : ℕ) (e : Numbered) (r s : Room) → Alike SameLeaf (listed_at m e r) (listed_at m e s)
+listed : (m : ℕ) (e : Numbered) (r s : Room) → Alike Same (listed_at m e r) (listed_at m e s)
 unfolding listed_at
-listed m e r s = behind SameLeaf (items_at m e r) (items_at m e s) _ _ (λ r' s'.
-    bind AreLeaves SameLeaf _ _ _ _ (numbers m e) (λ T U same. record { related = same }))
+listed m e r s = behind Same (items_at m e r) (items_at m e s) _ _ (λ r' s'.
+    once Same (enumerated_type m e) _ _ (λ T is. record { related = refl }))
 
-open_type : (p : Place) (w : Written) (o : Bool) (r s : Room) → Alike SameLeaf (if_open p w r o) (if_open p w s o)
-open_type p w true r s = record { related = (refl, tt) }
+open_type : (p : Place) (w : Written) (o : Bool) (r s : Room) → Alike Same (if_open p w r o) (if_open p w s o)
+open_type p w true r s = record { related = refl }
 open_type p w false r s = record { related = tt }
 
 module _ (ms : List Module) where
-  integer : (t : TypeIn) (r s : Room) → Alike SameLeaf (integer_at ms t r) (integer_at ms t s)
-  integer t r s = once SameLeaf (limited_by (integer_limits ms t)) _ _ (λ z is. record { related = (refl, tt) })
+  integer : (t : TypeIn) (r s : Room) → Alike Same (integer_at ms t r) (integer_at ms t s)
+  integer t r s = once Same (limited_by (integer_limits ms t)) _ _ (λ z is. record { related = refl })
 
-  sized : (c : Counted) (t : TypeIn) (p : Place) (r s : Room) → Alike SameLeaf (sized_at ms c t p r) (sized_at ms c t p s)
-  sized c t p r s = once SameLeaf (sizes_at ms t) _ _ (λ z is. counted p c z r s)
+  sized : (c : Counted) (t : TypeIn) (p : Place) (r s : Room) → Alike Same (sized_at ms c t p r) (sized_at ms c t p s)
+  sized c t p r s = once Same (sizes_at ms t) _ _ (λ z is. counted p c z r s)
 
-  bits : (t : TypeIn) (p : Place) (ts : List Spot) (r s : Room) → Alike SameLeaf (bits_at ms t p ts r) (bits_at ms t p ts s)
-  bits t p ts r s = once SameLeaf (sizes_at ms t) _ _ (λ z is.
-      choose SameLeaf (not (none_left ts) && is_none (fixed z)) _ _ _ _ (record { related = tt }) (counted p Bits z r s))
+  bits : (t : TypeIn) (p : Place) (ts : List Spot) (r s : Room) → Alike Same (bits_at ms t p ts r) (bits_at ms t p ts s)
+  bits t p ts r s = once Same (sizes_at ms t) _ _ (λ z is.
+      choose Same (not (none_left ts) && is_none (fixed z)) _ _ _ _ (record { related = tt }) (counted p Bits z r s))
 
-  enumerated : (p : Place) (ts : List Spot) (r s : Room) → Alike SameLeaf (enumerated_at ms p ts r) (enumerated_at ms p ts s)
-  enumerated p ts r s = once SameLeaf (numbered_at ms p ts) _ _ (λ e is.
-      choose SameLeaf (lacks_marker ms p.«module» e) _ _ _ _ (record { related = tt }) (listed p.«module» e _ _))
+  enumerated : (p : Place) (ts : List Spot) (r s : Room) → Alike Same (enumerated_at ms p ts r) (enumerated_at ms p ts s)
+  enumerated p ts r s = once Same (numbered_at ms p ts) _ _ (λ e is.
+      choose Same (lacks_marker ms p.«module» e) _ _ _ _ (record { related = tt }) (listed p.«module» e _ _))
 
-  plainly : (t : TypeIn) (p : Place) (b : Builtin) (ts : List Spot) (r s : Room) → Alike SameLeaf (plain_at ms t p b ts r) (plain_at ms t p b ts s)
-  plainly t p bi.Boolean ts r s = record { related = (refl, tt) }
-  plainly t p bi.Null ts r s = record { related = (refl, tt) }
-  plainly t p bi.ObjectIdentifier ts r s = record { related = (refl, tt) }
+  plainly : (t : TypeIn) (p : Place) (b : Builtin) (ts : List Spot) (r s : Room) → Alike Same (plain_at ms t p b ts r) (plain_at ms t p b ts s)
+  plainly t p bi.Boolean ts r s = record { related = refl }
+  plainly t p bi.Null ts r s = record { related = refl }
+  plainly t p bi.ObjectIdentifier ts r s = record { related = refl }
   plainly t p bi.Integer ts r s = integer t r s
   plainly t p bi.Enumerated ts r s = enumerated p ts r s
   plainly t p bi.BitString ts r s = bits t p ts r s
@@ -86,18 +64,18 @@ module _ (ms : List Module) where
   plainly t p bi.Utf8String ts r s = sized Utf8 t p r s
   plainly t p b ts r s = record { related = tt }
 
-  leaf_of : (t : TypeIn) (m : ℕ) (u : Tree) (gs : List Given) (r s : Room) → Alike SameLeaf (leaf_by ms t m u gs r) (leaf_by ms t m u gs s)
+  leaf_of : (t : TypeIn) (m : ℕ) (u : Tree) (gs : List Given) (r s : Room) → Alike Same (leaf_by ms t m u gs r) (leaf_by ms t m u gs s)
   leaf_of t m (plain at b ts cs) gs r s =
-      bind SameLeaf SameLeaf _ _ _ _ (plainly t (place_in m at) b ts r s) (λ x y same. record { related = same })
+      bind Same Same _ _ _ _ (plainly t (place_in m at) b ts r s) (λ x y same. record { related = same })
   leaf_of t m u gs r s = record { related = tt }
 
-  pub leaf : (t u : TypeIn) (gs : List Given) (r s : Room) → Alike SameLeaf (leaf_at ms t u gs r) (leaf_at ms t u gs s)
+  pub leaf : (t u : TypeIn) (gs : List Given) (r s : Room) → Alike Same (leaf_at ms t u gs r) (leaf_at ms t u gs s)
   unfolding leaf_at
   leaf t u gs r s = leaf_of t u.«module» u.type gs r s
 
   pub field_type : (p : Place) (name : List ℕ) (steps ps : List Spot) (w : Written) (r s : Room)
-      → Alike SameLeaf (field_at ms p name steps ps w r) (field_at ms p name steps ps w s)
+      → Alike Same (field_at ms p name steps ps w r) (field_at ms p name steps ps w s)
   unfolding field_at
   field_type p name steps ps w r s =
-      choose SameLeaf (none_left ps) _ _ _ _ (once SameLeaf (open_at ms p.«module» p.at name (field_of steps)) _ _ (λ o is. open_type p w o r s))
+      choose Same (none_left ps) _ _ _ _ (once Same (open_at ms p.«module» p.at name (field_of steps)) _ _ (λ o is. open_type p w o r s))
       (record { related = tt })

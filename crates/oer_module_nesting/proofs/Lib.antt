@@ -1,5 +1,6 @@
 pub mod Alike
 pub mod Leaves
+pub mod Components
 pub mod Defaults
 pub mod Gathered
 pub mod Elements

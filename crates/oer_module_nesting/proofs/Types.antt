@@ -3,33 +3,30 @@ use Rattle.std.proofs.Common.{◌≡◌, ◌≤◌, ◌==◌, nat_le, ℕ, zero,
 use Rattle.std.proofs.Common.{if◌then◌else◌}
 use Rattle.std.proofs.lemmas.Bool.{leb-true, le-leb}
 use Rattle.oer_model.specs.AsnType.{AsnType}
-use Rattle.oer_module_defaults.specs.Governors.{Governor, governed, governor_at, or_refused}
+use Rattle.oer_module_defaults.specs.Components.{sequence_of}
 use Rattle.oer_module_limits.specs.Written.{written}
 use Rattle.oer_module_names.specs.declared.error.Place.{Place}
 use Rattle.oer_module_syntax.specs.Tree.{Module, Tree, plain, named, tagged, structure, list_of, selection, instance_of, any_defined_by}
 use Rattle.oer_module_text.specs.Errors.{Read, error, place_in, too_deep, ◌>>=◌}
 use Rattle.oer_module_text.specs.Room.{Room, new, put, take_part}
 use Rattle.oer_module_types.specs.Levels.{end_at, end_text, end_type, is_full, times}
-use Rattle.oer_module_types.specs.Types.{list_at, meant_as, nested_at, roots_at, sequence_of, single_at, single_by, stands_for}
+use Rattle.oer_module_types.specs.Types.{list_at, meant_as, nested_at, roots_at, single_at, single_by, stands_for}
 use Rattle.oer_module_types.specs.Types.{structure_at, type_at, type_place, typed}
-use Rattle.oer_module_values.specs.Types.{TypeIn, Given, Meaning, type_in}
+use Rattle.oer_module_values.specs.Types.{TypeIn, Given, type_in}
 use Rattle.oer_nesting.proofs.Canonical.{canonical_alike, encodes_alike}
 use Rattle.oer_nesting.proofs.Free.{free_meets_none}
-use Rattle.oer_nesting.proofs.Replaced.{leaf_defaults}
+use Rattle.oer_nesting.proofs.FreeDefaults.{free_defaults}
+use Rattle.oer_nesting.proofs.Replaced.{none_replaced}
 use Rattle.oer_nesting.specs.Deeper.{Deeper}
-use Rattle.oer_nesting.specs.Defaults.{IsLeaf}
-use Rattle.oer_model.specs.AsnType as asn
-use Rattle.oer_module_nesting.proofs.Alike.{Alike, ahead, behind, bind, given, once, weaken}
-use Rattle.oer_module_nesting.proofs.Defaults.{Governs}
-use Rattle.oer_module_nesting.proofs.Elements.{Further, Nest, NestOf, Roots, RootsNest, Types, TypesNest, included_nests, list_nests, structure_nests}
-use Rattle.oer_module_nesting.proofs.Gathered.{IsNested}
-use Rattle.oer_module_nesting.proofs.Leaves.{SameLeaf, field_type, leaf as leaf_type}
-use Rattle.oer_module_nesting.specs.Laws.{CanonicalAlike, EncodesAlike, FreeCanonical, FreeEncodes, HaveLeafDefaults, IsDeeper, OfBoth}
+use Rattle.oer_module_nesting.proofs.Alike.{Alike, Same, ahead, behind, bind, given, once, weaken}
+use Rattle.oer_module_nesting.proofs.Elements.{Further, Nest, Roots, RootsNest, Types, TypesNest, included_nests, list_nests, structure_nests}
+use Rattle.oer_module_nesting.proofs.Leaves.{field_type, leaf as leaf_type}
+use Rattle.oer_module_nesting.specs.Laws.{CanonicalAlike, EncodesAlike, FreeCanonical, FreeEncodes, IsDeeper, OfBoth}
 
 -- ---- an end
 
 end_nests : (r : Room) (q : Read (AsnType × Room)) → Alike Nest (Ok (end_type, r)) q
-end_nests r (Ok y) = record { related = record { deeper = inl (codes "too-deep", refl); defaults = (tt, tt) } }
+end_nests r (Ok y) = record { related = inl (codes "too-deep", refl) }
 end_nests r (Err e) = record { related = tt }
 
 no_level : (b : Bool) (p q : Read (AsnType × Room)) (place : Place) → Alike Nest p q → Alike Nest (if b then error place too_deep else p) q
@@ -52,15 +49,8 @@ still_full n m k less full = let h : m ≤ k = leb-true m k full in le-leb n k (
 
 -- ---- types that hold no other
 
-leaf_nests : (T U : AsnType) → T ≡ U → IsLeaf T → IsNested T U
-leaf_nests (asn.leaf kind) U e is = record { deeper = subst (λ V. Deeper (asn.leaf kind) V) e refl; defaults = tt }
-leaf_nests (asn.sequence fs) U e is = absurd is
-leaf_nests (asn.extensible_sequence fs more) U e is = absurd is
-leaf_nests (asn.sequence_of size T) U e is = absurd is
-leaf_nests (asn.choice extensible more) U e is = absurd is
-
 module _ (ms : List Module) where
-  single_of : (t u : TypeIn) (m : ℕ) (v : Tree) (gs : List Given) (r s : Room) → Alike SameLeaf (single_by ms t u m v gs r) (single_by ms t u m v gs s)
+  single_of : (t u : TypeIn) (m : ℕ) (v : Tree) (gs : List Given) (r s : Room) → Alike Same (single_by ms t u m v gs r) (single_by ms t u m v gs s)
   single_of t u m (plain at b items cs) gs r s = leaf_type ms t u gs r s
   single_of t u m (named at name steps ps cs) gs r s = field_type ms (place_in m at) name steps ps (written m cs gs) r s
   single_of t u m (selection at name v) gs r s = record { related = tt }
@@ -68,19 +58,15 @@ module _ (ms : List Module) where
   single_of t u m (any_defined_by at name) gs r s = record { related = tt }
   single_of t u m v gs r s = record { related = tt }
 
-  single : (t u : TypeIn) (gs : List Given) (r s : Room) → Alike SameLeaf (single_at ms t u gs r) (single_at ms t u gs s)
+  single : (t u : TypeIn) (gs : List Given) (r s : Room) → Alike Same (single_at ms t u gs r) (single_at ms t u gs s)
   unfolding single_at
   single t u gs r s = single_of t u u.«module» u.type gs r s
 
--- values of the tree in a module have a kind
-abbrev Admits : ℕ → Tree → Type 0
-Admits m u = (p : Place) × (g : Governor) × (or_refused p (governed m u) ≡ Ok g)
+-- the same type, with none of its ends replaced
+same_nests : (x y : AsnType × Room) → x.0 ≡ y.0 → Deeper x.0 y.0
+same_nests x y same = subst (λ U. Deeper x.0 U) same (none_replaced x.0)
 
--- what the tree in a module is: if its values have a kind, it holds no other type
-abbrev Meant : ℕ → Tree → AsnType × Room → AsnType × Room → Type 0
-Meant m u x y = IsNested x.0 y.0 × (Admits m u → IsLeaf x.0)
-
-module _ (ms : List Module) (n m : ℕ) (less : n ≤ m) (levels : ℕ) (type type' : Types) (types : TypesNest ms type type')
+module _ (ms : List Module) (n m : ℕ) (less : n ≤ m) (levels : ℕ) (type type' : Types) (types : TypesNest type type')
     (roots roots' : Roots) (rest : RootsNest roots roots') where
   nested : (inside inside' : List Place → Room → Read (AsnType × Room)) (p : Place) (path : List Place) (r s : Room)
       → Alike Nest (inside (path ++ p ∷ []) r) (inside' (path ++ p ∷ []) s) → Alike Nest (nested_at n levels inside p path r) (nested_at m levels inside' p path s)
@@ -88,41 +74,32 @@ module _ (ms : List Module) (n m : ℕ) (less : n ≤ m) (levels : ℕ) (type ty
   nested inside inside' p path r s a =
       full_by (is_full n p path) (is_full m p path) (still_full n m (times p path) less) levels p r s _ _ a
 
-  single_meant : (t u : TypeIn) (gs : List Given) (r s : Room) → Alike (Meant u.«module» u.type) (single_at ms t u gs r) (single_at ms t u gs s)
-  single_meant t u gs r s =
-      weaken SameLeaf (Meant u.«module» u.type) _ _ (single ms t u gs r s) (λ x y same. (leaf_nests x.0 y.0 same.0 same.1, λ a. same.1))
+  single_nests : (t u : TypeIn) (gs : List Given) (r s : Room) → Alike Nest (single_at ms t u gs r) (single_at ms t u gs s)
+  single_nests t u gs r s = weaken Same Nest _ _ (single ms t u gs r s) same_nests
 
   meant : (path : List Place) (t : TypeIn) (gs : List Given) (k : ℕ) (u : Tree) (r s : Room)
-      → Alike (Meant k u) (meant_as ms n levels type roots path t gs k u r) (meant_as ms m levels type' roots' path t gs k u s)
+      → Alike Nest (meant_as ms n levels type roots path t gs k u r) (meant_as ms m levels type' roots' path t gs k u s)
   meant path t gs k (structure at b es cs) r s =
-      weaken Nest (Meant k (structure at b es cs)) _ _
-      (nested (structure_at ms type roots (place_in k at) b es (written k cs gs)) (structure_at ms type' roots' (place_in k at) b es (written k cs gs))
-      (place_in k at) path r s (structure_nests ms type type' types roots roots' rest (place_in k at) b es (written k cs gs) _ r s))
-      (λ x y is. (is, λ a. absurd (let e = a.2 in cc)))
+      nested (structure_at ms type roots (place_in k at) b es (written k cs gs)) (structure_at ms type' roots' (place_in k at) b es (written k cs gs))
+      (place_in k at) path r s (structure_nests ms type type' types roots roots' rest (place_in k at) b es (written k cs gs) _ r s)
   meant path t gs k (list_of at b sized size name item) r s =
-      weaken Nest (Meant k (list_of at b sized size name item)) _ _
-      (nested (list_at ms type (place_in k at) b sized item (written k size gs)) (list_at ms type' (place_in k at) b sized item (written k size gs))
-      (place_in k at) path r s (list_nests ms type type' types (place_in k at) b sized item (written k size gs) _ r s))
-      (λ x y is. (is, λ a. absurd (let e = a.2 in cc)))
-  meant path t gs k (plain at b items cs) r s = single_meant t (type_in k (plain at b items cs)) gs r s
-  meant path t gs k (named at name steps ps cs) r s = single_meant t (type_in k (named at name steps ps cs)) gs r s
-  meant path t gs k (tagged at ts mode u) r s = single_meant t (type_in k (tagged at ts mode u)) gs r s
-  meant path t gs k (selection at name u) r s = single_meant t (type_in k (selection at name u)) gs r s
-  meant path t gs k (instance_of at class steps cs) r s = single_meant t (type_in k (instance_of at class steps cs)) gs r s
-  meant path t gs k (any_defined_by at name) r s = single_meant t (type_in k (any_defined_by at name)) gs r s
+      nested (list_at ms type (place_in k at) b sized item (written k size gs)) (list_at ms type' (place_in k at) b sized item (written k size gs))
+      (place_in k at) path r s (list_nests ms type type' types (place_in k at) b sized item (written k size gs) _ r s)
+  meant path t gs k (plain at b items cs) r s = single_nests t (type_in k (plain at b items cs)) gs r s
+  meant path t gs k (named at name steps ps cs) r s = single_nests t (type_in k (named at name steps ps cs)) gs r s
+  meant path t gs k (tagged at ts mode u) r s = single_nests t (type_in k (tagged at ts mode u)) gs r s
+  meant path t gs k (selection at name u) r s = single_nests t (type_in k (selection at name u)) gs r s
+  meant path t gs k (instance_of at class steps cs) r s = single_nests t (type_in k (instance_of at class steps cs)) gs r s
+  meant path t gs k (any_defined_by at name) r s = single_nests t (type_in k (any_defined_by at name)) gs r s
 
 -- ---- all levels
 
-admits : (ms : List Module) (t : TypeIn) (u : Meaning) → stands_for ms t ≡ Ok u → Governs ms t → Admits u.of.«module» u.of.type
-unfolding stands_for governor_at
-admits ms t u is (p, g, governs) = (p, g, subst (λ (w : Read Meaning). (w >>= λ v. or_refused p (governed v.of.«module» v.of.type)) ≡ Ok g) is governs)
-
 module _ (ms : List Module) (n m : ℕ) (less : n ≤ m) where
   record Nests (levels : ℕ) : Type 0 where
-    types : TypesNest ms (type_at ms n levels) (type_at ms m levels)
+    types : TypesNest (type_at ms n levels) (type_at ms m levels)
     roots : RootsNest (roots_at ms n levels) (roots_at ms m levels)
 
-  none_types : TypesNest ms (type_at ms n zero) (type_at ms m zero)
+  none_types : TypesNest (type_at ms n zero) (type_at ms m zero)
   unfolding type_at
   none_types path t r s = record { related = tt }
 
@@ -130,14 +107,12 @@ module _ (ms : List Module) (n m : ℕ) (less : n ≤ m) where
   unfolding roots_at
   none_roots path any p t g h r s is = record { related = tt }
 
-  more_types : (levels : ℕ) → Nests levels → TypesNest ms (type_at ms n (suc levels)) (type_at ms m (suc levels))
+  more_types : (levels : ℕ) → Nests levels → TypesNest (type_at ms n (suc levels)) (type_at ms m (suc levels))
   unfolding type_at
   more_types levels l path t r s =
-      once (NestOf ms t) (stands_for ms t) _ _ (λ u is. behind (NestOf ms t) (take_part (type_place u.of) r) (take_part (type_place u.of) s) _ _ (λ r' s'.
-      weaken (Meant u.of.«module» u.of.type) (NestOf ms t) _ _
-      (meant ms n m less levels (type_at ms n levels) (type_at ms m levels) l.types (roots_at ms n levels) (roots_at ms m levels) l.roots
-      path t u.given u.of.«module» u.of.type r' s')
-      (λ x y a. (a.0, λ governs. a.1 (admits ms t u is governs)))))
+      once Nest (stands_for ms t) _ _ (λ u is. behind Nest (take_part (type_place u.of) r) (take_part (type_place u.of) s) _ _ (λ r' s'.
+      meant ms n m less levels (type_at ms n levels) (type_at ms m levels) l.types (roots_at ms n levels) (roots_at ms m levels) l.roots
+      path t u.given u.of.«module» u.of.type r' s'))
 
   more_roots : (levels : ℕ) → Nests levels → RootsNest (roots_at ms n (suc levels)) (roots_at ms m (suc levels))
   unfolding roots_at
@@ -150,32 +125,25 @@ module _ (ms : List Module) (n m : ℕ) (less : n ≤ m) where
   all_levels zero = record { types = none_types; roots = none_roots }
   all_levels (suc levels) = record { types = more_types levels (all_levels levels); roots = more_roots levels (all_levels levels) }
 
-  whole : (t : TypeIn) → Alike (λ x y. IsNested x.0 y.0) (typed ms n t) (typed ms m t)
+  whole : (t : TypeIn) → Alike (λ x y. Deeper x.0 y.0) (typed ms n t) (typed ms m t)
   unfolding typed
-  whole t = bind (NestOf ms t) (λ x y. IsNested x.0 y.0) _ _ _ _ ((all_levels 32).types [] t new new) (λ x y is. record { related = is.0 })
+  whole t = bind Nest (λ x y. Deeper x.0 y.0) _ _ _ _ ((all_levels 32).types [] t new new) (λ x y is. record { related = is })
 
 -- ---- the laws
 
-nests : OfBoth IsNested
-nests ms n m t x y less e f = given (λ a c. IsNested a.0 c.0) _ _ x y (whole ms n m less t) e f
-
 pub is_deeper : IsDeeper
-is_deeper ms n m t x y less e f = (nests ms n m t x y less e f).deeper
-
-pub have_leaf_defaults : HaveLeafDefaults
-have_leaf_defaults ms n t x e = (nests ms n n t x x (omega arith) e e).defaults
+is_deeper ms n m t x y less e f = given (λ a c. Deeper a.0 c.0) _ _ x y (whole ms n m less t) e f
 
 pub encoded_by_both : EncodesAlike
 encoded_by_both ms n m t x y less e f v b = encodes_alike x.0 y.0 (is_deeper ms n m t x y less e f) v b
 
 pub canonical_by_both : CanonicalAlike
-canonical_by_both ms n m t x y less e f v b =
-    canonical_alike x.0 y.0 (is_deeper ms n m t x y less e f) (leaf_defaults x.0 (have_leaf_defaults ms n t x e)) v b
+canonical_by_both ms n m t x y less e f meet v b = canonical_alike x.0 y.0 (is_deeper ms n m t x y less e f) meet v b
 
 pub free_encodes : FreeEncodes
 free_encodes ms n m t x y less e f v b free h =
     (encoded_by_both ms n m t x y less e f v b (free_meets_none x.0 v h.1 free)).0 h
 
 pub free_canonical : FreeCanonical
-free_canonical ms n m t x y less e f v b free h =
-    (canonical_by_both ms n m t x y less e f v b (free_meets_none x.0 v h.0 free)).0 h
+free_canonical ms n m t x y less e f fit defaults v b free h =
+    (canonical_by_both ms n m t x y less e f (free_defaults x.0 fit defaults) v b (free_meets_none x.0 v h.0 free)).0 h

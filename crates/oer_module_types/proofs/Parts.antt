@@ -1,12 +1,13 @@
 -- A type for which there is no room isn't taken, and its components aren't; else its components are those of the SEQUENCE.
 use Rattle.std.proofs.Common.{◌≡◌, ◌<◌, ℕ, zero, suc, List, [], Bool, Some, Ok, Err, refl, sym, subst, arith}
+use Rattle.oer_module_defaults.specs.Components.{sequence_of}
 use Rattle.oer_module_names.specs.declared.error.Place.{Place}
 use Rattle.oer_module_syntax.specs.Tree.{Elements, Module, Tree}
 use Rattle.oer_module_text.specs.Errors.{Error}
 use Rattle.oer_module_text.specs.Room.{Room, take_part}
 use Rattle.oer_module_values.specs.Types.{TypeIn, Meaning, type_in}
 use Rattle.oer_module_types.specs.Gathered.{Gathered}
-use Rattle.oer_module_types.specs.Types.{first, root_at, roots_at, sequence_of, stands_for, type_at, type_place}
+use Rattle.oer_module_types.specs.Types.{first, root_at, roots_at, stands_for, type_at, type_place}
 use Rattle.oer_module_types.specs.declared.element.Before.{Before}
 
 module _ (ms : List Module) (nesting : ℕ) where

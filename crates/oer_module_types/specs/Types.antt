@@ -4,6 +4,7 @@ use Rattle.std.specs.Prelude.{codes, slice_get, if◌then◌else◌}
 use Rattle.oer_model.specs.AsnType.{AsnType}
 use Rattle.oer_model.specs.AsnType as asn
 use Rattle.oer_model.specs.Constraints.{any_size}
+use Rattle.oer_module_defaults.specs.Components.{sequence_of}
 use Rattle.oer_module_defaults.specs.Defaults.{default_at}
 use Rattle.oer_module_leaves.specs.Comments.{unchecked_at}
 use Rattle.oer_module_leaves.specs.Leaves.{is_implied, leaf_at}
@@ -65,11 +66,6 @@ name_at tag b name r = tag_if tag (put (codes " ") (put name (put_comma b r)))
 
 abbrev pub marker_at : ℕ → ℕ → Before → Room → Read Room
 marker_at m at b r = if b.marked then refused m at parts.SecondMarker else Ok (put (codes "...") (put_comma b r))
-
--- the elements of a SEQUENCE
-abbrev pub sequence_of : Tree → Option Elements
-sequence_of (structure at bi.Sequence es cs) = Some es
-sequence_of t = None
 
 -- an addition may be absent in any case, and has no default
 abbrev pub added_at : ℕ → ℕ → Need → Room → Read (asn.Need × Room)

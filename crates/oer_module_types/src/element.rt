@@ -4,7 +4,6 @@ ghost use Rattle.oer_module_names.specs.Views.{modules_in};
 ghost use Rattle.oer_module_syntax.specs.Tree.{need_of, tree_of};
 ghost use Rattle.oer_module_text.specs.Errors.{Gives};
 ghost use Rattle.oer_module_text.specs.Room.{room_of};
-ghost use Rattle.oer_module_values.specs.Views.{type_in};
 ghost use Rattle.oer_values.specs.ShapeView.{need_of as need_seen};
 ghost use Rattle.oer_module_types.specs.Types.{added_at, after, closed, first, index_of, marker_at, name_at, need_at, needed_at, put_comma, tag_at, tag_if};
 

@@ -1,7 +1,6 @@
 //! A type and its text, with the types in it.
-ghost use Rattle.std.specs.Prelude.{◌≡◌, ◌<◌, IfOk, OnOk, length, map, option_map};
+ghost use Rattle.std.specs.Prelude.{◌≡◌, ◌<◌, IfOk, OnOk, length, map};
 ghost use Rattle.oer_module_limits.specs.Views.{written_of};
-ghost use Rattle.oer_module_names.specs.Views.{modules_in};
 ghost use Rattle.oer_module_syntax.specs.Tree.{element_of, elements_from, need_of, tree_of};
 ghost use Rattle.oer_module_text.specs.Errors.{Gives};
 ghost use Rattle.oer_module_text.specs.Room.{room_of};
@@ -9,7 +8,7 @@ ghost use Rattle.oer_module_values.specs.Types.{IsFinal};
 ghost use Rattle.oer_module_values.specs.Views.{given_of, meaning_of, type_in};
 ghost use Rattle.oer_values.specs.ShapeView.{type_of};
 ghost use Rattle.oer_module_types.specs.Gathered.{gathered_of};
-ghost use Rattle.oer_module_types.specs.Types.{IsSingle, braces_at, component_at, components_of_at, element_at, elements_at, inside_at, list_at, meant_by, nested_at, root_at, root_element_at, sequence_of, single_at, stands_for, structure_at, type_place};
+ghost use Rattle.oer_module_types.specs.Types.{IsSingle, braces_at, component_at, components_of_at, element_at, elements_at, inside_at, list_at, meant_by, nested_at, root_at, root_element_at, single_at, stands_for, structure_at, type_place};
 ghost use Rattle.oer_module_types.specs.Views.{modules_of, roots_of, types_of};
 
 use crate::element::{After, Before, close, tag_at, write_marker, write_name, write_need};
@@ -17,6 +16,7 @@ use crate::field::{Field, write_field};
 use crate::gathered::Gathered;
 use crate::level::{is_full, write_end};
 use crate::shape::list_shape;
+use oer_module_defaults::sequence_of;
 use oer_module_leaves::{Checked, put_unchecked, write_leaf};
 use oer_module_limits::Written;
 use oer_module_names::{Names, Place};
@@ -441,21 +441,6 @@ fn write_root_element<'m, 's, 't>(
         Element::Marker { .. } => Ok(After::new(before.any, true)),
         _ if before.marked => Ok(After::new(before.any, true)),
         _ => write_element(scope, levels, path, frame, element, gathered, room),
-    }
-}
-
-/// The elements of a SEQUENCE.
-#[tactic(auto, using(oer_module_syntax::proofs::Trees::trees))]
-fn sequence_of<'m, 's, 't>(of: &'m TypeSyntax<'s, 't>) -> Option<&'m [Element<'s, 't>]>
-    ensures { option_map (λ es. elements_from (map element_of es.now)) result ≡ sequence_of (tree_of of.now) }
-{
-    match of {
-        TypeSyntax::Structure {
-            builtin: Builtin::Sequence,
-            elements,
-            ..
-        } => Some(elements),
-        _ => None,
     }
 }
 
