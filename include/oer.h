@@ -32,7 +32,7 @@
  * - Memory comes from malloc, realloc and free, which have to belong together. It may run out: then
  *   the status is OER_MEMORY, and what the call was given is as before. oer_check, oer_check_whole and
  *   oer_check_many take none.
- * - A call takes at most 96 KB of stack, but oer_types_read_modules at most 640 KB. This is measured
+ * - A call takes at most 96 KB of stack, but oer_types_read_modules at most 1024 KB. This is measured
  *   (docs/LIBRARY.md), and not proved.
  * - No call is made from a signal handler, or in the child of a fork of a process with threads.
  *
@@ -252,7 +252,8 @@ oer_parsed oer_types_read_within(oer_types *types, const char *text, size_t text
 /* Reads published ASN.1 modules (X.680), in place of the types that were there. The types are those of all
  * definitions that are understood (docs/MODULES.md), each by its Name: what the command `oer types` prints. A
  * definition that is refused has no type, so its Name is OER_UNNAMED in later calls, and `oer types` says why.
- * The same holds of one that isn't a well-formed type (docs/NOTATION.md, as with one name twice).
+ * The same holds of one that isn't a well-formed type (docs/NOTATION.md, as with one name twice), and of one in which
+ * a value after DEFAULT holds others.
  * The texts stand in one buffer: each is the `length` octets from texts + at on, by its place, and holds one module
  * or more, in any order. A type that contains itself is written out so often, one in the other, as `nesting` says;
  * 0 stands for the most that fits, up to 8. Each type has at most 4,096 parts. Together they may have many more, so

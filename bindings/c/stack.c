@@ -345,6 +345,23 @@ static void measure_deep_constraint(size_t levels) {
     for (i = 60; i < 65; i++) measure_closed("a deep constraint in a deep type", start, "(1 EXCEPT ", i, "2", ")", end, OER_OK);
 }
 
+/* A type in so many others, with a default of about as many levels as are read. Its innermost value has a constraint that nests. */
+static void measure_deep_default(size_t levels) {
+    static char start[LARGE / 2], end[LARGE / 2];
+    size_t i;
+    strcpy(start, "A ::= ");
+    for (i = 0; i < levels; i++) strcat(start, "SEQUENCE {a ");
+    strcat(start, "SEQUENCE {a T DEFAULT ");
+    strcpy(end, "}");
+    for (i = 0; i < levels; i++) strcat(end, "}");
+    strcat(end, " T ::= SEQUENCE {n T OPTIONAL, b BIT STRING {x(0)} (SIZE (");
+    for (i = 0; i < 60; i++) strcat(end, "(1 EXCEPT ");
+    strcat(end, "2");
+    for (i = 0; i < 60; i++) strcat(end, ")");
+    strcat(end, ")) OPTIONAL}");
+    for (i = 28; i < 33; i++) measure_closed("a deep default in a deep type", start, "{n ", i, "{b {x}}", "}", end, OER_OK);
+}
+
 /* Definitions that name one another in a row, of which the last is what it says. */
 static void measure_chain(const char *what, const char *definition, const char *last, size_t links) {
     static char text[LARGE];
@@ -375,6 +392,7 @@ static void measure_modules(const char *folder) {
         measure_closed("nested additions", "A ::= SEQUENCE {a NULL, ..., ", "[[", deep[i], "b NULL", "]]", "}", OER_REJECTED);
     }
     for (i = 28; i < 34; i++) measure_deep_constraint(i);
+    for (i = 24; i < 31; i++) measure_deep_default(i);
     measure_module("a type that contains itself", "A ::= SEQUENCE {a A OPTIONAL, ", "", 0, "b BOOLEAN}", OER_OK);
     for (i = 0; i < 2; i++) {
         size_t links = i ? 300 : 250;
