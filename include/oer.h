@@ -32,7 +32,7 @@
  * - Memory comes from malloc, realloc and free, which have to belong together. It may run out: then
  *   the status is OER_MEMORY, and what the call was given is as before. oer_check, oer_check_whole and
  *   oer_check_many take none.
- * - A call takes at most 96 KB of stack, but oer_types_read_modules at most 1024 KB. This is measured
+ * - A call takes at most 96 KB of stack, but oer_types_read_modules at most 640 KB. This is measured
  *   (docs/LIBRARY.md), and not proved.
  * - No call is made from a signal handler, or in the child of a fork of a process with threads.
  *
