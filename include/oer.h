@@ -250,10 +250,9 @@ oer_parsed oer_types_read_within(oer_types *types, const char *text, size_t text
     OER_NO_NULL;
 
 /* Reads published ASN.1 modules (X.680), in place of the types that were there. The types are those of all
- * definitions that are understood (docs/MODULES.md), each by its Name: what the command `oer types` prints. A
- * definition that is refused has no type, so its Name is OER_UNNAMED in later calls, and `oer types` says why.
- * The same holds of one that isn't a well-formed type (docs/NOTATION.md, as with one name twice), and of one in which
- * a value after DEFAULT holds others.
+ * definitions that are understood (docs/MODULES.md), each by its Name: those that the programs take by that Name
+ * alone. A definition that is refused has no type, so its Name is OER_UNNAMED in later calls, and `oer types` says
+ * why. The same holds of one that isn't a well-formed type (docs/NOTATION.md, as with one name twice).
  * The texts stand in one buffer: each is the `length` octets from texts + at on, by its place, and holds one module
  * or more, in any order. A type that contains itself is written out so often, one in the other, as `nesting` says;
  * 0 stands for the most that fits, up to 8. Each type has at most 4,096 parts. Together they may have many more, so

@@ -6,9 +6,8 @@ use Rattle.std.specs.Prelude.{IfErr, IfOk}
 use Rattle.oer_module_syntax.specs.declared.fault.Why.TheVariants as fault
 use Rattle.oer_module_text.specs.declared.error.Why.TheVariants as raws
 use Rattle.oer_module_values.specs.declared.error.Why.TheVariants as told
-use Rattle.oer_modules.specs.Listed.{Printed}
-use Rattle.oer_modules.specs.Modules.{definitions_of_modules}
-use Rattle.oer_modules.specs.Refusals.{Refusal, refusal_of}
+use Rattle.oer_modules.specs.Defined.{types_of_modules}
+use Rattle.oer_modules.specs.Refusals.{refusal_of}
 use Rattle.oer_modules.specs.declared.refusal.Refusal.{Refusal as RawRefusal}
 use Rattle.oer_notation.specs.declared.types.Types.{Types}
 use Rattle.oer_c.specs.Modules.{AreUnderstood, IsStopBy, IsStopped, IsText, IsTypeless, Understands, at_place, texts_of}
@@ -31,21 +30,21 @@ texts_more octets places i d old t less is before =
     ∙ sym (map_more (at_place octets) places i d less)
 
 -- What a refusal comes to stands for why the texts give no types.
-pub stop_told : (plain : Result Printed Refusal) (r : RawRefusal) (s : Stop) → IsStopBy r s
-    → ((r.why ≡ raws.Unresolved (told.Unread fault.Memory) → ⊥) → plain ≡ Err (refusal_of r)) → IsTypeless plain s
-stop_told plain r Memory by gives = tt
-stop_told plain r (Outside n) by gives = absurd by
-stop_told plain r (NotUtf8 n at) by gives = absurd by
-stop_told plain r (Refused x) by gives = gives by.1 ∙ ap (λ (y : RawRefusal). Err (refusal_of y)) (sym by.0)
-stop_told plain r (NoTypes printed) by gives = absurd by
+pub stop_told : (ts : List (List ℕ)) (n : ℕ) (r : RawRefusal) (s : Stop) → IsStopBy r s
+    → ((r.why ≡ raws.Unresolved (told.Unread fault.Memory) → ⊥) → types_of_modules ts n ≡ Err (refusal_of r)) → IsTypeless ts n s
+stop_told ts n r Memory by gives = tt
+stop_told ts n r (Outside k) by gives = absurd by
+stop_told ts n r (NotUtf8 k at) by gives = absurd by
+stop_told ts n r (Refused x) by gives = gives by.1 ∙ ap (λ (y : RawRefusal). Err (refusal_of y)) (sym by.0)
+stop_told ts n r (NoTypes printed) by gives = absurd by
 
 module _ (octets : List ℕ) (places : List Message) (nesting : ℕ) (ts : List (List ℕ)) (all : All (IsText octets) places) (is : ts ≡ texts_of octets places) where
   -- what the texts give, the places give
-  pub read_there : {A : Type 0} (r : Result A Stop) (types : A → Types) → IfOk r (λ x. AreUnderstood (definitions_of_modules ts nesting) (types x))
+  pub read_there : {A : Type 0} (r : Result A Stop) (types : A → Types) → IfOk r (λ x. AreUnderstood ts nesting (types x))
       → IfOk r (λ x. Understands octets places nesting (types x))
-  read_there (Ok x) types h = (all, subst (λ (us : List (List ℕ)). AreUnderstood (definitions_of_modules us nesting) (types x)) is h)
+  read_there (Ok x) types h = (all, subst (λ (us : List (List ℕ)). AreUnderstood us nesting (types x)) is h)
   read_there (Err s) types h = tt
 
-  pub stopped_there : {A : Type 0} (r : Result A Stop) → IfErr r (IsTypeless (definitions_of_modules ts nesting)) → IfErr r (IsStopped octets places nesting)
+  pub stopped_there : {A : Type 0} (r : Result A Stop) → IfErr r (IsTypeless ts nesting) → IfErr r (IsStopped octets places nesting)
   stopped_there (Ok x) h = tt
-  stopped_there (Err s) h = inr (all, subst (λ (us : List (List ℕ)). IsTypeless (definitions_of_modules us nesting) s) is h)
+  stopped_there (Err s) h = inr (all, subst (λ (us : List (List ℕ)). IsTypeless us nesting s) is h)

@@ -1,25 +1,24 @@
 -- What reading modules answers, and which types there are then.
-use Rattle.std.specs.Prelude.{◌≡◌, ◌<◌, ◌≤◌, ◌+◌, ℕ, List, [], ◌∷◌, ◌++◌, Bool, length, map, drop, take, slice_get, ◌==◌, Option, Some, None, option_map, Result, Err, ◌⊎◌, ⊤, codes, string_bytes}
+use Rattle.std.specs.Prelude.{◌≡◌, ◌<◌, ◌≤◌, ◌+◌, ℕ, List, [], ◌∷◌, ◌++◌, Bool, length, map, drop, take, slice_get, ◌==◌, Option, Some, None, option_map, Ok, Err, ◌⊎◌, ⊤, codes, string_bytes}
 use Rattle.std.specs.Fmt.{decimal}
 use Rattle.std.specs.List.{All, before_first, between}
 use Rattle.std.specs.Str.{IsUtf8, IsValidUpTo}
 use Rattle.oer_module_syntax.specs.declared.fault.Why.TheVariants as fault
 use Rattle.oer_module_text.specs.declared.error.Why.TheVariants as raws
 use Rattle.oer_module_values.specs.declared.error.Why.TheVariants as told
-use Rattle.oer_modules.specs.Listed.{Printed}
+use Rattle.oer_modules.specs.Defined.{types_of_modules}
 use Rattle.oer_modules.specs.Modules.{ComesFirst, definitions_of_modules}
 use Rattle.oer_modules.specs.Places.{Point, point_of}
-use Rattle.oer_modules.specs.Refusals.{Refusal, refusal_of}
+use Rattle.oer_modules.specs.Refusals.{refusal_of}
 use Rattle.oer_modules.specs.Words.{refusal_words}
 use Rattle.oer_modules.specs.declared.refusal.Refusal.{Refusal as RawRefusal}
-use Rattle.oer_notation.specs.Grammar.{SpellsAll}
+use Rattle.oer_notation.specs.Defining.{HaveSameTypes}
+use Rattle.oer_notation.specs.Reading.{Known}
 use Rattle.oer_notation.specs.Views.{knowns}
 use Rattle.oer_notation.specs.declared.types.Types.{Types}
 use Rattle.oer_c.specs.Buffers.{IsFront}
-use Rattle.oer_c.specs.Definitions.{IsRejected}
 use Rattle.oer_c.specs.Messages.{end}
 use Rattle.oer_c.specs.Reasons.{modules_number}
-use Rattle.oer_c.specs.declared.definitions.Parsed.{Parsed}
 use Rattle.oer_c.specs.declared.many.Message.{Message}
 use Rattle.oer_c.specs.declared.modules.Stop.{Stop}
 use Rattle.oer_c.specs.declared.modules.Stop.TheVariants.{Memory, Outside, NotUtf8, Refused, NoTypes}
@@ -55,18 +54,18 @@ IsTextless octets places s = (s ≡ Memory)
 
 -- ---- types
 
--- The types are those that a listing spells, in which what is understood of modules comes first.
-abbrev pub AreUnderstood : Result Printed Refusal → Types → Type 0
-AreUnderstood plain t = (printed : List ℕ) × ComesFirst printed plain × SpellsAll (knowns t) printed
+-- Each Name has the type that the modules give it.
+abbrev pub AreUnderstood : List (List ℕ) → ℕ → Types → Type 0
+AreUnderstood ts n t = (found : List Known) × (types_of_modules ts n ≡ Ok found) × HaveSameTypes (knowns t) found
 
--- Why texts give no types: an allocation failed; or they can't be read, and this is the first fault; or `oer_types_read` rejects what is
--- understood of them.
-abbrev pub IsTypeless : Result Printed Refusal → Stop → Type 0
-IsTypeless plain Memory = ⊤
-IsTypeless plain (Outside n) = ⊥
-IsTypeless plain (NotUtf8 n at) = ⊥
-IsTypeless plain (Refused r) = plain ≡ Err (refusal_of r)
-IsTypeless plain (NoTypes printed) = ComesFirst (string_bytes printed) plain × ((p : Parsed) × (p.status ≡ 1) × IsRejected (string_bytes printed) p)
+-- Why texts give no types: an allocation failed; or they can't be read, and this is the first fault; or no definition is understood, as
+-- what is printed of all definitions says.
+abbrev pub IsTypeless : List (List ℕ) → ℕ → Stop → Type 0
+IsTypeless ts n Memory = ⊤
+IsTypeless ts n (Outside k) = ⊥
+IsTypeless ts n (NotUtf8 k at) = ⊥
+IsTypeless ts n (Refused r) = types_of_modules ts n ≡ Err (refusal_of r)
+IsTypeless ts n (NoTypes printed) = (types_of_modules ts n ≡ Ok []) × ComesFirst (string_bytes printed) (definitions_of_modules ts n)
 
 -- A refusal says that an allocation failed, or it is told.
 abbrev pub IsStopBy : RawRefusal → Stop → Type 0
@@ -109,7 +108,7 @@ IsSaidIfRoom w answer old new a = ((a ≡ only 4) × (new ≡ old)) ⊎ IsSaid w
 abbrev pub is_line_feed : ℕ → Bool
 is_line_feed c = c == 10
 
--- what a listing says that spells no types: its first comment, behind `-- `, which is on a definition that is refused
+-- what a listing says where no definition is understood: its first comment, behind `-- `
 abbrev pub first_words : List ℕ → List ℕ
 first_words [] = codes "the modules give no types"
 first_words (c ∷ cs) = drop 3 (before_first is_line_feed (c ∷ cs))
@@ -131,12 +130,12 @@ Tells (NoTypes printed) old new a = IsSaid (first_words (string_bytes printed)) 
 -- A text is at each place, and the types are those that are understood of them.
 abbrev pub Understands : List ℕ → List Message → ℕ → Types → Type 0
 Understands octets places nesting t =
-    All (IsText octets) places × AreUnderstood (definitions_of_modules (texts_of octets places) nesting) t
+    All (IsText octets) places × AreUnderstood (texts_of octets places) nesting t
 
 -- Why there are no types: at a place is no text; or the texts give none.
 abbrev pub IsStopped : List ℕ → List Message → ℕ → Stop → Type 0
 IsStopped octets places nesting s = IsTextless octets places s
-    ⊎ (All (IsText octets) places × IsTypeless (definitions_of_modules (texts_of octets places) nesting) s)
+    ⊎ (All (IsText octets) places × IsTypeless (texts_of octets places) nesting s)
 
 -- There are types that are understood of the texts; or there are those from before, and the answer and the words say why.
 abbrev pub AreRead : List ℕ → List Message → ℕ → Option Types → Option Types → List ℕ → List ℕ → Understood → Type 0

@@ -45,8 +45,8 @@ fn reject(fault: TextFault) -> Parsed
     }
 }
 
-// Types on the heap, for one handle.
-fn boxed(alloc: Global, types: Types) -> Result<Box<Shared>, Parsed>
+/// Types on the heap, for one handle.
+pub(crate) fn boxed(alloc: Global, types: Types) -> Result<Box<Shared>, Parsed>
     ensures kept { IfOk result (λ shared. types_in shared.value ≡ types) }
     ensures memory { IfErr result (λ p. p ≡ answer 4 0 0) }
 {
@@ -71,8 +71,8 @@ fn utf8(text: &[u8]) -> Result<&str, Parsed>
     }
 }
 
-/// The definitions of the text, on the heap.
-pub(crate) fn read(alloc: Global, text: &[u8]) -> Result<Box<Shared>, Parsed>
+// The definitions of the text, on the heap.
+fn read(alloc: Global, text: &[u8]) -> Result<Box<Shared>, Parsed>
     ensures spells { IfOk result (λ shared. SpellsAll (knowns (types_in shared.value)) text.now) }
     ensures rejected { IfErr result (IsRejected text.now) }
 {

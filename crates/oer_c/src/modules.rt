@@ -1,21 +1,22 @@
 //! Reading published ASN.1 modules.
-ghost use Rattle.std.specs.Prelude.{◌≡◌, IfErr, IfOk, MatchResult, OnOk, map, option_map, string_bytes};
+ghost use Rattle.std.specs.Prelude.{◌≡◌, [], IfErr, IfOk, MatchResult, Ok, OnOk, map, option_map, string_bytes};
 ghost use Rattle.std.specs.List.{All, before_first};
-ghost use Rattle.oer_modules.specs.Modules.{definitions_of_modules};
+ghost use Rattle.oer_modules.specs.Defined.{types_of_modules as types_given};
 ghost use Rattle.oer_modules.specs.Named.{is_memory};
 ghost use Rattle.oer_modules.specs.Places.{point_of};
 ghost use Rattle.oer_c.specs.Modules.{AreRead, AreUnderstood, IsNoText, IsSaid, IsStopBy, IsStopped, IsText, IsTextless, IsTypeless, Tells, Understands, at_place, at_text, first_words, is_line_feed, not_utf8_words, only, refused, rejected, texts_of, with_words};
 ghost use Rattle.oer_c.specs.Sharing.{types_in, types_of};
 
 use crate::buffer::put_front;
-use crate::definitions::{keep, read};
+use crate::definitions::{boxed, keep};
 use crate::handle::Handle;
 use crate::many::{Message, cut};
 use crate::reason;
 use crate::shared::Shared;
 use crate::status::{MEMORY, OK, OUTSIDE, REJECTED};
 use oer_module_text::Why;
-use oer_modules::{Point, Refusal, definitions_of_modules};
+use oer_modules::{Point, Refusal, definitions_of_modules, types_of_modules};
+use oer_notation::Types;
 use std::alloc::{AllocError, Global};
 
 /// What reading modules answers. It takes 48 octets: `status` at 0, `why` at 4, `text` at 8, `place` at 16,
@@ -58,7 +59,7 @@ pub enum Stop<'t> {
     },
     /// A text can't be read.
     Refused(Refusal<'t>),
-    /// This is understood of the modules, and it spells no types.
+    /// None of the definitions is understood, as this listing says.
     NoTypes(String),
 }
 
@@ -194,18 +195,34 @@ fn texts_in<'a>(
     Ok(found)
 }
 
+// Why texts that can be read give no types.
+fn no_types<'a>(alloc: Global, texts: &[&'a str], nesting: u8) -> Stop<'a>
+    requires { types_given (map (λ t. t.now) texts.now) nesting ≡ Ok [] }
+    ensures { IsTypeless (map (λ t. t.now) texts.now) nesting result }
+{
+    match definitions_of_modules(alloc, texts, nesting) {
+        Ok(printed) => Stop::NoTypes(printed),
+        Err(refusal) => stop_of(refusal),
+    }
+}
+
 // The types that are understood of the texts, on the heap.
 fn read_texts<'a>(alloc: Global, texts: &[&'a str], nesting: u8) -> Result<Box<Shared>, Stop<'a>>
-    ensures spells { IfOk result (λ shared. AreUnderstood (definitions_of_modules (map (λ t. t.now) texts.now) nesting) (types_in shared.value)) }
-    ensures stopped { IfErr result (IsTypeless (definitions_of_modules (map (λ t. t.now) texts.now) nesting)) }
+    ensures given { IfOk result (λ shared. AreUnderstood (map (λ t. t.now) texts.now) nesting (types_in shared.value)) }
+    ensures stopped { IfErr result (IsTypeless (map (λ t. t.now) texts.now) nesting) }
 {
-    let printed = match definitions_of_modules(alloc, texts, nesting) {
-        Ok(printed) => printed,
+    let found = match types_of_modules(alloc, texts, nesting) {
+        Ok(found) => found,
         Err(refusal) => return Err(stop_of(refusal)),
     };
-    match read(alloc, printed.as_bytes()) {
+    if found.is_empty() {
+        return Err(no_types(alloc, texts, nesting));
+    }
+    let Ok(types) = Types::of(alloc, found) else {
+        return Err(Stop::Memory);
+    };
+    match boxed(alloc, types) {
         Ok(found) => Ok(found),
-        Err(parsed) if parsed.status == REJECTED => Err(Stop::NoTypes(printed)),
         Err(_) => Err(Stop::Memory),
     }
 }
@@ -217,7 +234,7 @@ fn read_modules<'a>(
     places: &[Message],
     nesting: u8,
 ) -> Result<Box<Shared>, Stop<'a>>
-    ensures spells { IfOk result (λ shared. Understands octets.now places.now nesting (types_in shared.value)) }
+    ensures given { IfOk result (λ shared. Understands octets.now places.now nesting (types_in shared.value)) }
     ensures stopped { IfErr result (IsStopped octets.now places.now nesting) }
 {
     let texts = match texts_in(alloc, octets, places) {
@@ -243,8 +260,7 @@ fn first_line(printed: &[u8]) -> &[u8]
     }
 }
 
-// Why there are no types where the listing spells none: what its first comment says, behind `-- `, of a definition that is
-// refused.
+// Why there are no types: what the listing's first comment says, behind `-- `, of a definition that is refused.
 fn first_words(printed: &[u8]) -> &[u8]
     ensures { result.now ≡ first_words printed.now }
 {
@@ -306,17 +322,17 @@ fn tell(alloc: Global, stop: Stop<'_>, words: &mut [u8]) -> Understood
     }
 }
 
-/// Reads the texts of ASN.1 modules (X.680) as `definitions_of_modules` of `oer_modules` does (MODULES.md), and puts the
-/// types of what it understands into the handle, in place of those that this had, as if it were freed before. A text is the
-/// part of `texts` at its place, and holds one module or more. A type that contains itself is written out so often as
-/// `nesting` says; 0 stands for the most that fits, up to 8. The status is
+/// Reads the texts of ASN.1 modules (X.680) as `types_of_modules` of `oer_modules` does (MODULES.md), and puts the types of
+/// all definitions that it understands into the handle, in place of those that this had, as if it were freed before. A text
+/// is the part of `texts` at its place, and holds one module or more. A type that contains itself is written out so often
+/// as `nesting` says; 0 stands for the most that fits, up to 8. The status is
 ///
-/// - `OK`: the handle has the types of all definitions that are understood;
+/// - `OK`: the handle has the types of all definitions that are understood, one at least;
 /// - `REJECTED`: a text is not UTF-8, for the reason 0, and `place` octets are its longest front that is; or a text can't be
 ///   read, and its first fault is at `place`: no token begins there or it has no end, for the reason 1; the grammar doesn't
 ///   have the token there, or the text ends, for the reason 2; types or values nest too deep there, for the reason 3; or
-///   what is understood spells no types, for the reason 4, as where each definition is refused. The first `words` octets of
-///   the buffer say so in words: all that there are, or as many as it has room for;
+///   no definition is understood, for the reason 4, as where each is refused. The first `words` octets of the buffer say so
+///   in words: all that there are, or as many as it has room for;
 /// - `OUTSIDE`: the place with the number `text` is not all in `texts`;
 /// - `MEMORY`: an allocation failed.
 ///

@@ -99,7 +99,7 @@ abbrev pub canonical_note : Option (Vec ℕ Global) → List ℕ → Text
 canonical_note None b = []
 canonical_note (Some octets) b = codes " -- basic " ++ (first_digits b ++ (codes ", canonical " ++ digits_or_none octets.items))
 
--- of octets that follow the value, or by which all are rejected
+-- of octets that follow the value, or that made the reader reject the input
 abbrev pub end_note : What → Text
 end_note (what.Preamble bits) = []
 end_note (what.Bitmap bits) = []

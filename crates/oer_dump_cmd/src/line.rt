@@ -117,7 +117,7 @@ fn are_digits(what: &What<'_>, kind: &str) -> bool
     }
 }
 
-// What is noted of octets that follow the value, or by which all are rejected.
+// What is noted of octets that follow the value, or that made the reader reject the input.
 fn end_note(what: &What<'_>) -> &'static str
     ensures { result.now ≡ end_note what.now }
 {

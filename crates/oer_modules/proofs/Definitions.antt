@@ -32,7 +32,7 @@ use Rattle.oer_printer.specs.Printing.{printed}
 use Rattle.oer_text.specs.Laws.{PrintedIsRead}
 use Rattle.oer_value_notation.specs.declared.fault.TextFault.{TextFault}
 
-same_ok : {A B : Type 0} {x y : A} → ◌≡◌ {A = Result A B} (Ok x) (Ok y) → x ≡ y
+pub same_ok : {A B : Type 0} {x y : A} → ◌≡◌ {A = Result A B} (Ok x) (Ok y) → x ≡ y
 same_ok h = cc
 
 type_answer : (ts : List Text) (l : Library) (w : Text) (n : ℕ) (r : Result Text Cause) → read_each 0 (map lex ts) no_modules ≡ Ok l → named_text l.modules w n ≡ r
@@ -49,7 +49,7 @@ text_of ms w n x named = ap (λ r. r >>= λ y. Ok y.1) named
 abbrev with_type : RawPlace → Typed → Result (RawPlace × AsnType) Cause
 with_type p y = Ok (p, y.0)
 
-placed_by : (ms : List Module) (w : Text) (n : ℕ) (x : Typed) → named_type ms w n ≡ Ok x → (p : RawPlace) × (placed_type ms w n ≡ Ok (p, x.0))
+pub placed_by : (ms : List Module) (w : Text) (n : ℕ) (x : Typed) → named_type ms w n ≡ Ok x → (p : RawPlace) × (placed_type ms w n ≡ Ok (p, x.0))
 unfolding named_type placed_type
 placed_by ms w n x named = by_found (asked ms w) named where
   by_typed : (f : Found) (r : Read Typed) → by_type r ≡ Ok x
@@ -67,7 +67,7 @@ placed_by ms w n x named = by_found (asked ms w) named where
   by_found (Ok f) is = by_at f (type_at ms f) is
   by_found (Err e) is = absurd (cc)
 
-schema_answer : (ts : List Text) (l : Library) (w : Text) (n : ℕ) (p : RawPlace) (T : AsnType) → read_each 0 (map lex ts) no_modules ≡ Ok l
+pub schema_answer : (ts : List Text) (l : Library) (w : Text) (n : ℕ) (p : RawPlace) (T : AsnType) → read_each 0 (map lex ts) no_modules ≡ Ok l
     → placed_type l.modules w n ≡ Ok (p, T) → first_fault T ≡ None → schema_of_modules ts w n ≡ Ok T
 unfolding schema_of_modules
 schema_answer ts l w n p T h placed none = ap (schema_by ts w n) h ∙ ap (sound_in ts l) placed ∙ ap (sound_by ts l p T) none

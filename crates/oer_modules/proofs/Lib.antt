@@ -1,3 +1,4 @@
+pub mod Rounds
 pub mod Definitions
 pub mod Listings
 pub mod Nestings
@@ -5,5 +6,6 @@ pub mod Orders
 pub mod Readings
 pub mod Shown
 pub mod Strides
+pub mod Taken
 pub mod Walks
 pub mod Wholes

@@ -5,6 +5,7 @@ use Rattle.oer_module_lexer.specs.Lexing.{lex}
 use Rattle.oer_module_lexer.specs.declared.lexing.Tokens.{Tokens}
 use Rattle.oer_modules.proofs.Walks.{lexed_texts}
 use Rattle.oer_modules.specs.Causes.{Cause}
+use Rattle.oer_modules.specs.Defined.{types_of_modules, with_each}
 use Rattle.oer_modules.specs.Listed.{Printed, entries_from, nothing, printed_after}
 use Rattle.oer_modules.specs.Modules.{ComesFirst, definitions_of_modules, of_texts, or_misread, or_refused, type_of_modules}
 use Rattle.oer_modules.specs.Named.{named_text}
@@ -13,6 +14,7 @@ use Rattle.oer_modules.specs.Refusals.{Refusal, unreadable}
 use Rattle.oer_modules.specs.Schemas.{schema_by, schema_of_modules}
 use Rattle.oer_modules.specs.Texts.{Library, no_modules, read_each}
 use Rattle.oer_modules.specs.declared.texts.Misread.{Misread}
+use Rattle.oer_notation.specs.Reading.{Known}
 
 -- the texts that references point at
 abbrev pub texts_of : List (Bor (List ℕ)) → List (List ℕ)
@@ -54,3 +56,25 @@ module _ (ks : List Tokens) (ts : List (Bor (List ℕ))) (same : map lexed_of ks
     are = of_read (λ l. Ok (printed_after nothing (entries_from (texts_of ts) l l.modules n 0 l.modules))) (Ok l) h ∙ ap Ok (sym is);
     whole = e;
   }
+
+  pub types_misread : (n : ℕ) (e : Misread) → read_each 0 (map lexed_of ks) no_modules ≡ Err e → types_of_modules (texts_of ts) n ≡ Err (unreadable (texts_of ts) e)
+  unfolding types_of_modules
+  types_misread n e h = of_read (λ l. Ok (with_each l.modules n [] l.modules)) (Err e) h
+
+  pub types_read : (n : ℕ) (l : Library) (found : List Known) → read_each 0 (map lexed_of ks) no_modules ≡ Ok l → found ≡ with_each l.modules n [] l.modules
+      → types_of_modules (texts_of ts) n ≡ Ok found
+  unfolding types_of_modules
+  types_read n l found h is = of_read (λ l. Ok (with_each l.modules n [] l.modules)) (Ok l) h ∙ ap Ok (sym is)
+
+same_err : {A B : Type 0} {x y : B} → ◌≡◌ {A = Result A B} (Err x) (Err y) → x ≡ y
+same_err h = cc
+
+-- what has no listing gives no types, for the same reason
+unread_by : (ts : List (List ℕ)) (n : ℕ) (e : Refusal) (r : Result Library Misread) → or_misread ts (λ l. Ok (printed_after nothing (entries_from ts l l.modules n 0 l.modules))) r ≡ Err e
+    → or_misread ts (λ l. Ok (with_each l.modules n [] l.modules)) r ≡ Err e
+unread_by ts n e (Ok l) h = absurd (cc)
+unread_by ts n e (Err x) h = ap Err (same_err h)
+
+pub unread : (ts : List (List ℕ)) (n : ℕ) (e : Refusal) → definitions_of_modules ts n ≡ Err e → types_of_modules ts n ≡ Err e
+unfolding definitions_of_modules types_of_modules
+unread ts n e h = unread_by ts n e (read_each 0 (map lex ts) no_modules) h

@@ -1,5 +1,6 @@
 pub mod Asked
 pub mod Causes
+pub mod Defined
 pub mod Laws
 pub mod Listed
 pub mod Marks

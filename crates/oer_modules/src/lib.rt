@@ -3,6 +3,7 @@
 
 mod asked;
 mod cause;
+mod defined;
 pub mod laws;
 mod listing;
 mod marks;
@@ -16,6 +17,7 @@ mod texts;
 mod unlisted;
 mod words;
 
+pub use defined::types_of_modules;
 pub use modules::{definitions_of_modules, type_of_modules};
 pub use place::Point;
 pub use refusal::Refusal;

@@ -32,7 +32,7 @@ use std::alloc::{AllocError, Global};
 
 /// The type that a name has, and its text.
 #[tactic(auto, unfolding(crate::specs::Named::named_type))]
-fn named_type<'n, 't>(
+pub fn named_type<'n, 't>(
     alloc: Global,
     names: &Names<'_, '_, 't>,
     name: &'n str,
@@ -64,7 +64,8 @@ where
     Ok(typed.text)
 }
 
-fn is_memory(why: Why<'_>) -> bool
+/// Whether the reason is that an allocation failed.
+pub fn is_memory(why: Why<'_>) -> bool
     ensures { result ≡ is_memory why.entry }
 {
     matches!(

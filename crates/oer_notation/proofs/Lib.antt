@@ -5,6 +5,7 @@ pub mod CompleteItems
 pub mod CompleteNumbers
 pub mod CompleteParts
 pub mod CompleteValues
+pub mod Defining
 pub mod Definitions
 pub mod Digits
 pub mod DigitsGiven

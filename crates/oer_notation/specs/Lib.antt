@@ -1,3 +1,4 @@
+pub mod Defining
 pub mod Grammar
 pub mod Laws
 pub mod Parsing

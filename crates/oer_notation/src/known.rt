@@ -1,6 +1,7 @@
 //! Definitions, and the types that they gave their Names.
 ghost use Rattle.std.specs.Prelude.{◌≡◌, ◌++◌, ◌∷◌, [], IfOk, None, OnOk, false, is_some, option_map, string_bytes, true};
 ghost use Rattle.oer_types.specs.Schema.{the_type};
+ghost use Rattle.oer_notation.specs.Defining.{with_known};
 ghost use Rattle.oer_notation.specs.Reading.{find};
 ghost use Rattle.oer_notation.specs.Views.{HasAllTypes, LacksOneType, given, known_by, next_name, shared_type};
 
@@ -54,6 +55,7 @@ pub fn add_name(types: &mut Definitions, name: String) -> Result<bool, AllocErro
     ensures new { IfOk result (λ is_new. is_new ≡ true → find (known_by types.old) (string_bytes name) ≡ None) }
     ensures known { IfOk result (λ is_new. is_new ≡ false → is_some (find (known_by types.old) (string_bytes name)) ≡ true) }
     ensures next { IfOk result (λ is_new. is_new ≡ true → (next_name types.new ≡ string_bytes name) × LacksOneType types.new) }
+    ensures whole { IfOk result (λ is_new. is_new ≡ false → HasAllTypes types.new) }
     ensures same { OnOk result (known_by types.new ≡ known_by types.old) }
 {
     types.names.add(name)
@@ -68,4 +70,22 @@ pub fn add_type(types: &mut Definitions, schema: Arc<Schema>) -> Result<(), Allo
 {
     types.types.push(schema)?;
     Ok(())
+}
+
+/// A definition more, if its Name has no type yet.
+pub fn define(
+    alloc: Global,
+    types: &mut Definitions,
+    name: String,
+    schema: Schema,
+) -> Result<(), AllocError>
+    requires { HasAllTypes types.old }
+    ensures known { OnOk result (known_by types.new ≡ with_known (known_by types.old) (record { name = string_bytes name; type = the_type schema })) }
+    ensures whole { OnOk result (HasAllTypes types.new) }
+{
+    let schema = Arc::new(alloc, schema)?;
+    if !add_name(types, name)? {
+        return Ok(());
+    }
+    add_type(types, schema)
 }

@@ -9,5 +9,5 @@ mod types;
 mod within;
 
 pub use oer_value_notation::{TextFault, TextWhy};
-pub use types::{Types, parse_type, parse_types};
+pub use types::{Definition, Types, parse_type, parse_types};
 pub use within::{WithinFault, parse_types_within};

@@ -275,7 +275,7 @@ fn read_known(
     Ok(shape)
 }
 
-/// Not sound any more where the type has a fault of its own.
+/// Clears `sound` if the type has a fault of its own.
 #[inline(never)]
 fn note_fault(shape: &Shape, sound: &mut bool)
     ensures { Tells sound.old sound.new (any_fault_here (type_of shape.now)) }

@@ -1,11 +1,12 @@
 //! From a text to its type, or to its definitions.
-ghost use Rattle.std.specs.Prelude.{◌≡◌, [], IfErr, IfOk, MatchOption, MatchResult, Ok, OnOk, false, length, option_map, suc, true};
+ghost use Rattle.std.specs.Prelude.{◌≡◌, [], IfErr, IfOk, MatchOption, MatchResult, Ok, OnOk, false, length, map, option_map, suc, true};
 ghost use Rattle.oer_lexer.specs.Lexing.{lex};
 ghost use Rattle.oer_lexer.specs.Token.{spots_of};
 ghost use Rattle.oer_model.specs.WellFormed.{IsFirstFault, IsWellFormed};
 ghost use Rattle.oer_types.specs.AnyFault.{any_fault};
 ghost use Rattle.oer_types.specs.Schema.{shape_of, the_type};
 ghost use Rattle.oer_values.specs.ShapeView.{type_of};
+ghost use Rattle.oer_notation.specs.Defining.{HaveSameTypes, known_of};
 ghost use Rattle.oer_notation.specs.Grammar.{IsDefined, IsNew, Spells, SpellsAll};
 ghost use Rattle.oer_notation.specs.Refusing.{AreNoTypes, IsNoType};
 ghost use Rattle.oer_value_notation.specs.State.{IsReading, state_of};
@@ -13,15 +14,22 @@ ghost use Rattle.oer_notation.specs.Reading.{find};
 ghost use Rattle.oer_notation.specs.Parsing.{definition_at, end_of, entries_more, entry_at, name_at, parse, parse_all, start};
 ghost use Rattle.oer_notation.specs.Views.{HasAllTypes, LacksOneType, given, known_by, knowns, next_name, shared_type};
 
-use crate::known::{Definitions, add_name, add_type, find, find_shared, none};
+use crate::known::{Definitions, add_name, add_type, define, find, find_shared, none};
 use crate::laws::{what_is_parsed_is_spelled, what_is_spelled_is_parsed};
 use crate::parse::{Start, begin, read_type};
 use oer_lexer::{Sign, Token, Tokens, lex};
 use oer_types::laws::first_fault;
 use oer_types::{MAX_DEPTH, MAX_PARTS, Schema, SchemaFault, Shape, parts_left};
 use oer_value_notation::{Cursor, TextFault, TextWhy, is_name};
-use std::alloc::Global;
+use std::alloc::{AllocError, Global};
 use std::sync::Arc;
+
+/// A Name and its type.
+#[derive(Drop)]
+pub struct Definition {
+    pub name: String,
+    pub schema: Schema,
+}
 
 /// Types by their Names.
 #[derive(Drop)]
@@ -30,6 +38,19 @@ pub struct Types {
 }
 
 impl Types {
+    /// The types of these definitions, which any text may name. Of several with one name the first counts.
+    /// It fails where an allocation does.
+    pub fn of(alloc: Global, definitions: Vec<Definition>) -> Result<Types, AllocError>
+        ensures { IfOk result (λ types. HaveSameTypes (knowns types) (map known_of definitions.items)) }
+    {
+        let mut known = none(alloc);
+        for definition in definitions {
+            let Definition { name, schema } = definition;
+            define(alloc, &mut known, name, schema)?;
+        }
+        Ok(Types { definitions: known })
+    }
+
     /// The type that the Name was given, or `None` where the Name isn't defined.
     pub fn get(&self, name: &str) -> Option<&Schema>
         ensures found { option_map (λ s. the_type s.now) result ≡ find (knowns self.now) name.now }
