@@ -591,9 +591,9 @@ static void fail_sharing_in_turn(void) {
     oer_types_free(&other);
 }
 
-/* Reading a text of modules where each growth fails in turn: the types and the words are those from before. Two growths it may do without,
- * and then gives its own answer: room for all modules of the text at once, and for their places. */
-static void fail_modules_in_turn(const char *text, uint32_t status) {
+/* Reading a text of modules where each growth fails in turn: the types and the words are those from before. Two growths it may do without
+ * each time that it reads the text, and then gives its own answer: room for all modules of the text at once, and for their places. */
+static void fail_modules_in_turn(const char *text, uint32_t status, long times) {
     struct vector check = { CHECK, 0, "ff", 0, OER_NO_LIMIT, 0, 0, 0, 0, 0 };
     long start = blocks, without = 0, nth;
     for (nth = 1;; nth++) {
@@ -613,7 +613,7 @@ static void fail_modules_in_turn(const char *text, uint32_t status) {
         oer_types_free(&types);
         EXPECT(blocks == start, text);
         if (growths < nth) {
-            EXPECT(answer.status == status && nth > 1 && without <= 2, text);
+            EXPECT(answer.status == status && nth > 1 && without <= 2 * times, text);
             break;
         }
         without += answer.status == status;
@@ -647,10 +647,11 @@ static void test_memory(const char *folder) {
     for (i = 0; i < COUNT(vectors); i++) fail_in_turn(&vectors[i]);
     for (i = 0; i < COUNT(places); i++) fail_place_in_turn(&places[i]);
     fail_sharing_in_turn();
-    fail_modules_in_turn(MODULE("A ::= SEQUENCE {a INTEGER (0..most), b A OPTIONAL} B ::= SET {} most INTEGER ::= 7"), OER_OK);
+    fail_modules_in_turn(MODULE("A ::= SEQUENCE {a INTEGER (0..most), b A OPTIONAL} B ::= SET {} most INTEGER ::= 7"), OER_OK, 1);
     for (i = 0; i < COUNT(rejected_modules); i++)
         if (!rejected_modules[i].second && rejected_modules[i].why != OER_MODULES_NOT_UTF8)
-            fail_modules_in_turn(rejected_modules[i].first, OER_REJECTED);
+            /* a text that gives no types is read again, for what is said of them */
+            fail_modules_in_turn(rejected_modules[i].first, OER_REJECTED, rejected_modules[i].why == OER_MODULES_NO_TYPES ? 2 : 1);
     for (i = 0; i < COUNT(vectors); i++) {
         char text[1024];
         if (i && strcmp(vectors[i].type, vectors[i - 1].type) == 0) continue;
