@@ -1,5 +1,5 @@
 -- How the program ends, from what its steps answer.
-use Rattle.std.proofs.Common.{◌≡◌, ◌≢◌, ◌∙◌, ℕ, ◌≤◌, List, [], ◌∷◌, ◌++◌, Bool, true, Option, Some, None, Ok, Err, refl, sym, ap, subst, arith, string_bytes, ◌⊎◌, inl, inr, codes, append-nil}
+use Rattle.std.proofs.Common.{◌≡◌, ◌≢◌, ◌∙◌, ℕ, ◌≤◌, List, [], ◌∷◌, ◌++◌, Bool, false, true, Option, Some, None, Ok, Err, refl, sym, ap, subst, arith, string_bytes, ◌⊎◌, inl, inr, codes, append-nil}
 use Rattle.std.specs.Io.KnownBytes.{Appends, Keeps}
 use Rattle.clap.specs.Words.{HasKind, IsAmong, Kinds, Text, fault_of, kind_of, takes}
 use Rattle.clap.specs.declared.error.Error.{Error}
@@ -9,11 +9,12 @@ use Rattle.oer_options.specs.Words.{behind}
 use Rattle.oer_cmd.specs.Ending.{IsMachineLine, Streams}
 use Rattle.oer_cmd.specs.Expected.{Expected, Refusal, refusal, unknown, value}
 use Rattle.oer_cmd.specs.Faults.{Reports, error_line, status_of, text_of}
+use Rattle.oer_cmd.specs.Types.{reads_types}
 use Rattle.oer_cmd.specs.declared.fault.Fault.{Fault}
 use Rattle.oer_cmd.specs.declared.fault.Fault.TheVariants.{Memory, Output}
 use Rattle.oer_cmd.proofs.Endings.{by_status, moved}
 use Rattle.oer_dump_cmd.specs.Ending.{Accepts, AcceptsFor, Answers, Breaks, Ends, EndsFor, IsNotTaken, Outputs, Tells}
-use Rattle.oer_dump_cmd.specs.Showing.{AreOne, AreOneFor, Displays, IsReasonLine, Rejection, Shows, judged_as, judged_octets, octets_as, octets_at}
+use Rattle.oer_dump_cmd.specs.Showing.{AreOne, AreOneWith, Displays, IsReasonLine, Rejection, Shows, judged_as, judged_octets, octets_as, octets_at}
 use Rattle.oer_dump_cmd.specs.Words.{Asks, given, oer_dump, texts_asked, texts_given}
 use Rattle.oer_model.specs.AsnType.{AsnType}
 use Rattle.oer_dump_cmd.specs.declared.options.Form.{Form}
@@ -60,7 +61,7 @@ pub unrejected : (rejection : Rejection) (status : ℕ) (errors errors' : Option
 unrejected None status errors errors' tells zero = refl
 unrejected (Some line) status errors errors' tells zero = absurd (omega (arith, zero, tells.0))
 
-pub accepts : (words : List Text) (told : Option (List ℕ)) (o : Options) → Asks words o → AreOneFor (texts_asked o) (behind o.hex) o.limit told → Accepts words told
+pub accepts : (words : List Text) (told : Option (List ℕ)) (o : Options) → Asks words o → AreOneWith (texts_asked o) (behind o.hex) o.limit told → Accepts words told
 accepts words told o asks h =
     let texts : texts_asked o ≡ texts_given words = rw (← asks.type_text, ← asks.types, ← asks.name) refl in
     record {
@@ -68,7 +69,7 @@ accepts words told o asks h =
       limit_text = asks.limit.0;
       limit_is = asks.limit.1;
       number = asks.limit.2;
-      octets = subst (λ t. AreOneFor t (given words (codes "hex")) o.limit told) texts (subst (λ x. AreOneFor (texts_asked o) x o.limit told) (sym asks.hex) h);
+      octets = subst (λ t. AreOneWith t (given words (codes "hex")) o.limit told) texts (subst (λ x. AreOneWith (texts_asked o) x o.limit told) (sym asks.hex) h);
     }
 
 pub accepts_for : (T : AsnType) (words : List Text) (told : Option (List ℕ)) (o : Options) → Asks words o → AreOne T (behind o.hex) o.limit told
@@ -131,7 +132,8 @@ undisplayed f (value p) fault status s shown same silent small = absurd (shown (
 undisplayed f (refusal r) fault status s shown same silent small = kept s.output s.output' (silent (omega (arith, small, same small)))
 
 pub does : (words : List Text) (told : Option (List ℕ)) (untouched : Type 0) (status : ℕ) (s : Streams) (o : Options) → Asks words o
-    → Answers (judged_as o told) status s ⊎ Breaks status s → (status ≤ 2 → Outputs o.form (octets_as o told) s) → (behind o.hex ≢ None → untouched) → Ends words told untouched status s
+    → Answers (judged_as o told) status s ⊎ Breaks status s → (status ≤ 2 → Outputs o.form (octets_as o told) s)
+    → (behind o.hex ≢ None → reads_types (texts_asked o) ≡ false → untouched) → Ends words told untouched status s
 does words told untouched status s o asks answers outputs keeps = inl (record { options = o; asks = asks; answers = answers; outputs = outputs; keeps = keeps })
 
 pub does_for : (T : AsnType) (words : List Text) (told : Option (List ℕ)) (untouched : Type 0) (status : ℕ) (s : Streams) (o : Options) → Asks words o

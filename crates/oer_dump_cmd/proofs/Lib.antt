@@ -4,6 +4,7 @@ pub mod Pushed
 pub mod Laid
 pub mod Terminal
 pub mod Shown
+pub mod TypesRead
 pub mod Ends
 mod Visibly
 pub mod Counted

@@ -182,15 +182,6 @@ pub are_one_for : (texts : Texts) (T : AsnType) (hex : Option Text) (limit : ℕ
     → IfOk result (λ rejection. rejection ≡ None → AreOne T hex limit told) → IfOk result (λ rejection. rejection ≡ None → AreOneFor texts hex limit told)
 are_one_for texts T hex limit told result spelled h = IfOk-weaker result _ _ (λ rejection k none. (T, spelled, k none)) h
 
--- the same texts
-pub shown_for : {Z : Type 0} (R : Expected Z → Result Rejection Fault → Type 0) → (last : AsnType → Expected Z) (texts same : Texts) (result : Result Rejection Fault) → same ≡ texts
-    → R (expected_type same >>= last) result → R (expected_type texts >>= last) result
-shown_for R last texts same result is h = subst (λ t. R (expected_type t >>= last) result) is h
-
-pub one_for : (texts same : Texts) (hex : Option Text) (limit : ℕ) (told : Option (List ℕ)) (result : Result Rejection Fault) → same ≡ texts
-    → IfOk result (λ rejection. rejection ≡ None → AreOneFor same hex limit told) → IfOk result (λ rejection. rejection ≡ None → AreOneFor texts hex limit told)
-one_for texts same hex limit told result is h = subst (λ t. IfOk result (λ rejection. rejection ≡ None → AreOneFor t hex limit told)) is h
-
 pub lacking : {Z : Type 0} (R : Expected Z → Result Rejection Fault → Type 0) → Tolerates R → (last : AsnType → Expected Z) (texts same : Texts) (fault : Fault) → same ≡ texts
     → expected_type same ≡ stop fault → R (expected_type texts >>= last) (Err fault)
 lacking R w last texts same fault is e =

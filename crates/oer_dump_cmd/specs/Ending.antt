@@ -1,5 +1,5 @@
 -- How the program ends: its status, and what stands on its output and its errors.
-use Rattle.std.specs.Prelude.{◌≡◌, ◌≢◌, ◌≤◌, ◌⊎◌, ℕ, List, Bool, Option, None, Some, string_bytes, true, codes, ⊤}
+use Rattle.std.specs.Prelude.{◌≡◌, ◌≢◌, ◌≤◌, ◌⊎◌, ℕ, List, Bool, Option, None, Some, string_bytes, false, true, codes, ⊤}
 use Rattle.std.specs.Io.KnownBytes.{Appends, Keeps}
 use Rattle.clap.specs.Words.{IsAmong, Text, fault_of, takes}
 use Rattle.clap.specs.declared.error.kind.ErrorKind.TheVariants.{DisplayHelp, DisplayVersion}
@@ -7,8 +7,9 @@ use Rattle.oer_options.specs.Words.{NumberOf, behind}
 use Rattle.oer_cmd.specs.Ending.{IsMachineLine, Streams}
 use Rattle.oer_cmd.specs.Expected.{Expected, refusal, unknown, value}
 use Rattle.oer_cmd.specs.Faults.{AppendsFront}
-use Rattle.oer_dump_cmd.specs.Showing.{AreOne, AreOneFor, IsReasonLine, PrintsPage, Rejection, judged_as, judged_octets, octets_as, octets_at}
-use Rattle.oer_dump_cmd.specs.Words.{Asks, given, given_number, oer_dump, texts_given}
+use Rattle.oer_cmd.specs.Types.{reads_types}
+use Rattle.oer_dump_cmd.specs.Showing.{AreOne, AreOneWith, IsReasonLine, PrintsPage, Rejection, judged_as, judged_octets, octets_as, octets_at}
+use Rattle.oer_dump_cmd.specs.Words.{Asks, given, given_number, oer_dump, texts_asked, texts_given}
 use Rattle.oer_model.specs.AsnType.{AsnType}
 use Rattle.oer_dump_cmd.specs.declared.options.Form.{Form}
 use Rattle.oer_dump_cmd.specs.declared.options.Options.{Options}
@@ -35,13 +36,14 @@ Outputs f unknown s = ⊤
 Outputs f (value p) s = PrintsPage f p.0 p.1 s.output s.output'
 Outputs f (refusal r) s = Keeps s.output s.output'
 
--- The words ask for these options, and their answer is given, or the machine failed. Where they have the octets, the input is untouched.
+-- The words ask for these options, and their answer is given, or the machine failed. Where they have the octets, the input is untouched,
+-- unless the text of the definitions is read from it.
 pub record Does (words : List Text) (told : Option (List ℕ)) (untouched : Type 0) (status : ℕ) (s : Streams) : Type 0 where
   pub options : Options
   pub asks : Asks words options
   pub answers : Answers (judged_as options told) status s ⊎ Breaks status s
   pub outputs : status ≤ 2 → Outputs options.form (octets_as options told) s
-  pub keeps : behind options.hex ≢ None → untouched
+  pub keeps : behind options.hex ≢ None → reads_types (texts_asked options) ≡ false → untouched
 
 -- The words ask for help, or for the version.
 abbrev pub AsksForHelp : List Text → Type 0
@@ -69,7 +71,7 @@ pub record Accepts (words : List Text) (told : Option (List ℕ)) : Type 0 where
   pub limit_text : Text
   pub limit_is : given_number words (codes "limit") ≡ Some limit_text
   pub number : NumberOf limit_text limit
-  pub octets : AreOneFor (texts_given words) (given words (codes "hex")) limit told
+  pub octets : AreOneWith (texts_given words) (given words (codes "hex")) limit told
 
 -- ---- for a type that is given, whatever the options on types say
 

@@ -5,11 +5,11 @@ use Rattle.std.specs.Io.KnownBytes.{Appends}
 use Rattle.clap.specs.Words.{Text}
 use Rattle.oer_model.specs.AsnType.{AsnType}
 use Rattle.oer_options.specs.Words.{Texts, behind}
-use Rattle.oer_cmd.specs.Answer.{checked, expected_type, hex_octets, limited_octets}
+use Rattle.oer_cmd.specs.Answer.{checked, expected_type, hex_octets, limited_octets, texts_read}
 use Rattle.oer_cmd.specs.Expected.{Expected, Refusal, refusal, refusal_of, unknown, value, ◌>>=◌}
 use Rattle.oer_cmd.specs.Faults.{status_of}
 use Rattle.oer_cmd.specs.Run.{IsEncoding, OfOctets}
-use Rattle.oer_cmd.specs.Types.{SpelledBy}
+use Rattle.oer_cmd.specs.Types.{SpelledBy, SpelledWith}
 use Rattle.oer_cmd.specs.declared.fault.Fault.{Fault}
 use Rattle.oer_rows.specs.Listing.{rows_of}
 use Rattle.oer_entries.specs.Entries.{AreOfRows}
@@ -30,9 +30,13 @@ judged_octets hex limit told T = hex_octets hex >>= λ spelt. limited_octets lim
 abbrev pub judged_for : Texts → Option Text → ℕ → Option (List ℕ) → Expected Bool
 judged_for texts hex limit told = expected_type texts >>= judged_octets hex limit told
 
--- the same for what the options ask for
+-- what comes next, by the type that the texts name, where the text of the definitions is read from the input if `--types` is `-`
+abbrev pub by_texts : {Z : Type 0} → (AsnType → Expected Z) → Texts → Option Text → Option (List ℕ) → Expected Z
+by_texts next t hex told = texts_read t hex told >>= λ texts. expected_type texts >>= next
+
+-- what `oer check` judges for what the options ask for
 abbrev pub judged_as : Options → Option (List ℕ) → Expected Bool
-judged_as o told = judged_for (texts_asked o) (behind o.hex) o.limit told
+judged_as o told = by_texts (judged_octets (behind o.hex) o.limit told) (texts_asked o) (behind o.hex) told
 
 -- a line with this reason, and behind it maybe the part that was being read
 abbrev pub IsReasonLine : Text → Text → Type 0
@@ -64,6 +68,10 @@ AreOne T hex limit told = OfOctets hex told (λ b. IsEncoding T b × (length b �
 abbrev pub AreOneFor : Texts → Option Text → ℕ → Option (List ℕ) → Type 0
 AreOneFor texts hex limit told = (T : AsnType) × SpelledBy texts T × AreOne T hex limit told
 
+-- the same where the text of the definitions is read from the input if `--types` is `-`
+abbrev pub AreOneWith : Texts → Option Text → ℕ → Option (List ℕ) → Type 0
+AreOneWith t hex limit told = (T : AsnType) × SpelledWith t hex told T × AreOne T hex limit told
+
 -- the text, in this form, of entries that octets have
 abbrev pub IsTextOf : Form → AsnType → List ℕ → List Entry → Text → Type 0
 IsTextOf form.Json T b es text = text ≡ array_text es
@@ -83,7 +91,7 @@ octets_for texts hex limit told = expected_type texts >>= octets_at hex limit to
 
 -- the same for what the options ask for
 abbrev pub octets_as : Options → Option (List ℕ) → Expected (AsnType × List ℕ)
-octets_as o told = octets_for (texts_asked o) (behind o.hex) o.limit told
+octets_as o told = by_texts (octets_at (behind o.hex) o.limit told) (texts_asked o) (behind o.hex) told
 
 -- The page of the octets is on the output.
 abbrev pub PrintsPage : Form → AsnType → List ℕ → Option (List ℕ) → Option (List ℕ) → Type 0

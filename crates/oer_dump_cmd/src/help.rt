@@ -14,6 +14,7 @@ pub const NOTES: &str =
 without parts, as \"oer show\" prints it. Other lines are for what stands between
 parts: preamble, bitmap, quantity, tag, length. Behind \"--\" stands what
 canonical octets have in place of these. \"..+N\" stands for N that are left out.
+With --types=- standard input has the definitions, if --hex is given.
 
 Examples:
   $ oer-dump --type \"SEQUENCE OF BOOLEAN\" --hex 0102ff00

@@ -1,5 +1,5 @@
 //! The command.
-ghost use Rattle.std.specs.Prelude.{◌≡◌, ◌≢◌, ◌≤◌, [], ◌∷◌, ◌++◌, codes, IfErr, IfOk, None, map, string_bytes, true};
+ghost use Rattle.std.specs.Prelude.{◌≡◌, ◌≢◌, ◌≤◌, [], ◌∷◌, ◌++◌, codes, IfErr, IfOk, None, false, map, string_bytes, true};
 ghost use Rattle.std.specs.Io.KnownBytes.{Keeps};
 ghost use Rattle.clap.specs.Words.{takes};
 ghost use Rattle.oer_types.specs.Schema.{the_type};
@@ -8,16 +8,16 @@ ghost use Rattle.oer_cmd.specs.Answer.{checked};
 ghost use Rattle.oer_cmd.specs.Expected.{value};
 ghost use Rattle.oer_cmd.specs.Faults.{status_of, text_of};
 ghost use Rattle.oer_cmd.specs.Run.{IsEncoding};
-ghost use Rattle.oer_cmd.specs.Types.{texts_at};
+ghost use Rattle.oer_cmd.specs.Types.{reads_types, texts_at};
 ghost use Rattle.oer_cmd.specs.declared.type_text.TypeText.TheVariants.{Named, One};
 ghost use Rattle.oer_dump_cmd.specs.Ending.{Accepts, Ends, Tells, streams};
-ghost use Rattle.oer_dump_cmd.specs.Showing.{AreOne, AreOneFor, Displays, IsReasonLine, PrintsPage, Shows, judged_as, judged_for, judged_octets, octets_as, octets_at, octets_for};
+ghost use Rattle.oer_dump_cmd.specs.Showing.{AreOne, AreOneFor, AreOneWith, Displays, IsReasonLine, PrintsPage, Shows, by_texts, judged_as, judged_for, judged_octets, octets_as, octets_at, octets_for};
 ghost use Rattle.oer_dump_cmd.specs.Words.{oer_dump, texts_asked};
 
 use crate::as_json::print_array;
 use crate::layout::print_lines;
 use crate::options::{Form, Options, parsed};
-use oer_cmd::type_text::{TypeText, definitions, named_type, one_type, type_text};
+use oer_cmd::type_text::{TypeText, definitions, named_type, one_type, type_text, types_on_input};
 use oer_cmd::{Fault, all_octets, judged, put_all, refused, report, spelt};
 use oer_entries::{Place, Stopped};
 use oer_types::Schema;
@@ -165,7 +165,7 @@ fn print_one<'a, R: Read, W: Write>(
 // The same for the type that the Name has among the definitions that the text spells.
 fn print_named<'a, R: Read, W: Write>(
     alloc: Global,
-    types: &'a str,
+    types: &str,
     name: &'a str,
     options: Options<'a>,
     input: &mut R,
@@ -185,6 +185,35 @@ fn print_named<'a, R: Read, W: Write>(
     print_value(alloc, schema, options, input, output)
 }
 
+// The same for the type that the Name has among the definitions of `--types`, of which `-` says that the input
+// has them.
+fn print_types<'a, R: Read, W: Write>(
+    alloc: Global,
+    types: &'a str,
+    name: &'a str,
+    options: Options<'a>,
+    input: &mut R,
+    output: &mut W,
+) -> Result<Option<String>, Fault<'a>>
+    ensures shown { Shows (by_texts (judged_octets (behind options.entry.hex) options.entry.limit (R.remaining input.old))
+        (texts_at (Named types.entry name.entry)) (behind options.entry.hex) (R.remaining input.old)) result }
+    ensures accepted { IfOk result (λ rejection. rejection ≡ None
+        → AreOneWith (texts_at (Named types.entry name.entry)) (behind options.entry.hex) options.entry.limit (R.remaining input.old)) }
+    ensures displayed { Displays options.entry.form
+        (by_texts (octets_at (behind options.entry.hex) options.entry.limit (R.remaining input.old))
+        (texts_at (Named types.entry name.entry)) (behind options.entry.hex) (R.remaining input.old)) result
+        (W.contents output.old) (W.contents output.new) }
+    ensures silent { IfErr result (λ fault. status_of fault ≤ 2 → output.new ≡ output.old) }
+    ensures untouched { behind options.entry.hex ≢ None → reads_types (texts_at (Named types.entry name.entry)) ≡ false
+        → input.new ≡ input.old }
+{
+    if types != "-" {
+        return print_named(alloc, types, name, options, input, output);
+    }
+    let text = types_on_input(alloc, options.hex, input)?;
+    print_named(alloc, text.as_str(), name, options, input, output)
+}
+
 // Prints what the options ask for.
 fn print_asked<'a, R: Read, W: Write>(
     alloc: Global,
@@ -194,17 +223,17 @@ fn print_asked<'a, R: Read, W: Write>(
 ) -> Result<Option<String>, Fault<'a>>
     ensures shown { Shows (judged_as options.entry (R.remaining input.old)) result }
     ensures accepted { IfOk result (λ rejection. rejection ≡ None
-        → AreOneFor (texts_asked options.entry) (behind options.entry.hex) options.entry.limit (R.remaining input.old)) }
+        → AreOneWith (texts_asked options.entry) (behind options.entry.hex) options.entry.limit (R.remaining input.old)) }
     ensures displayed { Displays options.entry.form
         (octets_as options.entry (R.remaining input.old)) result
         (W.contents output.old) (W.contents output.new) }
     ensures silent { IfErr result (λ fault. status_of fault ≤ 2 → output.new ≡ output.old) }
-    ensures untouched { behind options.entry.hex ≢ None → input.new ≡ input.old }
+    ensures untouched { behind options.entry.hex ≢ None → reads_types (texts_asked options.entry) ≡ false → input.new ≡ input.old }
 {
     match type_text(options.of_check())? {
         TypeText::One(text) => print_one(alloc, text, options, input, output),
         TypeText::Named { types, name } => {
-            print_named(alloc, types, name, options, input, output)
+            print_types(alloc, types, name, options, input, output)
         }
     }
 }
