@@ -5,4 +5,5 @@ pub mod Giving
 pub mod Hulls
 pub mod Looseness
 pub mod Members
+pub mod Plainness
 pub mod Sweeping

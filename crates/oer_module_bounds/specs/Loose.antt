@@ -1,5 +1,5 @@
 -- The range of a set as PER reads it (X.691, 10.3).
-use Rattle.std.specs.Prelude.{List, [], ◌∷◌, ℤ, Option, Some, None}
+use Rattle.std.specs.Prelude.{List, [], ◌∷◌, Bool, true, false, ◌&&◌, ℤ, Option, Some, None}
 use Rattle.std.specs.Int.{int_max, int_min}
 use Rattle.std.specs.List.{fold}
 use Rattle.oer_module_bounds.specs.Sets.{Span, everything, filled, Set, range, union, intersection, except, unknown, Sets, no_sets, one, Constraint}
@@ -44,3 +44,25 @@ abbrev mutual
 
 abbrev pub loose_effective : List Constraint → Option Span
 loose_effective cs = loose (intersection (bounding cs))
+
+-- ---- where this is the hull
+
+-- Nothing is taken away, and nothing lies between members that are joined.
+abbrev mutual
+  pub is_plain : Set → Bool
+  is_plain (range r) = true
+  is_plain (union ss) = is_one_plain ss
+  is_plain (intersection ss) = are_plain ss
+  is_plain (except s t) = false
+  is_plain unknown = true
+
+  -- there is one set, and it is plain
+  pub is_one_plain : Sets → Bool
+  is_one_plain no_sets = false
+  is_one_plain (one s no_sets) = is_plain s
+  is_one_plain (one s (one t ss)) = false
+
+  -- each is
+  pub are_plain : Sets → Bool
+  are_plain no_sets = true
+  are_plain (one s ss) = is_plain s && are_plain ss

@@ -8,6 +8,8 @@ ghost use Rattle.oer_module_bounds.specs.Steps.{Gives};
 ghost use Rattle.oer_module_bounds.specs.Tally.{Counts};
 
 use crate::ends::Range;
+use crate::loose::loose_effective_range;
+use crate::plain::bound_plainly;
 use crate::steps::Steps;
 use crate::tally::Tally;
 use crate::tree::{Constraint, Set};
@@ -77,6 +79,16 @@ pub fn effective_range(
     alloc: Global,
     constraints: &[Constraint],
 ) -> Result<Option<Range>, AllocError>
+    ensures { IfOk result (λ r. option_map span_of r ≡ effective (map constraint_of constraints.now)) }
+{
+    if bound_plainly(constraints) {
+        return Ok(loose_effective_range(constraints));
+    }
+    counted_range(alloc, constraints)
+}
+
+/// The same, whatever the sets are.
+fn counted_range(alloc: Global, constraints: &[Constraint]) -> Result<Option<Range>, AllocError>
     ensures { IfOk result (λ r. option_map span_of r ≡ effective (map constraint_of constraints.now)) }
 {
     let mut tally = Tally::new(alloc);

@@ -6,6 +6,7 @@ mod ends;
 mod hull;
 pub mod laws;
 mod loose;
+mod plain;
 mod spans;
 mod steps;
 mod tally;
