@@ -1,18 +1,18 @@
 -- Reading constraints from tokens (X.680, 49 to 51; X.682, 8 to 11): what is read and what is left, or the first fault.
-use Rattle.std.specs.Prelude.{ℕ, zero, suc, List, Bool, not, ◌&&◌, ◌||◌, Option, Some, None, Ok, Err, if◌then◌else◌}
+use Rattle.std.specs.Prelude.{ℕ, zero, suc, List, [], ◌∷◌, length, Bool, not, ◌&&◌, ◌||◌, Option, Some, None, Ok, Err, if◌then◌else◌}
 use Rattle.oer_module_lexer.specs.Token.{Spot}
 use Rattle.oer_module_lexer.specs.declared.token.Sign.TheVariants.{OpenBrace, OpenParenthesis, CloseParenthesis, Comma, Ellipsis, Less}
 use Rattle.oer_module_lexer.specs.declared.token.Sign.TheVariants.{Range, Bar, Caret}
-use Rattle.oer_module_syntax.specs.Modules.{all_of}
+use Rattle.oer_module_syntax.specs.Modules.{all_of, many}
 use Rattle.oer_module_syntax.specs.Ranges.{exception_at, span_at, value_at as value_tokens_at}
 use Rattle.oer_module_syntax.specs.State.{State, Read, ◌>>=◌, fault, place, bump, at_sign, at_keyword, skip_sign, skip_keyword}
 use Rattle.oer_module_syntax.specs.Types.{type_at}
 use Rattle.oer_module_syntax.specs.declared.fault.Why.TheVariants as why
 use Rattle.oer_module_syntax.specs.declared.word.Keyword.{Keyword}
 use Rattle.oer_module_syntax.specs.declared.word.Keyword.TheVariants as kw
-use Rattle.oer_module_terms.specs.Looks.{series, past_sign, at_type, taken_at}
+use Rattle.oer_module_terms.specs.Looks.{past_sign, at_type, taken_at}
 use Rattle.oer_module_terms.specs.Trees.{Value, Constraint, subtype, general, Extension, closed, opened, extended, Elements, Simple, simple, union}
-use Rattle.oer_module_terms.specs.Trees.{intersection, except, all_except, value, range, size, alphabet, type, narrowing, sets_from}
+use Rattle.oer_module_terms.specs.Trees.{intersection, except, all_except, value, range, size, alphabet, type, narrowing, Sets, sets_from}
 use Rattle.oer_module_terms.specs.Values.{value_at}
 use Rattle.oer_module_terms.specs.declared.constraint.Mark.{Mark}
 use Rattle.oer_module_terms.specs.declared.constraint.Mark.TheVariants as mark
@@ -85,9 +85,18 @@ abbrev pub at_mark : Mark → State → Bool
 at_mark mark.Union s = at_sign Bar s || at_keyword kw.Union s
 at_mark mark.Intersection s = at_sign Caret s || at_keyword kw.Intersection s
 
--- one or more, joined by a mark
-abbrev pub joined : Mark → (State → Read Elements) → State → Read (List Elements)
-joined m one s = series (λ r. not (at_mark m r)) one (λ r. one (bump r)) s
+-- several, joined by a mark
+abbrev pub joined_by : Mark → Sets → Elements
+joined_by mark.Union es = union es
+joined_by mark.Intersection es = intersection es
+
+-- elements that are read, and those behind the marks that follow
+abbrev pub several : Mark → (State → Read Elements) → Elements → State → Read Elements
+several m one e s = many (λ r. not (at_mark m r)) (λ r. one (bump r)) (suc (length s.left)) (e ∷ []) s >>= λ es. Ok (joined_by m (sets_from es.0), es.1)
+
+-- Where no mark follows, elements stand alone.
+abbrev pub joined : Mark → (State → Read Elements) → State → Read Elements
+joined m one s = one s >>= λ e. if at_mark m e.1 then several m one e.0 e.1 else Ok e
 
 -- sets and constraints, where a set within these is read so
 module _ (levels : ℕ) (set : State → Read Elements) where
@@ -137,14 +146,14 @@ module _ (levels : ℕ) (set : State → Read Elements) where
 
   -- joined by `^` (50.1)
   unfoldable pub intersection_at : State → Read Elements
-  intersection_at s = joined mark.Intersection excluding_at s >>= λ es. Ok (intersection (sets_from es.0), es.1)
+  intersection_at s = joined mark.Intersection excluding_at s
 
   -- what stands between the marks
   unfoldable pub between_at : Mark → State → Read Elements
   between_at mark.Union s = intersection_at s
   between_at mark.Intersection s = excluding_at s
 
-  unfoldable pub joined_at : Mark → State → Read (List Elements)
+  unfoldable pub joined_at : Mark → State → Read Elements
   joined_at m s = joined m (between_at m) s
 
   -- behind ALL (50.1)
@@ -155,7 +164,7 @@ module _ (levels : ℕ) (set : State → Read Elements) where
   unfoldable pub any_set_at : State → Read Elements
   any_set_at s =
       if at_keyword kw.All s then everything_but_at (bump s)
-      else (joined_at mark.Union s >>= λ es. Ok (union (sets_from es.0), es.1))
+      else joined_at mark.Union s
 
 -- A set of values. The number is how many levels of sets may nest, and of values and types in them.
 unfoldable pub set_at : ℕ → State → Read Elements

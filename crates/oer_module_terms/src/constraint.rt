@@ -4,8 +4,8 @@ ghost use Rattle.std.specs.Option.{option_map};
 ghost use Rattle.oer_module_lexer.specs.Token.{spots_of};
 ghost use Rattle.oer_module_syntax.specs.Modules.{many};
 ghost use Rattle.oer_module_syntax.specs.State.{IsReading, bump, state_of};
-ghost use Rattle.oer_module_terms.specs.Constraints.{at_mark, between_at, constraint_at, constraints_at, contained_at, element_at, everything_but_at, excluding_at, extension_at, general_at, general_of, inner_at, joined_at, limit_at, limited_at, nested_at, range_at, set_at, simple_at, specified_by, subtype_at};
-ghost use Rattle.oer_module_terms.specs.Trees.{constraint_of, elements_of, except, extension_of, simple_of, value_of};
+ghost use Rattle.oer_module_terms.specs.Constraints.{at_mark, between_at, constraint_at, constraints_at, contained_at, element_at, everything_but_at, excluding_at, extension_at, general_at, general_of, inner_at, joined_at, joined_by, limit_at, limited_at, nested_at, range_at, set_at, simple_at, specified_by, subtype_at};
+ghost use Rattle.oer_module_terms.specs.Trees.{constraint_of, elements_of, except, extension_of, sets_from, simple_of, value_of};
 
 use crate::look::{is_at_type, take_bracketed};
 use crate::tree::{Bound, Constraint, Elements, Extension, General, Narrowing, Simple, Value};
@@ -224,8 +224,7 @@ fn read_set<'s, 't>(
     if cursor.take_keyword(Keyword::All) {
         return read_all_except(alloc, cursor, levels - 1);
     }
-    let sets = read_joined(alloc, cursor, levels - 1, Mark::Union)?;
-    Ok(Elements::Union(sets))
+    read_joined(alloc, cursor, levels - 1, Mark::Union)
 }
 
 /// All but some, after ALL.
@@ -243,7 +242,18 @@ fn read_all_except<'s, 't>(
     Ok(Elements::AllExcept(Box::new(alloc, excluded)?))
 }
 
-/// One or more, joined by a mark.
+/// Several, joined by a mark.
+#[tactic(auto, using(crate::proofs::Views::sets))]
+fn joined<'s, 't>(mark: Mark, sets: Vec<Elements<'s, 't>>) -> Elements<'s, 't>
+    ensures { elements_of result ≡ joined_by mark (sets_from (map elements_of sets.entry.items)) }
+{
+    match mark {
+        Mark::Union => Elements::Union(sets),
+        Mark::Intersection => Elements::Intersection(sets),
+    }
+}
+
+/// Elements, or several joined by a mark.
 #[cycle(reading)]
 #[tactic(auto, unfolding(crate::specs::Constraints::joined_at))]
 fn read_joined<'s, 't>(
@@ -251,14 +261,17 @@ fn read_joined<'s, 't>(
     cursor: &mut Cursor<'s, 't>,
     levels: u8,
     mark: Mark,
-) -> Result<Vec<Elements<'s, 't>>, Fault>
-    ensures { IsReading (λ v. (map elements_of v.items, state_of cursor.new)) result (joined_at levels (set_at levels) mark (state_of cursor.old)) }
+) -> Result<Elements<'s, 't>, Fault>
+    ensures { IsReading (λ e. (elements_of e, state_of cursor.new)) result (joined_at levels (set_at levels) mark (state_of cursor.old)) }
 {
-    let mut found = Vec::new(alloc);
     let first = read_between(alloc, cursor, levels, mark)?;
+    if !is_at_mark(cursor, mark) {
+        return Ok(first);
+    }
+    let mut found = Vec::new(alloc);
     found.push(first)?;
     read_more(alloc, cursor, levels, mark, &mut found)?;
-    Ok(found)
+    Ok(joined(mark, found))
 }
 
 /// Those behind marks, beside those found.
@@ -295,10 +308,7 @@ fn read_between<'s, 't>(
     ensures { IsReading (λ e. (elements_of e, state_of cursor.new)) result (between_at levels (set_at levels) mark (state_of cursor.old)) }
 {
     match mark {
-        Mark::Union => {
-            let sets = read_joined(alloc, cursor, levels, Mark::Intersection)?;
-            Ok(Elements::Intersection(sets))
-        }
+        Mark::Union => read_joined(alloc, cursor, levels, Mark::Intersection),
         Mark::Intersection => read_excluding(alloc, cursor, levels),
     }
 }

@@ -118,9 +118,9 @@ pub enum Extension<'s, 't> {
 #[cycle(sets)]
 #[derive(Drop)]
 pub enum Elements<'s, 't> {
-    /// One or more, joined by `|` or UNION. Each is an intersection.
+    /// Two or more, joined by `|` or UNION.
     Union(Vec<Elements<'s, 't>>),
-    /// One or more, joined by `^` or INTERSECTION.
+    /// Two or more, joined by `^` or INTERSECTION.
     Intersection(Vec<Elements<'s, 't>>),
     /// The values of the first that aren't in the second.
     Except(Box<Elements<'s, 't>>, Box<Elements<'s, 't>>),

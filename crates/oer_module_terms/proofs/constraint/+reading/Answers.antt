@@ -1,8 +1,9 @@
-use Rattle.std.proofs.Common.{map, not, Err, sym, ap, ◌∙◌}
+use Rattle.std.proofs.Common.{◌∷◌, ◌++◌, [], map, not, Err, sym, ap, ◌∙◌}
 use Rattle.std.proofs.lemmas.Result.{err_from_is_err_and}
 use Rattle.std.proofs.lemmas.List.{map_push}
+use Rattle.oer_module_terms.proofs.Joining.{several_joined}
 use Rattle.oer_module_terms.proofs.Series.{turn_end, turn_err, turn_step, turn_over}
-use Rattle.oer_module_terms.specs.Constraints.{between_at, set_at}
+use Rattle.oer_module_terms.specs.Constraints.{between_at, joined_at, set_at}
 use Rattle.oer_module_terms.specs.Trees.{elements_of}
 use Rattle.oer_module_terms.proofs.constraint.+reading.Goals as goal
 
@@ -32,3 +33,11 @@ pub read_more-returns : goal.read_more-returns
 read_more-returns t c =
     let l = c.more in
     λ not_memory. turn_over l.invariant c.more-test.false ∙ ap Err (sym c.fault.ensures)
+
+pub read_joined-returns : goal.read_joined-returns
+unfolding joined_at
+read_joined-returns t c =
+    let only =
+    ap (map elements_of) (c.in_ok-push.ensures.items ∙ ap (λ l. l ++ c.in_ok-first.first ∷ []) c.new-found.ensures.items) in
+    several_joined c.args.mark (between_at c.args.levels (set_at c.args.levels) c.args.mark) c.in_ok-first.ensures
+    (sym c.is_at_mark.ensures ∙ c.if-not-is_at_mark.false) only c.in_ok-read_more.ensures c.joined.ensures
