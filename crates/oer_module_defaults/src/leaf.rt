@@ -38,7 +38,7 @@ pub fn write_integer<'m, 's, 't>(
         return Err(none_such(place));
     };
     let number = number(alloc, names, of, place, amount)?;
-    room.put_number(alloc, number)?;
+    room.put_number(number)?;
     Ok(AsnValue::Int(number))
 }
 

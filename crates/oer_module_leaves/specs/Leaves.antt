@@ -2,7 +2,7 @@
 use Rattle.std.specs.Prelude.{ℕ, List, Bool, false, not, ◌&&◌, Option, Some, None, is_none, slice_get, Ok, codes, if◌then◌else◌}
 use Rattle.oer_model.specs.AsnType.{AsnType, boolean, integer, null, object_id}
 use Rattle.oer_module_lexer.specs.Token.{Spot}
-use Rattle.oer_module_limits.specs.Limits.{integer_limits, size_limits}
+use Rattle.oer_module_limits.specs.Limits.{integer_range, size_range}
 use Rattle.oer_module_limits.specs.Written.{written}
 use Rattle.oer_module_names.specs.declared.error.Place.{Place}
 use Rattle.oer_module_syntax.specs.Modules.{none_left}
@@ -13,7 +13,7 @@ use Rattle.oer_module_text.specs.Errors.{Read, refused, limited_by, place_in, �
 use Rattle.oer_module_text.specs.Room.{Room, put}
 use Rattle.oer_module_text.specs.declared.error.Part.TheVariants as part
 use Rattle.oer_module_values.specs.Looks.{place_of}
-use Rattle.oer_module_values.specs.Types.{TypeIn, Given}
+use Rattle.oer_module_values.specs.Types.{Meaning}
 use Rattle.oer_module_leaves.specs.Comments.{checked_of, unchecked_at}
 use Rattle.oer_module_leaves.specs.Numbered.{Numbered, numbered_at}
 use Rattle.oer_module_leaves.specs.Shapes.{counted_type, enumerated_type, size_at, words}
@@ -42,15 +42,16 @@ abbrev pub is_implied : List Module → ℕ → Bool
 is_implied ms m = has_implied (slice_get ms m)
 
 module _ (ms : List Module) where
-  abbrev pub sizes_at : TypeIn → Read Sizes
-  sizes_at t = limited_by (size_limits ms t) >>= λ s. Ok (sizes_within s)
+  -- the sizes of what a type at a place stands for
+  abbrev pub sizes_at : Place → Meaning → Read Sizes
+  sizes_at p m = limited_by (size_range ms p m) >>= λ s. Ok (sizes_within s)
 
-  abbrev pub integer_at : TypeIn → Room → Read (AsnType × Room)
-  integer_at t r = limited_by (integer_limits ms t) >>= λ s. Ok (integer s.low s.high, put_range s (put (codes "INTEGER") r))
+  abbrev pub integer_at : Place → Meaning → Room → Read (AsnType × Room)
+  integer_at p m r = limited_by (integer_range ms p m) >>= λ s. Ok (integer s.low s.high, put_range s (put (codes "INTEGER") r))
 
-  -- a type at a place whose values SIZE counts
-  abbrev pub sized_at : Counted → TypeIn → Place → Room → Read (AsnType × Room)
-  sized_at c t p r = sizes_at t >>= counted_at p c r
+  -- a type at a place, q, whose values SIZE counts
+  abbrev pub sized_at : Counted → Place → Meaning → Place → Room → Read (AsnType × Room)
+  sized_at c p m q r = sizes_at p m >>= counted_at q c r
 
   -- Where bits have names, canonical octets leave out last bits that are 0 (X.680, 22.7; X.696, 13), unless there is one size alone.
   abbrev pub bits_by : Place → List Spot → Room → Sizes → Read (AsnType × Room)
@@ -58,8 +59,8 @@ module _ (ms : List Module) where
       if not (none_left ts) && is_none (fixed s) then refused p.«module» p.at part.NamedBits
       else counted_at p Bits r s
 
-  abbrev pub bits_at : TypeIn → Place → List Spot → Room → Read (AsnType × Room)
-  bits_at t p ts r = sizes_at t >>= bits_by p ts r
+  abbrev pub bits_at : Place → Meaning → Place → List Spot → Room → Read (AsnType × Room)
+  bits_at p m q ts r = sizes_at p m >>= bits_by q ts r
 
   -- there is no marker, and the header of the module implies one
   abbrev pub lacks_marker : ℕ → Numbered → Bool
@@ -73,29 +74,29 @@ module _ (ms : List Module) where
   abbrev pub enumerated_at : Place → List Spot → Room → Read (AsnType × Room)
   enumerated_at p ts r = numbered_at ms p ts >>= enumerated_by p r
 
-  -- a type with words of its own, at a place; t is the type as it is written where it is used
-  abbrev pub plain_at : TypeIn → Place → Builtin → List Spot → Room → Read (AsnType × Room)
-  plain_at t p bi.Boolean ts r = Ok (boolean, put (codes "BOOLEAN") r)
-  plain_at t p bi.Null ts r = Ok (null, put (codes "NULL") r)
-  plain_at t p bi.ObjectIdentifier ts r = Ok (object_id, put (codes "OBJECT IDENTIFIER") r)
-  plain_at t p bi.Integer ts r = integer_at t r
-  plain_at t p bi.Enumerated ts r = enumerated_at p ts r
-  plain_at t p bi.BitString ts r = bits_at t p ts r
-  plain_at t p bi.OctetString ts r = sized_at Octets t p r
-  plain_at t p bi.Ia5String ts r = sized_at Ia5 t p r
-  plain_at t p bi.VisibleString ts r = sized_at Visible t p r
-  plain_at t p bi.Iso646String ts r = sized_at Visible t p r
-  plain_at t p bi.NumericString ts r = sized_at Numeric t p r
-  plain_at t p bi.PrintableString ts r = sized_at Printable t p r
-  plain_at t p bi.Utf8String ts r = sized_at Utf8 t p r
-  plain_at t p builtin ts r = refused p.«module» p.at part.Word
+  -- a type with words of its own, at a place, q, for which the type at p stands
+  abbrev pub plain_at : Place → Meaning → Place → Builtin → List Spot → Room → Read (AsnType × Room)
+  plain_at p m q bi.Boolean ts r = Ok (boolean, put (codes "BOOLEAN") r)
+  plain_at p m q bi.Null ts r = Ok (null, put (codes "NULL") r)
+  plain_at p m q bi.ObjectIdentifier ts r = Ok (object_id, put (codes "OBJECT IDENTIFIER") r)
+  plain_at p m q bi.Integer ts r = integer_at p m r
+  plain_at p m q bi.Enumerated ts r = enumerated_at q ts r
+  plain_at p m q bi.BitString ts r = bits_at p m q ts r
+  plain_at p m q bi.OctetString ts r = sized_at Octets p m q r
+  plain_at p m q bi.Ia5String ts r = sized_at Ia5 p m q r
+  plain_at p m q bi.VisibleString ts r = sized_at Visible p m q r
+  plain_at p m q bi.Iso646String ts r = sized_at Visible p m q r
+  plain_at p m q bi.NumericString ts r = sized_at Numeric p m q r
+  plain_at p m q bi.PrintableString ts r = sized_at Printable p m q r
+  plain_at p m q bi.Utf8String ts r = sized_at Utf8 p m q r
+  plain_at p m q builtin ts r = refused q.«module» q.at part.Word
 
   -- its words, and a comment on constraints that aren't in them
-  abbrev pub leaf_by : TypeIn → ℕ → Tree → List Given → Room → Read (AsnType × Room)
-  leaf_by t m (plain at builtin ts cs) gs r =
-      plain_at t (place_in m at) builtin ts r >>= λ x. Ok (x.0, unchecked_at (checked_of builtin) false (written m cs gs) x.1)
-  leaf_by t m u gs r = refused m (place_of u) part.Word
+  abbrev pub leaf_by : Place → Meaning → ℕ → Tree → Room → Read (AsnType × Room)
+  leaf_by p m k (plain at builtin ts cs) r =
+      plain_at p m (place_in k at) builtin ts r >>= λ x. Ok (x.0, unchecked_at (checked_of builtin) false (written k cs m.given) x.1)
+  leaf_by p m k u r = refused k (place_of u) part.Word
 
-  -- a type as it is written where it is used, what it stands for, and what is given on the way
-  unfoldable pub leaf_at : TypeIn → TypeIn → List Given → Room → Read (AsnType × Room)
-  leaf_at t u gs r = leaf_by t u.«module» u.type gs r
+  -- what a type at a place stands for
+  unfoldable pub leaf_at : Place → Meaning → Room → Read (AsnType × Room)
+  leaf_at p m r = leaf_by p m m.of.«module» m.of.type r

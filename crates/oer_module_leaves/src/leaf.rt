@@ -1,10 +1,11 @@
 //! The type and the text of types that hold no other.
-ghost use Rattle.std.specs.Prelude.{◌≡◌, ◌<◌, length, map, OnOk};
+ghost use Rattle.std.specs.Prelude.{◌≡◌, ◌<◌, length, OnOk};
 ghost use Rattle.oer_module_lexer.specs.Token.{spots_of};
+ghost use Rattle.oer_module_limits.specs.Views.{IsWithin};
 ghost use Rattle.oer_module_names.specs.Views.{modules_in};
 ghost use Rattle.oer_module_text.specs.Errors.{Gives};
 ghost use Rattle.oer_module_text.specs.Room.{put, room_of};
-ghost use Rattle.oer_module_values.specs.Views.{given_of, type_in};
+ghost use Rattle.oer_module_values.specs.Views.{meaning_of};
 ghost use Rattle.oer_values.specs.ShapeView.{type_of};
 ghost use Rattle.oer_module_leaves.specs.Leaves.{bits_at, counted_at, enumerated_at, integer_at, is_implied, lacks_marker, leaf_at, listed_at, plain_at, put_sized, sized_at, sizes_at};
 ghost use Rattle.oer_module_leaves.specs.Numbered.{numbered_of};
@@ -12,14 +13,15 @@ ghost use Rattle.oer_module_leaves.specs.Texts.{sizes_of};
 
 use crate::comment::{checked_of, put_unchecked};
 use crate::numbered::{Numbered, numbered_at};
+use crate::shape::Counted::{Ia5, Numeric, Octets, Printable, Utf8, Visible};
 use crate::shape::{Counted, enumerated_shape, size_at};
 use crate::text::{Sizes, put_numbered, put_range, put_size};
 use oer_module_lexer::Spot;
-use oer_module_limits::{Written, integer_limits, size_limits};
+use oer_module_limits::{Written, integer_range, size_range};
 use oer_module_names::{Names, Place};
 use oer_module_syntax::{Builtin, TypeSyntax};
 use oer_module_text::{Error, Part, Room, refused};
-use oer_module_values::{Given, TypeIn, place_of};
+use oer_module_values::{Meaning, place_of};
 use oer_values::Shape;
 use std::alloc::{AllocError, Global};
 
@@ -31,33 +33,33 @@ pub fn is_implied(names: &Names<'_, '_, '_>, module: usize) -> bool
     names.modules()[module].extensible
 }
 
-/// The sizes that a type allows, or one that it stands for (X.680, 51.5).
+/// The sizes of what a type at `of` stands for (X.680, 51.5).
 ///
 /// # Errors
-/// Those of `size_limits` of oer_module_limits.
-pub fn sizes_of<'m, 's, 't>(
+/// Those of `size_range` of oer_module_limits.
+fn sizes_of<'m, 's, 't>(
     alloc: Global,
     names: &Names<'m, 's, 't>,
-    of: TypeIn<'m, 's, 't>,
+    of: Place,
+    meaning: &Meaning<'m, 's, 't>,
 ) -> Result<Sizes, Error<'t>>
-    requires { of.«module» < length (modules_in names.now) }
-    ensures { Gives sizes_of result (sizes_at (modules_in names.now) (type_in of.entry)) }
+    requires { IsWithin (modules_in names.now) meaning.now }
+    ensures { Gives sizes_of result (sizes_at (modules_in names.now) of (meaning_of meaning.now)) }
 {
-    let range = size_limits(alloc, names, of)?;
+    let range = size_range(alloc, names, of, meaning)?;
     Ok(Sizes::within(range))
 }
 
 /// Adds the words of a type and its sizes.
-fn put_sized(alloc: Global, words: &str, sizes: Sizes, room: &mut Room) -> Result<(), AllocError>
+fn put_sized(words: &str, sizes: Sizes, room: &mut Room) -> Result<(), AllocError>
     ensures { OnOk result (room_of room.new ≡ put_sized words.now (sizes_of sizes) (room_of room.old)) }
 {
     room.put(words)?;
-    put_size(alloc, sizes, room)
+    put_size(sizes, room)
 }
 
 /// A type at a place whose values SIZE counts, with these sizes.
 fn write_counted<'t>(
-    alloc: Global,
     place: Place,
     counted: Counted,
     sizes: Sizes,
@@ -66,7 +68,7 @@ fn write_counted<'t>(
     ensures { Gives (λ s. (type_of s, room_of room.new)) result (counted_at place counted (room_of room.old) (sizes_of sizes)) }
 {
     let size = size_at(place, sizes)?;
-    put_sized(alloc, counted.words(), sizes, room)?;
+    put_sized(counted.words(), sizes, room)?;
     Ok(counted.shape(size))
 }
 
@@ -74,16 +76,17 @@ fn write_counted<'t>(
 fn write_sized<'m, 's, 't>(
     alloc: Global,
     names: &Names<'m, 's, 't>,
-    of: TypeIn<'m, 's, 't>,
+    of: Place,
+    meaning: &Meaning<'m, 's, 't>,
     place: Place,
     counted: Counted,
     room: &mut Room,
 ) -> Result<Shape, Error<'t>>
-    requires { of.«module» < length (modules_in names.now) }
-    ensures { Gives (λ s. (type_of s, room_of room.new)) result (sized_at (modules_in names.now) counted (type_in of.entry) place (room_of room.old)) }
+    requires { IsWithin (modules_in names.now) meaning.now }
+    ensures { Gives (λ s. (type_of s, room_of room.new)) result (sized_at (modules_in names.now) counted of (meaning_of meaning.now) place (room_of room.old)) }
 {
-    let sizes = sizes_of(alloc, names, of)?;
-    write_counted(alloc, place, counted, sizes, room)
+    let sizes = sizes_of(alloc, names, of, meaning)?;
+    write_counted(place, counted, sizes, room)
 }
 
 /// A BIT STRING at a place, with these tokens for its named bits. Where it has some, the size must be
@@ -91,34 +94,36 @@ fn write_sized<'m, 's, 't>(
 fn write_bits<'m, 's, 't>(
     alloc: Global,
     names: &Names<'m, 's, 't>,
-    of: TypeIn<'m, 's, 't>,
+    of: Place,
+    meaning: &Meaning<'m, 's, 't>,
     place: Place,
     items: &[Spot<'t>],
     room: &mut Room,
 ) -> Result<Shape, Error<'t>>
-    requires { of.«module» < length (modules_in names.now) }
-    ensures { Gives (λ s. (type_of s, room_of room.new)) result (bits_at (modules_in names.now) (type_in of.entry) place (spots_of items.now) (room_of room.old)) }
+    requires { IsWithin (modules_in names.now) meaning.now }
+    ensures { Gives (λ s. (type_of s, room_of room.new)) result (bits_at (modules_in names.now) of (meaning_of meaning.now) place (spots_of items.now) (room_of room.old)) }
 {
-    let sizes = sizes_of(alloc, names, of)?;
+    let sizes = sizes_of(alloc, names, of, meaning)?;
     if !items.is_empty() && sizes.fixed().is_none() {
         return Err(refused(place.module, place.at, Part::NamedBits));
     }
-    write_counted(alloc, place, Counted::Bits, sizes, room)
+    write_counted(place, Counted::Bits, sizes, room)
 }
 
 /// An INTEGER, with its range.
 fn write_integer<'m, 's, 't>(
     alloc: Global,
     names: &Names<'m, 's, 't>,
-    of: TypeIn<'m, 's, 't>,
+    of: Place,
+    meaning: &Meaning<'m, 's, 't>,
     room: &mut Room,
 ) -> Result<Shape, Error<'t>>
-    requires { of.«module» < length (modules_in names.now) }
-    ensures { Gives (λ s. (type_of s, room_of room.new)) result (integer_at (modules_in names.now) (type_in of.entry) (room_of room.old)) }
+    requires { IsWithin (modules_in names.now) meaning.now }
+    ensures { Gives (λ s. (type_of s, room_of room.new)) result (integer_at (modules_in names.now) of (meaning_of meaning.now) (room_of room.old)) }
 {
-    let range = integer_limits(alloc, names, of)?;
+    let range = integer_range(alloc, names, of, meaning)?;
     room.put("INTEGER")?;
-    put_range(alloc, range, room)?;
+    put_range(range, room)?;
     Ok(Shape::Integer {
         low: range.low(),
         high: range.high(),
@@ -135,7 +140,7 @@ fn write_items<'t>(
 ) -> Result<Shape, Error<'t>>
     ensures { Gives (λ s. (type_of s, room_of room.new)) result (listed_at «module» (numbered_of numbered.now) (room_of room.old)) }
 {
-    put_numbered(alloc, module, numbered, room)?;
+    put_numbered(module, numbered, room)?;
     let shape = enumerated_shape(alloc, module, numbered)?;
     Ok(shape)
 }
@@ -167,19 +172,20 @@ fn write_enumerated<'m, 's, 't>(
     write_items(alloc, place.module, &numbered, room)
 }
 
-/// A type with words of its own, at a place, which `of` stands for.
+/// A type with words of its own, at a place, for which the type at `of` stands.
 fn write_plain<'m, 's, 't>(
     alloc: Global,
     names: &Names<'m, 's, 't>,
-    of: TypeIn<'m, 's, 't>,
+    of: Place,
+    meaning: &Meaning<'m, 's, 't>,
     place: Place,
     builtin: Builtin,
     items: &'s [Spot<'t>],
     room: &mut Room,
 ) -> Result<Shape, Error<'t>>
-    requires of { of.«module» < length (modules_in names.now) }
+    requires meaning { IsWithin (modules_in names.now) meaning.now }
     requires place { place.«module» < length (modules_in names.now) }
-    ensures { Gives (λ s. (type_of s, room_of room.new)) result (plain_at (modules_in names.now) (type_in of.entry) place builtin (spots_of items.now) (room_of room.old)) }
+    ensures { Gives (λ s. (type_of s, room_of room.new)) result (plain_at (modules_in names.now) of (meaning_of meaning.now) place builtin (spots_of items.now) (room_of room.old)) }
 {
     match builtin {
         Builtin::Boolean => {
@@ -194,30 +200,30 @@ fn write_plain<'m, 's, 't>(
             room.put("OBJECT IDENTIFIER")?;
             Ok(Shape::ObjectId)
         }
-        Builtin::Integer => write_integer(alloc, names, of, room),
+        Builtin::Integer => write_integer(alloc, names, of, meaning, room),
         Builtin::Enumerated => write_enumerated(alloc, names, place, items, room),
-        Builtin::BitString => write_bits(alloc, names, of, place, items, room),
-        Builtin::OctetString => write_sized(alloc, names, of, place, Counted::Octets, room),
-        Builtin::Ia5String => write_sized(alloc, names, of, place, Counted::Ia5, room),
-        Builtin::VisibleString => write_sized(alloc, names, of, place, Counted::Visible, room),
-        Builtin::Iso646String => write_sized(alloc, names, of, place, Counted::Visible, room),
-        Builtin::NumericString => write_sized(alloc, names, of, place, Counted::Numeric, room),
-        Builtin::PrintableString => write_sized(alloc, names, of, place, Counted::Printable, room),
-        Builtin::Utf8String => write_sized(alloc, names, of, place, Counted::Utf8, room),
+        Builtin::BitString => write_bits(alloc, names, of, meaning, place, items, room),
+        Builtin::OctetString => write_sized(alloc, names, of, meaning, place, Octets, room),
+        Builtin::Ia5String => write_sized(alloc, names, of, meaning, place, Ia5, room),
+        Builtin::VisibleString => write_sized(alloc, names, of, meaning, place, Visible, room),
+        Builtin::Iso646String => write_sized(alloc, names, of, meaning, place, Visible, room),
+        Builtin::NumericString => write_sized(alloc, names, of, meaning, place, Numeric, room),
+        Builtin::PrintableString => write_sized(alloc, names, of, meaning, place, Printable, room),
+        Builtin::Utf8String => write_sized(alloc, names, of, meaning, place, Utf8, room),
         _ => Err(refused(place.module, place.at, Part::Word)),
     }
 }
 
 /// A type that holds no other. Its text is added: its words, with the range of an INTEGER, the sizes of a string, or the
 /// items of an ENUMERATED and their numbers behind them, as `print_type` of oer_printer has them, and a comment on
-/// constraints that aren't in it. `of` is the type as it is written where it is used, `is` what `resolve` says that it
-/// stands for, and `given` what is given on the way. Each item of an ENUMERATED takes the room of one part, at the item; the
+/// constraints that aren't in it. `of` is where the type stands that is used, and `meaning` what `resolve` says that it stands
+/// for. Each item of an ENUMERATED takes the room of one part, at the item; the
 /// room of the type itself isn't taken.
 ///
 /// # Errors
 /// NotTaken, with Word, at a type with other words than BOOLEAN, NULL, OBJECT IDENTIFIER, INTEGER, ENUMERATED, BIT STRING,
 /// OCTET STRING, IA5String, VisibleString, ISO646String, NumericString, PrintableString and UTF8String, and at one that
-/// holds others or is a reference. Of an INTEGER, those of `integer_limits`; of strings, those of `size_limits`. NotTaken,
+/// holds others or is a reference. Of an INTEGER, those of `integer_range`; of strings, those of `size_range`. NotTaken,
 /// with NamedBits, at a BIT STRING with named bits whose size isn't fixed: canonical octets leave out its last bits that
 /// are 0 (X.680, 22.7; X.696, 13). Then TooWide, at the type, where 64 bits don't hold an end of its sizes. Of an
 /// ENUMERATED, those of `enumeration_numbers`; then NotTaken, with Implied, where it has no marker and the module's header
@@ -227,15 +233,14 @@ fn write_plain<'m, 's, 't>(
 pub fn write_leaf<'m, 's, 't>(
     alloc: Global,
     names: &Names<'m, 's, 't>,
-    of: TypeIn<'m, 's, 't>,
-    is: TypeIn<'m, 's, 't>,
-    given: &[Given<'s, 't>],
+    of: Place,
+    meaning: &Meaning<'m, 's, 't>,
     room: &mut Room,
 ) -> Result<Shape, Error<'t>>
-    requires of { of.«module» < length (modules_in names.now) }
-    requires is { is.«module» < length (modules_in names.now) }
-    ensures { Gives (λ s. (type_of s, room_of room.new)) result (leaf_at (modules_in names.now) (type_in of.entry) (type_in is.entry) (map given_of given.now) (room_of room.old)) }
+    requires { IsWithin (modules_in names.now) meaning.now }
+    ensures { Gives (λ s. (type_of s, room_of room.new)) result (leaf_at (modules_in names.now) of (meaning_of meaning.now) (room_of room.old)) }
 {
+    let is = meaning.of;
     let module = is.module;
     match is.syntax {
         TypeSyntax::Plain {
@@ -245,8 +250,12 @@ pub fn write_leaf<'m, 's, 't>(
             constraints: own,
         } => {
             let place = Place { module, at: *at };
-            let shape = write_plain(alloc, names, of, place, *builtin, items, room)?;
-            let written = Written { module, own, given };
+            let shape = write_plain(alloc, names, of, meaning, place, *builtin, items, room)?;
+            let written = Written {
+                module,
+                own,
+                given: &meaning.given,
+            };
             put_unchecked(alloc, written, checked_of(*builtin), false, room)?;
             Ok(shape)
         }

@@ -9,7 +9,7 @@ mod shape;
 mod text;
 
 pub use comment::{Checked, put_open, put_unchecked};
-pub use leaf::{is_implied, sizes_of, write_leaf};
+pub use leaf::{is_implied, write_leaf};
 pub use numbered::{Numbered, NumberedItem, enumeration_numbers, numbered_items};
 pub use shape::in_64_bits;
 pub use text::{Sizes, put_range, put_size};

@@ -1,5 +1,5 @@
 //! The text of ranges, sizes and items.
-ghost use Rattle.std.specs.Prelude.{◌≡◌, IfOk, OnOk, map, string_bytes};
+ghost use Rattle.std.specs.Prelude.{◌≡◌, ◌++◌, OnOk, map, string_bytes};
 ghost use Rattle.oer_module_bounds.specs.Sets.{span_of};
 ghost use Rattle.oer_module_text.specs.Errors.{Gives};
 ghost use Rattle.oer_module_text.specs.Room.{put, room_of};
@@ -11,7 +11,7 @@ use oer_model::Size;
 use oer_module_bounds::Range;
 use oer_module_names::Place;
 use oer_module_text::{Error, Room};
-use std::alloc::{AllocError, Global};
+use std::alloc::AllocError;
 
 /// The sizes that a type allows, in octets, bits or characters: from `low`, which isn't below 0, to `high`, both included. An absent
 /// upper end is no bound.
@@ -80,57 +80,55 @@ impl Sizes {
     }
 }
 
-/// A range in parentheses, or nothing where it has no end.
-fn range_text(alloc: Global, low: Option<i128>, high: Option<i128>) -> Result<String, AllocError>
-    ensures { IfOk result (λ s. string_bytes s ≡ range_text low high) }
+/// Appends a range in parentheses, or nothing where it has no end.
+fn push_range(text: &mut String, low: Option<i128>, high: Option<i128>) -> Result<(), AllocError>
+    ensures { OnOk result (string_bytes text.new ≡ string_bytes text.old ++ range_text low high) }
 {
     match (low, high) {
-        (None, None) => Ok(String::new(alloc)),
-        (None, Some(high)) => format!(in alloc; " (MIN..{high})"),
-        (Some(low), None) => format!(in alloc; " ({low}..MAX)"),
+        (None, None) => Ok(()),
+        (None, Some(high)) => write!(text, " (MIN..{high})"),
+        (Some(low), None) => write!(text, " ({low}..MAX)"),
         (Some(low), Some(high)) => {
             if low == high {
-                return format!(in alloc; " ({low})");
+                return write!(text, " ({low})");
             }
-            format!(in alloc; " ({low}..{high})")
+            write!(text, " ({low}..{high})")
         }
     }
 }
 
 /// Adds the range of an INTEGER in parentheses, or nothing where it has no end.
-pub fn put_range(alloc: Global, range: Range, room: &mut Room) -> Result<(), AllocError>
+pub fn put_range(range: Range, room: &mut Room) -> Result<(), AllocError>
     ensures { OnOk result (room_of room.new ≡ put_range (span_of range) (room_of room.old)) }
 {
-    let text = range_text(alloc, range.low(), range.high())?;
-    room.put(text.as_str())
+    push_range(&mut room.text, range.low(), range.high())
 }
 
-/// Sizes in parentheses, or nothing where every size is allowed.
-fn size_text(alloc: Global, low: i128, high: Option<i128>) -> Result<String, AllocError>
-    ensures { IfOk result (λ s. string_bytes s ≡ size_text low high) }
+/// Appends sizes in parentheses, or nothing where every size is allowed.
+fn push_size(text: &mut String, low: i128, high: Option<i128>) -> Result<(), AllocError>
+    ensures { OnOk result (string_bytes text.new ≡ string_bytes text.old ++ size_text low high) }
 {
     match high {
         None => {
             if low == 0 {
-                return Ok(String::new(alloc));
+                return Ok(());
             }
-            format!(in alloc; " (SIZE({low}..MAX))")
+            write!(text, " (SIZE({low}..MAX))")
         }
         Some(high) => {
             if low == high {
-                return format!(in alloc; " (SIZE({low}))");
+                return write!(text, " (SIZE({low}))");
             }
-            format!(in alloc; " (SIZE({low}..{high}))")
+            write!(text, " (SIZE({low}..{high}))")
         }
     }
 }
 
 /// Adds sizes in parentheses, or nothing where every size is allowed.
-pub fn put_size(alloc: Global, sizes: Sizes, room: &mut Room) -> Result<(), AllocError>
+pub fn put_size(sizes: Sizes, room: &mut Room) -> Result<(), AllocError>
     ensures { OnOk result (room_of room.new ≡ put_size (sizes_of sizes) (room_of room.old)) }
 {
-    let text = size_text(alloc, sizes.low, sizes.high)?;
-    room.put(text.as_str())
+    push_size(&mut room.text, sizes.low, sizes.high)
 }
 
 /// Whether the marker stands before the item of this index.
@@ -166,18 +164,17 @@ fn closing(marker: Option<usize>, count: usize) -> &'static str
     "}"
 }
 
-/// An item with its number.
-fn item_text(alloc: Global, item: &NumberedItem<'_>) -> Result<String, AllocError>
-    ensures { IfOk result (λ s. string_bytes s ≡ item_text (item_of item.now)) }
+/// Adds an item with its number.
+fn put_item(item: &NumberedItem<'_>, room: &mut Room) -> Result<(), AllocError>
+    ensures { OnOk result (room_of room.new ≡ put (item_text (item_of item.now)) (room_of room.old)) }
 {
     let name = item.name;
     let number = item.number;
-    format!(in alloc; "{name}({number})")
+    write!(room.text, "{name}({number})")
 }
 
 /// Adds items; each takes the room of one part, at its place in the module.
 fn put_items<'t>(
-    alloc: Global,
     module: usize,
     marker: Option<usize>,
     items: &[NumberedItem<'t>],
@@ -191,8 +188,7 @@ fn put_items<'t>(
             at: item.at,
         })?;
         room.put(before(marker, index))?;
-        let text = item_text(alloc, item)?;
-        room.put(text.as_str())?;
+        put_item(item, room)?;
     }
     Ok(())
 }
@@ -200,14 +196,13 @@ fn put_items<'t>(
 /// Adds all items and the marker, and the closing brace.
 #[tactic(auto, unfolding(crate::specs::Texts::items_at))]
 pub fn put_numbered<'t>(
-    alloc: Global,
     module: usize,
     numbered: &Numbered<'t>,
     room: &mut Room,
 ) -> Result<(), Error<'t>>
     ensures { Gives (λ _. room_of room.new) result (items_at «module» (numbered_of numbered.now) (room_of room.old)) }
 {
-    put_items(alloc, module, numbered.marker, &numbered.items, room)?;
+    put_items(module, numbered.marker, &numbered.items, room)?;
     room.put(closing(numbered.marker, numbered.items.len()))?;
     Ok(())
 }

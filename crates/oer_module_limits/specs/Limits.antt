@@ -8,9 +8,9 @@ use Rattle.oer_module_names.specs.declared.error.Place.{Place}
 use Rattle.oer_module_syntax.specs.Tree.{Module}
 use Rattle.oer_module_values.specs.Errors.{place_in}
 use Rattle.oer_module_values.specs.Looks.{place_of}
-use Rattle.oer_module_values.specs.Types.{TypeIn, meaning}
+use Rattle.oer_module_values.specs.Types.{TypeIn, Meaning, meaning}
 use Rattle.oer_module_limits.specs.Errors.{Read, refused, ◌>>=◌, told_by, empty, differs}
-use Rattle.oer_module_limits.specs.Sets.{number, size, rows, set_at}
+use Rattle.oer_module_limits.specs.Sets.{Measure, number, size, rows, set_at}
 
 -- no number is below n, or above it
 abbrev pub is_from : ℤ → Option ℤ → Bool
@@ -75,16 +75,25 @@ judged same p (Some r) (Some s) = if same r s then Ok r else refused p differs
 abbrev pub type_place : TypeIn → Place
 type_place t = place_in t.«module» (place_of t.type)
 
--- the range of an INTEGER, and that of the sizes of a string or a list, which a type stands for
-module _ (ms : List Module) where
-  unfoldable pub integer_limits : TypeIn → Read Span
-  integer_limits t = do
-    r ← told_by (meaning ms t)
-    cs ← rows (set_at ms 255) (number None) r
-    judged same_form (type_place t) (effective (serially cs)) (loose_effective cs)
+-- two ranges of what is measured give values the same octets
+abbrev pub same_octets : Measure → Span → Span → Bool
+same_octets (number g) r s = same_form r s
+same_octets size r s = same_sizes r s
 
+module _ (ms : List Module) where
+  -- the range of what is measured, of what a type at a place stands for
+  unfoldable pub range_of : Measure → Place → Meaning → Read Span
+  range_of k p m = do
+    cs ← rows (set_at ms 255) k m
+    judged (same_octets k) p (effective (serially cs)) (loose_effective cs)
+
+  -- the range of an INTEGER, and that of the sizes of a string or a list
+  abbrev pub integer_range : Place → Meaning → Read Span
+  integer_range p m = range_of (number None) p m
+
+  abbrev pub size_range : Place → Meaning → Read Span
+  size_range p m = range_of size p m
+
+  -- the sizes of a type
   unfoldable pub size_limits : TypeIn → Read Span
-  size_limits t = do
-    r ← told_by (meaning ms t)
-    cs ← rows (set_at ms 255) size r
-    judged same_sizes (type_place t) (effective (serially cs)) (loose_effective cs)
+  size_limits t = told_by (meaning ms t) >>= size_range (type_place t)

@@ -14,5 +14,5 @@ mod written;
 
 pub use error::{Error, Why};
 pub use kinds::{Kind, narrows};
-pub use limits::{integer_limits, size_limits};
+pub use limits::{integer_range, size_limits, size_range};
 pub use written::{Written, are_none, are_plain, constraints_in, has_set};

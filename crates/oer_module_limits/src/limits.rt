@@ -2,16 +2,17 @@
 ghost use Rattle.std.specs.Prelude.{◌≡◌, ◌<◌, length, map};
 ghost use Rattle.oer_module_bounds.specs.Sets.{constraint_of, span_of};
 ghost use Rattle.oer_module_names.specs.Views.{modules_in};
-ghost use Rattle.oer_module_values.specs.Views.{type_in};
+ghost use Rattle.oer_module_values.specs.Views.{meaning_of, type_in};
 ghost use Rattle.oer_module_limits.specs.Errors.{Gives};
-ghost use Rattle.oer_module_limits.specs.Limits.{integer_limits, is_fixed, is_from, is_to, same_form, same_sizes, serially, signed_octets, size_limits, type_place, unsigned_octets};
+ghost use Rattle.oer_module_limits.specs.Limits.{integer_range, is_fixed, is_from, is_to, range_of, same_form, same_octets, same_sizes, serially, signed_octets, size_limits, size_range, type_place, unsigned_octets};
+ghost use Rattle.oer_module_limits.specs.Views.{IsMeasureWithin, IsWithin, measure_seen};
 
 use crate::error::{Error, Why};
 use crate::measure::Measure;
 use crate::sets::constraints_of;
 use oer_module_bounds::{Constraint, Range, effective_range, loose_effective_range};
 use oer_module_names::{Names, Place};
-use oer_module_values::{TypeIn, place_of, resolve};
+use oer_module_values::{Meaning, TypeIn, place_of, resolve};
 use std::alloc::Global;
 
 /// How many levels of sets may nest.
@@ -125,10 +126,51 @@ fn type_place(of: TypeIn<'_, '_, '_>) -> Place
     }
 }
 
-/// The range of the numbers that an INTEGER allows, or one that a type stands for (X.680, 49 to 51): of all constraints on the way
-/// together. An absent end is no bound. A constraint with an extension marker bounds nothing (X.696, 8.2), unless another
-/// follows: then it bounds as if it had none (X.680, 50.8). A general one bounds nothing. A marker behind SIZE is the
-/// constraint's.
+/// Whether values have the same octets under two ranges of what is measured.
+fn same_octets(measure: Measure<'_, '_, '_>, one: Range, other: Range) -> bool
+    ensures { result ≡ same_octets (measure_seen measure.entry) (span_of one) (span_of other) }
+{
+    match measure {
+        Measure::Number(_) => same_form(one, other),
+        Measure::Size => same_sizes(one, other),
+    }
+}
+
+/// The range of what is measured, of what the type at `place` stands for.
+#[tactic(auto, unfolding(crate::specs::Limits::range_of))]
+fn range_of<'m, 's, 't>(
+    alloc: Global,
+    names: &Names<'m, 's, 't>,
+    measure: Measure<'m, 's, 't>,
+    place: Place,
+    meaning: &Meaning<'m, 's, 't>,
+) -> Result<Range, Error<'t>>
+    requires measure { IsMeasureWithin (length (modules_in names.now)) measure }
+    requires meaning { IsWithin (modules_in names.now) meaning.now }
+    ensures { Gives span_of result (range_of (modules_in names.now) (measure_seen measure.entry) place (meaning_of meaning.now)) }
+{
+    let mut constraints = constraints_of(alloc, names, LEVELS, measure, meaning)?;
+    let widest = loose_effective_range(&constraints);
+    apply_serially(&mut constraints);
+    let Some(range) = effective_range(alloc, &constraints)? else {
+        return Err(Error {
+            place,
+            why: Why::Empty,
+        });
+    };
+    match widest {
+        Some(widest) if same_octets(measure, range, widest) => Ok(range),
+        _ => Err(Error {
+            place,
+            why: Why::Differs,
+        }),
+    }
+}
+
+/// The range of the numbers that an INTEGER allows for which the type at `place` stands (X.680, 49 to 51): of all
+/// constraints on the way together. An absent end is no bound. A constraint with an extension marker bounds nothing (X.696,
+/// 8.2), unless another follows: then it bounds as if it had none (X.680, 50.8). A general one bounds nothing. A marker behind
+/// SIZE is the constraint's.
 ///
 /// # Errors
 /// Unresolved, where a name stands for nothing, tokens can't be read, or an allocation failed. Inapplicable, if the type is none, or at
@@ -136,44 +178,44 @@ fn type_place(of: TypeIn<'_, '_, '_>) -> Place
 /// value, OpenEnd at `<` beside MIN or MAX. TooDeep, Contained and ValueSet at what isn't read. Then Empty, if no number is
 /// allowed. Then Differs, if the sign or the width of the octets (X.696, 10) depends on whether EXCEPT bounds, or whether
 /// constraints do that have a marker and are followed, which other readers ignore: `(0..10, ...) (0..5)` has the range
-/// 0..5, and `(0..10, ...) (0..70000)` is refused.
-#[tactic(auto, unfolding(crate::specs::Limits::integer_limits))]
-pub fn integer_limits<'m, 's, 't>(
+/// 0..5, and `(0..10, ...) (0..70000)` is refused. Both are told of at `place`.
+pub fn integer_range<'m, 's, 't>(
     alloc: Global,
     names: &Names<'m, 's, 't>,
-    of: TypeIn<'m, 's, 't>,
+    place: Place,
+    meaning: &Meaning<'m, 's, 't>,
 ) -> Result<Range, Error<'t>>
-    requires { of.«module» < length (modules_in names.now) }
-    ensures { Gives span_of result (integer_limits (modules_in names.now) (type_in of.entry)) }
+    requires { IsWithin (modules_in names.now) meaning.now }
+    ensures { Gives span_of result (integer_range (modules_in names.now) place (meaning_of meaning.now)) }
 {
-    let meaning = resolve(alloc, names, of)?;
-    let mut constraints = constraints_of(alloc, names, LEVELS, Measure::Number(None), &meaning)?;
-    let widest = loose_effective_range(&constraints);
-    apply_serially(&mut constraints);
-    let Some(range) = effective_range(alloc, &constraints)? else {
-        return Err(Error {
-            place: type_place(of),
-            why: Why::Empty,
-        });
-    };
-    match widest {
-        Some(widest) if same_form(range, widest) => Ok(range),
-        _ => Err(Error {
-            place: type_place(of),
-            why: Why::Differs,
-        }),
-    }
+    range_of(alloc, names, Measure::Number(None), place, meaning)
 }
 
-/// The range of the sizes that a type allows, or one that it stands for (X.680, 51.5): a string, a SEQUENCE OF or a
-/// SET OF. An absent lower end is 0, an absent upper one no bound. What is not about sizes bounds nothing, and takes
+/// The range of the sizes that a string, a SEQUENCE OF or a SET OF allows for which the type at `place` stands (X.680,
+/// 51.5). An absent lower end is 0, an absent upper one no bound. What is not about sizes bounds nothing, and takes
 /// nothing away behind EXCEPT.
 ///
 /// # Errors
-/// Those of `integer_limits`, in the same order. Inapplicable, if the values of the type have no sizes, or at a range of
+/// Those of `integer_range`, in the same order. Inapplicable, if the values of the type have no sizes, or at a range of
 /// texts. Differs, if it depends on the same that there is one size alone (X.696, 13, 14, 17 and 27). Differs too, before
 /// Empty, at a constraint in which SIZE with a marker stands beside other elements: whether the whole has a marker isn't
 /// read.
+pub fn size_range<'m, 's, 't>(
+    alloc: Global,
+    names: &Names<'m, 's, 't>,
+    place: Place,
+    meaning: &Meaning<'m, 's, 't>,
+) -> Result<Range, Error<'t>>
+    requires { IsWithin (modules_in names.now) meaning.now }
+    ensures { Gives span_of result (size_range (modules_in names.now) place (meaning_of meaning.now)) }
+{
+    range_of(alloc, names, Measure::Size, place, meaning)
+}
+
+/// The range of the sizes of a type.
+///
+/// # Errors
+/// Unresolved, where a name stands for nothing. Then those of `size_range`, at the type.
 #[tactic(auto, unfolding(crate::specs::Limits::size_limits))]
 pub fn size_limits<'m, 's, 't>(
     alloc: Global,
@@ -184,20 +226,5 @@ pub fn size_limits<'m, 's, 't>(
     ensures { Gives span_of result (size_limits (modules_in names.now) (type_in of.entry)) }
 {
     let meaning = resolve(alloc, names, of)?;
-    let mut constraints = constraints_of(alloc, names, LEVELS, Measure::Size, &meaning)?;
-    let widest = loose_effective_range(&constraints);
-    apply_serially(&mut constraints);
-    let Some(range) = effective_range(alloc, &constraints)? else {
-        return Err(Error {
-            place: type_place(of),
-            why: Why::Empty,
-        });
-    };
-    match widest {
-        Some(widest) if same_sizes(range, widest) => Ok(range),
-        _ => Err(Error {
-            place: type_place(of),
-            why: Why::Differs,
-        }),
-    }
+    size_range(alloc, names, type_place(of), &meaning)
 }

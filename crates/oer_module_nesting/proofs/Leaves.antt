@@ -8,7 +8,7 @@ use Rattle.oer_module_leaves.specs.Shapes.{enumerated_type, size_at}
 use Rattle.oer_module_leaves.specs.Texts.{Sizes, fixed, items_at}
 use Rattle.oer_module_leaves.specs.declared.shape.Counted.{Counted}
 use Rattle.oer_module_leaves.specs.declared.shape.Counted.TheVariants.{Bits, Octets, Ia5, Visible, Numeric, Printable, Utf8}
-use Rattle.oer_module_limits.specs.Limits.{integer_limits}
+use Rattle.oer_module_limits.specs.Limits.{integer_range}
 use Rattle.oer_module_names.specs.declared.error.Place.{Place}
 use Rattle.oer_module_syntax.specs.Modules.{none_left}
 use Rattle.oer_module_syntax.specs.Tree.{Module, Tree, plain}
@@ -17,7 +17,7 @@ use Rattle.oer_module_syntax.specs.declared.word.Builtin.TheVariants as bi
 use Rattle.oer_module_text.specs.Errors.{limited_by, place_in}
 use Rattle.oer_module_text.specs.Room.{Room}
 use Rattle.oer_module_types.specs.Fields.{field_at, field_of, if_open, open_at}
-use Rattle.oer_module_values.specs.Types.{TypeIn, Given}
+use Rattle.oer_module_values.specs.Types.{Meaning}
 use Rattle.oer_module_limits.specs.Written.{Written}
 use Rattle.oer_module_nesting.proofs.Alike.{Alike, Same, behind, bind, choose, once}
 
@@ -34,44 +34,44 @@ open_type p w true r s = record { related = refl }
 open_type p w false r s = record { related = tt }
 
 module _ (ms : List Module) where
-  integer : (t : TypeIn) (r s : Room) → Alike Same (integer_at ms t r) (integer_at ms t s)
-  integer t r s = once Same (limited_by (integer_limits ms t)) _ _ (λ z is. record { related = refl })
+  integer : (p : Place) (m : Meaning) (r s : Room) → Alike Same (integer_at ms p m r) (integer_at ms p m s)
+  integer p m r s = once Same (limited_by (integer_range ms p m)) _ _ (λ z is. record { related = refl })
 
-  sized : (c : Counted) (t : TypeIn) (p : Place) (r s : Room) → Alike Same (sized_at ms c t p r) (sized_at ms c t p s)
-  sized c t p r s = once Same (sizes_at ms t) _ _ (λ z is. counted p c z r s)
+  sized : (c : Counted) (p : Place) (m : Meaning) (q : Place) (r s : Room) → Alike Same (sized_at ms c p m q r) (sized_at ms c p m q s)
+  sized c p m q r s = once Same (sizes_at ms p m) _ _ (λ z is. counted q c z r s)
 
-  bits : (t : TypeIn) (p : Place) (ts : List Spot) (r s : Room) → Alike Same (bits_at ms t p ts r) (bits_at ms t p ts s)
-  bits t p ts r s = once Same (sizes_at ms t) _ _ (λ z is.
-      choose Same (not (none_left ts) && is_none (fixed z)) _ _ _ _ (record { related = tt }) (counted p Bits z r s))
+  bits : (p : Place) (m : Meaning) (q : Place) (ts : List Spot) (r s : Room) → Alike Same (bits_at ms p m q ts r) (bits_at ms p m q ts s)
+  bits p m q ts r s = once Same (sizes_at ms p m) _ _ (λ z is.
+      choose Same (not (none_left ts) && is_none (fixed z)) _ _ _ _ (record { related = tt }) (counted q Bits z r s))
 
   enumerated : (p : Place) (ts : List Spot) (r s : Room) → Alike Same (enumerated_at ms p ts r) (enumerated_at ms p ts s)
   enumerated p ts r s = once Same (numbered_at ms p ts) _ _ (λ e is.
       choose Same (lacks_marker ms p.«module» e) _ _ _ _ (record { related = tt }) (listed p.«module» e _ _))
 
-  plainly : (t : TypeIn) (p : Place) (b : Builtin) (ts : List Spot) (r s : Room) → Alike Same (plain_at ms t p b ts r) (plain_at ms t p b ts s)
-  plainly t p bi.Boolean ts r s = record { related = refl }
-  plainly t p bi.Null ts r s = record { related = refl }
-  plainly t p bi.ObjectIdentifier ts r s = record { related = refl }
-  plainly t p bi.Integer ts r s = integer t r s
-  plainly t p bi.Enumerated ts r s = enumerated p ts r s
-  plainly t p bi.BitString ts r s = bits t p ts r s
-  plainly t p bi.OctetString ts r s = sized Octets t p r s
-  plainly t p bi.Ia5String ts r s = sized Ia5 t p r s
-  plainly t p bi.VisibleString ts r s = sized Visible t p r s
-  plainly t p bi.Iso646String ts r s = sized Visible t p r s
-  plainly t p bi.NumericString ts r s = sized Numeric t p r s
-  plainly t p bi.PrintableString ts r s = sized Printable t p r s
-  plainly t p bi.Utf8String ts r s = sized Utf8 t p r s
-  plainly t p b ts r s = record { related = tt }
+  plainly : (p : Place) (m : Meaning) (q : Place) (b : Builtin) (ts : List Spot) (r s : Room) → Alike Same (plain_at ms p m q b ts r) (plain_at ms p m q b ts s)
+  plainly p m q bi.Boolean ts r s = record { related = refl }
+  plainly p m q bi.Null ts r s = record { related = refl }
+  plainly p m q bi.ObjectIdentifier ts r s = record { related = refl }
+  plainly p m q bi.Integer ts r s = integer p m r s
+  plainly p m q bi.Enumerated ts r s = enumerated q ts r s
+  plainly p m q bi.BitString ts r s = bits p m q ts r s
+  plainly p m q bi.OctetString ts r s = sized Octets p m q r s
+  plainly p m q bi.Ia5String ts r s = sized Ia5 p m q r s
+  plainly p m q bi.VisibleString ts r s = sized Visible p m q r s
+  plainly p m q bi.Iso646String ts r s = sized Visible p m q r s
+  plainly p m q bi.NumericString ts r s = sized Numeric p m q r s
+  plainly p m q bi.PrintableString ts r s = sized Printable p m q r s
+  plainly p m q bi.Utf8String ts r s = sized Utf8 p m q r s
+  plainly p m q b ts r s = record { related = tt }
 
-  leaf_of : (t : TypeIn) (m : ℕ) (u : Tree) (gs : List Given) (r s : Room) → Alike Same (leaf_by ms t m u gs r) (leaf_by ms t m u gs s)
-  leaf_of t m (plain at b ts cs) gs r s =
-      bind Same Same _ _ _ _ (plainly t (place_in m at) b ts r s) (λ x y same. record { related = same })
-  leaf_of t m u gs r s = record { related = tt }
+  leaf_of : (p : Place) (m : Meaning) (k : ℕ) (u : Tree) (r s : Room) → Alike Same (leaf_by ms p m k u r) (leaf_by ms p m k u s)
+  leaf_of p m k (plain at b ts cs) r s =
+      bind Same Same _ _ _ _ (plainly p m (place_in k at) b ts r s) (λ x y same. record { related = same })
+  leaf_of p m k u r s = record { related = tt }
 
-  pub leaf : (t u : TypeIn) (gs : List Given) (r s : Room) → Alike Same (leaf_at ms t u gs r) (leaf_at ms t u gs s)
+  pub leaf : (p : Place) (m : Meaning) (r s : Room) → Alike Same (leaf_at ms p m r) (leaf_at ms p m s)
   unfolding leaf_at
-  leaf t u gs r s = leaf_of t u.«module» u.type gs r s
+  leaf p m r s = leaf_of p m m.of.«module» m.of.type r s
 
   pub field_type : (p : Place) (name : List ℕ) (steps ps : List Spot) (w : Written) (r s : Room)
       → Alike Same (field_at ms p name steps ps w r) (field_at ms p name steps ps w s)

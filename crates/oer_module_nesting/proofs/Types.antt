@@ -12,7 +12,7 @@ use Rattle.oer_module_text.specs.Room.{Room, new, put, take_part}
 use Rattle.oer_module_types.specs.Levels.{end_at, end_text, end_type, is_full, times}
 use Rattle.oer_module_types.specs.Types.{list_at, meant_as, nested_at, roots_at, single_at, single_by, stands_for}
 use Rattle.oer_module_types.specs.Types.{structure_at, type_at, type_place, typed}
-use Rattle.oer_module_values.specs.Types.{TypeIn, Given, type_in}
+use Rattle.oer_module_values.specs.Types.{TypeIn, Meaning, type_in}
 use Rattle.oer_nesting.proofs.Canonical.{canonical_alike, encodes_alike}
 use Rattle.oer_nesting.proofs.Free.{free_meets_none}
 use Rattle.oer_nesting.proofs.FreeDefaults.{free_defaults}
@@ -50,17 +50,17 @@ still_full n m k less full = let h : m ≤ k = leb-true m k full in le-leb n k (
 -- ---- types that hold no other
 
 module _ (ms : List Module) where
-  single_of : (t u : TypeIn) (m : ℕ) (v : Tree) (gs : List Given) (r s : Room) → Alike Same (single_by ms t u m v gs r) (single_by ms t u m v gs s)
-  single_of t u m (plain at b items cs) gs r s = leaf_type ms t u gs r s
-  single_of t u m (named at name steps ps cs) gs r s = field_type ms (place_in m at) name steps ps (written m cs gs) r s
-  single_of t u m (selection at name v) gs r s = record { related = tt }
-  single_of t u m (instance_of at class steps cs) gs r s = record { related = tt }
-  single_of t u m (any_defined_by at name) gs r s = record { related = tt }
-  single_of t u m v gs r s = record { related = tt }
+  single_of : (p : Place) (m : Meaning) (k : ℕ) (v : Tree) (r s : Room) → Alike Same (single_by ms p m k v r) (single_by ms p m k v s)
+  single_of p m k (plain at b items cs) r s = leaf_type ms p m r s
+  single_of p m k (named at name steps ps cs) r s = field_type ms (place_in k at) name steps ps (written k cs m.given) r s
+  single_of p m k (selection at name v) r s = record { related = tt }
+  single_of p m k (instance_of at class steps cs) r s = record { related = tt }
+  single_of p m k (any_defined_by at name) r s = record { related = tt }
+  single_of p m k v r s = record { related = tt }
 
-  single : (t u : TypeIn) (gs : List Given) (r s : Room) → Alike Same (single_at ms t u gs r) (single_at ms t u gs s)
+  single : (p : Place) (m : Meaning) (r s : Room) → Alike Same (single_at ms p m r) (single_at ms p m s)
   unfolding single_at
-  single t u gs r s = single_of t u u.«module» u.type gs r s
+  single p m r s = single_of p m m.of.«module» m.of.type r s
 
 -- the same type, with none of its ends replaced
 same_nests : (x y : AsnType × Room) → x.0 ≡ y.0 → Deeper x.0 y.0
@@ -74,23 +74,25 @@ module _ (ms : List Module) (n m : ℕ) (less : n ≤ m) (levels : ℕ) (type ty
   nested inside inside' p path r s a =
       full_by (is_full n p path) (is_full m p path) (still_full n m (times p path) less) levels p r s _ _ a
 
-  single_nests : (t u : TypeIn) (gs : List Given) (r s : Room) → Alike Nest (single_at ms t u gs r) (single_at ms t u gs s)
-  single_nests t u gs r s = weaken Same Nest _ _ (single ms t u gs r s) same_nests
+  single_nests : (p : Place) (u : Meaning) (r s : Room) → Alike Nest (single_at ms p u r) (single_at ms p u s)
+  single_nests p u r s = weaken Same Nest _ _ (single ms p u r s) same_nests
 
-  meant : (path : List Place) (t : TypeIn) (gs : List Given) (k : ℕ) (u : Tree) (r s : Room)
-      → Alike Nest (meant_as ms n levels type roots path t gs k u r) (meant_as ms m levels type' roots' path t gs k u s)
-  meant path t gs k (structure at b es cs) r s =
-      nested (structure_at ms type roots (place_in k at) b es (written k cs gs)) (structure_at ms type' roots' (place_in k at) b es (written k cs gs))
-      (place_in k at) path r s (structure_nests ms type type' types roots roots' rest (place_in k at) b es (written k cs gs) _ r s)
-  meant path t gs k (list_of at b sized size name item) r s =
-      nested (list_at ms type (place_in k at) b sized item (written k size gs)) (list_at ms type' (place_in k at) b sized item (written k size gs))
-      (place_in k at) path r s (list_nests ms type type' types (place_in k at) b sized item (written k size gs) _ r s)
-  meant path t gs k (plain at b items cs) r s = single_nests t (type_in k (plain at b items cs)) gs r s
-  meant path t gs k (named at name steps ps cs) r s = single_nests t (type_in k (named at name steps ps cs)) gs r s
-  meant path t gs k (tagged at ts mode u) r s = single_nests t (type_in k (tagged at ts mode u)) gs r s
-  meant path t gs k (selection at name u) r s = single_nests t (type_in k (selection at name u)) gs r s
-  meant path t gs k (instance_of at class steps cs) r s = single_nests t (type_in k (instance_of at class steps cs)) gs r s
-  meant path t gs k (any_defined_by at name) r s = single_nests t (type_in k (any_defined_by at name)) gs r s
+  meant : (path : List Place) (p : Place) (u : Meaning) (k : ℕ) (v : Tree) (r s : Room)
+      → Alike Nest (meant_as ms n levels type roots path p u k v r) (meant_as ms m levels type' roots' path p u k v s)
+  meant path p u k (structure at b es cs) r s =
+      let w = written k cs u.given in
+      nested (structure_at ms type roots (place_in k at) b es w) (structure_at ms type' roots' (place_in k at) b es w)
+      (place_in k at) path r s (structure_nests ms type type' types roots roots' rest (place_in k at) b es w _ r s)
+  meant path p u k (list_of at b sized size name item) r s =
+      let w = written k size u.given in
+      nested (list_at ms type (place_in k at) b sized item w) (list_at ms type' (place_in k at) b sized item w)
+      (place_in k at) path r s (list_nests ms type type' types (place_in k at) b sized item w _ r s)
+  meant path p u k (plain at b items cs) r s = single_nests p u r s
+  meant path p u k (named at name steps ps cs) r s = single_nests p u r s
+  meant path p u k (tagged at ts mode v) r s = single_nests p u r s
+  meant path p u k (selection at name v) r s = single_nests p u r s
+  meant path p u k (instance_of at class steps cs) r s = single_nests p u r s
+  meant path p u k (any_defined_by at name) r s = single_nests p u r s
 
 -- ---- all levels
 
@@ -112,7 +114,7 @@ module _ (ms : List Module) (n m : ℕ) (less : n ≤ m) where
   more_types levels l path t r s =
       once Nest (stands_for ms t) _ _ (λ u is. behind Nest (take_part (type_place u.of) r) (take_part (type_place u.of) s) _ _ (λ r' s'.
       meant ms n m less levels (type_at ms n levels) (type_at ms m levels) l.types (roots_at ms n levels) (roots_at ms m levels) l.roots
-      path t u.given u.of.«module» u.of.type r' s'))
+      path (type_place t) u u.of.«module» u.of.type r' s'))
 
   more_roots : (levels : ℕ) → Nests levels → RootsNest (roots_at ms n (suc levels)) (roots_at ms m (suc levels))
   unfolding roots_at

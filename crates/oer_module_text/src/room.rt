@@ -39,11 +39,10 @@ impl Room {
     }
 
     /// Adds a number, in decimal digits.
-    pub fn put_number(&mut self, alloc: Global, number: i128) -> Result<(), AllocError>
+    pub fn put_number(&mut self, number: i128) -> Result<(), AllocError>
         ensures { OnOk result (room_of self.new ≡ put_number number (room_of self.old)) }
     {
-        let digits = format!(in alloc; "{number}")?;
-        self.put(digits.as_str())
+        write!(self.text, "{number}")
     }
 
     /// Takes the room of one part, at the place of the type or the item that it is.

@@ -22,7 +22,7 @@ use Rattle.oer_module_text.specs.Errors.{Read, error, refused, ◌>>=◌, told_b
 use Rattle.oer_module_text.specs.Room.{Room, new, put, take_part}
 use Rattle.oer_module_text.specs.declared.error.Part.TheVariants as parts
 use Rattle.oer_module_values.specs.Looks.{place_of}
-use Rattle.oer_module_values.specs.Types.{TypeIn, type_in, Given, Meaning, meaning}
+use Rattle.oer_module_values.specs.Types.{TypeIn, type_in, Meaning, meaning}
 use Rattle.oer_units.specs.declared.tagging.Tag.{Tag}
 use Rattle.oer_module_types.specs.Fields.{field_at}
 use Rattle.oer_module_types.specs.Gathered.{Gathered, choice_in, empty, sequence_in, with_marker, with_part}
@@ -179,31 +179,31 @@ IsSingle (list_of at b sized size name item) = ⊥
 IsSingle _ = Unit {0}
 
 module _ (ms : List Module) where
-  abbrev pub single_by : TypeIn → TypeIn → ℕ → Tree → List Given → Room → Read (AsnType × Room)
-  single_by t u m (plain at b items cs) gs r = leaf_at ms t u gs r
-  single_by t u m (named at name steps ps cs) gs r = field_at ms (place_in m at) name steps ps (written m cs gs) r
-  single_by t u m (selection at name v) gs r = refused m at parts.Selection
-  single_by t u m (instance_of at class steps cs) gs r = refused m at parts.InstanceOf
-  single_by t u m (any_defined_by at name) gs r = refused m at parts.AnyDefinedBy
-  single_by t u m v gs r = refused m (place_of v) parts.Word
+  abbrev pub single_by : Place → Meaning → ℕ → Tree → Room → Read (AsnType × Room)
+  single_by p m k (plain at b items cs) r = leaf_at ms p m r
+  single_by p m k (named at name steps ps cs) r = field_at ms (place_in k at) name steps ps (written k cs m.given) r
+  single_by p m k (selection at name v) r = refused k at parts.Selection
+  single_by p m k (instance_of at class steps cs) r = refused k at parts.InstanceOf
+  single_by p m k (any_defined_by at name) r = refused k at parts.AnyDefinedBy
+  single_by p m k v r = refused k (place_of v) parts.Word
 
-  -- a type as it is written where it is used, such a type that it stands for, and what is given on the way
-  unfoldable pub single_at : TypeIn → TypeIn → List Given → Room → Read (AsnType × Room)
-  single_at t u gs r = single_by t u u.«module» u.type gs r
+  -- such a type, for which a type at a place stands
+  unfoldable pub single_at : Place → Meaning → Room → Read (AsnType × Room)
+  single_at p m r = single_by p m m.of.«module» m.of.type r
 
 module _ (ms : List Module) (nesting : ℕ) where
   module _ (levels : ℕ) (type : List Place → TypeIn → Room → Read (AsnType × Room))
       (roots : List Place → Bool → Place → Tree → Gathered → Room → Read (Bool × Gathered × Room)) where
-    abbrev pub meant_as : List Place → TypeIn → List Given → ℕ → Tree → Room → Read (AsnType × Room)
-    meant_as path t gs m (structure at b es cs) r =
-        nested_at nesting levels (structure_at ms type roots (place_in m at) b es (written m cs gs)) (place_in m at) path r
-    meant_as path t gs m (list_of at b sized size name item) r =
-        nested_at nesting levels (list_at ms type (place_in m at) b sized item (written m size gs)) (place_in m at) path r
-    meant_as path t gs m u r = single_at ms t (type_in m u) gs r
+    abbrev pub meant_as : List Place → Place → Meaning → ℕ → Tree → Room → Read (AsnType × Room)
+    meant_as path p m k (structure at b es cs) r =
+        nested_at nesting levels (structure_at ms type roots (place_in k at) b es (written k cs m.given)) (place_in k at) path r
+    meant_as path p m k (list_of at b sized size name item) r =
+        nested_at nesting levels (list_at ms type (place_in k at) b sized item (written k size m.given)) (place_in k at) path r
+    meant_as path p m k u r = single_at ms p m r
 
-    -- A type in which so many levels of types may nest, and what it stands for.
-    abbrev pub meant_by : List Place → TypeIn → Meaning → Room → Read (AsnType × Room)
-    meant_by path t m r = meant_as path t m.given m.of.«module» m.of.type r
+    -- What a type at a place stands for, in which so many levels of types may nest.
+    abbrev pub meant_by : List Place → Place → Meaning → Room → Read (AsnType × Room)
+    meant_by path p m r = meant_as path p m m.of.«module» m.of.type r
 
   -- The number is how many levels may nest, of types and of COMPONENTS OF.
   unfoldable mutual
@@ -213,7 +213,7 @@ module _ (ms : List Module) (nesting : ℕ) where
     type_at (suc levels) path t r = do
       m ← stands_for ms t
       s ← take_part (type_place m.of) r
-      meant_by levels (type_at levels) (roots_at levels) path t m s
+      meant_by levels (type_at levels) (roots_at levels) path (type_place t) m s
 
     -- COMPONENTS OF a type: the root of the SEQUENCE that it stands for (X.680, 25.5), which takes a part
     pub roots_at : ℕ → List Place → Bool → Place → Tree → Gathered → Room → Read (Bool × Gathered × Room)

@@ -83,12 +83,12 @@ pub fn tag_at(tags: &[Tag], before: Before) -> Option<Tag>
     }
 }
 
-fn put_tag(alloc: Global, tag: Option<Tag>, room: &mut Room) -> Result<(), AllocError>
+fn put_tag(tag: Option<Tag>, room: &mut Room) -> Result<(), AllocError>
     ensures { OnOk result (room_of room.new ≡ tag_if tag (room_of room.old)) }
 {
     match tag {
         Some(tag) => {
-            write_tag(alloc, room, tag)?;
+            write_tag(room, tag)?;
             room.put(" ")
         }
         None => Ok(()),
@@ -98,7 +98,6 @@ fn put_tag(alloc: Global, tag: Option<Tag>, room: &mut Room) -> Result<(), Alloc
 /// The name of a component or an alternative, behind others, and its tag, if it has one.
 #[tactic(auto, unfolding(crate::specs::Types::name_at))]
 pub fn write_name(
-    alloc: Global,
     tag: Option<Tag>,
     before: Before,
     name: &str,
@@ -109,7 +108,7 @@ pub fn write_name(
     put_comma(before, room)?;
     room.put(name)?;
     room.put(" ")?;
-    put_tag(alloc, tag, room)
+    put_tag(tag, room)
 }
 
 /// The marker, behind others.

@@ -1,11 +1,11 @@
 //! A type and its text, with the types in it.
 ghost use Rattle.std.specs.Prelude.{◌≡◌, ◌<◌, IfOk, OnOk, length, map};
-ghost use Rattle.oer_module_limits.specs.Views.{written_of};
+ghost use Rattle.oer_module_limits.specs.Views.{IsWithin, written_of};
 ghost use Rattle.oer_module_syntax.specs.Tree.{element_of, elements_from, need_of, tree_of};
 ghost use Rattle.oer_module_text.specs.Errors.{Gives};
 ghost use Rattle.oer_module_text.specs.Room.{room_of};
 ghost use Rattle.oer_module_values.specs.Types.{IsFinal};
-ghost use Rattle.oer_module_values.specs.Views.{given_of, meaning_of, type_in};
+ghost use Rattle.oer_module_values.specs.Views.{meaning_of, type_in};
 ghost use Rattle.oer_values.specs.ShapeView.{type_of};
 ghost use Rattle.oer_module_types.specs.Gathered.{gathered_of};
 ghost use Rattle.oer_module_types.specs.Types.{IsSingle, braces_at, component_at, components_of_at, element_at, elements_at, inside_at, list_at, meant_by, nested_at, root_at, root_element_at, single_at, stands_for, structure_at, type_place};
@@ -107,7 +107,7 @@ fn stands_for<'m, 's, 't>(
 ) -> Result<Meaning<'m, 's, 't>, Error<'t>>
     requires { of.«module» < length (modules_of scope) }
     ensures value { Gives meaning_of result (stands_for (modules_of scope.entry) (type_in of.entry)) }
-    ensures within { IfOk result (λ m. m.of.«module» < length (modules_of scope.entry)) }
+    ensures within { IfOk result (IsWithin (modules_of scope.entry)) }
     ensures settled { IfOk result (λ m. IsFinal (tree_of m.of.syntax.now)) }
 {
     let meaning = resolve(scope.alloc, scope.names, of)?;
@@ -143,24 +143,23 @@ pub fn write_type<'m, 's, 't>(
     }
     let meaning = stands_for(scope, of)?;
     room.take_part(type_place(meaning.of))?;
-    write_meant(scope, levels - 1, path, of, &meaning, room)
+    write_meant(scope, levels - 1, path, type_place(of), &meaning, room)
 }
 
-/// A type, by what it stands for, in which so many levels may nest.
+/// What a type at `of` stands for, in which so many levels may nest.
 #[cycle(types)]
 #[tactic(auto, using(oer_module_syntax::proofs::Trees::trees))]
 fn write_meant<'m, 's, 't>(
     scope: Scope<'_, 'm, 's, 't>,
     levels: u8,
     path: &mut Vec<Place>,
-    of: TypeIn<'m, 's, 't>,
+    of: Place,
     meaning: &Meaning<'m, 's, 't>,
     room: &mut Room,
 ) -> Result<Shape, Error<'t>>
-    requires of { of.«module» < length (modules_of scope) }
-    requires is { meaning.now.of.«module» < length (modules_of scope) }
+    requires within { IsWithin (modules_of scope) meaning.now }
     requires settled { IsFinal (tree_of meaning.now.of.syntax.now) }
-    ensures text { Gives (λ s. (type_of s, room_of room.new)) result (meant_by (modules_of scope.entry) scope.entry.nesting levels (types_of scope.entry levels) (roots_of scope.entry levels) path.old.items (type_in of.entry) (meaning_of meaning.now) (room_of room.old)) }
+    ensures text { Gives (λ s. (type_of s, room_of room.new)) result (meant_by (modules_of scope.entry) scope.entry.nesting levels (types_of scope.entry levels) (roots_of scope.entry levels) path.old.items of (meaning_of meaning.now) (room_of room.old)) }
     ensures path { OnOk result (path.new.items ≡ path.old.items) }
 {
     let is = meaning.of;
@@ -198,7 +197,7 @@ fn write_meant<'m, 's, 't>(
             };
             write_list(scope, levels, path, list, room)
         }
-        _ => write_single(scope, of, is, given, room),
+        _ => write_single(scope, of, meaning, room),
     }
 }
 
@@ -206,19 +205,18 @@ fn write_meant<'m, 's, 't>(
 #[tactic(auto, unfolding(crate::specs::Types::single_at), using(oer_module_syntax::proofs::Trees::trees))]
 fn write_single<'m, 's, 't>(
     scope: Scope<'_, 'm, 's, 't>,
-    of: TypeIn<'m, 's, 't>,
-    is: TypeIn<'m, 's, 't>,
-    given: &[Given<'s, 't>],
+    of: Place,
+    meaning: &Meaning<'m, 's, 't>,
     room: &mut Room,
 ) -> Result<Shape, Error<'t>>
-    requires of { of.«module» < length (modules_of scope) }
-    requires is { is.«module» < length (modules_of scope) }
-    requires single { IsSingle (tree_of is.syntax.now) }
-    ensures { Gives (λ s. (type_of s, room_of room.new)) result (single_at (modules_of scope.entry) (type_in of.entry) (type_in is.entry) (map given_of given.now) (room_of room.old)) }
+    requires within { IsWithin (modules_of scope) meaning.now }
+    requires single { IsSingle (tree_of meaning.now.of.syntax.now) }
+    ensures { Gives (λ s. (type_of s, room_of room.new)) result (single_at (modules_of scope.entry) of (meaning_of meaning.now) (room_of room.old)) }
 {
+    let is = meaning.of;
     let module = is.module;
     match is.syntax {
-        TypeSyntax::Plain { .. } => write_leaf(scope.alloc, scope.names, of, is, given, room),
+        TypeSyntax::Plain { .. } => write_leaf(scope.alloc, scope.names, of, meaning, room),
         TypeSyntax::Named {
             at,
             name,
@@ -231,7 +229,11 @@ fn write_single<'m, 's, 't>(
                 name,
                 steps,
                 parameters,
-                written: Written { module, own, given },
+                written: Written {
+                    module,
+                    own,
+                    given: &meaning.given,
+                },
             };
             write_field(scope.alloc, scope.names, field, room)
         }
@@ -577,7 +579,7 @@ fn write_component<'m, 's, 't>(
     };
     let before = frame.before;
     let tag = tag_at(frame.tags, before);
-    write_name(scope.alloc, tag, before, component.name, room)?;
+    write_name(tag, before, component.name, room)?;
     let shape = write_type(scope, levels, path, of, room)?;
     let need = write_need(
         scope.alloc,

@@ -4,8 +4,8 @@ use Rattle.oer_module_names.specs.Views.{modules_in}
 use Rattle.oer_module_values.specs.Views.{meaning_of, type_in}
 use Rattle.oer_module_limits.proofs.limits.size_limits.Goals as goal
 
-pub constraints_of-requires : goal.constraints_of-requires
-constraints_of-requires c =
+pub size_range-requires : goal.size_range-requires
+size_range-requires c =
     let m = c.in_ok-meaning.meaning in
     record {
       of = c.in_ok-meaning.ensures.within;
