@@ -127,7 +127,7 @@ enum oer_text_reason {
     OER_TEXT_REPEATED_TAG = 17,    /* the same tag twice in a CHOICE */
     OER_TEXT_DEFAULT_MISFIT = 18,  /* a default that doesn't fit its type */
     OER_TEXT_EMPTY_ELEMENT = 19,   /* a SEQUENCE OF whose elements may take no octets */
-    OER_TEXT_PARTS = 20            /* oer_types_read_within: all types together have more parts */
+    OER_TEXT_PARTS = 20            /* oer_types_read_within: all types together have more parts, or hold more octets */
 };
 
 /* Why modules are rejected: `why` of oer_understood at OER_REJECTED. The words say more: which token stands there, and
@@ -241,11 +241,11 @@ typedef struct oer_located {
  * OER_REJECTED and OER_MEMORY the types are those from before. */
 oer_parsed oer_types_read(oer_types *types, const char *text, size_t text_length) OER_NO_NULL;
 
-/* Reads definitions as oer_types_read does, if their types have at most `parts` parts together
- * (docs/NOTATION.md, Limits); else they are rejected with OER_TEXT_PARTS, where the definition begins with
- * which they have more. A name within a type stands for a copy of its type, so a text of some kilobytes may
- * take hundreds of megabytes: use this call for texts from someone else. 65,536 parts are enough for the
- * types of IEEE 1609.2, and take some 20 MB. */
+/* Reads definitions as oer_types_read does, if their types have at most `parts` parts together, and the text
+ * stands for no more octets in names and defaults than these have room for (docs/NOTATION.md, Limits); else they
+ * are rejected with OER_TEXT_PARTS, where the definition begins with which there are more. A Name within a type
+ * stands for a copy of its type, so a text of some kilobytes may take hundreds of megabytes: use this call for
+ * texts from someone else. 65,536 parts are enough for the types of IEEE 1609.2, and take less than 40 MB. */
 oer_parsed oer_types_read_within(oer_types *types, const char *text, size_t text_length, uint64_t parts)
     OER_NO_NULL;
 

@@ -526,8 +526,8 @@ public:
         return result<types>(std::move(made));
     }
 
-    /* Reads definitions, in place of the types that were there, if these have at most `parts` parts
-     * together (docs/NOTATION.md, Limits). The answer is the length of the text.
+    /* Reads definitions, in place of the types that were there, if these have at most `parts` parts together, and
+     * hold no more octets than these have room for (docs/NOTATION.md, Limits). The answer is the length of the text.
      *   OER_REJECTED  the text spells no types: `why` is an oer_text_reason, `place` the octet of the
      *                text at which the token or type begins that shows the fault
      *   OER_MEMORY   an allocation failed

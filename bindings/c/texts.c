@@ -77,6 +77,73 @@ static void read_copies(void) {
     oer_types_free(&types);
 }
 
+/* As many parts as are read here, and nearly as many octets in their names: a SEQUENCE of 4,094 components, whose
+ * names have 60 octets each, and 15 of one of these. */
+static void read_full(void) {
+    size_t length = (size_t)sprintf(text, "A ::= SEQUENCE {");
+    oer_types types = OER_TYPES_NONE;
+    oer_parsed parsed;
+    unsigned i;
+    for (i = 0; i < 4094; i++) length += (size_t)sprintf(text + length, "%sa%059u NULL", i ? ", " : "", i);
+    length += (size_t)sprintf(text + length, "}\n");
+    for (i = 0; i < 15; i++) length += (size_t)sprintf(text + length, "B%u ::= SEQUENCE {a A}\n", i);
+    parsed = oer_types_read_within(&types, text, length, 65536);
+    if (parsed.status != OER_OK) {
+        printf("texts: many long names: status %u, reason %u\n", (unsigned)parsed.status, (unsigned)parsed.why);
+        failed = 1;
+    }
+    oer_types_free(&types);
+}
+
+/* After the type A, which holds much: a SEQUENCE of 1,000 of it, and 15 of two of these. Their parts are few. The
+ * second definition holds too much. */
+static void read_held(const char *what, size_t length) {
+    oer_types types = OER_TYPES_NONE;
+    oer_parsed parsed;
+    size_t begin;
+    unsigned i;
+    length += (size_t)sprintf(text + length, "}\n");
+    begin = length;
+    length += (size_t)sprintf(text + length, "B ::= SEQUENCE {");
+    for (i = 0; i < 1000; i++) length += (size_t)sprintf(text + length, "%sa%u A", i ? ", " : "", i);
+    length += (size_t)sprintf(text + length, "}\n");
+    for (i = 0; i < 15; i++) length += (size_t)sprintf(text + length, "C%u ::= SEQUENCE {a B, b B}\n", i);
+    parsed = oer_types_read_within(&types, text, length, 65536);
+    if (parsed.status != OER_REJECTED || parsed.why != OER_TEXT_PARTS || parsed.place != begin) {
+        printf("texts: %s: status %u, reason %u, place %lu\n", what, (unsigned)parsed.status, (unsigned)parsed.why,
+               (unsigned long)parsed.place);
+        failed = 1;
+    }
+    oer_types_free(&types);
+}
+
+/* An object identifier of 4,000 numbers, each of which takes 16 octets. */
+static void read_numbers(void) {
+    size_t length = (size_t)sprintf(text, "A ::= SEQUENCE {x OBJECT IDENTIFIER DEFAULT {1 2");
+    unsigned i;
+    for (i = 0; i < 4000; i++) length += (size_t)sprintf(text + length, " 3");
+    length += (size_t)sprintf(text + length, "}");
+    read_held("copies of many numbers", length);
+}
+
+/* A default of 16,000 letters. */
+static void read_long_default(void) {
+    size_t length = (size_t)sprintf(text, "A ::= SEQUENCE {x IA5String DEFAULT \"");
+    unsigned i;
+    for (i = 0; i < 16000; i++) length += (size_t)sprintf(text + length, "a");
+    length += (size_t)sprintf(text + length, "\"");
+    read_held("copies of a long text", length);
+}
+
+/* A name of 60,000 letters. */
+static void read_long_name(void) {
+    size_t length = (size_t)sprintf(text, "A ::= SEQUENCE {");
+    unsigned i;
+    for (i = 0; i < 60000; i++) length += (size_t)sprintf(text + length, "a");
+    length += (size_t)sprintf(text + length, " NULL");
+    read_held("copies of a long name", length);
+}
+
 /* The definitions of the file into `text`; their length. */
 static size_t file_text(const char *folder) {
     char path[4096];
@@ -119,6 +186,10 @@ int main(int count, char **words) {
     read_names();
     read_small();
     read_copies();
+    read_full();
+    read_numbers();
+    read_long_default();
+    read_long_name();
     read_within(words[1], strtoul(words[2], 0, 10));
     return failed;
 }

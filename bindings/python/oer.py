@@ -93,7 +93,7 @@ class TextReason(enum.IntEnum):
     REPEATED_TAG = 17  # the same tag twice in a CHOICE
     DEFAULT_MISFIT = 18  # a default that doesn't fit its type
     EMPTY_ELEMENT = 19  # a SEQUENCE OF whose elements may take no octets
-    PARTS = 20  # all types together have more parts than they may have
+    PARTS = 20  # all types together have more parts than they may have, or hold more octets
 
 
 class ModulesReason(enum.IntEnum):
@@ -533,10 +533,11 @@ class Types:
     def read(self, definitions: Text, parts: Optional[int] = None) -> None:
         """Reads definitions, each `Name ::= type`, in place of the types that were there.
 
-        With `parts`, their types may have at most so many parts together (NOTATION.md, Limits). Use it for
-        definitions from someone else: a short text may spell many parts, and they take memory.
+        With `parts`, their types may have at most so many parts together, and hold no more octets than these
+        have room for (NOTATION.md, Limits). Use it for definitions from someone else: a short text may spell
+        many parts, and hold many octets, and they take memory.
 
-        Raises DefinitionsRejected if the text spells no types, or if they have more parts (PARTS).
+        Raises DefinitionsRejected if the text spells no types, or if they have or hold more (PARTS).
         """
         text = _text(definitions)
         parsed = self._call(_library.oer_types_read_within, text, len(text), _limited(parts))

@@ -187,8 +187,9 @@ impl Types {
         }
     }
 
-    /// The types of the definitions, if they have at most `parts` parts together (NOTATION.md, Limits). Use it
-    /// for definitions from someone else: a short text may spell many parts, and they take memory.
+    /// The types of the definitions, if they have at most `parts` parts together, and hold no more octets than
+    /// these have room for (NOTATION.md, Limits). Use it for definitions from someone else: a short text may spell
+    /// many parts, and hold many octets, and they take memory.
     ///
     /// # Errors
     ///
@@ -206,11 +207,12 @@ impl Types {
         Ok(types)
     }
 
-    /// Reads definitions as [`Types::read`] does, if their types have at most `parts` parts together.
+    /// Reads definitions as [`Types::read`] does, if their types have at most `parts` parts together, and hold no
+    /// more octets than these have room for.
     ///
     /// # Errors
     ///
-    /// Those of [`Types::read`], and [`TextReason::Parts`] at the definition with which they have more.
+    /// Those of [`Types::read`], and [`TextReason::Parts`] at the definition with which they have or hold more.
     pub fn read_within(&mut self, definitions: impl AsRef<[u8]>, parts: u64) -> Result<(), Error> {
         let text = definitions.as_ref();
         // SAFETY: as in `read`.

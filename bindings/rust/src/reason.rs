@@ -121,7 +121,7 @@ reasons! {
         DefaultMisfit = 18,
         /// A SEQUENCE OF whose elements may take no octets.
         EmptyElement = 19,
-        /// All types together have more parts than they may have.
+        /// All types together have more parts than they may have, or hold more octets.
         Parts = 20,
     }
 }

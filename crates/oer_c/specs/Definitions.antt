@@ -1,11 +1,11 @@
 -- What reading definitions answers, and which types there are then.
-use Rattle.std.specs.Prelude.{◌≡◌, ◌≢◌, ◌<◌, ◌≤◌, ℕ, List, length, Option, Some, Ok, Err, ◌⊎◌}
+use Rattle.std.specs.Prelude.{◌≡◌, ◌≢◌, ◌<◌, ◌≤◌, ℕ, List, length, Option, None, Some, Ok, Err, ◌⊎◌}
 use Rattle.std.specs.Str.{IsUtf8, IsValidUpTo}
 use Rattle.oer_notation.specs.Grammar.{AreWellFormed, SpellsAll}
 use Rattle.oer_notation.specs.Parsing.{parse_all}
 use Rattle.oer_notation.specs.Reading.{Known}
 use Rattle.oer_notation.specs.Views.{knowns}
-use Rattle.oer_notation.specs.Within.{parse_within, parts_of}
+use Rattle.oer_notation.specs.Within.{heavy_in, parse_within, parts_of}
 use Rattle.oer_notation.specs.declared.within.WithinFault.TheVariants.{Parts, Text}
 use Rattle.oer_value_notation.specs.declared.fault.TextFault.{TextFault}
 use Rattle.oer_value_notation.specs.declared.fault.TextWhy.TheVariants.{Memory}
@@ -37,18 +37,20 @@ abbrev pub IsRead : List ℕ → Option Types → Option Types → Parsed → Ty
 IsRead text old new p = ((t : Types) × (new ≡ Some t) × SpellsAll (knowns t) text × (p ≡ answer 0 0 (length text)))
     ⊎ ((new ≡ old) × IsRejected text p)
 
--- The text is not UTF-8; or it spells no well-formed types, however many parts they may have; or these have more parts together, and the
--- definition with which they do begins at the place. Of the last two it is the one that comes first from the left. Or an allocation failed.
+-- The text is not UTF-8; or it stands for more octets than types of so many parts have room for, and the definition with which it does begins at
+-- the place; or it spells no well-formed types, however many parts they may have; or these have more parts together, and the definition with
+-- which they do begins at the place. Of the last two it is the one that comes first from the left. Or an allocation failed.
 abbrev pub IsRejectedWithin : ℕ → List ℕ → Parsed → Type 0
 IsRejectedWithin most text p = (p ≡ answer 4 0 0)
     ⊎ (IsNotUtf8 text p
     ⊎ (((fault : TextFault) × (p ≡ answer 1 (text_number fault.why) fault.at) × (parse_within most text ≡ Err (Text fault)) × (parse_all text ≡ Err fault)
     × ((definitions : List Known) → SpellsAll definitions text → AreWellFormed definitions → ⊥))
     ⊎ ((place : ℕ) × (p ≡ answer 1 20 place) × (parse_within most text ≡ Err (Parts place))
-    × ((definitions : List Known) → parse_all text ≡ Ok definitions → most < parts_of definitions))))
+    × ((heavy_in most text ≡ Some place) ⊎ ((definitions : List Known) → parse_all text ≡ Ok definitions → most < parts_of definitions)))))
 
--- There are types that the text spells, of no more parts together; or the text is rejected, and there are those from before.
+-- There are types that the text spells, of no more parts together, and the text stands for no more octets; or it is rejected, and there are
+-- the types from before.
 abbrev pub IsReadWithin : ℕ → List ℕ → Option Types → Option Types → Parsed → Type 0
 IsReadWithin most text old new p =
-    ((t : Types) × (new ≡ Some t) × SpellsAll (knowns t) text × (parts_of (knowns t) ≤ most) × (p ≡ answer 0 0 (length text)))
+    ((t : Types) × (new ≡ Some t) × SpellsAll (knowns t) text × (parts_of (knowns t) ≤ most) × (heavy_in most text ≡ None) × (p ≡ answer 0 0 (length text)))
     ⊎ ((new ≡ old) × IsRejectedWithin most text p)

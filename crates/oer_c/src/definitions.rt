@@ -3,7 +3,7 @@ ghost use Rattle.std.specs.Prelude.{◌≡◌, ◌≤◌, None, Some, IfErr, IfO
 ghost use Rattle.std.specs.Str.{IsUtf8};
 ghost use Rattle.oer_notation.specs.Grammar.{SpellsAll};
 ghost use Rattle.oer_notation.specs.Views.{knowns};
-ghost use Rattle.oer_notation.specs.Within.{parts_of};
+ghost use Rattle.oer_notation.specs.Within.{heavy_in, parts_of};
 ghost use Rattle.oer_c.specs.Definitions.{IsFault, IsNotUtf8, IsRead, IsReadWithin, IsRejected, IsRejectedWithin, answer};
 ghost use Rattle.oer_c.specs.Sharing.{types_in, types_of};
 
@@ -82,10 +82,12 @@ fn read(alloc: Global, text: &[u8]) -> Result<Box<Shared>, Parsed>
     }
 }
 
-// The definitions of the text, on the heap, if their types have no more parts together.
+// The definitions of the text, on the heap, if their types have no more parts together, and the text stands for no
+// more octets than these have room for.
 fn read_within(alloc: Global, text: &[u8], parts: u64) -> Result<Box<Shared>, Parsed>
     ensures spells { IfOk result (λ shared. SpellsAll (knowns (types_in shared.value)) text.now) }
     ensures within { IfOk result (λ shared. parts_of (knowns (types_in shared.value)) ≤ parts) }
+    ensures light { IfOk result (λ shared. heavy_in parts text.now ≡ None) }
     ensures rejected { IfErr result (IsRejectedWithin parts text.now) }
 {
     match parse_types_within(alloc, utf8(text)?, parts) {
@@ -126,10 +128,12 @@ pub extern "C" fn oer_types_read(alloc: Global, types: &mut Handle, text: &[u8])
 }
 
 /// Reads the definitions of the text as [`oer_types_read`] does, if their types have at most `parts` parts
-/// together (NOTATION.md). A short text may spell many parts, since a Name stands for a copy of its type.
-/// The status is that of `oer_types_read`, or
+/// together, and it stands for at most 65,536 octets and 64 more for each of these (NOTATION.md). A short text may
+/// spell many parts, and hold many octets, since a Name stands for a copy of its type. The status is that of
+/// `oer_types_read`, or
 ///
-/// - `REJECTED` with the reason 20: with the definition that begins at `place` the types have more parts.
+/// - `REJECTED` with the reason 20: with the definition that begins at `place` the types have more parts, or the
+///   text stands for more octets.
 ///
 /// Unless it is `OK` the handle has the types from before.
 #[unsafe(no_mangle)]

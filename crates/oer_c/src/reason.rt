@@ -27,7 +27,8 @@ fn of_schema(fault: SchemaFault) -> u32
     }
 }
 
-/// The number of the reason that the types of definitions have more parts together than they may have.
+/// The number of the reason that the types of definitions have more parts together than they may have, or the text
+/// stands for more octets.
 pub(crate) const TEXT_PARTS: u32 = 20;
 
 /// The number of the reason that what is understood of modules spells no types.

@@ -1,10 +1,9 @@
 -- What a definition more changes.
-use Rattle.std.proofs.Common.{◌≡◌, ℕ, Bool, true, false, cond, List, [], ◌∷◌, ◌++◌, Option, None, Some, is_some, length, map, Result, Ok, Err, IfOk, refl, sym, ap, subst, ◌∙◌}
+use Rattle.std.proofs.Common.{◌≡◌, ℕ, Bool, true, false, cond, List, [], ◌∷◌, ◌++◌, Option, None, Some, is_some, length, map, Result, Ok, Err, IfOk, refl, sym, ap, ◌∙◌}
 use Rattle.std.proofs.lemmas.Slice.Eq.{bytes_eq-Decides}
 use Rattle.std.proofs.lemmas.List.{map-append}
 use Rattle.std.specs.Str.{bytes_eq}
 use Rattle.std.specs.declared.sync.Arc.{Arc}
-use Rattle.oer_model.specs.AsnType.{AsnType}
 use Rattle.oer_types.specs.declared.schema.Schema.{Schema}
 use Rattle.oer_notation.specs.Defining.{HaveSameTypes, known_of, with_known}
 use Rattle.oer_notation.specs.Places.{IsAdded}

@@ -24,4 +24,5 @@ pub mod Spelling
 pub mod Took
 pub mod WordTable
 pub mod Soundness
+pub mod Weighing
 pub mod WithinLoops

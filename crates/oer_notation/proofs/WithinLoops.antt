@@ -1,5 +1,5 @@
 -- The turns of the loop over definitions that may have so many parts, and what is read against reading without such a number.
-use Rattle.std.proofs.Common.{◌≡◌, ◌≢◌, ℕ, zero, suc, ◌+◌, ◌-◌, ◌≤◌, ◌<◌, List, [], ◌∷◌, ◌++◌, length, Bool, true, false, leb, Result, Ok, Err, refl, sym, ap, ◌∙◌, subst, arith, sub-one, IfOk, IfErr}
+use Rattle.std.proofs.Common.{◌≡◌, ◌≢◌, ℕ, zero, suc, ◌+◌, ◌-◌, ◌≤◌, ◌<◌, List, [], ◌∷◌, ◌++◌, length, Bool, true, false, leb, Option, Some, None, Result, Ok, Err, ◌⊎◌, inl, inr, refl, sym, ap, ◌∙◌, subst, arith, sub-one, IfOk, IfErr}
 use Rattle.std.proofs.lemmas.Bool.{leb-true, leb-false}
 use Rattle.oer_lexer.specs.Lexing.{lex}
 use Rattle.oer_model.specs.Nodes.{type_nodes}
@@ -9,7 +9,7 @@ use Rattle.oer_notation.specs.Parsing.{end_of, entries_more, entry_at, is_last, 
 use Rattle.oer_notation.specs.Reading.{Known}
 use Rattle.oer_notation.proofs.Loops.{entries_end, entries_err, entries_over, entries_step, entries_stop}
 use Rattle.oer_notation.proofs.Took.{same_ok}
-use Rattle.oer_notation.specs.Within.{AreNotWithin, IsReadWithin, entries_within, parse_within, parts_of}
+use Rattle.oer_notation.specs.Within.{AreNotWithin, IsReadWithin, entries_within, heavy_in, parse_parts, parse_within, parts_of, unless_heavy}
 use Rattle.oer_notation.specs.declared.within.WithinFault.{WithinFault}
 use Rattle.oer_notation.specs.declared.within.WithinFault.TheVariants.{Parts, Text}
 use Rattle.oer_value_notation.specs.State.{Read, State, fault}
@@ -163,33 +163,69 @@ says : (n : ℕ) → SaysAll n
 says zero left known s = rw (within_over zero left known s (omega arith), entries_over zero known s (omega arith)) refl
 says (suc n) left known s = says_step n (says n) left known s (entry_at known s) refl
 
-pub says_of : (most : ℕ) (bs : List ℕ) → Says most [] (parse_within most bs) (parse_all bs)
-unfolding parse_within parse_all
+says_of : (most : ℕ) (bs : List ℕ) → Says most [] (parse_parts most bs) (parse_all bs)
+unfolding parse_parts parse_all
 says_of most bs = says (suc (length (lex bs).spots)) most [] (start (lex bs))
 
--- ---- what is read of a text
+-- ---- what is read of a text that may stand for too many octets
+
+read_light : (o : Option ℕ) (r : Result (List Known) WithinFault) (ks : List Known) → unless_heavy o r ≡ Ok ks → (o ≡ None) × (r ≡ Ok ks)
+read_light (Some at) r ks h = absurd (cc)
+read_light None r ks h = (refl, h)
+
+text_light : (o : Option ℕ) (r : Result (List Known) WithinFault) (e : TextFault) → unless_heavy o r ≡ Err (Text e) → r ≡ Err (Text e)
+text_light (Some at) r e h = absurd (cc)
+text_light None r e h = h
+
+parts_or_heavy : (o : Option ℕ) (r : Result (List Known) WithinFault) (at : ℕ) → unless_heavy o r ≡ Err (Parts at) → (o ≡ Some at) ⊎ (r ≡ Err (Parts at))
+parts_or_heavy (Some a) r at h = inl (cc)
+parts_or_heavy None r at h = inr h
 
 module _ {A : Type 0} (view : A → List Known) (most : ℕ) (bs : List ℕ) where
+  ok_within : (x : A) → parse_within most bs ≡ Ok (view x) → (heavy_in most bs ≡ None) × (parse_parts most bs ≡ Ok (view x))
+  unfolding parse_within
+  ok_within x is = read_light (heavy_in most bs) (parse_parts most bs) (view x) is
+
+  says_ok : (x : A) → parse_within most bs ≡ Ok (view x) → (parse_all bs ≡ Ok (view x)) × (parts_of (view x) ≤ most + 0)
+  says_ok x is = subst (λ o. Says most [] o (parse_all bs)) (ok_within x is).1 (says_of most bs)
+
   pub read_within : (result : Result A WithinFault) → IsReadWithin view result (parse_within most bs) → IfOk result (λ x. parse_all
       bs ≡ Ok (view x))
-  read_within (Ok x) is = (subst (λ o. Says most [] o (parse_all bs)) is (says_of most bs)).0
+  read_within (Ok x) is = (says_ok x is).0
   read_within (Err f) is = tt
 
   pub few_within : (result : Result A WithinFault) → IsReadWithin view result (parse_within most bs) → IfOk result (λ x. parts_of
       (view x) ≤ most)
-  few_within (Ok x) is = let few = (subst (λ o. Says most [] o (parse_all bs)) is (says_of most bs)).1 in omega arith
+  few_within (Ok x) is = let few = (says_ok x is).1 in omega arith
   few_within (Err f) is = tt
+
+  pub light_within : (result : Result A WithinFault) → IsReadWithin view result (parse_within most bs) → IfOk result (λ x. heavy_in most bs ≡ None)
+  light_within (Ok x) is = (ok_within x is).0
+  light_within (Err f) is = tt
 
   pub spells_within : ParseAllSound → (result : Result A WithinFault) → IsReadWithin view result (parse_within most bs)
       → IfOk result (λ x. SpellsAll (view x) bs)
-  spells_within sound (Ok x) is = (sound bs (view x) (subst (λ o. Says most [] o (parse_all bs)) is (says_of most bs)).0).0
+  spells_within sound (Ok x) is = (sound bs (view x) (says_ok x is).0).0
   spells_within sound (Err f) is = tt
+
+  text_within : (e : TextFault) → parse_within most bs ≡ Err (Text e) → parse_all bs ≡ Err e
+  unfolding parse_within
+  text_within e is =
+      subst (λ o. Says most [] o (parse_all bs)) (text_light (heavy_in most bs) (parse_parts most bs) e is) (says_of most bs)
+
+  parts_within : (at : ℕ) → parse_within most bs ≡ Err (Parts at)
+      → (heavy_in most bs ≡ Some at) ⊎ ((ks : List Known) → parse_all bs ≡ Ok ks → most < parts_of ks)
+  unfolding parse_within
+  parts_within at is = by (parts_or_heavy (heavy_in most bs) (parse_parts most bs) at is) where
+    by : (heavy_in most bs ≡ Some at) ⊎ (parse_parts most bs ≡ Err (Parts at))
+        → (heavy_in most bs ≡ Some at) ⊎ ((ks : List Known) → parse_all bs ≡ Ok ks → most < parts_of ks)
+    by (inl h) = inl h
+    by (inr h) = inr (λ ks read. let more = subst (λ o. Says most [] o (parse_all bs)) h (says_of most bs) ks read in omega arith)
 
   pub refuses_within : ParseAllRefuses → (result : Result A WithinFault) → IsReadWithin view result (parse_within most bs) → IfErr result
       (AreNotWithin most bs)
   refuses_within none (Ok x) is = tt
   refuses_within none (Err (Text e)) is = (fault, λ other. none bs e (fault other)) where
     fault : e.why ≢ why.Memory → parse_all bs ≡ Err e
-    fault other = subst (λ o. Says most [] o (parse_all bs)) (is other) (says_of most bs)
-  refuses_within none (Err (Parts at)) is = λ ks read. let more = subst (λ o. Says most [] o (parse_all bs)) is (says_of most bs) ks
-      read in omega arith
+    fault other = text_within e (is other)
+  refuses_within none (Err (Parts at)) is = parts_within at is

@@ -7,4 +7,5 @@ pub mod Reading
 pub mod Views
 pub mod Refusing
 pub mod Soundness
+pub mod Weight
 pub mod Within

@@ -6,6 +6,7 @@ pub mod laws;
 mod names;
 mod parse;
 mod types;
+mod weight;
 mod within;
 
 pub use oer_value_notation::{TextFault, TextWhy};

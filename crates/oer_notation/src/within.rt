@@ -1,16 +1,17 @@
 //! Definitions whose types may have so many parts together.
-ghost use Rattle.std.specs.Prelude.{◌≡◌, ◌<◌, ◌≤◌, ◌+◌, [], IfErr, IfOk, MatchOption, Ok, length, suc};
+ghost use Rattle.std.specs.Prelude.{◌≡◌, ◌<◌, ◌≤◌, ◌+◌, [], IfErr, IfOk, MatchOption, None, Ok, length, suc};
 ghost use Rattle.oer_notation.specs.Grammar.{SpellsAll};
 ghost use Rattle.oer_notation.specs.Parsing.{parse_all};
 ghost use Rattle.oer_model.specs.Nodes.{type_nodes};
 ghost use Rattle.oer_notation.specs.Views.{knowns, shared_type};
-ghost use Rattle.oer_notation.specs.Within.{AreNotWithin, IsMemory, IsReadWithin, entries_within, parse_within, parts_of};
+ghost use Rattle.oer_notation.specs.Within.{AreNotWithin, IsMemory, IsReadWithin, entries_within, heavy_in, parse_within, parts_of};
 ghost use Rattle.oer_notation.specs.declared.within.WithinFault.TheVariants.{Text};
 ghost use Rattle.oer_value_notation.specs.State.{state_of};
 
 use crate::known::{add_type, none};
 use crate::laws::{what_is_parsed_is_spelled, what_is_spelled_is_parsed};
 use crate::types::{Types, expect_end, first, read_entry};
+use crate::weight::{heavy_at, room_for};
 use oer_lexer::lex;
 use oer_types::{MAX_PARTS, Schema, parts_left};
 use oer_value_notation::{Cursor, TextFault, TextWhy};
@@ -24,7 +25,8 @@ pub enum WithinFault {
     /// The text is rejected, however many parts its types may have.
     #[error("{0}")]
     Text(TextFault),
-    /// With this definition the types have more parts: the byte at which it begins.
+    /// With this definition the types have more parts, or the text stands for more octets than there is room for: the
+    /// byte at which it begins.
     #[error("Parts at {0}")]
     Parts(usize),
 }
@@ -45,16 +47,20 @@ impl From<AllocError> for WithinFault {
     }
 }
 
-/// The definitions that the text spells, as [`parse_types`](crate::parse_types) reads them, if their
-/// types have at most `parts` parts together (NOTATION.md). A Name stands for a copy of its type, so a
-/// short text may spell many parts; here the memory that a text can take is bounded. It fails with
-/// `Text`, with the error of the text itself or with Memory; or with `Parts` at the first definition
-/// with which the types have more parts.
+/// The definitions that the text spells, as [`parse_types`](crate::parse_types) reads them, if their types have at
+/// most `parts` parts together, and the text stands for at most 65,536 octets, and 64 more for each of these parts
+/// (NOTATION.md, Limits). A Name stands for a copy of its type, with the names and defaults in it, so a short text
+/// may spell many parts, and hold many octets; here the memory that a text can take is bounded. It fails
+///
+/// - with `Parts` at the first definition with which the text stands for more octets, which is looked at first;
+/// - with `Text`, with the error of the text itself or with Memory;
+/// - with `Parts` at the first definition with which the types have more parts.
 pub fn parse_types_within(alloc: Global, text: &str, parts: u64) -> Result<Types, WithinFault>
     ensures exact { IsReadWithin knowns result (parse_within parts text.now) }
     ensures read { IfOk result (λ types. parse_all text.now ≡ Ok (knowns types)) }
     ensures spells { IfOk result (λ types. SpellsAll (knowns types) text.now) }
     ensures within { IfOk result (λ types. parts_of (knowns types) ≤ parts) }
+    ensures light { IfOk result (λ types. heavy_in parts text.now ≡ None) }
     ensures refused { IfErr result (AreNotWithin parts text.now) }
 {
     what_is_parsed_is_spelled();
@@ -63,11 +69,14 @@ pub fn parse_types_within(alloc: Global, text: &str, parts: u64) -> Result<Types
 }
 
 /// The definitions of a text.
-#[tactic(auto, unfolding(crate::specs::Within::parse_within))]
+#[tactic(auto, unfolding(crate::specs::Within::parse_within, crate::specs::Within::parse_parts))]
 fn read_text_within(alloc: Global, text: &str, parts: u64) -> Result<Types, WithinFault>
     ensures { IsReadWithin knowns result (parse_within parts text.now) }
 {
     let tokens = lex(alloc, text)?;
+    if let Some(at) = heavy_at(alloc, tokens.spots.as_slice(), room_for(parts))? {
+        return Err(WithinFault::Parts(at));
+    }
     let mut cursor = first(&tokens);
     read_entries_within(alloc, &mut cursor, parts)
 }

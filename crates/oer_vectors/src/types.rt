@@ -106,7 +106,7 @@ A ::= NULL  A ::= NULL | Repeated at 12
 A ::= NULL  B ::= SEQUENCE OF A | EmptyElement at 18"#;
 
 /// Definitions; how many parts their types may have together; the last Name that they define, or why they
-/// aren't read, and the place.
+/// aren't read, and the place. A text of so many parts has room for 65,536 octets, and 64 more for each part.
 pub const WITHIN: &str = r#"A ::= NULL | 1 | A
 A ::= NULL | 0 | Parts at 0
 A ::= NULL B ::= SEQUENCE {a A} | 3 | B
@@ -123,7 +123,23 @@ A ::= ~SEQUENCE OF *31~BOOLEAN | 18446744073709551615 | A
 A ::= ~SEQUENCE OF *32~BOOLEAN | 18446744073709551615 | TooDeep at 390
 A ::= ~SEQUENCE OF *10000~BOOLEAN | 18446744073709551615 | TooDeep at 390
 A ::= SEQUENCE {a BOOLEAN, b BOOLEAN} B ::= SEQUENCE {a A, b A} C ::= SEQUENCE {a B, b B} D ::= SEQUENCE {a C, b C} E ::= SEQUENCE {a D, b D} F ::= SEQUENCE {a E, b E} G ::= SEQUENCE {a F, b F} H ::= SEQUENCE {a G, b G} I ::= SEQUENCE {a H, b H} J ::= SEQUENCE {a I, b I} K ::= SEQUENCE {a J, b J} | 18446744073709551615 | K
-A ::= SEQUENCE {a BOOLEAN, b BOOLEAN} B ::= SEQUENCE {a A, b A} C ::= SEQUENCE {a B, b B} D ::= SEQUENCE {a C, b C} E ::= SEQUENCE {a D, b D} F ::= SEQUENCE {a E, b E} G ::= SEQUENCE {a F, b F} H ::= SEQUENCE {a G, b G} I ::= SEQUENCE {a H, b H} J ::= SEQUENCE {a I, b I} K ::= SEQUENCE {a J, b J} L ::= SEQUENCE {a K, b K} | 18446744073709551615 | TooManyParts at 321"#;
+A ::= SEQUENCE {a BOOLEAN, b BOOLEAN} B ::= SEQUENCE {a A, b A} C ::= SEQUENCE {a B, b B} D ::= SEQUENCE {a C, b C} E ::= SEQUENCE {a D, b D} F ::= SEQUENCE {a E, b E} G ::= SEQUENCE {a F, b F} H ::= SEQUENCE {a G, b G} I ::= SEQUENCE {a H, b H} J ::= SEQUENCE {a I, b I} K ::= SEQUENCE {a J, b J} L ::= SEQUENCE {a K, b K} | 18446744073709551615 | TooManyParts at 321
+A ::= SEQUENCE {~a*65651~ NULL} | 2 | A
+A ::= SEQUENCE {~a*65652~ NULL} | 2 | Parts at 0
+Aa ::= SEQUENCE {~a*65651~ NULL} | 2 | Parts at 0
+A ::= SEQUENCE {a IA5String DEFAULT "~x*65636~"} | 2 | A
+A ::= SEQUENCE {a IA5String DEFAULT "~x*65637~"} | 2 | Parts at 0
+A ::= SEQUENCE {~a*16~ OBJECT IDENTIFIER DEFAULT {1 2~ 3*4099~}} | 2 | A
+A ::= SEQUENCE {~a*17~ OBJECT IDENTIFIER DEFAULT {1 2~ 3*4099~}} | 2 | Parts at 0
+A ::= SEQUENCE {~a*32910~ NULL} B ::= SEQUENCE {b A} | 5 | B
+A ::= SEQUENCE {~a*32910~ NULL} B ::= SEQUENCE {bb A} | 5 | Parts at 32933
+A ::= SEQUENCE {~a*65651~ NULL}, | 2 | Syntax at 65673
+A ::= SEQUENCE {~a*65652~ NULL}, | 2 | Parts at 0
+A ::= SEQUENCE {~a*65652~ NULL} $ | 2 | Parts at 0
+A ::= SEQUENCE {, ~a*65652~ NULL} | 2 | Parts at 0
+A ::= NULL ~B*70000~ ::= NULL | 2 | Parts at 11
+A ::= NULL A ::= SEQUENCE {~a*70000~ NULL} | 1 | Repeated at 11
+~a*70000~ A ::= NULL | 1 | Syntax at 0"#;
 
 /// The words that are no Names.
 pub const RESERVED: &str = "BOOLEAN

@@ -1,5 +1,5 @@
 use Rattle.oer_notation.specs.Views.{knowns}
-use Rattle.oer_notation.proofs.WithinLoops.{few_within, read_within, refuses_within, spells_within}
+use Rattle.oer_notation.proofs.WithinLoops.{few_within, light_within, read_within, refuses_within, spells_within}
 use Rattle.oer_notation.proofs.within.parse_types_within.Goals as goal
 
 pub returns-clause-read : goal.returns-clause-read
@@ -12,6 +12,9 @@ returns-clause-spells c =
 
 pub returns-clause-within : goal.returns-clause-within
 returns-clause-within c = few_within knowns c.args.parts c.args.text.now c.read_text_within.result c.read_text_within.ensures
+
+pub returns-clause-light : goal.returns-clause-light
+returns-clause-light c = light_within knowns c.args.parts c.args.text.now c.read_text_within.result c.read_text_within.ensures
 
 pub returns-clause-refused : goal.returns-clause-refused
 returns-clause-refused c =
