@@ -534,7 +534,9 @@ public:
      * After an error the types are those from before. */
     result<std::uint64_t> read(text_in definitions, std::uint64_t parts = OER_NO_LIMIT) noexcept {
         if (missing(definitions)) return nowhere(subject::definitions);
-        oer_parsed parsed = oer_types_read_within(&held_, definitions.data(), definitions.size(), parts);
+        oer_parsed parsed = parts == OER_NO_LIMIT
+                                ? oer_types_read(&held_, definitions.data(), definitions.size())
+                                : oer_types_read_within(&held_, definitions.data(), definitions.size(), parts);
         if (parsed.status == OER_OK) return result<std::uint64_t>(std::move(parsed.place));
         return result<std::uint64_t>(fault(parsed.status, parsed.why, parsed.place, 0, subject::definitions));
     }

@@ -399,6 +399,7 @@ def _load() -> ctypes.CDLL:
     handle, size, limit = ctypes.POINTER(_Types), ctypes.c_size_t, ctypes.c_uint64
     given, out = [ctypes.c_char_p, size], [ctypes.c_void_p, size]
     calls: Dict[str, Tuple[Any, Any]] = {
+        "oer_types_read": ([handle] + given, _Parsed),
         "oer_types_read_within": ([handle] + given + [limit], _Parsed),
         "oer_types_read_modules": ([handle] + given + [ctypes.c_void_p, size, ctypes.c_uint8] + out, _Understood),
         "oer_types_free": ([handle], None),
@@ -540,7 +541,10 @@ class Types:
         Raises DefinitionsRejected if the text spells no types, or if they have or hold more (PARTS).
         """
         text = _text(definitions)
-        parsed = self._call(_library.oer_types_read_within, text, len(text), _limited(parts))
+        if parts is None:
+            parsed = self._call(_library.oer_types_read, text, len(text))
+        else:
+            parsed = self._call(_library.oer_types_read_within, text, len(text), _limited(parts))
         if parsed.status == _REJECTED:
             raise DefinitionsRejected(TextReason(parsed.why), parsed.place)
         if parsed.status != _OK:
