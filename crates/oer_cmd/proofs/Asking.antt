@@ -13,7 +13,7 @@ use Rattle.oer_notation.specs.Reading.{Known, find}
 use Rattle.oer_notation.specs.Views.{knowns}
 use Rattle.oer_notation.specs.declared.types.Types.{Types}
 use Rattle.oer_value_notation.specs.declared.fault.TextFault.{TextFault}
-use Rattle.oer_options.specs.Words.{Kind, Texts, behind, canon, check, kind, make, part, path_text, show, show_ascii, source_text, texts_of}
+use Rattle.oer_options.specs.Words.{Kind, Texts, behind, canon, kind, path_text, show, show_ascii, source_text, texts_of}
 use Rattle.oer_options.specs.declared.options.Options.{Options}
 use Rattle.oer_options.specs.declared.options.Task.{Task}
 use Rattle.oer_cmd.specs.Answer.{IsPathOf, expected_type, hex_octets, named_as, parsed}
@@ -30,12 +30,8 @@ use Rattle.oer_cmd.proofs.Choices.{either}
 -- An input that is untouched. Where it is asked, that is what is taken of it.
 pub kept : (type : Expected AsnType) (source : Option Text) (path : Expected (List Step)) (untouched : Type 0) (gives : AsnType → Type 0) → untouched
     → ((T : AsnType) (p : List Step) → type ≡ value T → source ≡ None → path ≡ value p → gives T) → GivesIfAsked type source path untouched gives
-kept unknown source path untouched gives same none = same
-kept (refusal r) source path untouched gives same none = same
-kept (value T) (Some t) path untouched gives same none = same
 kept (value T) None (value p) untouched gives same none = none T p refl refl refl
-kept (value T) None (refusal r) untouched gives same none = same
-kept (value T) None unknown untouched gives same none = same
+kept type source path untouched gives same none = same
 
 -- Octets are in hand where they are spelt.
 pub some_spelt : (hex : Option Text) (spelt : Option (List ℕ)) → AreSpelt hex spelt → hex ≢ None → spelt ≢ None
@@ -95,27 +91,19 @@ pub task_untaken : (k : Kind) (T : AsnType) (limit status : ℕ) (told : Option 
 task_untaken show T limit status told high = untaken (limit + 1) status (IsValue T limit) told high
 task_untaken show_ascii T limit status told high = untaken (limit + 1) status (IsValue T limit) told high
 task_untaken canon T limit status told high = untaken (limit + 1) status (IsValue T limit) told high
-task_untaken check T limit status told high = untaken (limit + 4096) status (IsGathered limit) told high
-task_untaken make T limit status told high = untaken (limit + 4096) status (IsGathered limit) told high
-task_untaken part T limit status told high = untaken (limit + 4096) status (IsGathered limit) told high
+task_untaken _ T limit status told high = untaken (limit + 4096) status (IsGathered limit) told high
 
 -- what is left unsaid at a later status
 pub task_later : (k : Kind) (T : AsnType) (limit status status' : ℕ) (told told' : Option (List ℕ)) → (status' ≤ 2 → status ≤ 2) → GivesTask k T limit status told told' → GivesTask k T limit status' told told'
 task_later show T limit status status' told told' less h = later (limit + 1) status status' (IsValue T limit) told told' less h
 task_later show_ascii T limit status status' told told' less h = later (limit + 1) status status' (IsValue T limit) told told' less h
 task_later canon T limit status status' told told' less h = later (limit + 1) status status' (IsValue T limit) told told' less h
-task_later check T limit status status' told told' less h = later (limit + 4096) status status' (IsGathered limit) told told' less h
-task_later make T limit status status' told told' less h = later (limit + 4096) status status' (IsGathered limit) told told' less h
-task_later part T limit status status' told told' less h = later (limit + 4096) status status' (IsGathered limit) told told' less h
+task_later _ T limit status status' told told' less h = later (limit + 4096) status status' (IsGathered limit) told told' less h
 
 asked_later : (type : Expected AsnType) (source : Option Text) (path : Expected (List Step)) (untouched : Type 0) (gives gives' : AsnType → Type 0) → ((T : AsnType) → gives T → gives' T)
     → GivesIfAsked type source path untouched gives → GivesIfAsked type source path untouched gives'
-asked_later unknown source path untouched gives gives' to h = h
-asked_later (refusal r) source path untouched gives gives' to h = h
-asked_later (value T) (Some t) path untouched gives gives' to h = h
 asked_later (value T) None (value p) untouched gives gives' to h = to T h
-asked_later (value T) None (refusal r) untouched gives gives' to h = h
-asked_later (value T) None unknown untouched gives gives' to h = h
+asked_later type source path untouched gives gives' to h = h
 
 types_later : (source : Option Text) (untouched : Type 0) (status status' : ℕ) (told told' : Option (List ℕ)) → (status' ≤ 2 → status ≤ 2)
     → GivesTypes source untouched status told told' → GivesTypes source untouched status' told told'

@@ -25,7 +25,7 @@ use Rattle.oer_cmd.specs.Faults.{AppendsFront, Printed, Reports, error_line, sta
 use Rattle.oer_cmd.specs.Run.{IsLineGiven}
 use Rattle.oer_cmd.specs.Types.{reads_types}
 use Rattle.oer_cmd.specs.declared.fault.Fault.{Fault}
-use Rattle.oer_cmd.specs.declared.fault.Fault.TheVariants.{Absent, Follows, Hex, Input, Json, Longer, Memory, NoName, NoSource, NoSuchStep, NotJson, NoTypes, OneType, Output, Path, Read, «Type», Unnamed}
+use Rattle.oer_cmd.specs.declared.fault.Fault.TheVariants.{Input, Memory, Output, «Type»}
 use Rattle.oer_cmd.proofs.Meeting.{bytes, goes, stops}
 
 -- ---- the type, and then the task
@@ -97,24 +97,10 @@ lacking o path told fault own is = unread (texts_of o) o.task o.limit path told 
 
 -- the status is 2 at most, or the machine failed and the line says so
 pub by_status : (fault : Fault) → (status_of fault ≤ 2) ⊎ ((status_of fault ≡ 3) × IsMachineLine (error_line fault))
-by_status (Read e) = inl (omega arith)
-by_status (Follows n) = inl (omega arith)
-by_status (Longer n) = inl (omega arith)
-by_status NoSuchStep = inl (omega arith)
-by_status Absent = inl (omega arith)
-by_status OneType = inl (omega arith)
-by_status NoName = inl (omega arith)
-by_status NoTypes = inl (omega arith)
-by_status NoSource = inl (omega arith)
-by_status («Type» e) = inl (omega arith)
-by_status (Unnamed name) = inl (omega arith)
-by_status Hex = inl (omega arith)
-by_status Path = inl (omega arith)
-by_status NotJson = inl (omega arith)
-by_status (Json e) = inl (omega arith)
 by_status Input = inr (refl, inl refl)
 by_status Output = inr (refl, inr (inl refl))
 by_status Memory = inr (refl, inr (inr refl))
+by_status _ = inl (omega arith)
 
 pub moved : (line own : Text) → line ≡ own → IsMachineLine own → IsMachineLine line
 moved line own is h = subst IsMachineLine (sym is) h

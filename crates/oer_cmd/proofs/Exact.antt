@@ -52,8 +52,7 @@ use Rattle.oer_cmd.specs.declared.value.Form.{Form}
 use Rattle.oer_cmd.specs.declared.value.Form.TheVariants as form
 use Rattle.oer_cmd.specs.declared.fault.Fault.TheVariants.{Absent, Follows, Json as Json_fault, Longer, Memory, NoSuchStep, NotJson, Path, Read}
 use Rattle.oer_json.proofs.Floats.{made_none}
-use Rattle.oer_cmd.proofs.Refusals.{not_memory}
-use Rattle.oer_cmd.proofs.Meeting.{bytes, fails, followed, goes, is_read, refusing, stops, unread, wholly}
+use Rattle.oer_cmd.proofs.Meeting.{bytes, fails, followed, goes, is_read, not_memory, refusing, stops, unread, wholly}
 
 -- ---- canonical octets
 
@@ -282,7 +281,7 @@ pub spelt_stops : (hex : Option (Bor Text)) (digits : Bor Text) (fault : Fault) 
 spelt_stops hex digits fault is h = subst (λ o. Meets {X = Option (Vec ℕ Global)} (option_map octets_of) (hex_octets (behind o)) (Err fault)) (sym is)
     (stops octets_of (option_map octets_of) (digits_octets digits.now) (λ b. value (Some b)) fault h)
 
-within_value : (limit : ℕ) (b : List ℕ) → length b ≤ limit → within_limit limit b ≡ value b
+pub within_value : (limit : ℕ) (b : List ℕ) → length b ≤ limit → within_limit limit b ≡ value b
 within_value limit b few = ap (λ (t : Bool). if t then value b else stop (Longer limit)) (le-leb (length b) limit few)
 
 within_stop : (limit : ℕ) (b : List ℕ) → limit < length b → within_limit limit b ≡ stop (Longer limit)

@@ -1,5 +1,5 @@
 -- From what the reader answers to the canonical octets of all that it had.
-use Rattle.std.proofs.Common.{◌≡◌, ℕ, suc, ◌≤◌, leb, arith, Bool, true, false, refl, List, [], ◌∷◌, ◌++◌, length, Option, Some, None, Ok, Err, sym, ap, ◌∙◌, subst, append-nil}
+use Rattle.std.proofs.Common.{◌≡◌, ◌≢◌, ℕ, suc, ◌≤◌, leb, arith, Bool, true, false, refl, List, [], ◌∷◌, ◌++◌, length, Option, Some, None, Ok, Err, sym, ap, ◌∙◌, subst, append-nil}
 use Rattle.std.proofs.lemmas.Bool.{le-leb}
 use Rattle.std.specs.Prelude.{IfSome}
 use Rattle.std.specs.Io.KnownBytes.{Appends}
@@ -7,7 +7,7 @@ use Rattle.oer_units.specs.Reading.{octet}
 use Rattle.oer_units.specs.declared.fault.ReadFault.{ReadFault}
 use Rattle.oer_units.specs.declared.fault.Why.TheVariants.{Device, End, Memory}
 use Rattle.oer_units.specs.Reader.{at, bind, give, got, group, group_by, refused, then_read}
-use Rattle.oer_units.specs.Reads.{Span, renamed, Exactly, ReadsFront}
+use Rattle.oer_units.specs.Reads.{Span, place, renamed, Exactly, ReadsFront}
 use Rattle.oer_model.specs.AsnType.{AsnType}
 use Rattle.oer_model.specs.AsnValue.{AsnValue}
 use Rattle.oer_model.specs.Encoding.{Encodes}
@@ -17,7 +17,7 @@ use Rattle.oer_decoder.specs.Front.{Told}
 use Rattle.serde_json.specs.Data.{Data}
 use Rattle.serde_json.specs.Written.{compact_text, has_float}
 use Rattle.oer_json.specs.Made.{made}
-use Rattle.oer_cmd.specs.Canon.{IsEmpty, MakesCanonical}
+use Rattle.oer_cmd.specs.Canon.{HasMore, IsEmpty, MakesCanonical}
 use Rattle.oer_cmd.specs.Run.{IsShowLine, IsShown}
 use Rattle.oer_json.proofs.Floats.{made_none}
 
@@ -50,6 +50,22 @@ unfolding octet bind group give
 one_read x xs =
     let some : leb 1 (length (x ∷ xs)) ≡ true = le-leb 1 (suc (length xs)) (omega arith) in
     ap (λ (b : Bool). then_read (λ w. got (Rattle.std.specs.Prelude.get_or w 0 0)) (group_by true b 1 (at (x ∷ xs) 1))) some
+
+pub none_there : octet (at [] 1) ≡ refused End []
+unfolding octet bind group give
+none_there = refl
+
+more : (xs ys : List ℕ) (x : ℕ) (b : Span) → renamed false (octet (at xs 1)) ≡ got x (place ys b) → xs ≢ []
+more xs ys x b e = λ none. let end : renamed false (octet (at xs 1)) ≡ refused End [] = ap (λ (l : List ℕ). renamed false (octet (at l 1))) none ∙ ap (renamed false) none_there in let both : got x (place ys b) ≡ refused End [] = sym e ∙ end in cc
+
+-- An octet that was read was left.
+one_there : (known known' : Option (List ℕ)) (x : ℕ) (b : Span) → Exactly octet known (record { taken = 0; end = 1; limit = 1; inside = false }) (Ok x) known' b → HasMore known
+one_there None known' x b exact = tt
+one_there (Some xs) None x b exact = absurd exact
+one_there (Some xs) (Some ys) x b exact = more xs ys x b exact
+
+pub octet_left : (failed failed' : ℕ) (known known' : Option (List ℕ)) (x : ℕ) → ReadsFront octet 1 known failed (Ok x) known' failed' → HasMore known
+octet_left failed failed' known known' x h = one_there known known' x h.bound h.reads.exact
 
 none_by : (known known' : Option (List ℕ)) (b : Span) (e : ReadFault) → e.why ≡ End → Exactly octet known (record { taken = 0; end = 1; limit = 1; inside = false }) (Err e) known' b → IsEmpty known
 none_by None known' b e is exact = tt

@@ -47,49 +47,18 @@ flagless k = k
 
 named_is : (k : Kind) → named (Some (name_of k)) ≡ flagless k
 named_is show = refl
-named_is show_ascii = refl
-named_is canon = refl
-named_is check = refl
-named_is make = refl
-named_is part = refl
+named_is _ = refl
 
 one_flag : (j k : Kind) (flag : Text → Option Text) → flagless j ≡ flagless k → HasFlags j flag → HasFlags k flag → j ≡ k
 one_flag show show flag e f g = refl
 one_flag show show_ascii flag e f g = absurd (f g)
-one_flag show canon flag e f g = absurd (cc)
-one_flag show check flag e f g = absurd (cc)
-one_flag show make flag e f g = absurd (cc)
-one_flag show part flag e f g = absurd (cc)
 one_flag show_ascii show flag e f g = absurd (g f)
 one_flag show_ascii show_ascii flag e f g = refl
-one_flag show_ascii canon flag e f g = absurd (cc)
-one_flag show_ascii check flag e f g = absurd (cc)
-one_flag show_ascii make flag e f g = absurd (cc)
-one_flag show_ascii part flag e f g = absurd (cc)
-one_flag canon show flag e f g = absurd (cc)
-one_flag canon show_ascii flag e f g = absurd (cc)
 one_flag canon canon flag e f g = refl
-one_flag canon check flag e f g = absurd (cc)
-one_flag canon make flag e f g = absurd (cc)
-one_flag canon part flag e f g = absurd (cc)
-one_flag check show flag e f g = absurd (cc)
-one_flag check show_ascii flag e f g = absurd (cc)
-one_flag check canon flag e f g = absurd (cc)
 one_flag check check flag e f g = refl
-one_flag check make flag e f g = absurd (cc)
-one_flag check part flag e f g = absurd (cc)
-one_flag make show flag e f g = absurd (cc)
-one_flag make show_ascii flag e f g = absurd (cc)
-one_flag make canon flag e f g = absurd (cc)
-one_flag make check flag e f g = absurd (cc)
 one_flag make make flag e f g = refl
-one_flag make part flag e f g = absurd (cc)
-one_flag part show flag e f g = absurd (cc)
-one_flag part show_ascii flag e f g = absurd (cc)
-one_flag part canon flag e f g = absurd (cc)
-one_flag part check flag e f g = absurd (cc)
-one_flag part make flag e f g = absurd (cc)
 one_flag part part flag e f g = refl
+one_flag _ _ flag e f g = absurd (cc)
 
 one_kind : (o : Option Text) (flag : Text → Option Text) (j k : Kind) → o ≡ Some (name_of j) → o ≡ Some (name_of k) → HasFlags j flag → HasFlags k flag → j ≡ k
 one_kind o flag j k p q f g = one_flag j k flag (sym (named_is j) ∙ ap named (sym p ∙ q) ∙ named_is k) f g

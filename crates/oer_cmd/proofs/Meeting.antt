@@ -1,5 +1,6 @@
 -- How answers that are expected are put together.
 use Rattle.std.proofs.Common.{Result, ◌≡◌, ◌≢◌, ◌∙◌, ℕ, ◌+◌, ◌-◌, ◌≤◌, false, List, [], ◌∷◌, length, Option, Some, None, Ok, Err, refl, sym, ap, subst, arith, length-append, String, Global, string_bytes}
+use Rattle.std.specs.Prelude.{IsErrAnd}
 use Rattle.std.specs.Io.KnownBytes.{Consumes}
 use Rattle.oer_units.specs.declared.fault.ReadFault.{ReadFault}
 use Rattle.oer_units.specs.declared.fault.Why.TheVariants as why
@@ -15,6 +16,18 @@ use Rattle.oer_cmd.specs.declared.fault.Fault.TheVariants.{Follows, Input, Memor
 -- the bytes of a line
 abbrev pub bytes : String Global → List ℕ
 bytes line = string_bytes line
+
+-- a fault of status 3 has none below it
+pub three : (fault x : Fault) → fault ≡ x → status_of x ≡ 3 → status_of fault ≤ 2 → ⊥
+three fault x e s small = omega (arith, ap status_of e, s, small)
+
+pub not_memory : (fault : Fault) → status_of fault ≤ 2 → fault ≢ Memory
+not_memory fault small e = three fault Memory e refl small
+
+-- what a `?` answers
+pub left : {X : Type 0} (r : Result X Fault) (fault : Fault) → IsErrAnd r (λ e. e ≡ fault) → r ≡ Err fault
+left (Ok x) fault h = absurd h
+left (Err e) fault h = ap (λ (f : Fault). Err f) h
 
 -- A failure of the machine is always allowed.
 pub fails : {X Y : Type 0} (view : X → Y) (m : Expected Y) (fault : Fault) → (status_of fault ≤ 2 → ⊥) → Meets view m (Err fault)

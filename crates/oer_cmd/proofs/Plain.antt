@@ -8,7 +8,7 @@ use Rattle.std.specs.Prelude.{IfSome}
 use Rattle.clap.specs.Words.{Text}
 use Rattle.oer_model.specs.AsnType.{AsnType}
 use Rattle.oer_cmd.specs.Ascii.{IsPlain, ascii_char, ascii_chars, ascii_text, unit_escape, unit_escapes}
-use Rattle.oer_cmd.specs.Run.{IsAsciiLine, IsShowLine, NoneFor}
+use Rattle.oer_cmd.specs.Run.{IsAsciiLine, IsShowLine}
 
 joined : (xs ys : List ℕ) → IsPlain xs → IsPlain ys → IsPlain (xs ++ ys)
 joined [] ys h k = k
@@ -43,7 +43,3 @@ plain none line text empty is = subst IsPlain (sym (is ∙ ap (λ (l : List ℕ)
 pub in_ascii_of : (T : AsnType) (limit : ℕ) (told : Option (List ℕ)) (text line : Text) → IfSome told (IsShowLine T limit text) → line ≡ ascii_text text → IfSome told (IsAsciiLine T limit line)
 in_ascii_of T limit None text line h is = tt
 in_ascii_of T limit (Some b) text line h is = (text, h, is)
-
-pub no_ascii_line : (T : AsnType) (limit : ℕ) (told : Option (List ℕ)) → IfSome told (NoneFor (IsShowLine T limit)) → IfSome told (NoneFor (IsAsciiLine T limit))
-no_ascii_line T limit None none = tt
-no_ascii_line T limit (Some b) none = λ line h. none h.0 h.1

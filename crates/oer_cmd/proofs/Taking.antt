@@ -22,9 +22,8 @@ use Rattle.oer_cmd.specs.Faults.{IsOfRead, IsOfRewrite, status_of}
 use Rattle.oer_cmd.specs.Taking.{Amounts, GivesAll, GivesFront, GivesValue, IsGathered, IsNext, taken_by}
 use Rattle.oer_cmd.specs.declared.fault.Fault.{Fault}
 use Rattle.oer_cmd.proofs.Exact.{front_of}
-use Rattle.oer_cmd.proofs.Front.{none_left, one_read}
-use Rattle.oer_cmd.proofs.Meeting.{exactly_got, exactly_refused, is_read}
-use Rattle.oer_cmd.proofs.Refusals.{none_there, three}
+use Rattle.oer_cmd.proofs.Front.{none_left, none_there, one_read}
+use Rattle.oer_cmd.proofs.Meeting.{exactly_got, exactly_refused, is_read, three}
 
 -- a front that was taken, and what holds of its length
 pub front_taken : (told told' : Option (List ℕ)) (t : List ℕ) (P : List ℕ → ℕ → Type 0) → Consumes told told' t → ((b rest : List ℕ) → told ≡ Some b → told' ≡ Some rest → P b (length t))

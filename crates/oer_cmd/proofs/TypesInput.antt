@@ -11,19 +11,18 @@ use Rattle.oer_checker.specs.Check.{most}
 use Rattle.oer_model.specs.AsnType.{AsnType}
 use Rattle.oer_model.specs.Parts.{Step}
 use Rattle.oer_value_notation.specs.declared.fault.TextWhy.TheVariants.{Token}
-use Rattle.oer_options.specs.Words.{Kind, Texts, behind, canon, check, kind, make, part, path_text, show, show_ascii, source_text}
+use Rattle.oer_options.specs.Words.{Kind, Texts, behind, kind, path_text, show, source_text}
 use Rattle.oer_options.specs.declared.options.Task.{Task}
 use Rattle.oer_options.specs.declared.options.Task.TheVariants.{Canon, Check, Make, Part, Show, ShowAscii}
 use Rattle.oer_cmd.specs.Answer.{answer_of, check_octets, digits_octets, expected_type, given_answer, limited_octets, part_octets, task_answer, types_input, types_text}
 use Rattle.oer_cmd.specs.Expected.{Expected, Meets, refusal, stop, unknown, value, ◌>>=◌}
-use Rattle.oer_cmd.specs.Faults.{status_of}
 use Rattle.oer_cmd.specs.Octets.{octets_of}
-use Rattle.oer_cmd.specs.Run.{IsLineBy, IsLineFor, IsLineGiven, MayBe, NoLine}
+use Rattle.oer_cmd.specs.Run.{IsLineBy, IsLineFor, IsLineGiven}
 use Rattle.oer_cmd.specs.Taking.{GivesAll, GivesTypes}
 use Rattle.oer_cmd.specs.Types.{SpelledBy, reads_types}
 use Rattle.oer_cmd.specs.declared.fault.Fault.{Fault}
 use Rattle.oer_cmd.specs.declared.fault.Fault.TheVariants.{Longer, NoSource, «Type»}
-use Rattle.oer_cmd.proofs.Choices.{failed, failing, passed, passing}
+use Rattle.oer_cmd.proofs.Choices.{failing, passing}
 use Rattle.oer_cmd.proofs.Meeting.{bytes, goes, refusing, stops}
 
 -- ---- the text
@@ -92,23 +91,18 @@ was_read (Some t) (Some b) text h = (λ none. let no : Some t ≡ None = none in
   by true few h = all (is_utf8 b) (leb-true (length b) most few) refl h
   by false few h = absurd h
 
--- A text that is there is read, unless the machine fails.
-not_lost : (source : Option Text) (b : List ℕ) (fault : Fault) → source ≢ None → length b ≤ most → IsUtf8 b
-    → Meets {X = String Global} bytes (types_input source (Some b)) (Err fault) → status_of fault ≤ 2 → ⊥
-not_lost None b fault some few utf8 h = absurd (some refl)
-not_lost (Some t) b fault some few utf8 h =
-    let is : types_input (Some t) (Some b) ≡ value b =
+-- A text that is there is read.
+pub input_there : (source : Text) (b : List ℕ) → length b ≤ most → IsUtf8 b → types_input (Some source) (Some b) ≡ value b
+input_there source b few utf8 =
     ap (λ (c : Bool). (if c then value b else stop (Longer most)) >>= types_text) (le-leb (length b) most few)
-    ∙ ap (λ (c : Bool). if c then value b else stop («Type» (record { at = utf8_valid_len b; why = Token })))
-    (is_utf8-from_IsUtf8 b utf8) in
-    subst (λ m. Meets {X = String Global} bytes m (Err fault)) is h
+    ∙ ap (λ (c : Bool). if c then value b else stop («Type» (record { at = utf8_valid_len b; why = Token }))) (is_utf8-from_IsUtf8 b utf8)
 
 -- This octet is in no text.
 lone : is_utf8 (255 ∷ []) ≡ false
 unfolding is_utf8 chars
 lone = refl
 
-no_octet : IsUtf8 (255 ∷ []) → ⊥
+pub no_octet : IsUtf8 (255 ∷ []) → ⊥
 no_octet utf8 = true≢false (sym (is_utf8-from_IsUtf8 (255 ∷ []) utf8) ∙ lone)
 
 -- ---- a task whose octets or JSON are given
@@ -117,11 +111,7 @@ line_by : (k : Kind) (source path : Option Text) (told told' : Option (List ℕ)
     → IsLineBy k source path told T limit line → IsLineBy k source path told' T limit line
 line_by k None path told told' T limit line some h = absurd (some refl)
 line_by show (Some t) path told told' T limit line some h = h
-line_by show_ascii (Some t) path told told' T limit line some h = h
-line_by canon (Some t) path told told' T limit line some h = h
-line_by check (Some t) path told told' T limit line some h = h
-line_by make (Some t) path told told' T limit line some h = h
-line_by part (Some t) path told told' T limit line some h = h
+line_by _ (Some t) path told told' T limit line some h = h
 
 in_hand : {A : Type 0} (m : Expected (List ℕ)) (f g : Option (List ℕ) → Expected A) → ((b : List ℕ) → f (Some b) ≡ g (Some b))
     → (m >>= (λ b. value (Some b)) >>= f) ≡ (m >>= (λ b. value (Some b)) >>= g)
@@ -129,30 +119,25 @@ in_hand unknown f g h = refl
 in_hand (refusal r) f g h = refl
 in_hand (value b) f g h = h b
 
-task_kept : (task : Task) (T : AsnType) (limit : ℕ) (path : Expected (List Step)) (told told' : Option (List ℕ)) → source_text task ≢ None
+pub task_kept : (task : Task) (T : AsnType) (limit : ℕ) (path : Expected (List Step)) (told told' : Option (List ℕ)) → source_text task ≢ None
     → task_answer task T limit path told ≡ task_answer task T limit path told'
-task_kept (Show None) T limit path told told' some = absurd (some refl)
 task_kept (Show (Some h)) T limit path told told' some = refl
-task_kept (ShowAscii None) T limit path told told' some = absurd (some refl)
 task_kept (ShowAscii (Some h)) T limit path told told' some = refl
-task_kept (Canon None) T limit path told told' some = absurd (some refl)
 task_kept (Canon (Some h)) T limit path told told' some = refl
-task_kept (Check None) T limit path told told' some = absurd (some refl)
 task_kept (Check (Some h)) T limit path told told' some = in_hand (digits_octets h.now)
     (λ spelt. limited_octets limit spelt told >>= check_octets T) (λ spelt. limited_octets limit spelt told' >>= check_octets T) (λ b. refl)
-task_kept (Make None) T limit path told told' some = absurd (some refl)
 task_kept (Make (Some h)) T limit path told told' some = refl
-task_kept (Part None text) T limit path told told' some = absurd (some refl)
 task_kept (Part (Some h) text) T limit path told told' some = in_hand (digits_octets h.now)
     (λ spelt. path >>= λ steps. limited_octets limit spelt told >>= part_octets T steps)
     (λ spelt. path >>= λ steps. limited_octets limit spelt told' >>= part_octets T steps) (λ b. refl)
+task_kept _ T limit path told told' some = absurd (some refl)
 
 after : {A B : Type 0} (m : Expected A) (f g : A → Expected B) → ((x : A) → f x ≡ g x) → (m >>= f) ≡ (m >>= g)
 after unknown f g h = refl
 after (refusal r) f g h = refl
 after (value x) f g h = h x
 
-answer_kept : (t : Texts) (task : Task) (limit : ℕ) (path : Expected (List Step)) (told told' : Option (List ℕ)) → source_text task ≢ None
+pub answer_kept : (t : Texts) (task : Task) (limit : ℕ) (path : Expected (List Step)) (told told' : Option (List ℕ)) → source_text task ≢ None
     → answer_of t task limit path told ≡ answer_of t task limit path told'
 answer_kept t task limit path told told' some = after (expected_type t) (λ T. task_answer task T limit path told)
     (λ T. task_answer task T limit path told') (λ T. task_kept task T limit path told told' some)
@@ -162,10 +147,10 @@ answer_kept t task limit path told told' some = after (expected_type t) (λ T. t
 abbrev among : Text → Text → Texts
 among types name = record { one = None; types = Some types; name = Some name }
 
-pub read_line : (types name : Text) (text : String Global) (task : Task) (limit : ℕ) (told mid : Option (List ℕ)) (line : Text)
-    → bytes_eq types (codes "-") ≡ true → Meets bytes (types_input (source_text task) told) (Ok text)
-    → IsLineFor (SpelledBy (among (string_bytes text) name)) task limit mid line → IsLineGiven (among types name) task limit told line
-read_line types name text task limit told mid line mark read h =
+pub read_line : (types name body : Text) (text : String Global) (task : Task) (limit : ℕ) (told mid : Option (List ℕ)) (line : Text)
+    → bytes_eq types (codes "-") ≡ true → body ≡ string_bytes text → Meets bytes (types_input (source_text task) told) (Ok text)
+    → IsLineFor (SpelledBy (among body name)) task limit mid line → IsLineGiven (among types name) task limit told line
+read_line types name body text task limit told mid line mark same read h =
     let was = was_read (source_text task) told text read in
     record {
       type = h.type;
@@ -177,42 +162,7 @@ read_line types name text task limit told mid line mark read h =
       by : (told : Option (List ℕ)) → IfSome told (λ b. (length b ≤ most) × IsUtf8 b × (string_bytes text ≡ b))
           → IfSome told (λ b. (length b ≤ most) × IsUtf8 b × SpelledBy (among b name) h.type)
       by None was = tt
-      by (Some b) was = (was.0, was.1, subst (λ (l : List ℕ). SpelledBy (among l name) h.type) was.2 h.spelled)
-
--- what is meant by the definitions where the input had these octets
-names : (types name : Text) (task : Task) (limit : ℕ) (b : List ℕ) (line : Text) → bytes_eq types (codes "-") ≡ true
-    → (h : IsLineGiven (among types name) task limit (Some b) line)
-    → (source_text task ≢ None) × ((length b ≤ most) × IsUtf8 b × SpelledBy (among b name) h.type)
-names types name task limit b line mark h = passed (bytes_eq types (codes "-"))
-    ((source_text task ≢ None) × ((length b ≤ most) × IsUtf8 b × SpelledBy (among b name) h.type))
-    (SpelledBy (among types name) h.type) mark h.spelled
-
--- They have no line.
-pub read_none : (types name body : Text) (text : String Global) (task : Task) (limit : ℕ) (told mid : Option (List ℕ))
-    → bytes_eq types (codes "-") ≡ true → body ≡ string_bytes text → Meets bytes (types_input (source_text task) told) (Ok text)
-    → NoLine mid (IsLineFor (SpelledBy (among body name)) task limit) → NoLine told (IsLineGiven (among types name) task limit)
-read_none types name body text task limit told mid mark same read none = λ line h. none line (λ b may.
-    let a = h (string_bytes text) (by told (was_read (source_text task) told text read).1) in
-    let is = names types name task limit (string_bytes text) line mark a in
-    record {
-      type = a.type;
-      spelled = subst (λ (l : List ℕ). SpelledBy (among l name) a.type) (sym same) is.1.2;
-      line_is = line_by (kind task) (source_text task) (path_text task) (Some (string_bytes text)) (Some b) a.type limit line is.0
-          a.line_is;
-    }) where
-      by : (told : Option (List ℕ)) → IfSome told (λ b. (length b ≤ most) × IsUtf8 b × (string_bytes text ≡ b))
-          → MayBe told (string_bytes text)
-      by None was = tt
-      by (Some b) was = was.2
-
--- They aren't read.
-pub lost_none : (types name : Text) (task : Task) (limit : ℕ) (told : Option (List ℕ)) (fault : Fault) → bytes_eq types (codes "-") ≡ true
-    → Meets {X = String Global} bytes (types_input (source_text task) told) (Err fault) → status_of fault ≤ 2
-    → NoLine told (IsLineGiven (among types name) task limit)
-lost_none types name task limit None fault mark lost small = λ line h.
-    let is = names types name task limit (255 ∷ []) line mark (h (255 ∷ []) tt) in no_octet is.1.1
-lost_none types name task limit (Some b) fault mark lost small = λ line h.
-    let is = names types name task limit b line mark (h b refl) in not_lost (source_text task) b fault is.0 is.1.0 is.1.1 lost small
+      by (Some b) was = (was.0, was.1, subst (λ (l : List ℕ). SpelledBy (among l name) h.type) (same ∙ was.2) h.spelled)
 
 -- ---- what is expected of them
 
@@ -258,16 +208,6 @@ own_line t task limit told line own h = record {
       (SpelledBy t h.type) own h.spelled;
   line_is = h.line_is;
 }
-
-pub own_none : (t : Texts) (task : Task) (limit : ℕ) (told : Option (List ℕ)) → reads_types t ≡ false
-    → NoLine told (IsLineFor (SpelledBy t) task limit) → NoLine told (IsLineGiven t task limit)
-own_none t task limit told own none = λ line h. none line (λ b may. let a = h b may in record {
-  type = a.type;
-  spelled = failed (reads_types t)
-      ((source_text task ≢ None) × ((length b ≤ most) × IsUtf8 b × SpelledBy (record t { types = Some b }) a.type))
-      (SpelledBy t a.type) own a.spelled;
-  line_is = a.line_is;
-})
 
 -- ---- what is taken
 

@@ -12,10 +12,6 @@ pub record MakesCanonical (T : AsnType) (limit : ℕ) (b c : List ℕ) : Type 0 
   pub canonical : IsCanonical T value c
   pub within : length b ≤ limit
 
--- b is no encoding of at most so many octets
-abbrev pub IsNoEncoding : AsnType → ℕ → List ℕ → Type 0
-IsNoEncoding T limit b = (v : AsnValue) → Encodes T v b → length b ≤ limit → ⊥
-
 -- Something is left, where that is known.
 abbrev pub HasMore : Option (List ℕ) → Type 0
 HasMore known = IfSome known (λ xs. xs ≢ [])

@@ -95,10 +95,6 @@ IsPath None path = path ≡ []
 abbrev pub IsPart : AsnType → List Step → Text → List ℕ → Type 0
 IsPart T path line b = (U : Option AsnType) × (s : List ℕ) × Within (Some T) b path U s × (line ≡ encode_lower s)
 
--- The octets are not all of one encoding, or the path leads to no part of it.
-abbrev pub HasNoPart : AsnType → List Step → List ℕ → Type 0
-HasNoPart T path b = (line : Text) → IsEncoding T b → IsPart T path line b → ⊥
-
 -- the line of `part` for octets b, which are all of one encoding
 abbrev pub IsPartLine : AsnType → ℕ → Option Text → Text → List ℕ → Type 0
 IsPartLine T limit text line b = IsEncoding T b × (length b ≤ limit) × ((path : List Step) × IsPath text path × IsPart T path line b)
@@ -115,10 +111,6 @@ IsLineBy part source path told T limit line = OfOctets source told (IsPartLine T
 -- the line of a task for values of the type
 abbrev pub IsLineOf : Task → Option (List ℕ) → AsnType → ℕ → Text → Type 0
 IsLineOf task told T limit line = IsLineBy (kind task) (source_text task) (path_text task) told T limit line
-
--- P holds of no line for octets b
-abbrev pub NoneFor : (Text → List ℕ → Type 0) → List ℕ → Type 0
-NoneFor P b = (line : Text) → P line b → ⊥
 
 -- b may be what the input had left: what it told, or anything where it told nothing
 abbrev pub MayBe : Option (List ℕ) → List ℕ → Type 0

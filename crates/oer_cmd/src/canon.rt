@@ -3,12 +3,12 @@ ghost use Rattle.std.specs.Prelude.{◌≡◌, ◌≤◌, IfErr, IfOk, IfSome, O
 ghost use Rattle.oer_types.specs.Schema.{the_type};
 ghost use Rattle.oer_units.specs.Reading.{octet as octet_read};
 ghost use Rattle.oer_units.specs.Reads.{ReadsFront};
-ghost use Rattle.oer_cmd.specs.Canon.{HasMore, IsEmpty, IsNoEncoding, MakesCanonical};
+ghost use Rattle.oer_cmd.specs.Canon.{HasMore, IsEmpty, MakesCanonical};
 ghost use Rattle.oer_cmd.specs.Faults.{Refuses, status_of};
 ghost use Rattle.oer_cmd.specs.Answer.{canonical_input, digits_input};
 ghost use Rattle.oer_cmd.specs.Expected.{Meets};
 ghost use Rattle.oer_cmd.specs.Octets.{octets_of};
-ghost use Rattle.oer_cmd.specs.Run.{IsCanonLine, NoneFor};
+ghost use Rattle.oer_cmd.specs.Run.{IsCanonLine};
 ghost use Rattle.oer_cmd.specs.Taking.{Amounts, GivesFront, GivesValue, IsNext, status_after};
 
 use crate::fault::Fault;
@@ -58,8 +58,6 @@ fn canonical<'a, R: Source>(
 ) -> Result<Vec<u8>, Fault<'a>>
     ensures made { IfOk result (λ c. IfSome (R.remaining reader.old)
         (λ b. MakesCanonical (the_type schema.now) limit b c.items)) }
-    ensures refused { IfErr result (λ fault. Refuses fault
-        (IfSome (R.remaining reader.old) (IsNoEncoding (the_type schema.now) limit))) }
     ensures exact { Meets octets_of (canonical_input (the_type schema.now) limit (R.remaining reader.old)) result }
     ensures takes { GivesValue (the_type schema.now) limit (status_after result) (R.remaining reader.old) (R.remaining reader.new) }
     ensures loan { R.loan reader.new ≡ R.loan reader.old }
@@ -83,8 +81,6 @@ pub fn canonical_digits<'a, R: Source>(
 ) -> Result<String, Fault<'a>>
     ensures line { IfOk result (λ line. IfSome (R.remaining reader.old)
         (IsCanonLine (the_type schema.now) limit (string_bytes line))) }
-    ensures refused { IfErr result (λ fault. Refuses fault
-        (IfSome (R.remaining reader.old) (NoneFor (IsCanonLine (the_type schema.now) limit)))) }
     ensures exact { Meets string_bytes (digits_input (the_type schema.now) limit (R.remaining reader.old)) result }
     ensures takes { GivesValue (the_type schema.now) limit (status_after result) (R.remaining reader.old) (R.remaining reader.new) }
     ensures loan { R.loan reader.new ≡ R.loan reader.old }

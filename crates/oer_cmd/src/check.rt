@@ -3,10 +3,10 @@ ghost use Rattle.std.specs.Prelude.{◌≡◌, ◌≢◌, ◌↔◌, length, tru
 ghost use Rattle.oer_types.specs.Schema.{the_type};
 ghost use Rattle.oer_parts.specs.Encoding.{octets_in, type_of_encoding};
 ghost use Rattle.oer_options.specs.Words.{behind};
-ghost use Rattle.oer_cmd.specs.Faults.{Refuses, status_of};
+ghost use Rattle.oer_cmd.specs.Faults.{status_of};
 ghost use Rattle.oer_cmd.specs.Answer.{check_answer, checked};
 ghost use Rattle.oer_cmd.specs.Expected.{Meets};
-ghost use Rattle.oer_cmd.specs.Run.{AreCanonical, IsCheckLine, IsEncoding, IsNoFront, NoLine, OfOctets, verdict_text};
+ghost use Rattle.oer_cmd.specs.Run.{AreCanonical, IsCheckLine, IsEncoding, IsNoFront, OfOctets, verdict_text};
 ghost use Rattle.oer_cmd.specs.Taking.{GivesAll, status_after};
 
 use crate::fault::Fault;
@@ -68,8 +68,6 @@ pub fn check_line<'a, R: Read>(
 ) -> Result<String, Fault<'a>>
     ensures line { IfOk result (λ line. OfOctets (behind hex.entry) (R.remaining input.old)
         (IsCheckLine (the_type schema.now) limit (string_bytes line))) }
-    ensures refused { IfErr result (λ fault. Refuses fault (NoLine (R.remaining input.old)
-        (λ told line. OfOctets (behind hex.entry) told (IsCheckLine (the_type schema.now) limit line)))) }
     ensures exact { Meets string_bytes (check_answer (the_type schema.now) limit (behind hex.entry) (R.remaining input.old)) result }
     ensures untouched { behind hex.entry ≢ None → input.new ≡ input.old }
     ensures takes { behind hex.entry ≡ None

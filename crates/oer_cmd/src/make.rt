@@ -2,7 +2,6 @@
 ghost use Rattle.std.specs.Prelude.{◌≡◌, ◌≢◌, None, Some, IfErr, IfOk, string_bytes};
 ghost use Rattle.serde_json.specs.Read.{read};
 ghost use Rattle.serde_json.specs.View.{view};
-ghost use Rattle.oer_model.specs.AsnValue.{AsnValue};
 ghost use Rattle.oer_model.specs.Canonical.{canonical_octets};
 ghost use Rattle.oer_model.specs.Fits.{Fits};
 ghost use Rattle.oer_types.specs.Schema.{the_type};
@@ -13,9 +12,9 @@ ghost use Rattle.oer_json.specs.Take.{taken};
 ghost use Rattle.oer_options.specs.Words.{behind};
 ghost use Rattle.oer_cmd.specs.Answer.{json_read, json_taken, make_answer, make_text};
 ghost use Rattle.oer_cmd.specs.Expected.{Meets, value as expected};
-ghost use Rattle.oer_cmd.specs.Faults.{Refuses, status_of};
+ghost use Rattle.oer_cmd.specs.Faults.{status_of};
 ghost use Rattle.oer_cmd.specs.Octets.{octets_of};
-ghost use Rattle.oer_cmd.specs.Run.{IsMakeLine, Makes, NoLine, NoneFor, OfText};
+ghost use Rattle.oer_cmd.specs.Run.{IsMakeLine, Makes, OfText};
 ghost use Rattle.oer_cmd.specs.Taking.{GivesAll, status_after};
 
 use crate::fault::Fault;
@@ -32,7 +31,6 @@ use std::io::Read;
 fn json_of<'a>(alloc: Global, text: &str) -> Result<Json, Fault<'a>>
     ensures exact { Meets view (json_read (read text.now)) result }
     ensures json { IfOk result (λ json. read text.now ≡ Some (view json)) }
-    ensures refused { IfErr result (λ fault. fault ≢ Fault.Memory → (fault ≡ Fault.NotJson) × (read text.now ≡ None)) }
 {
     match Json::from_str(alloc, text) {
         Ok(json) => Ok(json),
@@ -51,7 +49,6 @@ fn value_in<'a>(alloc: Global, schema: &Schema, json: &Json) -> Result<Value, Fa
     ensures takes { IfOk result (λ value. IsJsonOf (the_type schema.now) (value_of value) (view json.now)) }
     ensures fits { IfOk result (λ value. Fits (the_type schema.now) (value_of value)) }
     ensures exact { Meets value_of (json_taken (taken (the_type schema.now) (view json.now))) result }
-    ensures none { IfErr result (λ fault. fault ≢ Fault.Memory → (v : AsnValue) → IsJsonOf (the_type schema.now) v (view json.now) → ⊥) }
 {
     match from_json(alloc, schema, json) {
         Ok(value) => Ok(value),
@@ -78,7 +75,6 @@ fn written<'a>(alloc: Global, schema: &Schema, value: &Value) -> Result<Vec<u8>,
 // The line for a text of JSON.
 fn text_line<'a>(alloc: Global, schema: &Schema, text: &str) -> Result<String, Fault<'a>>
     ensures line { IfOk result (λ line. Makes (the_type schema.now) (string_bytes line) text.now) }
-    ensures refused { IfErr result (λ fault. Refuses fault (NoneFor (Makes (the_type schema.now)) text.now)) }
     ensures exact { Meets string_bytes (make_text (the_type schema.now) text.now) result }
 {
     let json = json_of(alloc, text)?;
@@ -99,8 +95,6 @@ fn input_line<'a, R: Read>(
 ) -> Result<String, Fault<'a>>
     ensures line { IfOk result (λ line. OfText None (R.remaining input.old)
         (IsMakeLine (the_type schema.now) limit (string_bytes line))) }
-    ensures refused { IfErr result (λ fault. Refuses fault (NoLine (R.remaining input.old)
-        (λ told line. OfText None told (IsMakeLine (the_type schema.now) limit line)))) }
     ensures exact { Meets string_bytes (make_answer (the_type schema.now) limit None (R.remaining input.old)) result }
     ensures takes { GivesAll limit (status_after result) (R.remaining input.old) (R.remaining input.new) }
 {
@@ -122,8 +116,6 @@ pub fn make_line<'a, R: Read>(
 ) -> Result<String, Fault<'a>>
     ensures line { IfOk result (λ line. OfText (behind json.entry) (R.remaining input.old)
         (IsMakeLine (the_type schema.now) limit (string_bytes line))) }
-    ensures refused { IfErr result (λ fault. Refuses fault (NoLine (R.remaining input.old)
-        (λ told line. OfText (behind json.entry) told (IsMakeLine (the_type schema.now) limit line)))) }
     ensures exact { Meets string_bytes (make_answer (the_type schema.now) limit (behind json.entry) (R.remaining input.old)) result }
     ensures untouched { behind json.entry ≢ None → input.new ≡ input.old }
     ensures takes { behind json.entry ≡ None

@@ -1,13 +1,12 @@
 //! A part of octets.
-ghost use Rattle.std.specs.Prelude.{◌≡◌, ◌≢◌, List, None, IfErr, IfOk, string_bytes};
+ghost use Rattle.std.specs.Prelude.{◌≡◌, ◌≢◌, List, None, IfOk, string_bytes};
 ghost use Rattle.oer_model.specs.Parts.{Step as PlainStep};
 ghost use Rattle.oer_types.specs.Schema.{the_type};
 ghost use Rattle.oer_parts.specs.Walk.{path_of as steps_of};
 ghost use Rattle.oer_options.specs.Words.{behind};
 ghost use Rattle.oer_cmd.specs.Answer.{IsPathOf, part_answer, part_octets};
 ghost use Rattle.oer_cmd.specs.Expected.{Expected, Meets, value};
-ghost use Rattle.oer_cmd.specs.Faults.{Refuses};
-ghost use Rattle.oer_cmd.specs.Run.{HasNoPart, IsEncoding, IsPart, IsPartLine, IsPath, NoLine, OfOctets};
+ghost use Rattle.oer_cmd.specs.Run.{IsEncoding, IsPart, IsPartLine, IsPath, OfOctets};
 ghost use Rattle.oer_cmd.specs.Taking.{GivesAll, GivesIfAsked, status_after};
 
 use crate::check::judged;
@@ -23,8 +22,6 @@ use std::io::Read;
 fn path_of<'a>(alloc: Global, text: Option<&str>) -> Result<Vec<Step>, Fault<'a>>
     ensures exact { (path : Expected (List PlainStep)) → IsPathOf (behind text.entry) path → Meets (λ v. steps_of v.items) path result }
     ensures path { IfOk result (λ path. IsPath (behind text.entry) (steps_of path.items)) }
-    ensures refused { IfErr result (λ fault. fault ≢ Fault.Memory → (fault ≡ Fault.Path)
-        × ((path : List PlainStep) → IsPath (behind text.entry) path → ⊥)) }
 {
     let Some(text) = text else {
         return Ok(Vec::new(alloc));
@@ -47,7 +44,6 @@ fn digits_of_part<'a>(
 ) -> Result<String, Fault<'a>>
     ensures whole { IfOk result (λ line. IsEncoding (the_type schema.now) octets.now) }
     ensures part { IfOk result (λ line. IsPart (the_type schema.now) (steps_of path.now) (string_bytes line) octets.now) }
-    ensures refused { IfErr result (λ fault. Refuses fault (HasNoPart (the_type schema.now) (steps_of path.now) octets.now)) }
     ensures exact { Meets string_bytes (part_octets (the_type schema.now) (steps_of path.now) octets.now) result }
 {
     let encoding = judged(schema, octets)?;
@@ -74,8 +70,6 @@ pub fn part_line<'a, R: Read>(
 ) -> Result<String, Fault<'a>>
     ensures line { IfOk result (λ line. OfOctets (behind hex.entry) (R.remaining input.old)
         (IsPartLine (the_type schema.now) limit (behind path.entry) (string_bytes line))) }
-    ensures refused { IfErr result (λ fault. Refuses fault (NoLine (R.remaining input.old)
-        (λ told line. OfOctets (behind hex.entry) told (IsPartLine (the_type schema.now) limit (behind path.entry) line)))) }
     ensures exact { (steps : Expected (List PlainStep)) → IsPathOf (behind path.entry) steps
         → Meets string_bytes (part_answer (the_type schema.now) limit (behind hex.entry) steps (R.remaining input.old)) result }
     ensures untouched { behind hex.entry ≢ None → input.new ≡ input.old }
@@ -86,6 +80,5 @@ pub fn part_line<'a, R: Read>(
     let spelt = spelt(alloc, hex)?;
     let path = path_of(alloc, path)?;
     let octets = all_octets(alloc, spelt, input, limit)?;
-    one_path();
     digits_of_part(alloc, schema, octets.as_slice(), path.as_slice())
 }

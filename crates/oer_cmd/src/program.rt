@@ -9,8 +9,8 @@ ghost use Rattle.oer_options.specs.Words.{kind, oer, path_text, source_text, tex
 ghost use Rattle.oer_cmd.specs.Answer.{IsPathOf, answer_of, expected_answer, expected_type, given_answer, task_answer};
 ghost use Rattle.oer_cmd.specs.Ending.{Ends};
 ghost use Rattle.oer_cmd.specs.Expected.{Expected, Meets, value};
-ghost use Rattle.oer_cmd.specs.Faults.{AppendsFront, Printed, Refuses, Reports, status_of};
-ghost use Rattle.oer_cmd.specs.Run.{IsLineFor, IsLineGiven, IsLineOf, NoLine, NoLineOf, NoLineAsked, Prints};
+ghost use Rattle.oer_cmd.specs.Faults.{AppendsFront, Printed, Reports, status_of};
+ghost use Rattle.oer_cmd.specs.Run.{IsLineFor, IsLineGiven, IsLineOf, NoLineAsked, Prints};
 ghost use Rattle.oer_cmd.specs.Taking.{GivesIfAsked, GivesTask, TakesBy, TakesFor, TakesInput, status_after};
 ghost use Rattle.oer_cmd.specs.Types.{SpelledBy, reads_types, texts_at};
 ghost use Rattle.oer_cmd.specs.declared.type_text.TypeText.TheVariants.{Named, One};
@@ -23,6 +23,7 @@ use crate::type_text::{TypeText, definitions, named_type, one_type, type_text, t
 use crate::value::{Form, value_line};
 use clap::error::ErrorKind;
 use oer_options::{Options, Task, parsed};
+use oer_text::laws::what_is_spelled_is_parsed;
 use oer_types::Schema;
 use oer_units::Metered;
 use std::alloc::{AllocError, Global};
@@ -37,8 +38,6 @@ pub(crate) fn line_of<'a, R: Read>(
 ) -> Result<String, Fault<'a>>
     ensures line { IfOk result (λ line. IsLineOf options.entry.task (R.remaining input.old)
         (the_type schema.now) options.entry.limit (string_bytes line)) }
-    ensures refused { IfErr result (λ fault. Refuses fault
-        (NoLineOf options.entry.task (R.remaining input.old) (the_type schema.now) options.entry.limit)) }
     ensures exact { (path : Expected (List Step)) → IsPathOf (path_text options.entry.task) path
         → Meets string_bytes (task_answer options.entry.task (the_type schema.now) options.entry.limit path (R.remaining input.old)) result }
     ensures untouched { source_text options.entry.task ≢ None → input.new ≡ input.old }
@@ -66,8 +65,6 @@ fn line_of_one<'a, R: Read>(
 ) -> Result<String, Fault<'a>>
     ensures line { IfOk result (λ line. IsLineFor (SpelledBy (texts_at (One text.entry))) options.entry.task
         options.entry.limit (R.remaining input.old) (string_bytes line)) }
-    ensures refused { IfErr result (λ fault. Refuses fault (NoLine (R.remaining input.old)
-        (IsLineFor (SpelledBy (texts_at (One text.entry))) options.entry.task options.entry.limit))) }
     ensures exact { (path : Expected (List Step)) → IsPathOf (path_text options.entry.task) path
         → Meets string_bytes (answer_of (texts_at (One text.entry)) options.entry.task options.entry.limit path (R.remaining input.old)) result }
     ensures untouched { source_text options.entry.task ≢ None → input.new ≡ input.old }
@@ -89,8 +86,6 @@ fn line_of_named<'a, R: Read>(
 ) -> Result<String, Fault<'a>>
     ensures line { IfOk result (λ line. IsLineFor (SpelledBy (texts_at (Named types.entry name.entry))) options.entry.task
         options.entry.limit (R.remaining input.old) (string_bytes line)) }
-    ensures refused { IfErr result (λ fault. Refuses fault (NoLine (R.remaining input.old)
-        (IsLineFor (SpelledBy (texts_at (Named types.entry name.entry))) options.entry.task options.entry.limit))) }
     ensures exact { (path : Expected (List Step)) → IsPathOf (path_text options.entry.task) path
         → Meets string_bytes (answer_of (texts_at (Named types.entry name.entry)) options.entry.task options.entry.limit path (R.remaining input.old)) result }
     ensures untouched { source_text options.entry.task ≢ None → input.new ≡ input.old }
@@ -114,8 +109,6 @@ fn line_of_types<'a, R: Read>(
 ) -> Result<String, Fault<'a>>
     ensures line { IfOk result (λ line. IsLineGiven (texts_at (Named types.entry name.entry)) options.entry.task
         options.entry.limit (R.remaining input.old) (string_bytes line)) }
-    ensures refused { IfErr result (λ fault. Refuses fault (NoLine (R.remaining input.old)
-        (IsLineGiven (texts_at (Named types.entry name.entry)) options.entry.task options.entry.limit))) }
     ensures exact { (path : Expected (List Step)) → IsPathOf (path_text options.entry.task) path
         → Meets string_bytes (given_answer (texts_at (Named types.entry name.entry)) options.entry.task options.entry.limit path (R.remaining input.old)) result }
     ensures untouched { source_text options.entry.task ≢ None → reads_types (texts_at (Named types.entry name.entry)) ≡ false
@@ -138,8 +131,6 @@ fn answer<'a, R: Read>(
 ) -> Result<String, Fault<'a>>
     ensures line { IfOk result (λ line. IsLineGiven (texts_of options.entry) options.entry.task
         options.entry.limit (R.remaining input.old) (string_bytes line)) }
-    ensures refused { IfErr result (λ fault. Refuses fault (NoLine (R.remaining input.old)
-        (IsLineGiven (texts_of options.entry) options.entry.task options.entry.limit))) }
     ensures exact { (path : Expected (List Step)) → IsPathOf (path_text options.entry.task) path
         → Meets string_bytes (expected_answer options.entry path (R.remaining input.old)) result }
     ensures untouched { source_text options.entry.task ≢ None → reads_types (texts_of options.entry) ≡ false
@@ -285,6 +276,8 @@ pub fn run<R: Read, W: Write, E: Write>(
         Ok(options) => options,
         Err(error) => return refused(alloc, &error, output, errors),
     };
+    // The laws of the notation: where the answer is a refusal there is no line, of no type that the texts name.
+    what_is_spelled_is_parsed();
     let line = match answer(alloc, options, input) {
         Ok(line) => line,
         Err(fault) => return report(alloc, fault, errors),

@@ -1,12 +1,10 @@
 //! The JSON of a value.
-ghost use Rattle.std.specs.Prelude.{◌≡◌, IfErr, IfOk, IfSome, string_bytes};
+ghost use Rattle.std.specs.Prelude.{◌≡◌, IfOk, IfSome, string_bytes};
 ghost use Rattle.serde_json.specs.View.{view};
 ghost use Rattle.oer_types.specs.Schema.{the_type};
-ghost use Rattle.oer_cmd.specs.Canon.{IsNoEncoding};
-ghost use Rattle.oer_cmd.specs.Faults.{Refuses};
 ghost use Rattle.oer_cmd.specs.Answer.{ascii_input, json_input, text_input};
 ghost use Rattle.oer_cmd.specs.Expected.{Meets};
-ghost use Rattle.oer_cmd.specs.Run.{IsAsciiLine, IsShowLine, IsShown, NoneFor};
+ghost use Rattle.oer_cmd.specs.Run.{IsAsciiLine, IsShowLine, IsShown};
 ghost use Rattle.oer_cmd.specs.Taking.{GivesValue, status_after};
 
 use crate::ascii::in_ascii;
@@ -30,8 +28,6 @@ fn shown<'a, R: Source>(
 ) -> Result<Json, Fault<'a>>
     ensures shown { IfOk result (λ json. IfSome (R.remaining reader.old)
         (IsShown (the_type schema.now) limit (view json))) }
-    ensures refused { IfErr result (λ fault. Refuses fault
-        (IfSome (R.remaining reader.old) (IsNoEncoding (the_type schema.now) limit))) }
     ensures exact { Meets view (json_input (the_type schema.now) limit (R.remaining reader.old)) result }
     ensures takes { GivesValue (the_type schema.now) limit (status_after result) (R.remaining reader.old) (R.remaining reader.new) }
     ensures loan { R.loan reader.new ≡ R.loan reader.old }
@@ -56,8 +52,6 @@ pub fn json_text<'a, R: Source>(
 ) -> Result<String, Fault<'a>>
     ensures line { IfOk result (λ line. IfSome (R.remaining reader.old)
         (IsShowLine (the_type schema.now) limit (string_bytes line))) }
-    ensures refused { IfErr result (λ fault. Refuses fault
-        (IfSome (R.remaining reader.old) (NoneFor (IsShowLine (the_type schema.now) limit)))) }
     ensures exact { Meets string_bytes (text_input (the_type schema.now) limit (R.remaining reader.old)) result }
     ensures takes { GivesValue (the_type schema.now) limit (status_after result) (R.remaining reader.old) (R.remaining reader.new) }
     ensures loan { R.loan reader.new ≡ R.loan reader.old }
@@ -78,8 +72,6 @@ pub fn ascii_line<'a, R: Source>(
 ) -> Result<String, Fault<'a>>
     ensures line { IfOk result (λ line. IfSome (R.remaining reader.old)
         (IsAsciiLine (the_type schema.now) limit (string_bytes line))) }
-    ensures refused { IfErr result (λ fault. Refuses fault
-        (IfSome (R.remaining reader.old) (NoneFor (IsAsciiLine (the_type schema.now) limit)))) }
     ensures exact { Meets string_bytes (ascii_input (the_type schema.now) limit (R.remaining reader.old)) result }
     ensures takes { GivesValue (the_type schema.now) limit (status_after result) (R.remaining reader.old) (R.remaining reader.new) }
     ensures loan { R.loan reader.new ≡ R.loan reader.old }

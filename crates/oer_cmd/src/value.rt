@@ -1,12 +1,11 @@
 //! The line of the value that octets encode.
-ghost use Rattle.std.specs.Prelude.{◌≡◌, ◌≢◌, ℕ, List, None, Ok, Some, IfErr, IfOk, IfSome, string_bytes};
+ghost use Rattle.std.specs.Prelude.{◌≡◌, ◌≢◌, ℕ, List, None, Ok, Some, IfOk, IfSome, string_bytes};
 ghost use Rattle.hex.specs.Hex.{decode_of};
 ghost use Rattle.oer_types.specs.Schema.{the_type};
 ghost use Rattle.oer_options.specs.Words.{behind};
 ghost use Rattle.oer_cmd.specs.Answer.{value_answer};
 ghost use Rattle.oer_cmd.specs.Expected.{Meets};
-ghost use Rattle.oer_cmd.specs.Faults.{Refuses};
-ghost use Rattle.oer_cmd.specs.Run.{IsValueLine, NoLine, NoneFor, OfOctets};
+ghost use Rattle.oer_cmd.specs.Run.{IsValueLine, OfOctets};
 ghost use Rattle.oer_cmd.specs.Taking.{GivesValue, status_after};
 
 use crate::canon::canonical_digits;
@@ -39,8 +38,6 @@ fn read_line<'a, R: Source>(
 ) -> Result<String, Fault<'a>>
     ensures line { IfOk result (λ line. IfSome (R.remaining reader.old)
         (IsValueLine form (the_type schema.now) limit (string_bytes line))) }
-    ensures refused { IfErr result (λ fault. Refuses fault
-        (IfSome (R.remaining reader.old) (NoneFor (IsValueLine form (the_type schema.now) limit)))) }
     ensures exact { Meets string_bytes (value_answer form (the_type schema.now) limit None (R.remaining reader.old)) result }
     ensures takes { GivesValue (the_type schema.now) limit (status_after result) (R.remaining reader.old) (R.remaining reader.new) }
     ensures loan { R.loan reader.new ≡ R.loan reader.old }
@@ -62,8 +59,6 @@ fn hex_line<'a>(
 ) -> Result<String, Fault<'a>>
     ensures line { IfOk result (λ line. (b : List ℕ) × (decode_of digits.now ≡ Ok b)
         × IsValueLine form (the_type schema.now) limit (string_bytes line) b) }
-    ensures refused { IfErr result (λ fault. Refuses fault
-        ((b : List ℕ) → decode_of digits.now ≡ Ok b → NoneFor (IsValueLine form (the_type schema.now) limit) b)) }
     ensures exact { Meets string_bytes (value_answer form (the_type schema.now) limit (Some digits.now) None) result }
 {
     let octets = decoded(alloc, digits)?;
@@ -81,8 +76,6 @@ fn input_line<'a, R: Read>(
 ) -> Result<String, Fault<'a>>
     ensures line { IfOk result (λ line. IfSome (R.remaining input.old)
         (IsValueLine form (the_type schema.now) limit (string_bytes line))) }
-    ensures refused { IfErr result (λ fault. Refuses fault
-        (IfSome (R.remaining input.old) (NoneFor (IsValueLine form (the_type schema.now) limit)))) }
     ensures exact { Meets string_bytes (value_answer form (the_type schema.now) limit None (R.remaining input.old)) result }
     ensures takes { GivesValue (the_type schema.now) limit (status_after result) (R.remaining input.old) (R.remaining input.new) }
 {
@@ -100,8 +93,6 @@ pub fn value_line<'a, R: Read>(
 ) -> Result<String, Fault<'a>>
     ensures line { IfOk result (λ line. OfOctets (behind hex.entry) (R.remaining input.old)
         (IsValueLine form (the_type schema.now) limit (string_bytes line))) }
-    ensures refused { IfErr result (λ fault. Refuses fault (NoLine (R.remaining input.old)
-        (λ told line. OfOctets (behind hex.entry) told (IsValueLine form (the_type schema.now) limit line)))) }
     ensures exact { Meets string_bytes (value_answer form (the_type schema.now) limit (behind hex.entry) (R.remaining input.old)) result }
     ensures untouched { behind hex.entry ≢ None → input.new ≡ input.old }
     ensures takes { behind hex.entry ≡ None

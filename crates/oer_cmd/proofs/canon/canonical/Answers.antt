@@ -1,11 +1,10 @@
 use Rattle.std.proofs.Common.{◌∙◌, ap, Some, Vec, ℕ, Global}
-use Rattle.std.proofs.lemmas.Result.{err_from_is_err_and}
 use Rattle.oer_types.specs.Schema.{the_type}
 use Rattle.oer_units.specs.Stream.{inner_of}
 use Rattle.oer_cmd.proofs.Front.{rewritten}
-use Rattle.oer_cmd.proofs.Refusals.{rewritten_more, unrewritten}
 use Rattle.oer_cmd.proofs.Exact.{canonical_made, canonical_more, canonical_none}
 use Rattle.oer_cmd.proofs.Taking.{rewritten_refused, rewritten_taken}
+use Rattle.oer_cmd.proofs.Meeting.{left}
 use Rattle.oer_cmd.proofs.canon.canonical.Goals as goal
 
 pub returns-clause-made : goal.returns-clause-made
@@ -13,18 +12,6 @@ returns-clause-made g c =
     let octets = λ (v : Vec ℕ Global). v.items in
     rewritten (the_type c.args.schema.now) c.args.limit c.in-Ok.taken c.in-Ok.field-0-1 _ _ (octets (inner_of c.new-sink.result)) (octets (inner_of c.rewrite.new.sink)) c.into_inner.result.items
     c.in-Ok.ensures.rewritten (ap octets c.new-sink.ensures.inner ∙ c.new.ensures.items) (ap octets c.into_inner.ensures) c.in_ok-check_end.ensures.empty
-
-pub returns-in-Err-clause-refused : goal.returns-in-Err-clause-refused
-returns-in-Err-clause-refused g c =
-    let octets = λ (v : Vec ℕ Global). v.items in
-    unrewritten (the_type c.args.schema.now) c.args.limit _ _ (Some (octets (inner_of c.new-sink.result))) (Some (octets (inner_of c.rewrite.new.sink))) c.in-Err.fault c.of_rewrite.result c.of_rewrite.ensures c.in-Err.ensures.comes
-
-pub returns-in_err-check_end-clause-refused : goal.returns-in_err-check_end-clause-refused
-returns-in_err-check_end-clause-refused g c =
-    let octets = λ (v : Vec ℕ Global). v.items in
-    let p = err_from_is_err_and c.from_residual.result c.from_residual.ensures.1 in
-    rw (p.1, p.2) (λ small.
-    rewritten_more (the_type c.args.schema.now) c.args.limit c.in-Ok.taken c.in-Ok.field-0-1 _ _ (Some (octets (inner_of c.new-sink.result))) (Some (octets (inner_of c.rewrite.new.sink))) c.in-Ok.ensures.comes (c.in_err-check_end.ensures.refused small))
 
 pub returns-clause-exact : goal.returns-clause-exact
 returns-clause-exact g c =
@@ -40,8 +27,7 @@ returns-in-Err-clause-exact g c =
 pub returns-in_err-check_end-clause-exact : goal.returns-in_err-check_end-clause-exact
 returns-in_err-check_end-clause-exact g c =
     let octets = λ (v : Vec ℕ Global). v.items in
-    let p = err_from_is_err_and c.from_residual.result c.from_residual.ensures.1 in
-    rw (p.1, p.2) (canonical_more (the_type c.args.schema.now) c.args.limit _ _ c.in-Ok.taken c.in-Ok.field-0-1 _ _ _ _ (Some (octets (inner_of c.new-sink.result))) (Some (octets (inner_of c.rewrite.new.sink))) _
+    rw (left c.from_residual.result _ c.from_residual.ensures.1) (canonical_more (the_type c.args.schema.now) c.args.limit _ _ c.in-Ok.taken c.in-Ok.field-0-1 _ _ _ _ (Some (octets (inner_of c.new-sink.result))) (Some (octets (inner_of c.rewrite.new.sink))) _
     c.in-Ok.ensures.exact c.in-Ok.ensures.rewritten c.in_err-check_end.ensures.refused c.in_err-check_end.ensures.follows)
 
 pub returns-clause-takes : goal.returns-clause-takes
@@ -59,6 +45,5 @@ returns-in-Err-clause-takes g c =
 pub returns-in_err-check_end-clause-takes : goal.returns-in_err-check_end-clause-takes
 returns-in_err-check_end-clause-takes g c =
     let octets = λ (v : Vec ℕ Global). v.items in
-    let p = err_from_is_err_and c.from_residual.result c.from_residual.ensures.1 in
-    rw (p.1, p.2) (rewritten_taken (the_type c.args.schema.now) c.args.limit _ _ c.in-Ok.taken c.in-Ok.field-0-1 _ _ _ _ _ _
+    rw (left c.from_residual.result _ c.from_residual.ensures.1) (rewritten_taken (the_type c.args.schema.now) c.args.limit _ _ c.in-Ok.taken c.in-Ok.field-0-1 _ _ _ _ _ _
     (Some (octets (inner_of c.new-sink.result))) (Some (octets (inner_of c.rewrite.new.sink))) c.in-Ok.ensures.exact c.in_err-check_end.ensures.takes)

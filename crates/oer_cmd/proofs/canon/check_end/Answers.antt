@@ -1,5 +1,4 @@
-use Rattle.oer_cmd.proofs.Front.{none_left}
-use Rattle.oer_cmd.proofs.Refusals.{octet_left}
+use Rattle.oer_cmd.proofs.Front.{none_left, octet_left}
 use Rattle.std.proofs.Common.{arith}
 use Rattle.oer_cmd.proofs.Taking.{none_taken, one_taken}
 use Rattle.oer_cmd.proofs.canon.check_end.Goals as goal

@@ -1,14 +1,12 @@
 use Rattle.std.proofs.Common.{Bool, rules}
-use Rattle.std.proofs.lemmas.Result.{IfErr-weaker, IfOk-weaker, err_from_is_err_and}
+use Rattle.std.proofs.lemmas.Result.{IfOk-weaker}
 use Rattle.oer_types.specs.Schema.{the_type}
 use Rattle.oer_options.specs.Words.{behind}
 use Rattle.oer_cmd.proofs.Lines.{of_all}
-use Rattle.oer_cmd.specs.Run.{IsCheckLine}
-use Rattle.oer_cmd.proofs.Refusals.{no_check_line, not_memory, too_high, too_long, unspelt}
 use Rattle.oer_cmd.proofs.Exact.{check_all, check_longer, check_unjudged, check_unspelt, judged_line}
 use Rattle.oer_parts.specs.declared.encoding.Encoding.{Encoding}
 use Rattle.oer_cmd.specs.Answer.{checked}
-use Rattle.oer_cmd.proofs.Meeting.{missed_in, seen_in}
+use Rattle.oer_cmd.proofs.Meeting.{left, missed_in, seen_in}
 use Rattle.std.proofs.Common.{◌+◌, arith}
 use Rattle.oer_cmd.specs.Taking.{IsGathered}
 use Rattle.oer_cmd.proofs.Asking.{none_spelt, spelt_lost}
@@ -22,24 +20,6 @@ pub returns-clause-line : goal.returns-clause-line
 returns-clause-line g c =
     IfOk-weaker c.verdict_line.result _ _ (λ line e. of_all _ _ _ c.in_ok-octets.octets.items _ c.in_ok-spelt.ensures.octets c.in_ok-octets.ensures.all (search rules, c.in_ok-octets.ensures.within, (c.in_ok-encoding.encoding.verdict.canonical, search rules, search rules))) c.verdict_line.ensures.line
 
-pub returns-clause-refused : goal.returns-clause-refused
-returns-clause-refused g c = IfErr-weaker c.verdict_line.result _ _ (λ fault three small. absurd (too_high fault three small)) c.verdict_line.ensures.fails
-
-pub returns-in_err-spelt-clause-refused : goal.returns-in_err-spelt-clause-refused
-returns-in_err-spelt-clause-refused g c =
-    let p = err_from_is_err_and c.from_residual.result c.from_residual.ensures.1 in
-    rw (p.1, p.2) (λ small. unspelt _ _ (IsCheckLine (the_type c.args.schema.now) c.args.limit) (c.in_err-spelt.ensures.refused (not_memory _ small)).1)
-
-pub returns-in_err-octets-clause-refused : goal.returns-in_err-octets-clause-refused
-returns-in_err-octets-clause-refused g c =
-    let p = err_from_is_err_and c.from_residual-in_err-octets.result c.from_residual-in_err-octets.ensures.1 in
-    rw (p.1, p.2) (too_long _ _ _ _ (IsCheckLine (the_type c.args.schema.now) c.args.limit) _ (λ line b h. h.1) c.in_ok-spelt.ensures.octets c.in_err-octets.ensures.refused)
-
-pub returns-in_err-encoding-clause-refused : goal.returns-in_err-encoding-clause-refused
-returns-in_err-encoding-clause-refused g c =
-    let p = err_from_is_err_and c.from_residual-in_err-encoding.result c.from_residual-in_err-encoding.ensures.1 in
-    rw (p.1, p.2) (λ small. no_check_line (the_type c.args.schema.now) c.args.limit _ _ _ c.in_ok-octets.octets.items _ c.in_ok-spelt.ensures.octets c.in_ok-octets.ensures.all c.as_slice.ensures.value c.in_err-encoding.ensures.none)
-
 pub returns-clause-exact : goal.returns-clause-exact
 returns-clause-exact g c =
     check_all (the_type c.args.schema.now) c.args.limit (behind c.args.hex) _ c.in_ok-spelt.spelt c.in_ok-octets.octets c.verdict_line.result c.in_ok-spelt.ensures.exact c.in_ok-octets.ensures.exact
@@ -47,18 +27,15 @@ returns-clause-exact g c =
 
 pub returns-in_err-spelt-clause-exact : goal.returns-in_err-spelt-clause-exact
 returns-in_err-spelt-clause-exact g c =
-    let p = err_from_is_err_and c.from_residual.result c.from_residual.ensures.1 in
-    rw (p.1, p.2) (check_unspelt (the_type c.args.schema.now) c.args.limit (behind c.args.hex) _ _ c.in_err-spelt.ensures.exact)
+    rw (left c.from_residual.result _ c.from_residual.ensures.1) (check_unspelt (the_type c.args.schema.now) c.args.limit (behind c.args.hex) _ _ c.in_err-spelt.ensures.exact)
 
 pub returns-in_err-octets-clause-exact : goal.returns-in_err-octets-clause-exact
 returns-in_err-octets-clause-exact g c =
-    let p = err_from_is_err_and c.from_residual-in_err-octets.result c.from_residual-in_err-octets.ensures.1 in
-    rw (p.1, p.2) (check_longer (the_type c.args.schema.now) c.args.limit (behind c.args.hex) _ c.in_ok-spelt.spelt _ c.in_ok-spelt.ensures.exact c.in_err-octets.ensures.exact)
+    rw (left c.from_residual-in_err-octets.result _ c.from_residual-in_err-octets.ensures.1) (check_longer (the_type c.args.schema.now) c.args.limit (behind c.args.hex) _ c.in_ok-spelt.spelt _ c.in_ok-spelt.ensures.exact c.in_err-octets.ensures.exact)
 
 pub returns-in_err-encoding-clause-exact : goal.returns-in_err-encoding-clause-exact
 returns-in_err-encoding-clause-exact g c =
-    let p = err_from_is_err_and c.from_residual-in_err-encoding.result c.from_residual-in_err-encoding.ensures.1 in
-    rw (p.1, p.2) (check_all (the_type c.args.schema.now) c.args.limit (behind c.args.hex) _ c.in_ok-spelt.spelt c.in_ok-octets.octets _ c.in_ok-spelt.ensures.exact c.in_ok-octets.ensures.exact (check_unjudged (the_type c.args.schema.now) c.in_ok-octets.octets.items _ _ c.as_slice.ensures.value (missed_in seen (checked (the_type c.args.schema.now) c.as_slice.result.now) _ c.in_err-encoding.ensures.exact)))
+    rw (left c.from_residual-in_err-encoding.result _ c.from_residual-in_err-encoding.ensures.1) (check_all (the_type c.args.schema.now) c.args.limit (behind c.args.hex) _ c.in_ok-spelt.spelt c.in_ok-octets.octets _ c.in_ok-spelt.ensures.exact c.in_ok-octets.ensures.exact (check_unjudged (the_type c.args.schema.now) c.in_ok-octets.octets.items _ _ c.as_slice.ensures.value (missed_in seen (checked (the_type c.args.schema.now) c.as_slice.result.now) _ c.in_err-encoding.ensures.exact)))
 
 pub returns-clause-takes : goal.returns-clause-takes
 returns-clause-takes g c = λ none. later (c.args.limit + 4096) 0 _ (IsGathered c.args.limit) _ _ (λ small. omega arith)
@@ -66,16 +43,13 @@ returns-clause-takes g c = λ none. later (c.args.limit + 4096) 0 _ (IsGathered 
 
 pub returns-in_err-spelt-clause-takes : goal.returns-in_err-spelt-clause-takes
 returns-in_err-spelt-clause-takes g c =
-    let p = err_from_is_err_and c.from_residual.result c.from_residual.ensures.1 in
-    rw (p.1, p.2) (λ none. untaken (c.args.limit + 4096) _ (IsGathered c.args.limit) _ (spelt_lost (behind c.args.hex) _ c.in_err-spelt.ensures.exact none))
+    rw (left c.from_residual.result _ c.from_residual.ensures.1) (λ none. untaken (c.args.limit + 4096) _ (IsGathered c.args.limit) _ (spelt_lost (behind c.args.hex) _ c.in_err-spelt.ensures.exact none))
 
 pub returns-in_err-octets-clause-takes : goal.returns-in_err-octets-clause-takes
 returns-in_err-octets-clause-takes g c =
-    let p = err_from_is_err_and c.from_residual-in_err-octets.result c.from_residual-in_err-octets.ensures.1 in
-    rw (p.1, p.2) (λ none. c.in_err-octets.ensures.takes (none_spelt (behind c.args.hex) _ c.in_ok-spelt.ensures.octets none))
+    rw (left c.from_residual-in_err-octets.result _ c.from_residual-in_err-octets.ensures.1) (λ none. c.in_err-octets.ensures.takes (none_spelt (behind c.args.hex) _ c.in_ok-spelt.ensures.octets none))
 
 pub returns-in_err-encoding-clause-takes : goal.returns-in_err-encoding-clause-takes
 returns-in_err-encoding-clause-takes g c =
-    let p = err_from_is_err_and c.from_residual-in_err-encoding.result c.from_residual-in_err-encoding.ensures.1 in
-    rw (p.1, p.2) (λ none. later (c.args.limit + 4096) 0 _ (IsGathered c.args.limit) _ _ (λ small. omega arith)
+    rw (left c.from_residual-in_err-encoding.result _ c.from_residual-in_err-encoding.ensures.1) (λ none. later (c.args.limit + 4096) 0 _ (IsGathered c.args.limit) _ _ (λ small. omega arith)
     (c.in_ok-octets.ensures.takes (none_spelt (behind c.args.hex) _ c.in_ok-spelt.ensures.octets none)))

@@ -2,14 +2,20 @@ use Rattle.std.proofs.Common.{inl, inr, arith, map, refl, string_bytes}
 use Rattle.oer_types.specs.Schema.{the_type}
 use Rattle.oer_cmd.specs.Answer.{task_answer}
 use Rattle.oer_cmd.proofs.Asking.{given_later}
+use Rattle.oer_cmd.proofs.Answered.{not_answered, tasks_refuse}
 use Rattle.oer_cmd.proofs.Lines.{none_answers_for}
 use Rattle.oer_cmd.proofs.Endings.{broken_end, does_for, keeps_same, printed_end, refused_end, words_end}
 use Rattle.oer_cmd.proofs.given.run_for.Goals as goal
 
 pub returns-in-Err-line_of-clause-refuses : goal.returns-in-Err-line_of-clause-refuses
 returns-in-Err-line_of-clause-refuses g c = λ taken low high.
-    none_answers_for (the_type c.args.schema.now) (map string_bytes c.args.words.now) c.in-Ok.options _ (g.R.Read.remaining c.args.input.now) c.in-Ok.ensures.ok
-    (c.in-Err-line_of.ensures.refused (omega (arith, c.report.ensures.status high, high))) refl
+    let o = c.in-Ok.options in
+    let T = the_type c.args.schema.now in
+    let told = g.R.Read.remaining c.args.input.now in
+    none_answers_for T (map string_bytes c.args.words.now) o told told c.in-Ok.ensures.ok
+    (tasks_refuse T c.args.schema.now.well_formed o.task o.limit (let h = rw c.in-Ok.is at c.parsed.type_inv in omega (arith, h)) told
+    (λ path of. not_answered (task_answer o.task T o.limit path told) c.in-Err-line_of.fault (c.in-Err-line_of.ensures.exact path of)
+    (omega (arith, c.report.ensures.status high, high)))) refl
 
 pub returns-in-Err-clause-exact : goal.returns-in-Err-clause-exact
 returns-in-Err-clause-exact g c = words_end (map string_bytes c.args.words.now) _ c.in-Err.error c.refused.result _ c.in-Err.ensures.kinds c.in-Err.ensures.err

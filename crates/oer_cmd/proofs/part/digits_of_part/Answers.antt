@@ -1,16 +1,14 @@
-use Rattle.std.proofs.Common.{◌≡◌, ◌++◌, ◌∷◌, ◌∙◌, [], Bool, ℕ, List, Ok, Err, Some, ap, append-nil, arith, length, length-append, subst, sym}
-use Rattle.std.proofs.lemmas.Result.{err_from_is_err_and}
+use Rattle.std.proofs.Common.{◌≡◌, ◌++◌, ◌∷◌, ◌∙◌, [], Bool, ℕ, List, Ok, Some, ap, append-nil, arith, length, length-append, subst, sym}
 use Rattle.oer_model.specs.AsnType.{AsnType}
 use Rattle.oer_model.specs.Parts.{Within}
 use Rattle.oer_types.specs.Schema.{the_type}
 use Rattle.oer_parts.specs.Encoding.{octets_in, type_of_encoding}
-use Rattle.oer_parts.specs.Handing.{AnswersPart, Follows, Hands}
+use Rattle.oer_parts.specs.Handing.{AnswersPart, Hands}
 use Rattle.oer_parts.specs.Walk.{path_of as steps_of}
 use Rattle.oer_parts.specs.declared.encoding.Encoding.{Encoding}
 use Rattle.oer_cmd.specs.Answer.{checked}
-use Rattle.oer_cmd.proofs.Refusals.{unhanded}
 use Rattle.oer_cmd.proofs.Exact.{part_made, part_unjudged}
-use Rattle.oer_cmd.proofs.Meeting.{missed_in, seen_in}
+use Rattle.oer_cmd.proofs.Meeting.{left, missed_in, seen_in}
 use Rattle.oer_cmd.proofs.part.digits_of_part.Goals as goal
 
 abbrev seen : Encoding → Bool
@@ -19,18 +17,6 @@ seen found = found.verdict.canonical
 -- what holds of the encoding's type and octets holds of those that were given
 of_given : (P : AsnType → List ℕ → Type 0) (found : Encoding) (T : AsnType) (octets : List ℕ) → type_of_encoding found ≡ T → octets_in found ≡ octets → P (type_of_encoding found) (octets_in found) → P T octets
 of_given P found T octets kind same h = subst (λ (xs : List ℕ). P T xs) same (subst (λ (U : AsnType). P U (octets_in found)) kind h)
-
-pub returns-in_err-encoding-clause-refused : goal.returns-in_err-encoding-clause-refused
-returns-in_err-encoding-clause-refused c =
-    let p = err_from_is_err_and c.from_residual.result c.from_residual.ensures.1 in
-    rw (p.1, p.2) (λ small line all h. c.in_err-encoding.ensures.none all)
-
-pub returns-in-Err-Read-clause-refused : goal.returns-in-Err-Read-clause-refused
-returns-in-Err-Read-clause-refused c =
-    let T = the_type c.args.schema.now in
-    let path = steps_of c.args.path.now in
-    λ small. unhanded {A = List ℕ} (λ s. s) T c.args.octets.now path _
-    (of_given (λ U xs. Follows {A = List ℕ} (λ s. s) U xs path (Err c.in-Err-Read.field-0)) c.in_ok-encoding.encoding T c.args.octets.now c.in_ok-encoding.ensures.kind c.in_ok-encoding.ensures.octets c.in-Err-Read.ensures.comes)
 
 pub returns-in-Ok-encode-clause-exact : goal.returns-in-Ok-encode-clause-exact
 returns-in-Ok-encode-clause-exact c =
@@ -42,8 +28,7 @@ returns-in-Ok-encode-clause-exact c =
 pub returns-in_err-encoding-clause-exact : goal.returns-in_err-encoding-clause-exact
 returns-in_err-encoding-clause-exact c =
     let T = the_type c.args.schema.now in
-    let p = err_from_is_err_and c.from_residual.result c.from_residual.ensures.1 in
-    rw (p.1, p.2) (part_unjudged T (steps_of c.args.path.now) c.args.octets.now _ (missed_in seen (checked T c.args.octets.now) _ c.in_err-encoding.ensures.exact))
+    rw (left c.from_residual.result _ c.from_residual.ensures.1) (part_unjudged T (steps_of c.args.path.now) c.args.octets.now _ (missed_in seen (checked T c.args.octets.now) _ c.in_err-encoding.ensures.exact))
 
 -- a front that is as long as the whole is the whole
 front_is_whole : (xs b rest : List ℕ) → xs ≡ b ++ rest → length b ≡ length xs → b ≡ xs

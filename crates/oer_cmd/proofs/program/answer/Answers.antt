@@ -1,8 +1,6 @@
 use Rattle.std.proofs.Common.{◌∙◌, ap, sym}
-use Rattle.std.proofs.lemmas.Result.{err_from_is_err_and}
 use Rattle.oer_options.specs.Words.{texts_of}
 use Rattle.oer_cmd.specs.Types.{texts_at}
-use Rattle.oer_cmd.proofs.Naming.{of_texts, unnamed}
 use Rattle.oer_cmd.proofs.Endings.{for_texts, lacking}
 use Rattle.std.proofs.Common.{refl}
 use Rattle.oer_options.specs.Words.{source_text}
@@ -11,26 +9,12 @@ use Rattle.oer_cmd.specs.Types.{reads_types}
 use Rattle.oer_cmd.proofs.Asking.{for_same, kept, no_type}
 use Rattle.oer_cmd.proofs.Choices.{failing}
 use Rattle.oer_cmd.proofs.Endings.{line_for}
-use Rattle.oer_cmd.proofs.TypesInput.{own_none}
+use Rattle.oer_cmd.proofs.Meeting.{left}
 use Rattle.oer_cmd.proofs.program.answer.Goals as goal
-
-pub returns-in_err-text-clause-refused : goal.returns-in_err-text-clause-refused
-returns-in_err-text-clause-refused g c =
-    let p = err_from_is_err_and c.from_residual.result c.from_residual.ensures.1 in
-    rw (p.1, p.2) (λ small. own_none (texts_of c.args.options) _ _ _ c.in_err-text.ensures.unread
-    (unnamed (texts_of c.args.options) _ _ _ c.in_err-text.ensures.named.1))
-
-pub returns-in-One-clause-refused : goal.returns-in-One-clause-refused
-returns-in-One-clause-refused g c = of_texts c.line_of_one.result _ c.args.options.task c.args.options.limit (texts_of c.args.options) _ (ap texts_at (sym c.in-One.is) ∙ c.in_ok-text.ensures.named) c.line_of_one.ensures.refused
-
-pub returns-in-Named-clause-refused : goal.returns-in-Named-clause-refused
-returns-in-Named-clause-refused g c = of_texts c.line_of_types.result _ c.args.options.task c.args.options.limit
-    (texts_of c.args.options) _ (ap texts_at (sym c.in-Named.is) ∙ c.in_ok-text.ensures.named) c.line_of_types.ensures.refused
 
 pub returns-in_err-text-clause-exact : goal.returns-in_err-text-clause-exact
 returns-in_err-text-clause-exact g c =
-    let p = err_from_is_err_and c.from_residual.result c.from_residual.ensures.1 in
-    rw (p.1, p.2) (λ path of. lacking c.args.options path _ _ c.in_err-text.ensures.unread c.in_err-text.ensures.lacking)
+    rw (left c.from_residual.result _ c.from_residual.ensures.1) (λ path of. lacking c.args.options path _ _ c.in_err-text.ensures.unread c.in_err-text.ensures.lacking)
 
 pub returns-in-One-clause-exact : goal.returns-in-One-clause-exact
 returns-in-One-clause-exact g c = for_texts (texts_of c.args.options) _ c.args.options.task c.args.options.limit _ c.line_of_one.result (ap texts_at (sym c.in-One.is) ∙ c.in_ok-text.ensures.named) c.line_of_one.ensures.exact
@@ -41,8 +25,7 @@ returns-in-Named-clause-exact g c = for_texts (texts_of c.args.options) _ c.args
 
 pub returns-in_err-text-clause-takes : goal.returns-in_err-text-clause-takes
 returns-in_err-text-clause-takes g c =
-    let p = err_from_is_err_and c.from_residual.result c.from_residual.ensures.1 in
-    rw (p.1, p.2) (failing (reads_types (texts_of c.args.options)) _ _ c.in_err-text.ensures.unread
+    rw (left c.from_residual.result _ c.from_residual.ensures.1) (failing (reads_types (texts_of c.args.options)) _ _ c.in_err-text.ensures.unread
     (λ path of. kept (expected_type (texts_of c.args.options)) (source_text c.args.options.task) path _ _ refl
     (λ T steps is none its. absurd (no_type (expected_type (texts_of c.args.options)) T _ c.in_err-text.ensures.lacking is))))
 

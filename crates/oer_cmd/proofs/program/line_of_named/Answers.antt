@@ -1,6 +1,3 @@
-use Rattle.std.proofs.lemmas.Result.{IfErr-weaker, err_from_is_err_and}
-use Rattle.oer_cmd.proofs.Naming.{new_name, only_named, unanswered, unnamed}
-use Rattle.oer_cmd.proofs.Refusals.{not_memory}
 use Rattle.oer_cmd.proofs.Endings.{named_read, named_unknown, named_unread}
 use Rattle.std.proofs.Common.{refl}
 use Rattle.oer_types.specs.Schema.{the_type}
@@ -10,41 +7,20 @@ use Rattle.oer_notation.specs.Views.{knowns}
 use Rattle.oer_options.specs.Words.{kind, source_text}
 use Rattle.oer_cmd.specs.Answer.{named_as, parsed}
 use Rattle.oer_cmd.specs.Expected.{◌>>=◌}
-use Rattle.oer_cmd.specs.Types.{texts_at}
-use Rattle.oer_cmd.specs.declared.type_text.TypeText.TheVariants.{Named}
 use Rattle.oer_cmd.proofs.Asking.{all_told, kept, name_lost, task_untaken, typed, types_lost}
-use Rattle.oer_cmd.proofs.Meeting.{goes}
+use Rattle.oer_cmd.proofs.Meeting.{goes, left}
 use Rattle.oer_cmd.proofs.program.line_of_named.Goals as goal
-
-pub returns-in_err-types-clause-refused : goal.returns-in_err-types-clause-refused
-returns-in_err-types-clause-refused g c =
-    let p = err_from_is_err_and c.from_residual.result c.from_residual.ensures.1 in
-    rw (p.1, p.2) (λ small. unnamed (texts_at (Named c.args.types c.args.name)) _ _ _
-    (λ T h. c.in_err-types.ensures.refused (not_memory _ small) h.0 h.1))
-
-pub returns-in_err-schema-clause-refused : goal.returns-in_err-schema-clause-refused
-returns-in_err-schema-clause-refused g c =
-    let p = err_from_is_err_and c.from_residual-in_err-schema.result c.from_residual-in_err-schema.ensures.1 in
-    rw (p.1, p.2) (λ small. unnamed (texts_at (Named c.args.types c.args.name)) _ _ _
-    (new_name _ _ _ c.in_ok-types.ensures.spells c.in_err-schema.ensures.defined.1))
-
-pub returns-clause-refused : goal.returns-clause-refused
-returns-clause-refused g c =
-    IfErr-weaker c.line_of.result _ _ (λ fault none small. unanswered (texts_at (Named c.args.types c.args.name)) _ _ _ _
-    (only_named _ _ _ _ c.in_ok-types.ensures.spells c.in_ok-schema.ensures.defined) (none small)) c.line_of.ensures.refused
 
 pub returns-clause-exact : goal.returns-clause-exact
 returns-clause-exact g c = λ path of. named_read c.args.types c.args.name c.args.options.task c.args.options.limit path _ c.in_ok-types.types c.in_ok-schema.schema c.line_of.result c.in_ok-types.ensures.exact c.in_ok-schema.ensures.exact (c.line_of.ensures.exact path of)
 
 pub returns-in_err-types-clause-exact : goal.returns-in_err-types-clause-exact
 returns-in_err-types-clause-exact g c =
-    let p = err_from_is_err_and c.from_residual.result c.from_residual.ensures.1 in
-    rw (p.1, p.2) (λ path of. named_unread c.args.types c.args.name c.args.options.task c.args.options.limit path _ _ c.in_err-types.ensures.exact)
+    rw (left c.from_residual.result _ c.from_residual.ensures.1) (λ path of. named_unread c.args.types c.args.name c.args.options.task c.args.options.limit path _ _ c.in_err-types.ensures.exact)
 
 pub returns-in_err-schema-clause-exact : goal.returns-in_err-schema-clause-exact
 returns-in_err-schema-clause-exact g c =
-    let p = err_from_is_err_and c.from_residual-in_err-schema.result c.from_residual-in_err-schema.ensures.1 in
-    rw (p.1, p.2) (λ path of. named_unknown c.args.types c.args.name c.args.options.task c.args.options.limit path _ c.in_ok-types.types _ c.in_ok-types.ensures.exact c.in_err-schema.ensures.exact)
+    rw (left c.from_residual-in_err-schema.result _ c.from_residual-in_err-schema.ensures.1) (λ path of. named_unknown c.args.types c.args.name c.args.options.task c.args.options.limit path _ c.in_ok-types.types _ c.in_ok-types.ensures.exact c.in_err-schema.ensures.exact)
 
 pub returns-clause-takes : goal.returns-clause-takes
 returns-clause-takes g c = λ path of. typed (λ s. the_type s.now) (parsed (parse_all c.args.types.now) >>= λ ks. named_as c.args.name.now (find ks c.args.name.now)) c.in_ok-schema.schema
@@ -55,13 +31,11 @@ returns-clause-takes g c = λ path of. typed (λ s. the_type s.now) (parsed (par
 
 pub returns-in_err-types-clause-takes : goal.returns-in_err-types-clause-takes
 returns-in_err-types-clause-takes g c =
-    let p = err_from_is_err_and c.from_residual.result c.from_residual.ensures.1 in
-    rw (p.1, p.2) (λ path of. kept (parsed (parse_all c.args.types.now) >>= λ ks. named_as c.args.name.now (find ks c.args.name.now)) (source_text c.args.options.task) path _ _ refl
+    rw (left c.from_residual.result _ c.from_residual.ensures.1) (λ path of. kept (parsed (parse_all c.args.types.now) >>= λ ks. named_as c.args.name.now (find ks c.args.name.now)) (source_text c.args.options.task) path _ _ refl
     (λ T steps is none its. task_untaken (kind c.args.options.task) T c.args.options.limit _ _ (types_lost (parse_all c.args.types.now) c.args.name.now T _ is c.in_err-types.ensures.exact)))
 
 pub returns-in_err-schema-clause-takes : goal.returns-in_err-schema-clause-takes
 returns-in_err-schema-clause-takes g c =
-    let p = err_from_is_err_and c.from_residual-in_err-schema.result c.from_residual-in_err-schema.ensures.1 in
-    rw (p.1, p.2) (λ path of. kept (parsed (parse_all c.args.types.now) >>= λ ks. named_as c.args.name.now (find ks c.args.name.now)) (source_text c.args.options.task) path _ _ refl
+    rw (left c.from_residual-in_err-schema.result _ c.from_residual-in_err-schema.ensures.1) (λ path of. kept (parsed (parse_all c.args.types.now) >>= λ ks. named_as c.args.name.now (find ks c.args.name.now)) (source_text c.args.options.task) path _ _ refl
     (λ T steps is none its. task_untaken (kind c.args.options.task) T c.args.options.limit _ _
     (name_lost (parse_all c.args.types.now) c.args.name.now T c.in_ok-types.types _ is c.in_ok-types.ensures.exact c.in_err-schema.ensures.exact)))

@@ -1,34 +1,19 @@
-use Rattle.std.proofs.lemmas.Result.{IfErr-weaker, err_from_is_err_and}
-use Rattle.oer_cmd.proofs.Naming.{unanswered, unnamed}
-use Rattle.oer_cmd.proofs.Refusals.{not_memory}
 use Rattle.oer_cmd.proofs.Endings.{one_read, one_unread}
 use Rattle.std.proofs.Common.{refl}
 use Rattle.oer_types.specs.Schema.{the_type}
 use Rattle.oer_notation.specs.Parsing.{parse}
 use Rattle.oer_options.specs.Words.{kind, source_text}
 use Rattle.oer_cmd.specs.Answer.{parsed}
-use Rattle.oer_cmd.specs.Types.{texts_at}
-use Rattle.oer_cmd.specs.declared.type_text.TypeText.TheVariants.{One}
 use Rattle.oer_cmd.proofs.Asking.{kept, one_told, task_untaken, type_lost, typed}
+use Rattle.oer_cmd.proofs.Meeting.{left}
 use Rattle.oer_cmd.proofs.program.line_of_one.Goals as goal
-
-pub returns-in_err-schema-clause-refused : goal.returns-in_err-schema-clause-refused
-returns-in_err-schema-clause-refused g c =
-    let p = err_from_is_err_and c.from_residual.result c.from_residual.ensures.1 in
-    rw (p.1, p.2) (λ small. unnamed (texts_at (One c.args.text)) _ _ _ (c.in_err-schema.ensures.refused (not_memory _ small)))
-
-pub returns-clause-refused : goal.returns-clause-refused
-returns-clause-refused g c =
-    IfErr-weaker c.line_of.result _ _ (λ fault none small. unanswered (texts_at (One c.args.text)) _ _ _ _
-    c.in_ok-schema.ensures.spells.1 (none small)) c.line_of.ensures.refused
 
 pub returns-clause-exact : goal.returns-clause-exact
 returns-clause-exact g c = λ path of. one_read c.args.text c.args.options.task c.args.options.limit path _ c.in_ok-schema.schema c.line_of.result c.in_ok-schema.ensures.exact (c.line_of.ensures.exact path of)
 
 pub returns-in_err-schema-clause-exact : goal.returns-in_err-schema-clause-exact
 returns-in_err-schema-clause-exact g c =
-    let p = err_from_is_err_and c.from_residual.result c.from_residual.ensures.1 in
-    rw (p.1, p.2) (λ path of. one_unread c.args.text c.args.options.task c.args.options.limit path _ _ c.in_err-schema.ensures.exact)
+    rw (left c.from_residual.result _ c.from_residual.ensures.1) (λ path of. one_unread c.args.text c.args.options.task c.args.options.limit path _ _ c.in_err-schema.ensures.exact)
 
 pub returns-clause-takes : goal.returns-clause-takes
 returns-clause-takes g c = λ path of. typed the_type (parsed (parse c.args.text.now)) c.in_ok-schema.schema (source_text c.args.options.task) path _ _
@@ -36,6 +21,5 @@ returns-clause-takes g c = λ path of. typed the_type (parsed (parse c.args.text
 
 pub returns-in_err-schema-clause-takes : goal.returns-in_err-schema-clause-takes
 returns-in_err-schema-clause-takes g c =
-    let p = err_from_is_err_and c.from_residual.result c.from_residual.ensures.1 in
-    rw (p.1, p.2) (λ path of. kept (parsed (parse c.args.text.now)) (source_text c.args.options.task) path _ _ refl
+    rw (left c.from_residual.result _ c.from_residual.ensures.1) (λ path of. kept (parsed (parse c.args.text.now)) (source_text c.args.options.task) path _ _ refl
     (λ T steps is none its. task_untaken (kind c.args.options.task) T c.args.options.limit _ _ (type_lost the_type (parsed (parse c.args.text.now)) T _ is c.in_err-schema.ensures.exact)))

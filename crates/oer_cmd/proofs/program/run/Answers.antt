@@ -1,13 +1,20 @@
 use Rattle.std.proofs.Common.{inl, inr, arith, map, refl, string_bytes}
 use Rattle.oer_cmd.specs.Answer.{expected_answer}
 use Rattle.oer_cmd.proofs.Endings.{broken_end, does, keeps_same, printed_end, refused_end, words_end}
+use Rattle.oer_options.specs.Words.{texts_of}
+use Rattle.oer_cmd.proofs.Answered.{not_answered, texts_refuse}
 use Rattle.oer_cmd.proofs.Lines.{none_answers}
 use Rattle.oer_cmd.proofs.Asking.{for_later}
 use Rattle.oer_cmd.proofs.program.run.Goals as goal
 
 pub returns-in-Err-answer-clause-refuses : goal.returns-in-Err-answer-clause-refuses
 returns-in-Err-answer-clause-refuses g c = λ taken low high.
-    none_answers (map string_bytes c.args.words.now) c.in-Ok.options _ (g.R.Read.remaining c.args.input.now) c.in-Ok.ensures.ok (c.in-Err-answer.ensures.refused (omega (arith, c.report.ensures.status high, high))) refl
+    let o = c.in-Ok.options in
+    let told = g.R.Read.remaining c.args.input.now in
+    none_answers (map string_bytes c.args.words.now) o told told c.in-Ok.ensures.ok
+    (texts_refuse c.what_is_spelled_is_parsed.ensures.one c.what_is_spelled_is_parsed.ensures.all (texts_of o) o.task o.limit (let h = rw c.in-Ok.is at c.parsed.type_inv in omega (arith, h)) told
+    (λ path of. not_answered (expected_answer o path told) c.in-Err-answer.fault (c.in-Err-answer.ensures.exact path of)
+    (omega (arith, c.report.ensures.status high, high)))) refl
 
 pub returns-in-Err-clause-exact : goal.returns-in-Err-clause-exact
 returns-in-Err-clause-exact g c = words_end (map string_bytes c.args.words.now) _ c.in-Err.error c.refused.result _ c.in-Err.ensures.kinds c.in-Err.ensures.err c.refused.ensures.memory

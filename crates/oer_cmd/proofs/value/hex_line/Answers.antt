@@ -1,14 +1,9 @@
 use Rattle.std.proofs.Common.{Some, refl}
-use Rattle.std.proofs.lemmas.Result.{err_from_is_err_and}
 use Rattle.oer_types.specs.Schema.{the_type}
 use Rattle.oer_units.specs.Stream.{inner_of}
-use Rattle.oer_cmd.specs.Run.{IsValueLine}
-use Rattle.oer_cmd.proofs.Refusals.{by_reader}
 use Rattle.oer_cmd.proofs.Exact.{value_digits, value_undecoded}
+use Rattle.oer_cmd.proofs.Meeting.{left}
 use Rattle.oer_cmd.proofs.value.hex_line.Goals as goal
-
-pub returns-clause-refused : goal.returns-clause-refused
-returns-clause-refused c = by_reader c.read_line.result _ c.in_ok-octets.octets.items (Some ((inner_of c.new-reader.result).now)) (IsValueLine c.args.form (the_type c.args.schema.now) c.args.limit) c.read_line.ensures.refused c.in_ok-octets.ensures.octets (rw (c.new-reader.ensures.inner, c.as_slice.ensures.value) refl)
 
 pub returns-clause-exact : goal.returns-clause-exact
 returns-clause-exact c = value_digits c.args.form (the_type c.args.schema.now) c.args.limit c.args.digits.now c.in_ok-octets.octets (Some ((inner_of c.new-reader.result).now)) c.read_line.result
@@ -16,5 +11,4 @@ returns-clause-exact c = value_digits c.args.form (the_type c.args.schema.now) c
 
 pub returns-in_err-octets-clause-exact : goal.returns-in_err-octets-clause-exact
 returns-in_err-octets-clause-exact c =
-    let p = err_from_is_err_and c.from_residual.result c.from_residual.ensures.1 in
-    rw (p.1, p.2) (value_undecoded c.args.form (the_type c.args.schema.now) c.args.limit c.args.digits.now _ c.in_err-octets.ensures.exact)
+    rw (left c.from_residual.result _ c.from_residual.ensures.1) (value_undecoded c.args.form (the_type c.args.schema.now) c.args.limit c.args.digits.now _ c.in_err-octets.ensures.exact)

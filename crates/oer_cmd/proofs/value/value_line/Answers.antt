@@ -1,16 +1,7 @@
 use Rattle.oer_types.specs.Schema.{the_type}
-use Rattle.oer_cmd.specs.Run.{IsValueLine}
 use Rattle.oer_cmd.proofs.Asking.{is_behind}
-use Rattle.oer_cmd.proofs.Refusals.{by_digits, by_input, value_within}
 use Rattle.oer_cmd.proofs.Exact.{value_by, is_given}
 use Rattle.oer_cmd.proofs.value.value_line.Goals as goal
-
-pub returns-in-Some-clause-refused : goal.returns-in-Some-clause-refused
-returns-in-Some-clause-refused g c = by_digits c.hex_line.result _ (IsValueLine c.args.form (the_type c.args.schema.now) c.args.limit) c.args.hex c.in-Some.digits c.in-Some.is c.hex_line.ensures.refused
-
-pub returns-in-None-clause-refused : goal.returns-in-None-clause-refused
-returns-in-None-clause-refused g c =
-    by_input c.input_line.result c.args.limit _ (IsValueLine c.args.form (the_type c.args.schema.now) c.args.limit) c.args.hex c.in-None.is (value_within c.args.form (the_type c.args.schema.now) c.args.limit) c.input_line.ensures.refused
 
 pub returns-in-Some-clause-exact : goal.returns-in-Some-clause-exact
 returns-in-Some-clause-exact g c = value_by c.args.form (the_type c.args.schema.now) c.args.limit c.args.hex _ _ c.hex_line.result c.in-Some.is c.hex_line.ensures.exact
