@@ -392,11 +392,12 @@ class Calls(unittest.TestCase):
         types = types_of(b"NULL")
         for status, wanted in ((4, oer.OutOfMemory), (42, oer.Error)):
             with mock.patch.object(oer, "_library") as library:
+                library.oer_types_read.return_value = oer._Parsed(status, 0, 0)
                 library.oer_types_read_within.return_value = oer._Parsed(status, 0, 0)
                 library.oer_check.return_value = oer._Checked(status, 0, 0, 0)
                 library.oer_canon.return_value = oer._Written(status, 0, 0, 0)
-                for call in (lambda: types.read("A ::= NULL"), lambda: types.check("A", b""),
-                             lambda: types.canon("A", b"")):
+                for call in (lambda: types.read("A ::= NULL"), lambda: types.read("A ::= NULL", 1),
+                             lambda: types.check("A", b""), lambda: types.canon("A", b"")):
                     self.assertEqual(self.raised(call), (wanted, None, None))
         self.assertEqual(types.check("A", b""), (0, True))
 
