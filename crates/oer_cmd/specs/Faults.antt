@@ -14,7 +14,7 @@ use Rattle.oer_decoder.specs.declared.fault.RewriteFault.TheVariants as rewrite
 use Rattle.oer_value_notation.specs.Faults.{text_why_name}
 use Rattle.oer_json.specs.Faults.{json_fault_name}
 use Rattle.oer_cmd.specs.declared.fault.Fault.{Fault}
-use Rattle.oer_cmd.specs.declared.fault.Fault.TheVariants.{Read, Follows, Longer, NoSuchStep, Absent, OneType, NoName, NoTypes, NoSource, «Type», Unnamed, Hex, Path, NotJson, Json, Input, Output, Memory}
+use Rattle.oer_cmd.specs.declared.fault.Fault.TheVariants.{Read, Nesting, Follows, Longer, NoSuchStep, Absent, OneType, NoName, NoTypes, NoSource, «Type», Unnamed, Hex, Path, NotJson, Json, Input, Output, Memory}
 
 -- the notation was refused
 pub record IsOfText (e : TextFault) (fault : Fault) : Type 0 where
@@ -37,6 +37,7 @@ IsOfRewrite (rewrite.Write write.TooLong) fault = fault ≡ Output
 -- the status of the program: 1 where the octets are refused, 2 where the words are, 3 where the machine fails
 abbrev pub status_of : Fault → ℕ
 status_of (Read e) = 1
+status_of (Nesting n) = 1
 status_of (Follows n) = 1
 status_of (Longer n) = 1
 status_of NoSuchStep = 1
@@ -62,6 +63,7 @@ Refuses fault P = status_of fault ≤ 2 → P
 -- the text of a fault, as it stands in its line
 abbrev pub text_of : Fault → Text
 text_of (Read e) = why_name e.why ++ codes " at " ++ decimal e.taken
+text_of (Nesting n) = codes "Nesting at " ++ decimal n
 text_of (Follows n) = codes "octets follow the value at " ++ decimal n
 text_of (Longer n) = codes "input longer than " ++ decimal n
 text_of NoSuchStep = codes "NoSuchStep"

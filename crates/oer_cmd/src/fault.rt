@@ -15,6 +15,8 @@ use std::fmt;
 pub enum Fault<'a> {
     /// The octets begin with no encoding.
     Read(ReadFault),
+    /// The octets nest deeper than the type, one of modules, is written out: after so many they are rejected where it ends.
+    Nesting(u64),
     /// An octet follows the value, which took so many.
     Follows(u64),
     /// There are more octets than the limit, which is this.
@@ -94,7 +96,7 @@ impl<'a> Fault<'a> {
         ensures output { self.entry ≡ Fault.Output → result ≡ 3 }
     {
         match self {
-            Fault::Read(_) | Fault::Follows(_) | Fault::Longer(_) => 1,
+            Fault::Read(_) | Fault::Nesting(_) | Fault::Follows(_) | Fault::Longer(_) => 1,
             Fault::NoSuchStep | Fault::Absent => 1,
             Fault::OneType | Fault::NoName | Fault::NoTypes | Fault::NoSource => 2,
             Fault::Type(_) | Fault::Unnamed(_) | Fault::Hex => 2,
@@ -110,6 +112,7 @@ impl fmt::Display for Fault<'_> {
     fn fmt<W: fmt::Write>(&self, f: &mut fmt::Formatter<W>) -> fmt::Result {
         match self {
             Fault::Read(fault) => write!(f, "{} at {}", fault.why.name(), fault.taken),
+            Fault::Nesting(taken) => write!(f, "Nesting at {taken}"),
             Fault::Follows(taken) => write!(f, "octets follow the value at {taken}"),
             Fault::Longer(limit) => write!(f, "input longer than {limit}"),
             Fault::NoSuchStep => f.write_str("NoSuchStep"),

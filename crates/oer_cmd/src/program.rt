@@ -29,8 +29,9 @@ use oer_units::Metered;
 use std::alloc::{AllocError, Global};
 use std::io::{Read, Write};
 
-// The line of the task.
-pub(crate) fn line_of<'a, R: Read>(
+/// The line of the task for values of the type, from the octets or the JSON of the options, else from the input. The error says why
+/// there is none.
+pub fn line_of<'a, R: Read>(
     alloc: Global,
     schema: &Schema,
     options: Options<'a>,
@@ -154,8 +155,8 @@ pub fn put_all<W: Write>(octets: &[u8], w: &mut W) -> bool
     Metered::new(w).put(octets).is_ok()
 }
 
-// Writes the line and its line feed in one call, and flushes.
-pub(crate) fn print_line<'a, W: Write>(mut line: String, output: &mut W) -> Result<(), Fault<'a>>
+/// Writes the line and its line feed in one call, and flushes. It fails with `Memory`, with nothing written, or with `Output`.
+pub fn print_line<'a, W: Write>(mut line: String, output: &mut W) -> Result<(), Fault<'a>>
     ensures printed { Printed (string_bytes line) (W.contents output.old) (W.contents output.new) result }
     ensures fails { IfErr result (λ fault. status_of fault ≡ 3) }
 {

@@ -1,0 +1,2 @@
+pub mod OpenEnds
+pub mod Roots

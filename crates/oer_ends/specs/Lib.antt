@@ -1,0 +1,4 @@
+pub mod Ends
+pub mod Opened
+pub mod Nests
+pub mod Laws
