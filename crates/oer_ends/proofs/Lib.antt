@@ -1,2 +1,3 @@
 pub mod OpenEnds
+pub mod Places
 pub mod Roots

@@ -1,7 +1,7 @@
 //! Where octets nest deeper than a type is written out.
-ghost use Rattle.std.specs.Prelude.{◌≡◌, IfOk, MatchOption};
+ghost use Rattle.std.specs.Prelude.{◌≡◌, IfOk, Some};
 ghost use Rattle.oer_types.specs.Schema.{the_type};
-ghost use Rattle.oer_ends.specs.Nests.{NestsAt, NestsNowhere, unknown_at};
+ghost use Rattle.oer_ends.specs.Nests.{nests_at, unknown_at, unless_same};
 
 use crate::opening::opened;
 use oer_checker::check;
@@ -19,19 +19,26 @@ fn unknown_at(schema: &Schema, octets: &[u8]) -> Option<u64>
     }
 }
 
+// The first place, unless it is the other one, too.
+fn unless_same(place: u64, other: Option<u64>) -> Option<u64>
+    ensures { result ≡ unless_same (Some place) other }
+{
+    match other {
+        Some(other) if other == place => None,
+        _ => Some(place),
+    }
+}
+
 /// After how many octets a message nests deeper than the type is written out, if it does: there it is rejected, as
 /// `UnknownAlternative`, and it isn't with an extension marker in each end of the type. Fails if an allocation fails.
 pub fn nests_at(alloc: Global, schema: &Schema, octets: &[u8]) -> Result<Option<u64>, AllocError>
-    ensures { IfOk result (λ at. MatchOption at (NestsNowhere (the_type schema.now) octets.now) (NestsAt (the_type schema.now) octets.now)) }
+    ensures { IfOk result (λ at. at ≡ nests_at (the_type schema.now) octets.now) }
 {
     let Some(at) = unknown_at(schema, octets) else {
         return Ok(None);
     };
-    let Ok(open) = Schema::new(opened(alloc, schema.shape())?) else {
-        return Ok(None);
-    };
-    if unknown_at(&open, octets) == Some(at) {
-        return Ok(None);
+    match Schema::new(opened(alloc, schema.shape())?) {
+        Ok(open) => Ok(unless_same(at, unknown_at(&open, octets))),
+        Err(_) => Ok(None),
     }
-    Ok(Some(at))
 }

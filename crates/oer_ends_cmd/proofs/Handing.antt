@@ -1,5 +1,5 @@
 -- Octets in hand: those of `--hex`, else those that the input had.
-use Rattle.std.proofs.Common.{Result, ◌≡◌, ◌≢◌, ◌∙◌, ℕ, List, Option, Some, None, Ok, Err, Vec, String, Global, option_map, refl, sym, ap, subst}
+use Rattle.std.proofs.Common.{Result, ◌≡◌, ◌≢◌, ℕ, List, Option, Some, None, Ok, Err, Vec, String, Global, option_map, refl, sym, ap, subst}
 use Rattle.std.specs.Prelude.{IfOk, IfSome}
 use Rattle.std.specs.Borrow.{Bor}
 use Rattle.clap.specs.Words.{Text}
@@ -8,106 +8,53 @@ use Rattle.oer_model.specs.Parts.{Step}
 use Rattle.oer_options.specs.Words.{Kind, canon, check, kind, make, part, path_text, show, show_ascii, source_text}
 use Rattle.oer_options.specs.declared.options.Task.{Task}
 use Rattle.oer_options.specs.declared.options.Task.TheVariants.{Canon, Check, Make, Part, Show, ShowAscii}
-use Rattle.oer_cmd.proofs.Meeting.{bytes, fails}
-use Rattle.oer_cmd.specs.Answer.{digits_octets, hex_octets, limited_octets, task_answer}
+use Rattle.oer_cmd.proofs.Meeting.{bytes}
+use Rattle.oer_cmd.specs.Answer.{digits_octets, hex_octets, limited_octets}
 use Rattle.oer_cmd.specs.Expected.{Expected, Meets, refusal, unknown, value, ◌>>=◌}
 use Rattle.oer_cmd.specs.Octets.{AreSpelt, octets_of}
 use Rattle.oer_cmd.specs.Run.{IsLineBy, IsLineOf}
 use Rattle.oer_cmd.specs.declared.fault.Fault.{Fault}
-use Rattle.oer_ends_cmd.specs.Telling.{IsAnswerTold, IsNestedAnswer, IsToldOf, octets_in_hand}
+use Rattle.oer_ends_cmd.specs.Telling.{answer_in_hand, nested_answer, octets_in_hand}
 
 -- The task is not `make`, which has no octets.
 abbrev pub HasOctets : Task → Type 0
 HasOctets task = (json : Option (Bor Text)) → task ≡ Make json → ⊥
 
-nested_of : (T : AsnType) (task : Task) (limit : ℕ) (path : Expected (List Step)) (had : Option (List ℕ)) (answer : Expected Text) → HasOctets task
-    → IsNestedAnswer T task limit path had answer
-    → IsToldOf T limit (octets_in_hand (source_text task) limit had) (λ b. task_answer task T limit path (Some b)) answer
-nested_of T (Show hex) limit path had answer has is = is
-nested_of T (ShowAscii hex) limit path had answer has is = is
-nested_of T (Canon hex) limit path had answer has is = is
-nested_of T (Check hex) limit path had answer has is = is
-nested_of T (Make json) limit path had answer has is = absurd (has json refl)
-nested_of T (Part hex text) limit path had answer has is = is
+nested_of : (T : AsnType) (task : Task) (limit : ℕ) (path : Expected (List Step)) (had : Option (List ℕ)) (source : Option Text) → source ≡ source_text task
+    → HasOctets task → answer_in_hand task T limit path (octets_in_hand source limit had) ≡ nested_answer task T limit path had
+nested_of T (Show hex) limit path had source same has = ap (λ o. answer_in_hand (Show hex) T limit path (octets_in_hand o limit had)) same
+nested_of T (ShowAscii hex) limit path had source same has = ap (λ o. answer_in_hand (ShowAscii hex) T limit path (octets_in_hand o limit had)) same
+nested_of T (Canon hex) limit path had source same has = ap (λ o. answer_in_hand (Canon hex) T limit path (octets_in_hand o limit had)) same
+nested_of T (Check hex) limit path had source same has = ap (λ o. answer_in_hand (Check hex) T limit path (octets_in_hand o limit had)) same
+nested_of T (Make json) limit path had source same has = absurd (has json refl)
+nested_of T (Part hex text) limit path had source same has = ap (λ o. answer_in_hand (Part hex text) T limit path (octets_in_hand o limit had)) same
 
-nested_by : (T : AsnType) (task : Task) (limit : ℕ) (path : Expected (List Step)) (had : Option (List ℕ)) (answer : Expected Text) (source : Option Text)
-    → source ≡ source_text task → HasOctets task → IsNestedAnswer T task limit path had answer
-    → IsToldOf T limit (octets_in_hand source limit had) (λ b. task_answer task T limit path (Some b)) answer
-nested_by T task limit path had answer source same has is =
-    subst (λ o. IsToldOf T limit (octets_in_hand o limit had) (λ b. task_answer task T limit path (Some b)) answer) (sym same)
-    (nested_of T task limit path had answer has is)
+-- What is made of the octets in hand is the answer.
+pub nested_by : (T : AsnType) (task : Task) (limit : ℕ) (path : Expected (List Step)) (had : Option (List ℕ)) (source : Option Text)
+    (result : Result (String Global) Fault) → source ≡ source_text task → HasOctets task
+    → Meets bytes (answer_in_hand task T limit path (octets_in_hand source limit had)) result → Meets bytes (nested_answer task T limit path had) result
+nested_by T task limit path had source result same has h = subst (λ o. Meets bytes o result) (nested_of T task limit path had source same has) h
 
 -- ---- the octets of `--hex`
 
-spelt_by : (T : AsnType) (limit : ℕ) (m : Expected (List ℕ)) (octets : Vec ℕ Global) (f : List ℕ → Expected Text) (answer : Expected Text)
-    (result : Result (String Global) Fault) → Meets (option_map octets_of) (m >>= λ b. value (Some b)) (Ok (Some octets))
-    → ((a : Expected Text) → IsAnswerTold T limit octets.items (f octets.items) a → Meets bytes a result)
-    → IsToldOf T limit m f answer → Meets bytes answer result
-spelt_by T limit unknown octets f answer result spells goes is = subst (λ o. Meets bytes o result) (sym is) tt
-spelt_by T limit (value b) octets f answer result spells goes is =
-    let same : octets.items ≡ b = (let e : Some octets.items ≡ Some b = spells in cc) in
-    goes answer (subst (λ l. IsAnswerTold T limit l (f l) answer) (sym same) is)
-spelt_by T limit (refusal r) octets f answer result spells goes is = absurd spells
+spelt_by : (m : Expected (List ℕ)) (octets : Vec ℕ Global) → Meets (option_map octets_of) (m >>= λ b. value (Some b)) (Ok (Some octets)) → Meets octets_of m (Ok octets)
+spelt_by unknown octets h = tt
+spelt_by (value b) octets h = let e : Some octets.items ≡ Some b = h in cc
+spelt_by (refusal r) octets h = absurd h
 
 -- The digits are spelt.
-pub spelt_told : (T : AsnType) (task : Task) (limit : ℕ) (path : Expected (List Step)) (had : Option (List ℕ)) (source : Option Text) (spelt : Option (Vec ℕ Global))
-    (octets : Vec ℕ Global) (result : Result (String Global) Fault) → source ≡ source_text task → HasOctets task → spelt ≡ Some octets
-    → Meets (option_map octets_of) (hex_octets source) (Ok spelt)
-    → ((a : Expected Text) → IsAnswerTold T limit octets.items (task_answer task T limit path (Some octets.items)) a → Meets bytes a result)
-    → (answer : Expected Text) → IsNestedAnswer T task limit path had answer → Meets bytes answer result
-spelt_told T task limit path had None spelt octets result same has some spells goes answer is =
-    let e : option_map octets_of spelt ≡ None = spells in let f = ap (option_map octets_of) some in cc
-spelt_told T task limit path had (Some digits) spelt octets result same has some spells goes answer is =
-    spelt_by T limit (digits_octets digits) octets (λ b. task_answer task T limit path (Some b)) answer result
-    (subst (λ o. Meets (option_map octets_of) (digits_octets digits >>= λ b. value (Some b)) (Ok o)) some spells) goes
-    (nested_by T task limit path had answer (Some digits) same has is)
+pub spelt_in_hand : (limit : ℕ) (had : Option (List ℕ)) (source : Option Text) (spelt : Option (Vec ℕ Global)) (octets : Vec ℕ Global) → spelt ≡ Some octets
+    → Meets (option_map octets_of) (hex_octets source) (Ok spelt) → Meets octets_of (octets_in_hand source limit had) (Ok octets)
+spelt_in_hand limit had None spelt octets some h =
+    let e : option_map octets_of spelt ≡ None = h in let f = ap (option_map octets_of) some in absurd (cc)
+spelt_in_hand limit had (Some digits) spelt octets some h =
+    spelt_by (digits_octets digits) octets (subst (λ o. Meets (option_map octets_of) (digits_octets digits >>= λ b. value (Some b)) (Ok o)) some h)
 
-unspelt_by : (T : AsnType) (limit : ℕ) (m : Expected (List ℕ)) (f : List ℕ → Expected Text) (fault : Fault) (answer : Expected Text)
-    → Meets {X = Option (Vec ℕ Global)} (option_map octets_of) (m >>= λ b. value (Some b)) (Err fault) → IsToldOf T limit m f answer
-    → Meets {X = String Global} bytes answer (Err fault)
-unspelt_by T limit unknown f fault answer h is = subst (λ o. Meets {X = String Global} bytes o (Err fault)) (sym is) tt
-unspelt_by T limit (value b) f fault answer h is = fails bytes answer fault h
-unspelt_by T limit (refusal r) f fault answer h is = subst (λ o. Meets {X = String Global} bytes o (Err fault)) (sym is) h
-
--- They are not.
-pub unspelt_told : (T : AsnType) (task : Task) (limit : ℕ) (path : Expected (List Step)) (had : Option (List ℕ)) (source : Option Text) (fault : Fault)
-    → source ≡ source_text task → HasOctets task → Meets {X = Option (Vec ℕ Global)} (option_map octets_of) (hex_octets source) (Err fault)
-    → (answer : Expected Text) → IsNestedAnswer T task limit path had answer → Meets {X = String Global} bytes answer (Err fault)
-unspelt_told T task limit path had None fault same has h answer is = fails bytes answer fault h
-unspelt_told T task limit path had (Some digits) fault same has h answer is =
-    unspelt_by T limit (digits_octets digits) (λ b. task_answer task T limit path (Some b)) fault answer h
-    (nested_by T task limit path had answer (Some digits) same has is)
-
--- ---- those of the input
-
-pub input_told : (T : AsnType) (task : Task) (limit : ℕ) (path : Expected (List Step)) (had : Option (List ℕ)) (source : Option Text) (spelt : Option (Vec ℕ Global))
-    (result : Result (String Global) Fault) → source ≡ source_text task → HasOctets task → spelt ≡ None → AreSpelt source (option_map octets_of spelt)
-    → ((a : Expected Text) → IsToldOf T limit (limited_octets limit None had) (λ b. task_answer task T limit path (Some b)) a → Meets bytes a result)
-    → (answer : Expected Text) → IsNestedAnswer T task limit path had answer → Meets bytes answer result
-input_told T task limit path had None spelt result same has none spells goes answer is = goes answer (nested_by T task limit path had answer None same has is)
-input_told T task limit path had (Some digits) spelt result same has none spells goes answer is =
-    absurd (subst (λ o. AreSpelt (Some digits) (option_map octets_of o)) none spells)
-
-gathered_by : (T : AsnType) (limit : ℕ) (m : Expected (List ℕ)) (octets : Vec ℕ Global) (f : List ℕ → Expected Text) (answer : Expected Text)
-    (result : Result (String Global) Fault) → Meets octets_of m (Ok octets)
-    → ((a : Expected Text) → IsAnswerTold T limit octets.items (f octets.items) a → Meets bytes a result)
-    → IsToldOf T limit m f answer → Meets bytes answer result
-gathered_by T limit unknown octets f answer result all goes is = subst (λ o. Meets bytes o result) (sym is) tt
-gathered_by T limit (value b) octets f answer result all goes is = goes answer (subst (λ l. IsAnswerTold T limit l (f l) answer) (sym all) is)
-gathered_by T limit (refusal r) octets f answer result all goes is = absurd all
-
--- All of them were read.
-pub gathered_told : (T : AsnType) (limit : ℕ) (m : Expected (List ℕ)) (octets : Vec ℕ Global) (f : List ℕ → Expected Text) (result : Result (String Global) Fault)
-    → Meets octets_of m (Ok octets) → ((a : Expected Text) → IsAnswerTold T limit octets.items (f octets.items) a → Meets bytes a result)
-    → (answer : Expected Text) → IsToldOf T limit m f answer → Meets bytes answer result
-gathered_told T limit m octets f result all goes answer is = gathered_by T limit m octets f answer result all goes is
-
--- They were not.
-pub ungathered_told : (T : AsnType) (limit : ℕ) (m : Expected (List ℕ)) (f : List ℕ → Expected Text) (fault : Fault) → Meets {X = Vec ℕ Global} octets_of m (Err fault)
-    → (answer : Expected Text) → IsToldOf T limit m f answer → Meets {X = String Global} bytes answer (Err fault)
-ungathered_told T limit unknown f fault h answer is = subst (λ o. Meets {X = String Global} bytes o (Err fault)) (sym is) tt
-ungathered_told T limit (value b) f fault h answer is = fails bytes answer fault h
-ungathered_told T limit (refusal r) f fault h answer is = subst (λ o. Meets {X = String Global} bytes o (Err fault)) (sym is) h
+-- There are none.
+pub none_in_hand : {A : Type 0} (f : Expected (List ℕ) → A) (P : A → Type 0) (limit : ℕ) (had : Option (List ℕ)) (source : Option Text) (spelt : Option (Vec ℕ Global)) → spelt ≡ None
+    → AreSpelt source (option_map octets_of spelt) → P (f (limited_octets limit None had)) → P (f (octets_in_hand source limit had))
+none_in_hand f P limit had None spelt none spells h = h
+none_in_hand f P limit had (Some digits) spelt none spells h = absurd (subst (λ o. AreSpelt (Some digits) (option_map octets_of o)) none spells)
 
 -- ---- the line
 

@@ -1,5 +1,5 @@
 -- How the program ends for a type of modules.
-use Rattle.std.specs.Prelude.{◌≡◌, ◌≢◌, ◌⊎◌, ℕ, List, Bool, true, false, Option, None}
+use Rattle.std.specs.Prelude.{◌≢◌, ◌⊎◌, ℕ, List, Bool, true, false, Option, None}
 use Rattle.clap.specs.Words.{Text}
 use Rattle.oer_model.specs.AsnType.{AsnType}
 use Rattle.oer_model.specs.Parts.{Step}
@@ -9,7 +9,7 @@ use Rattle.oer_options.specs.declared.options.Options.{Options}
 use Rattle.oer_cmd.specs.Answer.{IsPathOf}
 use Rattle.oer_cmd.specs.Ending.{Breaks, Delivers, EndsFor, IsNotTaken, IsUnstarted, Streams}
 use Rattle.oer_cmd.specs.Expected.{Expected}
-use Rattle.oer_ends_cmd.specs.Telling.{IsNestedAnswer}
+use Rattle.oer_ends_cmd.specs.Telling.{nested_answer}
 
 -- The words ask for these options, and their answer is given as it is told, or the machine failed. Where they have the octets or the JSON,
 -- the input is untouched.
@@ -17,7 +17,7 @@ pub record DoesNested (T : AsnType) (words : List Text) (had : Option (List ℕ)
   pub options : Options
   pub asks : Asks words options
   pub answers : (path : Expected (List Step)) → IsPathOf (path_text options.task) path
-      → (answer : Expected Text) → IsNestedAnswer T options.task options.limit path had answer → Delivers answer status s ⊎ Breaks answer status s
+      → Delivers (nested_answer options.task T options.limit path had) status s ⊎ Breaks (nested_answer options.task T options.limit path had) status s
   pub keeps : source_text options.task ≢ None → untouched
 
 abbrev pub EndsNested : AsnType → List Text → Option (List ℕ) → Type 0 → ℕ

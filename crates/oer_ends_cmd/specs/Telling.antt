@@ -1,54 +1,50 @@
 -- How it is told that octets nest deeper than a type is written out.
-use Rattle.std.specs.Prelude.{◌≡◌, ◌≤◌, ◌⊎◌, ℕ, List, length, Option, Some, None, ⊤}
+use Rattle.std.specs.Prelude.{◌≡◌, ◌≤◌, ℕ, eqb, leb, ◌&&◌, List, length, Option, Some, None, if◌then◌else◌}
 use Rattle.clap.specs.Words.{Text}
 use Rattle.oer_model.specs.AsnType.{AsnType}
 use Rattle.oer_model.specs.Parts.{Step}
-use Rattle.oer_ends.specs.Nests.{NestsAt, NestsNowhere}
+use Rattle.oer_ends.specs.Nests.{nests_at}
 use Rattle.oer_options.specs.Words.{source_text}
 use Rattle.oer_options.specs.declared.options.Task.{Task}
 use Rattle.oer_options.specs.declared.options.Task.TheVariants.{Make}
 use Rattle.oer_cmd.specs.Answer.{digits_octets, limited_octets, task_answer}
-use Rattle.oer_cmd.specs.Expected.{Expected, Refusal, refusal, refusal_of, unknown, value}
+use Rattle.oer_cmd.specs.Expected.{Expected, Refusal, refusal, refusal_of, unknown, value, ◌>>=◌}
 use Rattle.oer_cmd.specs.Faults.{status_of}
 use Rattle.oer_cmd.specs.declared.fault.Fault.{Fault}
 use Rattle.oer_cmd.specs.declared.fault.Fault.TheVariants.{Nesting}
 
--- The octets are rejected, are no more than the limit, and nest deeper than T is written out, after n of them.
-pub record IsTooDeep (T : AsnType) (limit : ℕ) (b : List ℕ) (status n : ℕ) : Type 0 where
-  pub rejected : status ≡ 1
-  pub within : length b ≤ limit
-  pub nests : NestsAt T b n
+-- a refusal of octets that nest too deep after so many, if they do
+abbrev pub at_place : Refusal → Option ℕ → Refusal
+at_place r None = r
+at_place r (Some n) = refusal_of (Nesting n)
 
--- What is told in place of a refusal: that they nest too deep, or the refusal itself.
-abbrev pub IsTold : AsnType → ℕ → List ℕ → Refusal → Refusal → Type 0
-IsTold T limit b r told = ((n : ℕ) × IsTooDeep T limit b r.status n × (told ≡ refusal_of (Nesting n)))
-    ⊎ (((n : ℕ) → IsTooDeep T limit b r.status n → ⊥) × (told ≡ r))
+-- A refusal as it is told of the octets b: that they nest deeper than T is written out, if they are rejected, are no more than the limit, and
+-- do; else the refusal itself.
+abbrev pub told : AsnType → ℕ → List ℕ → Refusal → Refusal
+told T limit b r = if eqb r.status 1 && leb (length b) limit then at_place r (nests_at T b) else r
 
--- The same of a fault. Where the machine fails, that is told; and where memory is refused, too.
-pub record IsFaultTold (T : AsnType) (limit : ℕ) (b : List ℕ) (fault told : Fault) : Type 0 where
-  pub fails : 3 ≤ status_of fault → told ≡ fault
-  pub tells : status_of told ≤ 2 → IsTold T limit b (refusal_of fault) (refusal_of told)
-  pub stays : status_of told ≤ 2 → status_of fault ≤ 2
+-- an answer on the octets b, as it is told
+abbrev pub told_answer : {A : Type 0} → AsnType → ℕ → List ℕ → Expected A → Expected A
+told_answer T limit b unknown = unknown
+told_answer T limit b (value x) = value x
+told_answer T limit b (refusal r) = refusal (told T limit b r)
 
--- The same of an answer on the octets b: only a refusal may be told otherwise.
-abbrev pub IsAnswerTold : AsnType → ℕ → List ℕ → Expected Text → Expected Text → Type 0
-IsAnswerTold T limit b unknown told = told ≡ unknown
-IsAnswerTold T limit b (value line) told = told ≡ value line
-IsAnswerTold T limit b (refusal r) told = (r' : Refusal) × IsTold T limit b r r' × (told ≡ refusal r')
+-- A fault as it is told. Where the machine fails, that is told; and where memory is refused, too.
+pub record IsFaultTold (T : AsnType) (limit : ℕ) (b : List ℕ) (fault other : Fault) : Type 0 where
+  pub fails : 3 ≤ status_of fault → other ≡ fault
+  pub tells : status_of other ≤ 2 → refusal_of other ≡ told T limit b (refusal_of fault)
+  pub stays : status_of other ≤ 2 → status_of fault ≤ 2
 
 -- The octets that a task is about: those of `--hex`, else all that the input had left, no more than the limit.
 abbrev pub octets_in_hand : Option Text → ℕ → Option (List ℕ) → Expected (List ℕ)
 octets_in_hand (Some digits) limit had = digits_octets digits
 octets_in_hand None limit had = limited_octets limit None had
 
--- the answer for these octets, as it is told
-abbrev pub IsToldOf : AsnType → ℕ → Expected (List ℕ) → (List ℕ → Expected Text) → Expected Text → Type 0
-IsToldOf T limit unknown answer told = told ≡ unknown
-IsToldOf T limit (refusal r) answer told = told ≡ refusal r
-IsToldOf T limit (value b) answer told = IsAnswerTold T limit b (answer b) told
+-- the answer of a task on the octets in hand, as it is told
+abbrev pub answer_in_hand : Task → AsnType → ℕ → Expected (List Step) → Expected (List ℕ) → Expected Text
+answer_in_hand task T limit path octets = octets >>= λ b. told_answer T limit b (task_answer task T limit path (Some b))
 
 -- The answer of a task for a type that has an end, where the input had these octets left, as it is told.
-abbrev pub IsNestedAnswer : AsnType → Task → ℕ → Expected (List Step) → Option (List ℕ) → Expected Text → Type 0
-IsNestedAnswer T (Make json) limit path had told = told ≡ task_answer (Make json) T limit path had
-IsNestedAnswer T task limit path had told =
-    IsToldOf T limit (octets_in_hand (source_text task) limit had) (λ b. task_answer task T limit path (Some b)) told
+abbrev pub nested_answer : Task → AsnType → ℕ → Expected (List Step) → Option (List ℕ) → Expected Text
+nested_answer (Make json) T limit path had = task_answer (Make json) T limit path had
+nested_answer task T limit path had = answer_in_hand task T limit path (octets_in_hand (source_text task) limit had)

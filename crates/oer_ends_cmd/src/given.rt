@@ -1,7 +1,7 @@
 //! The command for a type of modules.
 ghost use Rattle.std.specs.Prelude.{◌≡◌, ◌≢◌, ◌≤◌, List, None, Some, IfOk, IfSome, map, string_bytes, true};
 ghost use Rattle.std.specs.Io.KnownBytes.{Keeps};
-ghost use Rattle.clap.specs.Words.{Text, takes};
+ghost use Rattle.clap.specs.Words.{takes};
 ghost use Rattle.oer_model.specs.Parts.{Step};
 ghost use Rattle.oer_types.specs.Schema.{the_type};
 ghost use Rattle.oer_options.specs.Words.{oer, path_text, source_text};
@@ -9,7 +9,7 @@ ghost use Rattle.oer_cmd.specs.Answer.{IsPathOf, limited_octets, task_answer};
 ghost use Rattle.oer_cmd.specs.Expected.{Expected, Meets};
 ghost use Rattle.oer_cmd.specs.Run.{IsLineOf, PrintsFor};
 ghost use Rattle.oer_ends_cmd.specs.Ending.{EndsForModules, EndsNested};
-ghost use Rattle.oer_ends_cmd.specs.Telling.{IsAnswerTold, IsNestedAnswer, IsToldOf};
+ghost use Rattle.oer_ends_cmd.specs.Telling.{answer_in_hand, nested_answer, told_answer};
 
 use crate::telling::told;
 use oer_cmd::{Fault, all_octets, line_of, print_line, refused, report, spelt};
@@ -28,10 +28,9 @@ fn line_in_hand<'a>(
 ) -> Result<String, Fault<'a>>
     ensures line { IfOk result (λ line. IsLineOf options.entry.task (Some octets.now)
         (the_type schema.now) options.entry.limit (string_bytes line)) }
-    ensures exact { (path : Expected (List Step)) → IsPathOf (path_text options.entry.task) path → (answer : Expected Text)
-        → IsAnswerTold (the_type schema.now) options.entry.limit octets.now
-        (task_answer options.entry.task (the_type schema.now) options.entry.limit path (Some octets.now)) answer
-        → Meets string_bytes answer result }
+    ensures exact { (path : Expected (List Step)) → IsPathOf (path_text options.entry.task) path
+        → Meets string_bytes (told_answer (the_type schema.now) options.entry.limit octets.now
+        (task_answer options.entry.task (the_type schema.now) options.entry.limit path (Some octets.now))) result }
 {
     let mut reader = octets;
     match line_of(alloc, schema, options, &mut reader) {
@@ -49,10 +48,9 @@ fn line_of_input<'a, R: Read>(
 ) -> Result<String, Fault<'a>>
     ensures line { IfOk result (λ line. IfSome (R.remaining input.old) (λ b. IsLineOf options.entry.task (Some b)
         (the_type schema.now) options.entry.limit (string_bytes line))) }
-    ensures exact { (path : Expected (List Step)) → IsPathOf (path_text options.entry.task) path → (answer : Expected Text)
-        → IsToldOf (the_type schema.now) options.entry.limit (limited_octets options.entry.limit None (R.remaining input.old))
-        (λ b. task_answer options.entry.task (the_type schema.now) options.entry.limit path (Some b)) answer
-        → Meets string_bytes answer result }
+    ensures exact { (path : Expected (List Step)) → IsPathOf (path_text options.entry.task) path
+        → Meets string_bytes (answer_in_hand options.entry.task (the_type schema.now) options.entry.limit path
+        (limited_octets options.entry.limit None (R.remaining input.old))) result }
 {
     let octets = all_octets(alloc, None, input, options.limit)?;
     line_in_hand(alloc, schema, options, octets.as_slice())
@@ -67,9 +65,8 @@ fn nested_line<'a, R: Read>(
 ) -> Result<String, Fault<'a>>
     ensures line { IfOk result (λ line. IsLineOf options.entry.task (R.remaining input.old)
         (the_type schema.now) options.entry.limit (string_bytes line)) }
-    ensures exact { (path : Expected (List Step)) → IsPathOf (path_text options.entry.task) path → (answer : Expected Text)
-        → IsNestedAnswer (the_type schema.now) options.entry.task options.entry.limit path (R.remaining input.old) answer
-        → Meets string_bytes answer result }
+    ensures exact { (path : Expected (List Step)) → IsPathOf (path_text options.entry.task) path
+        → Meets string_bytes (nested_answer options.entry.task (the_type schema.now) options.entry.limit path (R.remaining input.old)) result }
     ensures untouched { source_text options.entry.task ≢ None → input.new ≡ input.old }
 {
     if let Task::Make { .. } = options.task {

@@ -1,5 +1,4 @@
 use Rattle.std.proofs.Common.{inl, inr, map, refl, string_bytes}
-use Rattle.oer_types.specs.Schema.{the_type}
 use Rattle.oer_cmd.proofs.Endings.{broken_end, keeps_same, printed_end, refused_end, words_end}
 use Rattle.oer_ends_cmd.proofs.given.run_nested.Goals as goal
 
@@ -12,8 +11,8 @@ pub returns-in-Err-nested_line-clause-exact : goal.returns-in-Err-nested_line-cl
 returns-in-Err-nested_line-clause-exact g c = inr (inl (record {
   options = c.in-Ok.options;
   asks = c.in-Ok.ensures.ok;
-  answers = λ path of answer is. refused_end answer c.in-Err-nested_line.fault c.report.result _
-      (c.in-Err-nested_line.ensures.exact path of answer is) c.report.ensures.line (keeps_same (g.W.Write.contents c.args.output.now));
+  answers = λ path of. refused_end _ c.in-Err-nested_line.fault c.report.result _
+      (c.in-Err-nested_line.ensures.exact path of) c.report.ensures.line (keeps_same (g.W.Write.contents c.args.output.now));
   keeps = c.in-Err-nested_line.ensures.untouched;
 }))
 
@@ -21,8 +20,8 @@ pub returns-in-Ok-print_line-clause-exact : goal.returns-in-Ok-print_line-clause
 returns-in-Ok-print_line-clause-exact g c = inr (inl (record {
   options = c.in-Ok.options;
   asks = c.in-Ok.ensures.ok;
-  answers = λ path of answer is. printed_end answer c.in-Ok-nested_line.line _
-      (c.in-Ok-nested_line.ensures.exact path of answer is) c.in-Ok-print_line.ensures.printed (keeps_same (g.E.Write.contents c.args.errors.now));
+  answers = λ path of. printed_end _ c.in-Ok-nested_line.line _
+      (c.in-Ok-nested_line.ensures.exact path of) c.in-Ok-print_line.ensures.printed (keeps_same (g.E.Write.contents c.args.errors.now));
   keeps = c.in-Ok-nested_line.ensures.untouched;
 }))
 
@@ -30,7 +29,7 @@ pub returns-in-Err-print_line-clause-exact : goal.returns-in-Err-print_line-clau
 returns-in-Err-print_line-clause-exact g c = inr (inl (record {
   options = c.in-Ok.options;
   asks = c.in-Ok.ensures.ok;
-  answers = λ path of answer is. broken_end answer c.in-Ok-nested_line.line c.in-Err-print_line.fault c.report-in-Err-print_line.result _
-      (c.in-Ok-nested_line.ensures.exact path of answer is) c.in-Err-print_line.ensures.printed c.report-in-Err-print_line.ensures.line;
+  answers = λ path of. broken_end _ c.in-Ok-nested_line.line c.in-Err-print_line.fault c.report-in-Err-print_line.result _
+      (c.in-Ok-nested_line.ensures.exact path of) c.in-Err-print_line.ensures.printed c.report-in-Err-print_line.ensures.line;
   keeps = c.in-Ok-nested_line.ensures.untouched;
 }))
