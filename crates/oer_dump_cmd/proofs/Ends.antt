@@ -14,7 +14,9 @@ use Rattle.oer_cmd.specs.declared.fault.Fault.{Fault}
 use Rattle.oer_cmd.specs.declared.fault.Fault.TheVariants.{Memory, Output}
 use Rattle.oer_cmd.proofs.Endings.{by_status, moved}
 use Rattle.oer_dump_cmd.specs.Ending.{Accepts, AcceptsFor, Answers, Breaks, Ends, EndsFor, IsNotTaken, Outputs, Tells}
-use Rattle.oer_dump_cmd.specs.Showing.{AreOne, AreOneWith, Displays, IsReasonLine, Rejection, Shows, judged_as, judged_octets, octets_as, octets_at}
+use Rattle.oer_dump_cmd.specs.Showing.{AreOne, AreOneWith, Displays, IsReasonLine, Rejection, Shows, judged_as, octets_as, octets_at}
+use Rattle.oer_dump_cmd.specs.Telling.{judged_octets_by}
+use Rattle.oer_dump_cmd.specs.declared.program.Origin.TheVariants.{Modules}
 use Rattle.oer_dump_cmd.specs.Words.{Asks, given, oer_dump, texts_asked, texts_given}
 use Rattle.oer_model.specs.AsnType.{AsnType}
 use Rattle.oer_dump_cmd.specs.declared.options.Form.{Form}
@@ -137,7 +139,7 @@ pub does : (words : List Text) (told : Option (List ℕ)) (untouched : Type 0) (
 does words told untouched status s o asks answers outputs keeps = inl (record { options = o; asks = asks; answers = answers; outputs = outputs; keeps = keeps })
 
 pub does_for : (T : AsnType) (words : List Text) (told : Option (List ℕ)) (untouched : Type 0) (status : ℕ) (s : Streams) (o : Options) → Asks words o
-    → Answers (judged_octets (behind o.hex) o.limit told T) status s ⊎ Breaks status s
+    → Answers (judged_octets_by Modules (behind o.hex) o.limit told T) status s ⊎ Breaks status s
     → (status ≤ 2 → Outputs o.form (octets_at (behind o.hex) o.limit told T) s) → (behind o.hex ≢ None → untouched) → EndsFor T words told untouched status s
 does_for T words told untouched status s o asks answers outputs keeps =
     inl (record { options = o; asks = asks; answers = answers; outputs = outputs; keeps = keeps })

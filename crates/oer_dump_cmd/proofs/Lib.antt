@@ -5,6 +5,7 @@ pub mod Laid
 pub mod Terminal
 pub mod Shown
 pub mod TypesRead
+pub mod ToldBy
 pub mod Ends
 mod Visibly
 pub mod Counted

@@ -8,7 +8,9 @@ use Rattle.oer_cmd.specs.Ending.{IsMachineLine, Streams}
 use Rattle.oer_cmd.specs.Expected.{Expected, refusal, unknown, value}
 use Rattle.oer_cmd.specs.Faults.{AppendsFront}
 use Rattle.oer_cmd.specs.Types.{reads_types}
-use Rattle.oer_dump_cmd.specs.Showing.{AreOne, AreOneWith, IsReasonLine, PrintsPage, Rejection, judged_as, judged_octets, octets_as, octets_at}
+use Rattle.oer_dump_cmd.specs.Showing.{AreOne, AreOneWith, IsReasonLine, PrintsPage, Rejection, judged_as, octets_as, octets_at}
+use Rattle.oer_dump_cmd.specs.Telling.{judged_octets_by}
+use Rattle.oer_dump_cmd.specs.declared.program.Origin.TheVariants.{Modules}
 use Rattle.oer_dump_cmd.specs.Words.{Asks, given, given_number, oer_dump, texts_asked, texts_given}
 use Rattle.oer_model.specs.AsnType.{AsnType}
 use Rattle.oer_dump_cmd.specs.declared.options.Form.{Form}
@@ -73,12 +75,12 @@ pub record Accepts (words : List Text) (told : Option (List ℕ)) : Type 0 where
   pub number : NumberOf limit_text limit
   pub octets : AreOneWith (texts_given words) (given words (codes "hex")) limit told
 
--- ---- for a type that is given, whatever the options on types say
+-- ---- for a type of modules, whatever the options on types say
 
 pub record DoesFor (T : AsnType) (words : List Text) (told : Option (List ℕ)) (untouched : Type 0) (status : ℕ) (s : Streams) : Type 0 where
   pub options : Options
   pub asks : Asks words options
-  pub answers : Answers (judged_octets (behind options.hex) options.limit told T) status s ⊎ Breaks status s
+  pub answers : Answers (judged_octets_by Modules (behind options.hex) options.limit told T) status s ⊎ Breaks status s
   pub outputs : status ≤ 2 → Outputs options.form (octets_at (behind options.hex) options.limit told T) s
   pub keeps : behind options.hex ≢ None → untouched
 

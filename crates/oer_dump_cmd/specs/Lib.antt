@@ -7,3 +7,4 @@ pub mod Outgoing
 pub mod Printing
 pub mod Showing
 pub mod Ending
+pub mod Telling

@@ -1,4 +1,4 @@
-//! The command for a type that is given.
+//! The command for a type of modules.
 ghost use Rattle.std.specs.Prelude.{◌≡◌, ◌≤◌, map, string_bytes, true};
 ghost use Rattle.std.specs.Io.KnownBytes.{Keeps};
 ghost use Rattle.clap.specs.Words.{takes};
@@ -7,14 +7,15 @@ ghost use Rattle.oer_dump_cmd.specs.Ending.{AcceptsFor, EndsFor, streams};
 ghost use Rattle.oer_dump_cmd.specs.Words.{oer_dump};
 
 use crate::options::parsed;
-use crate::program::{print_value, tell};
+use crate::program::{Origin, print_value, tell};
 use oer_cmd::{refused, report};
 use oer_types::Schema;
 use std::alloc::Global;
 use std::io::{Read, Write};
 
-/// Runs the command for values of this type, as `run` does for the type that the words name: `words` are the arguments, the
-/// program's name first, without any on types; those that there are count for nothing. `width` is how many characters a line
+/// Runs the command for values of this type of modules, as `run` does for the type that the words name: `words` are the arguments, the
+/// program's name first, without any on types; those that there are count for nothing. Octets that nest deeper than the type is written
+/// out are rejected as `Nesting`. `width` is how many characters a line
 /// may have if the words don't say. Returns the status of the program.
 pub fn run_for<R: Read, W: Write, E: Write>(
     alloc: Global,
@@ -39,7 +40,7 @@ pub fn run_for<R: Read, W: Write, E: Write>(
         Ok(options) => options,
         Err(error) => return refused(alloc, &error, output, errors),
     };
-    match print_value(alloc, schema, options, input, output) {
+    match print_value(alloc, schema, Origin::Modules, options, input, output) {
         Ok(rejection) => tell(&rejection, errors),
         Err(fault) => report(alloc, fault, errors),
     }

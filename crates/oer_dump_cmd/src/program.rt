@@ -4,7 +4,6 @@ ghost use Rattle.std.specs.Io.KnownBytes.{Keeps};
 ghost use Rattle.clap.specs.Words.{takes};
 ghost use Rattle.oer_types.specs.Schema.{the_type};
 ghost use Rattle.oer_options.specs.Words.{behind};
-ghost use Rattle.oer_cmd.specs.Answer.{checked};
 ghost use Rattle.oer_cmd.specs.Expected.{value};
 ghost use Rattle.oer_cmd.specs.Faults.{status_of, text_of};
 ghost use Rattle.oer_cmd.specs.Run.{IsEncoding};
@@ -12,6 +11,7 @@ ghost use Rattle.oer_cmd.specs.Types.{reads_types, texts_at};
 ghost use Rattle.oer_cmd.specs.declared.type_text.TypeText.TheVariants.{Named, One};
 ghost use Rattle.oer_dump_cmd.specs.Ending.{Accepts, Ends, Tells, streams};
 ghost use Rattle.oer_dump_cmd.specs.Showing.{AreOne, AreOneFor, AreOneWith, Displays, IsReasonLine, PrintsPage, Shows, by_texts, judged_as, judged_for, judged_octets, octets_as, octets_at, octets_for};
+ghost use Rattle.oer_dump_cmd.specs.Telling.{IsFaultToldBy, judged_by, judged_octets_by};
 ghost use Rattle.oer_dump_cmd.specs.Words.{oer_dump, texts_asked};
 
 use crate::as_json::print_array;
@@ -19,6 +19,7 @@ use crate::layout::print_lines;
 use crate::options::{Form, Options, parsed};
 use oer_cmd::type_text::{TypeText, definitions, named_type, one_type, type_text, types_on_input};
 use oer_cmd::{Fault, all_octets, judged, put_all, refused, report, spelt};
+use oer_ends_cmd::told;
 use oer_entries::{Place, Stopped};
 use oer_types::Schema;
 use std::alloc::{AllocError, Global};
@@ -89,30 +90,57 @@ fn print<'a, W: Write>(
     }
 }
 
+/// Where a type is from.
+#[derive(Clone, Copy, Debug, PartialEq, Eq)]
+pub(crate) enum Origin {
+    /// A text in our notation.
+    Notation,
+    /// Modules. If the type contains itself it is written out to a nesting, and octets that nest deeper are rejected as `Nesting`.
+    Modules,
+}
+
+// The fault as it is told of octets by a type that is from there.
+fn told_by<'a>(
+    alloc: Global,
+    schema: &Schema,
+    origin: Origin,
+    limit: u64,
+    octets: &[u8],
+    fault: Fault<'a>,
+) -> Fault<'a>
+    ensures { IsFaultToldBy origin (the_type schema.now) limit octets.now fault.entry result }
+{
+    match origin {
+        Origin::Notation => fault,
+        Origin::Modules => told(alloc, schema, limit, octets, fault),
+    }
+}
+
 // Prints octets, and returns the line on the errors if they are rejected.
 fn print_octets<'a, W: Write>(
     alloc: Global,
     schema: &Schema,
+    origin: Origin,
+    options: Options<'a>,
     octets: &[u8],
-    form: Form,
     output: &mut W,
 ) -> Result<Option<String>, Fault<'a>>
-    ensures shown { Shows (checked (the_type schema.now) octets.now) result }
+    ensures shown { Shows (judged_by origin options.entry.limit (the_type schema.now) octets.now) result }
     ensures accepted { IfOk result (λ rejection. rejection ≡ None → IsEncoding (the_type schema.now) octets.now) }
-    ensures displayed { Displays form (value (the_type schema.now, octets.now)) result (W.contents output.old) (W.contents output.new) }
+    ensures displayed { Displays options.entry.form (value (the_type schema.now, octets.now)) result (W.contents output.old) (W.contents output.new) }
     ensures silent { IfErr result (λ fault. status_of fault ≤ 2 → output.new ≡ output.old) }
 {
     let fault = match judged(schema, octets) {
         Ok(_) => {
-            print(alloc, schema, octets, form, output)?;
+            print(alloc, schema, octets, options.form, output)?;
             return Ok(None);
         }
-        Err(fault) => fault,
+        Err(fault) => told_by(alloc, schema, origin, options.limit, octets, fault),
     };
     if fault.status() != 1 {
         return Err(fault);
     }
-    let place = print(alloc, schema, octets, form, output)?;
+    let place = print(alloc, schema, octets, options.form, output)?;
     match reason_line(alloc, fault, place) {
         Ok(line) => Ok(Some(line)),
         Err(_) => Err(Fault::Memory),
@@ -123,11 +151,12 @@ fn print_octets<'a, W: Write>(
 pub(crate) fn print_value<'a, R: Read, W: Write>(
     alloc: Global,
     schema: &Schema,
+    origin: Origin,
     options: Options<'a>,
     input: &mut R,
     output: &mut W,
 ) -> Result<Option<String>, Fault<'a>>
-    ensures shown { Shows (judged_octets (behind options.entry.hex) options.entry.limit (R.remaining input.old) (the_type schema.now)) result }
+    ensures shown { Shows (judged_octets_by origin (behind options.entry.hex) options.entry.limit (R.remaining input.old) (the_type schema.now)) result }
     ensures accepted { IfOk result (λ rejection. rejection ≡ None
         → AreOne (the_type schema.now) (behind options.entry.hex) options.entry.limit (R.remaining input.old)) }
     ensures displayed { Displays options.entry.form
@@ -138,7 +167,7 @@ pub(crate) fn print_value<'a, R: Read, W: Write>(
 {
     let spelt = spelt(alloc, options.hex)?;
     let octets = all_octets(alloc, spelt, input, options.limit)?;
-    print_octets(alloc, schema, octets.as_slice(), options.form, output)
+    print_octets(alloc, schema, origin, options, octets.as_slice(), output)
 }
 
 // The same for the type that the text spells.
@@ -159,7 +188,7 @@ fn print_one<'a, R: Read, W: Write>(
     ensures untouched { behind options.entry.hex ≢ None → input.new ≡ input.old }
 {
     let schema = one_type(alloc, text)?;
-    print_value(alloc, &schema, options, input, output)
+    print_value(alloc, &schema, Origin::Notation, options, input, output)
 }
 
 // The same for the type that the Name has among the definitions that the text spells.
@@ -182,7 +211,7 @@ fn print_named<'a, R: Read, W: Write>(
 {
     let types = definitions(alloc, types)?;
     let schema = named_type(&types, name)?;
-    print_value(alloc, schema, options, input, output)
+    print_value(alloc, schema, Origin::Notation, options, input, output)
 }
 
 // The same for the type that the Name has among the definitions of `--types`, of which `-` says that the input

@@ -1,7 +1,9 @@
 use Rattle.std.proofs.Common.{ap, inl, inr, map, refl, string_bytes}
 use Rattle.oer_options.specs.Words.{behind}
 use Rattle.oer_types.specs.Schema.{the_type}
-use Rattle.oer_dump_cmd.specs.Showing.{judged_octets, octets_at}
+use Rattle.oer_dump_cmd.specs.Showing.{octets_at}
+use Rattle.oer_dump_cmd.specs.Telling.{judged_octets_by}
+use Rattle.oer_dump_cmd.specs.declared.program.Origin.TheVariants.{Modules}
 use Rattle.oer_dump_cmd.proofs.Ends.{accepts_for, displayed, does_for, not_taken, printed_end, quiet, refused_end, undisplayed, unrejected}
 use Rattle.oer_dump_cmd.proofs.given.run_for.Goals as goal
 
@@ -15,7 +17,7 @@ returns-in-Err-print_value-clause-exact g c =
     let T = the_type c.args.schema.now in
     let told = g.R.Read.remaining c.args.input.now in
     does_for T (map string_bytes c.args.words.now) _ _ c.report.result _ o c.in-Ok.ensures.ok
-    (refused_end (judged_octets (behind o.hex) o.limit told T) c.in-Err-print_value.fault c.report.result _
+    (refused_end (judged_octets_by Modules (behind o.hex) o.limit told T) c.in-Err-print_value.fault c.report.result _
     c.in-Err-print_value.ensures.shown c.report.ensures.line)
     (undisplayed o.form (octets_at (behind o.hex) o.limit told T) c.in-Err-print_value.fault
     c.report.result _ c.in-Err-print_value.ensures.displayed c.report.ensures.status
@@ -31,7 +33,7 @@ returns-in-Ok-print_value-clause-exact g c =
     let o = c.in-Ok.options in
     let T = the_type c.args.schema.now in
     let told = g.R.Read.remaining c.args.input.now in
-    let expected = judged_octets (behind o.hex) o.limit told T in
+    let expected = judged_octets_by Modules (behind o.hex) o.limit told T in
     let octets = octets_at (behind o.hex) o.limit told T in
     does_for T (map string_bytes c.args.words.now) _ _ c.tell.result _ o c.in-Ok.ensures.ok
     (inl (printed_end o.form octets expected c.in-Ok-print_value.rejection c.tell.result _ c.in-Ok-print_value.ensures.shown

@@ -1,14 +1,14 @@
 use Rattle.std.proofs.lemmas.Result.{err_from_is_err_and}
 use Rattle.oer_types.specs.Schema.{the_type}
 use Rattle.oer_options.specs.Words.{behind}
-use Rattle.oer_cmd.specs.Answer.{checked}
 use Rattle.oer_dump_cmd.specs.Showing.{Displays, Shows}
+use Rattle.oer_dump_cmd.specs.Telling.{judged_by}
 use Rattle.oer_dump_cmd.proofs.Shown.{are_one, both, displays, longer, looked_at, shows, unspelt}
 use Rattle.oer_dump_cmd.proofs.program.print_value.Goals as goal
 
 pub returns-clause-shown : goal.returns-clause-shown
 returns-clause-shown g c =
-    looked_at Shows shows checked (the_type c.args.schema.now) c.args.options.limit (behind c.args.options.hex) _ c.in_ok-spelt.spelt c.in_ok-octets.octets _ c.print_octets.result
+    looked_at Shows shows (judged_by c.args.origin c.args.options.limit) (the_type c.args.schema.now) c.args.options.limit (behind c.args.options.hex) _ c.in_ok-spelt.spelt c.in_ok-octets.octets _ c.print_octets.result
     c.in_ok-spelt.ensures.exact c.in_ok-octets.ensures.exact c.as_slice.ensures.value c.print_octets.ensures.shown
 
 pub returns-clause-displayed : goal.returns-clause-displayed
@@ -20,7 +20,7 @@ returns-clause-displayed g c =
 pub returns-in_err-spelt-clause-shown : goal.returns-in_err-spelt-clause-shown
 returns-in_err-spelt-clause-shown g c =
     let p = err_from_is_err_and c.from_residual.result c.from_residual.ensures.1 in
-    rw (p.1, p.2) (unspelt Shows shows checked (the_type c.args.schema.now) c.args.options.limit (behind c.args.options.hex) _ _ c.in_err-spelt.ensures.exact)
+    rw (p.1, p.2) (unspelt Shows shows (judged_by c.args.origin c.args.options.limit) (the_type c.args.schema.now) c.args.options.limit (behind c.args.options.hex) _ _ c.in_err-spelt.ensures.exact)
 
 pub returns-in_err-spelt-clause-displayed : goal.returns-in_err-spelt-clause-displayed
 returns-in_err-spelt-clause-displayed g c =
@@ -31,7 +31,7 @@ returns-in_err-spelt-clause-displayed g c =
 pub returns-in_err-octets-clause-shown : goal.returns-in_err-octets-clause-shown
 returns-in_err-octets-clause-shown g c =
     let p = err_from_is_err_and c.from_residual-in_err-octets.result c.from_residual-in_err-octets.ensures.1 in
-    rw (p.1, p.2) (longer Shows shows checked (the_type c.args.schema.now) c.args.options.limit (behind c.args.options.hex) _ c.in_ok-spelt.spelt _ c.in_ok-spelt.ensures.exact
+    rw (p.1, p.2) (longer Shows shows (judged_by c.args.origin c.args.options.limit) (the_type c.args.schema.now) c.args.options.limit (behind c.args.options.hex) _ c.in_ok-spelt.spelt _ c.in_ok-spelt.ensures.exact
     c.in_err-octets.ensures.exact)
 
 pub returns-in_err-octets-clause-displayed : goal.returns-in_err-octets-clause-displayed

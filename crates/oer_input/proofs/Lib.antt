@@ -1,0 +1,7 @@
+mod Base64Complete
+mod Base64One
+mod Base64Sound
+mod Characters
+mod HexComplete
+mod HexSound
+mod Spelling
