@@ -16,7 +16,7 @@ use Rattle.oer_cmd.proofs.Endings.{by_status, moved}
 use Rattle.oer_dump_cmd.specs.Ending.{Accepts, AcceptsFor, Answers, Breaks, Ends, EndsFor, IsNotTaken, Outputs, Tells}
 use Rattle.oer_dump_cmd.specs.Showing.{AreOne, AreOneWith, Displays, IsReasonLine, Rejection, Shows, judged_as, octets_as, octets_at}
 use Rattle.oer_dump_cmd.specs.Telling.{judged_octets_by}
-use Rattle.oer_dump_cmd.specs.declared.program.Origin.TheVariants.{Modules}
+use Rattle.oer_ends_cmd.specs.declared.telling.Origin.TheVariants.{Modules}
 use Rattle.oer_dump_cmd.specs.Words.{Asks, given, oer_dump, texts_asked, texts_given}
 use Rattle.oer_model.specs.AsnType.{AsnType}
 use Rattle.oer_dump_cmd.specs.declared.options.Form.{Form}

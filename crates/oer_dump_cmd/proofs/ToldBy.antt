@@ -1,5 +1,5 @@
 -- What is told of octets that are rejected, by where the type is from.
-use Rattle.std.proofs.Common.{◌≡◌, ◌∙◌, ℕ, ◌≤◌, Bool, true, false, List, Option, Some, None, Ok, Err, refl, sym, ap, subst}
+use Rattle.std.proofs.Common.{◌≡◌, ◌∙◌, ℕ, ◌≤◌, Bool, true, false, List, Option, Some, None, Err, refl, ap}
 use Rattle.std.specs.Prelude.{eqb, leb, length, ◌&&◌, if◌then◌else◌}
 use Rattle.oer_model.specs.AsnType.{AsnType}
 use Rattle.oer_parts.specs.declared.encoding.Encoding.{Encoding}
@@ -7,22 +7,12 @@ use Rattle.oer_cmd.specs.Answer.{checked}
 use Rattle.oer_cmd.specs.Expected.{Meets, Refusal, refusal_of}
 use Rattle.oer_cmd.specs.Faults.{status_of}
 use Rattle.oer_ends.specs.Nests.{nests_at}
-use Rattle.oer_ends_cmd.specs.Telling.{IsFaultTold, at_place, told}
+use Rattle.oer_ends_cmd.specs.Telling.{IsFaultTold, IsFaultToldBy, at_place, told}
 use Rattle.oer_cmd.specs.declared.fault.Fault.{Fault}
-use Rattle.oer_ends_cmd.proofs.Rejections.{fault_told, made_told}
+use Rattle.oer_ends_cmd.proofs.Rejections.{lost_by}
 use Rattle.oer_dump_cmd.proofs.Shown.{seen, unjudged}
-use Rattle.oer_dump_cmd.specs.Telling.{IsFaultToldBy, judged_by}
-use Rattle.oer_dump_cmd.specs.declared.program.Origin.{Origin}
-use Rattle.oer_dump_cmd.specs.declared.program.Origin.TheVariants.{Modules, Notation}
-
-pub made_by : (origin : Origin) (limit : ℕ) (T : AsnType) (b : List ℕ) (found : Encoding) → Meets seen (checked T b) (Ok found) → Meets seen (judged_by origin limit T b) (Ok found)
-made_by Notation limit T b found h = h
-made_by Modules limit T b found h = made_told seen T limit b (checked T b) found h
-
-pub lost_by : (origin : Origin) (limit : ℕ) (T : AsnType) (b : List ℕ) (fault other : Fault) → IsFaultToldBy origin T limit b fault other
-    → Meets {X = Encoding} seen (checked T b) (Err fault) → Meets {X = Encoding} seen (judged_by origin limit T b) (Err other)
-lost_by Notation limit T b fault other same h = subst (λ (f : Fault). Meets {X = Encoding} seen (checked T b) (Err f)) (sym same) h
-lost_by Modules limit T b fault other tells h = fault_told {X = Encoding} seen T limit b (checked T b) fault other tells h
+use Rattle.oer_ends_cmd.specs.declared.telling.Origin.{Origin}
+use Rattle.oer_ends_cmd.specs.declared.telling.Origin.TheVariants.{Modules, Notation}
 
 -- Octets are rejected with status 1, also as it is told.
 one_by : (t : Bool) (place : Option ℕ) (r : Refusal) → r.status ≡ 1 → (if t then at_place r place else r).status ≡ 1
@@ -37,5 +27,5 @@ told_one T limit b fault other tells h small = ap (λ (r : Refusal). r.status) (
 
 pub unjudged_by : (origin : Origin) (limit : ℕ) (T : AsnType) (b : List ℕ) (fault other : Fault) → IsFaultToldBy origin T limit b fault other
     → Meets {X = Encoding} seen (checked T b) (Err fault) → status_of other ≤ 2 → status_of other ≡ 1
-unjudged_by Notation limit T b fault other same h small = unjudged T b other (lost_by Notation limit T b fault other same h) small
+unjudged_by Notation limit T b fault other same h small = unjudged T b other (lost_by {X = Encoding} seen Notation T limit b (checked T b) fault other same h) small
 unjudged_by Modules limit T b fault other tells h small = told_one T limit b fault other tells h small

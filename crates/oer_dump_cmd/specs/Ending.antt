@@ -10,7 +10,7 @@ use Rattle.oer_cmd.specs.Faults.{AppendsFront}
 use Rattle.oer_cmd.specs.Types.{reads_types}
 use Rattle.oer_dump_cmd.specs.Showing.{AreOne, AreOneWith, IsReasonLine, PrintsPage, Rejection, judged_as, octets_as, octets_at}
 use Rattle.oer_dump_cmd.specs.Telling.{judged_octets_by}
-use Rattle.oer_dump_cmd.specs.declared.program.Origin.TheVariants.{Modules}
+use Rattle.oer_ends_cmd.specs.declared.telling.Origin.TheVariants.{Modules}
 use Rattle.oer_dump_cmd.specs.Words.{Asks, given, given_number, oer_dump, texts_asked, texts_given}
 use Rattle.oer_model.specs.AsnType.{AsnType}
 use Rattle.oer_dump_cmd.specs.declared.options.Form.{Form}

@@ -7,8 +7,9 @@ ghost use Rattle.oer_dump_cmd.specs.Ending.{AcceptsFor, EndsFor, streams};
 ghost use Rattle.oer_dump_cmd.specs.Words.{oer_dump};
 
 use crate::options::parsed;
-use crate::program::{Origin, print_value, tell};
+use crate::program::{print_value, tell};
 use oer_cmd::{refused, report};
+use oer_ends_cmd::Origin;
 use oer_types::Schema;
 use std::alloc::Global;
 use std::io::{Read, Write};

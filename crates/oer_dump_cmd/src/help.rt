@@ -16,6 +16,9 @@ parts: preamble, bitmap, quantity, tag, length. Behind \"--\" stands what
 canonical octets have in place of these. \"..+N\" stands for N that are left out.
 With --types=- standard input has the definitions, if --hex is given.
 
+Options of standard input:
+  --in <CODING>  The octets are in digits (hex) or in base64, and not raw
+
 Examples:
   $ oer-dump --type \"SEQUENCE OF BOOLEAN\" --hex 0102ff00
   0  2  -   -  SEQUENCE OF  quantity 2

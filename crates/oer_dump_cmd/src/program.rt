@@ -11,7 +11,7 @@ ghost use Rattle.oer_cmd.specs.Types.{reads_types, texts_at};
 ghost use Rattle.oer_cmd.specs.declared.type_text.TypeText.TheVariants.{Named, One};
 ghost use Rattle.oer_dump_cmd.specs.Ending.{Accepts, Ends, Tells, streams};
 ghost use Rattle.oer_dump_cmd.specs.Showing.{AreOne, AreOneFor, AreOneWith, Displays, IsReasonLine, PrintsPage, Shows, by_texts, judged_as, judged_for, judged_octets, octets_as, octets_at, octets_for};
-ghost use Rattle.oer_dump_cmd.specs.Telling.{IsFaultToldBy, judged_by, judged_octets_by};
+ghost use Rattle.oer_dump_cmd.specs.Telling.{judged_by, judged_octets_by};
 ghost use Rattle.oer_dump_cmd.specs.Words.{oer_dump, texts_asked};
 
 use crate::as_json::print_array;
@@ -19,7 +19,7 @@ use crate::layout::print_lines;
 use crate::options::{Form, Options, parsed};
 use oer_cmd::type_text::{TypeText, definitions, named_type, one_type, type_text, types_on_input};
 use oer_cmd::{Fault, all_octets, judged, put_all, refused, report, spelt};
-use oer_ends_cmd::told;
+use oer_ends_cmd::{Origin, told_by};
 use oer_entries::{Place, Stopped};
 use oer_types::Schema;
 use std::alloc::{AllocError, Global};
@@ -87,32 +87,6 @@ fn print<'a, W: Write>(
         Ok(place) => Ok(place),
         Err(Stopped::Memory) => Err(Fault::Memory),
         Err(Stopped::Output) => Err(Fault::Output),
-    }
-}
-
-/// Where a type is from.
-#[derive(Clone, Copy, Debug, PartialEq, Eq)]
-pub(crate) enum Origin {
-    /// A text in our notation.
-    Notation,
-    /// Modules. If the type contains itself it is written out to a nesting, and octets that nest deeper are rejected as `Nesting`.
-    Modules,
-}
-
-// The fault as it is told of octets by a type that is from there.
-fn told_by<'a>(
-    alloc: Global,
-    schema: &Schema,
-    origin: Origin,
-    limit: u64,
-    octets: &[u8],
-    fault: Fault<'a>,
-) -> Fault<'a>
-    ensures { IsFaultToldBy origin (the_type schema.now) limit octets.now fault.entry result }
-{
-    match origin {
-        Origin::Notation => fault,
-        Origin::Modules => told(alloc, schema, limit, octets, fault),
     }
 }
 

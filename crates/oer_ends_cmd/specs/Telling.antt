@@ -12,6 +12,8 @@ use Rattle.oer_cmd.specs.Expected.{Expected, Refusal, refusal, refusal_of, unkno
 use Rattle.oer_cmd.specs.Faults.{status_of}
 use Rattle.oer_cmd.specs.declared.fault.Fault.{Fault}
 use Rattle.oer_cmd.specs.declared.fault.Fault.TheVariants.{Nesting}
+use Rattle.oer_ends_cmd.specs.declared.telling.Origin.{Origin}
+use Rattle.oer_ends_cmd.specs.declared.telling.Origin.TheVariants.{Modules, Notation}
 
 -- a refusal of octets that nest too deep after so many, if they do
 abbrev pub at_place : Refusal → Option ℕ → Refusal
@@ -48,3 +50,13 @@ answer_in_hand task T limit path octets = octets >>= λ b. told_answer T limit b
 abbrev pub nested_answer : Task → AsnType → ℕ → Expected (List Step) → Option (List ℕ) → Expected Text
 nested_answer (Make json) T limit path had = task_answer (Make json) T limit path had
 nested_answer task T limit path had = answer_in_hand task T limit path (octets_in_hand (source_text task) limit had)
+
+-- ---- by where the type is from
+
+abbrev pub told_by : {A : Type 0} → Origin → AsnType → ℕ → List ℕ → Expected A → Expected A
+told_by Notation T limit b answer = answer
+told_by Modules T limit b answer = told_answer T limit b answer
+
+abbrev pub IsFaultToldBy : Origin → AsnType → ℕ → List ℕ → Fault → Fault → Type 0
+IsFaultToldBy Notation T limit b fault other = other ≡ fault
+IsFaultToldBy Modules T limit b fault other = IsFaultTold T limit b fault other

@@ -1,5 +1,5 @@
 //! The command for a type of modules.
-ghost use Rattle.std.specs.Prelude.{◌≡◌, ◌≢◌, ◌≤◌, List, None, Some, IfOk, IfSome, map, string_bytes, true};
+ghost use Rattle.std.specs.Prelude.{◌≡◌, ◌≢◌, ◌≤◌, List, None, Some, IfOk, IfSome, false, map, string_bytes, true};
 ghost use Rattle.std.specs.Io.KnownBytes.{Keeps};
 ghost use Rattle.clap.specs.Words.{takes};
 ghost use Rattle.oer_model.specs.Parts.{Step};
@@ -7,7 +7,9 @@ ghost use Rattle.oer_types.specs.Schema.{the_type};
 ghost use Rattle.oer_options.specs.Words.{oer, path_text, source_text};
 ghost use Rattle.oer_cmd.specs.Answer.{IsPathOf, limited_octets, task_answer};
 ghost use Rattle.oer_cmd.specs.Expected.{Expected, Meets};
-ghost use Rattle.oer_cmd.specs.Run.{IsLineOf, PrintsFor};
+ghost use Rattle.oer_cmd.specs.Run.{IsLineOf, NoLineAskedFor, PrintsFor};
+ghost use Rattle.oer_cmd.specs.Taking.{TakesFrom};
+ghost use Rattle.oer_ends.specs.Ends.{has_end};
 ghost use Rattle.oer_ends_cmd.specs.Ending.{EndsForModules, EndsNested};
 ghost use Rattle.oer_ends_cmd.specs.Telling.{answer_in_hand, nested_answer, told_answer};
 
@@ -127,6 +129,12 @@ pub fn run_for<R: Read, W: Write, E: Write>(
     ensures prints { takes oer (map string_bytes words.now) ≡ true → result ≡ 0
         → PrintsFor (the_type schema.now) (map string_bytes words.now) (R.remaining input.old)
         (W.contents output.old) (W.contents output.new) (E.contents errors.old) (E.contents errors.new) }
+    // By a type without an end it refuses only where there is no answer, and how much of the input is taken is what `oer_cmd` says.
+    ensures refuses { has_end (the_type schema.now) ≡ false → takes oer (map string_bytes words.now) ≡ true → 1 ≤ result → result ≤ 2
+        → NoLineAskedFor (the_type schema.now) (map string_bytes words.now) (R.remaining input.old) }
+    ensures takes { has_end (the_type schema.now) ≡ false
+        → TakesFrom (the_type schema.now) (map string_bytes words.now) (input.new ≡ input.old) result
+        (R.remaining input.old) (R.remaining input.new) }
     ensures statuses { result ≤ 3 }
     // The status, and what stands on the output and the errors, is what plain functions of the type, the words and the octets
     // say, unless memory ran out or a device failed.

@@ -6,4 +6,4 @@ mod given;
 mod telling;
 
 pub use given::run_for;
-pub use telling::told;
+pub use telling::{Origin, told, told_by};

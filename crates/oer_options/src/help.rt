@@ -29,12 +29,12 @@ macro_rules! usage {
 
 // Help whose notes end with the exit statuses and the documents.
 macro_rules! help {
-    ($usage:expr, $about:literal, $notes:literal) => {
+    ($usage:expr, $about:literal, $($notes:literal),+) => {
         Help {
             usage: $usage,
             about: $about,
             notes: concat!(
-                $notes,
+                $($notes,)+
                 "
 Exit status:
   0  The answer is on standard output.
@@ -49,6 +49,22 @@ docs/COMMAND.md (this program), docs/NOTATION.md (types), docs/JSON.md (the
 JSON of a value), docs/ENCODING.md (octets)."
             ),
         }
+    };
+}
+
+// The same of a subcommand that reads octets, with the options of its input.
+macro_rules! octets_help {
+    ($usage:expr, $about:literal, $notes:literal) => {
+        help!(
+            $usage,
+            $about,
+            "Options of standard input:
+  --in <CODING>  The octets are in digits (hex) or in base64, and not raw
+  --lines        Each line is a message in digits, and has a line of output
+
+",
+            $notes
+        )
     };
 }
 
@@ -71,7 +87,7 @@ Examples:
 "
 );
 
-pub const SHOW: Help = help!(
+pub const SHOW: Help = octets_help!(
     usage!("show"),
     "Print the JSON of a value",
     "The octets have to be one encoding of the value, and nothing more. The JSON has
@@ -86,7 +102,7 @@ Examples:
 "
 );
 
-pub const CANON: Help = help!(
+pub const CANON: Help = octets_help!(
     usage!("canon"),
     "Print the canonical octets of a value",
     "The octets have to be one encoding of the value (Basic-OER), and nothing more.
@@ -100,7 +116,7 @@ Examples:
 "
 );
 
-pub const CHECK: Help = help!(
+pub const CHECK: Help = octets_help!(
     usage!("check"),
     "Say whether octets are the canonical ones of a value",
     "Prints \"canonical N\" where the octets are the canonical ones of a value, and
@@ -128,7 +144,7 @@ Examples:
 "
 );
 
-pub const PART: Help = help!(
+pub const PART: Help = octets_help!(
     usage!("part"),
     "Print the octets of a part of a value",
     "The part is printed as it stands in the octets, in lower hexadecimal digits. A

@@ -3,7 +3,7 @@ use Rattle.oer_options.specs.Words.{behind}
 use Rattle.oer_types.specs.Schema.{the_type}
 use Rattle.oer_dump_cmd.specs.Showing.{octets_at}
 use Rattle.oer_dump_cmd.specs.Telling.{judged_octets_by}
-use Rattle.oer_dump_cmd.specs.declared.program.Origin.TheVariants.{Modules}
+use Rattle.oer_ends_cmd.specs.declared.telling.Origin.TheVariants.{Modules}
 use Rattle.oer_dump_cmd.proofs.Ends.{accepts_for, displayed, does_for, not_taken, printed_end, quiet, refused_end, undisplayed, unrejected}
 use Rattle.oer_dump_cmd.proofs.given.run_for.Goals as goal
 
