@@ -42,6 +42,9 @@ test_programs: bin/oer
 	@tools/test_programs bin
 	@tools/test_devices bin
 	@tools/test_modules bin
+	@tools/test_input bin
+	@tools/test_lines bin
+	@tools/test_example bin
 	@tools/test_wireshark bin
 
 lib: lib/toolchain

@@ -6,18 +6,19 @@ _oer_dump() {
   COMPREPLY=()
   # An equals sign is a word of its own here.
   case $before in
-    = | --type | --types | --name | --hex | --limit | --width) return ;;
+    = | --type | --types | --name | --hex | --in | --limit | --width) return ;;
   esac
   [ "$word" != = ] || return
-  # Of --type and of --types with --name a line takes only one.
+  # Of --type and of --types with --name a line takes only one, and of --hex and --in.
   for ((at = 1; at < COMP_CWORD; at++)); do
     case ${COMP_WORDS[at]} in
       --type) given+='--type --types --name ' ;;
       --types | --name) given+="${COMP_WORDS[at]} --type " ;;
+      --hex | --in) given+='--hex --in ' ;;
       --*) given+="${COMP_WORDS[at]%%=*} " ;;
     esac
   done
-  for option in --type --types --name --hex --limit --width --json --help --version; do
+  for option in --type --types --name --hex --in --limit --width --json --help --version; do
     case $given in
       *" $option "*) ;;
       *) COMPREPLY+=($(compgen -W "$option" -- "$word")) ;;

@@ -15,22 +15,26 @@ _oer() {
       [ "$COMP_CWORD" -gt 2 ] || COMPREPLY=($(compgen -W 'canon show check part make' -- "$word"))
       return
       ;;
-    show) options='--type --types --name --hex --ascii --limit --help' ;;
-    canon | check) options='--type --types --name --hex --limit --help' ;;
-    part) options='--type --types --name --hex --path --limit --help' ;;
+    show) options='--type --types --name --hex --in --lines --ascii --limit --help' ;;
+    canon | check) options='--type --types --name --hex --in --lines --limit --help' ;;
+    part) options='--type --types --name --hex --in --lines --path --limit --help' ;;
     make) options='--type --types --name --json --limit --help' ;;
+    example) options='--type --types --name --full --help' ;;
     *) return ;;
   esac
   # An equals sign is a word of its own here.
   case $before in
-    = | --type | --types | --name | --hex | --path | --json | --limit) return ;;
+    = | --type | --types | --name | --hex | --in | --path | --json | --limit) return ;;
   esac
   [ "$word" != = ] || return
-  # Of --type and of --types with --name a line takes only one.
+  # Of --type and of --types with --name a line takes only one, and --hex goes with neither --in nor --lines.
   for ((at = 2; at < COMP_CWORD; at++)); do
     case ${COMP_WORDS[at]} in
       --type) given+='--type --types --name ' ;;
       --types | --name) given+="${COMP_WORDS[at]} --type " ;;
+      --hex*) given+='--hex --in --lines ' ;;
+      --in) given+='--in --hex ' ;;
+      --lines) given+='--hex --lines ' ;;
       --*) given+="${COMP_WORDS[at]%%=*} " ;;
     esac
   done

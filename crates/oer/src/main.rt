@@ -1,13 +1,17 @@
 //! The program `oer`: values and their octets at the command line.
 #![tactic(auto)]
 
-use oer_cmd::{NoStart, run, run_for, stop};
+use oer_cmd::{NoStart, run, stop};
+use oer_ends_cmd::run_for;
+use oer_example_cmd::{asks_example, run_example, run_example_for};
+use oer_input_cmd::{Given, Program, input_given};
+use oer_lines_cmd::{lines_asked, run_lines, run_lines_for};
 use oer_module_cmd::type_given;
 use oer_module_options::Command;
 use oer_types_cmd::run_types;
 use std::alloc::Global;
 use std::env;
-use std::io::{BufReader, ErrorKind, Read, Write};
+use std::io::{BufRead, BufReader, ErrorKind, Read, Write};
 use std::process::ExitCode;
 
 // The arguments, the program's name first.
@@ -23,18 +27,15 @@ fn arguments(rt: &HostRuntime) -> Result<Vec<String>, NoStart> {
     }
 }
 
-// Does what the arguments ask for. The status.
-fn answer<R: Read, W: Write, E: Write>(
+// Does what the arguments ask for with one message, or with JSON. The status.
+fn answer_one<R: Read, W: Write, E: Write>(
     alloc: Global,
-    words: Vec<String>,
+    words: &[String],
     input: &mut R,
     output: &mut W,
     errors: &mut E,
 ) -> u8 {
-    if let Some(status) = run_types(alloc, words.as_slice(), input, output, errors) {
-        return status;
-    }
-    match type_given(alloc, Command::Oer, words.as_slice(), input, errors) {
+    match type_given(alloc, Command::Oer, words, input, errors) {
         Ok(Some(given)) => run_for(
             alloc,
             &given.schema,
@@ -43,8 +44,95 @@ fn answer<R: Read, W: Write, E: Write>(
             output,
             errors,
         ),
-        Ok(None) => run(alloc, words.as_slice(), input, output, errors),
+        Ok(None) => run(alloc, words, input, output, errors),
         Err(status) => status,
+    }
+}
+
+// Does what the arguments ask for with the messages on the lines of the input. The status.
+fn answer_lines<R: BufRead, W: Write, E: Write>(
+    alloc: Global,
+    words: &[String],
+    input: &mut R,
+    output: &mut W,
+    errors: &mut E,
+) -> u8 {
+    match type_given(alloc, Command::Oer, words, input, errors) {
+        Ok(Some(given)) => run_lines_for(
+            alloc,
+            &given.schema,
+            given.words.as_slice(),
+            input,
+            output,
+            errors,
+        ),
+        Ok(None) => run_lines(alloc, words, input, output, errors),
+        Err(status) => status,
+    }
+}
+
+// Prints a value of a type to begin with. The status.
+fn answer_example<R: Read, W: Write, E: Write>(
+    alloc: Global,
+    words: &[String],
+    input: &mut R,
+    output: &mut W,
+    errors: &mut E,
+) -> u8 {
+    let given = match type_given(alloc, Command::Oer, words, input, errors) {
+        Ok(given) => given,
+        Err(status) => return status,
+    };
+    if let Some(given) = given {
+        let words = given.words.as_slice();
+        return run_example_for(alloc, &given.schema, words, output, errors);
+    }
+    match run_example(alloc, words, input, output, errors) {
+        Some(status) => status,
+        None => run(alloc, words, input, output, errors),
+    }
+}
+
+// Does what the arguments, without `--in`, ask for. The status.
+fn answer<R: BufRead, W: Write, E: Write>(
+    alloc: Global,
+    words: &[String],
+    input: &mut R,
+    output: &mut W,
+    errors: &mut E,
+) -> u8 {
+    match lines_asked(alloc, words, errors) {
+        Ok(Some(words)) => return answer_lines(alloc, words.as_slice(), input, output, errors),
+        Ok(None) => {}
+        Err(status) => return status,
+    }
+    if let Some(status) = run_types(alloc, words, input, output, errors) {
+        return status;
+    }
+    if asks_example(words) {
+        return answer_example(alloc, words, input, output, errors);
+    }
+    answer_one(alloc, words, input, output, errors)
+}
+
+// Does what the arguments ask for. The status.
+fn answer_all<R: BufRead, W: Write, E: Write>(
+    alloc: Global,
+    words: &[String],
+    input: &mut R,
+    output: &mut W,
+    errors: &mut E,
+) -> u8 {
+    let given = match input_given(alloc, Program::Oer, words, input, errors) {
+        Ok(Some(given)) => given,
+        Ok(None) => return answer(alloc, words, input, output, errors),
+        Err(status) => return status,
+    };
+    let Given { octets, words } = given;
+    let words = words.as_slice();
+    match octets {
+        Some(octets) => answer(alloc, words, &mut octets.as_slice(), output, errors),
+        None => answer(alloc, words, input, output, errors),
     }
 }
 
@@ -58,6 +146,12 @@ fn main(rt: HostRuntime) -> ExitCode {
     let Ok(mut input) = BufReader::new(alloc, rt.reader()) else {
         return ExitCode::from(stop(NoStart::NoMemory, &mut errors));
     };
-    let status = answer(alloc, words, &mut input, &mut rt.stdout(), &mut errors);
+    let status = answer_all(
+        alloc,
+        words.as_slice(),
+        &mut input,
+        &mut rt.stdout(),
+        &mut errors,
+    );
     ExitCode::from(status)
 }

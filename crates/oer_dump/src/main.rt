@@ -6,6 +6,7 @@ mod pipe;
 use crate::pipe::{Errors, Output};
 use oer_cmd::{NoStart, stop};
 use oer_dump_cmd::{run, run_for, usual_width};
+use oer_input_cmd::{Given, Program, input_given};
 use oer_module_cmd::type_given;
 use oer_module_options::Command;
 use std::alloc::Global;
@@ -50,6 +51,28 @@ fn answer<R: Read, W: Write, E: Write>(
     }
 }
 
+// The same where standard input may have digits, or base64.
+fn answer_all<R: Read, W: Write, E: Write>(
+    alloc: Global,
+    words: &[String],
+    width: u64,
+    input: &mut R,
+    output: &mut W,
+    errors: &mut E,
+) -> u8 {
+    let given = match input_given(alloc, Program::Dump, words, input, errors) {
+        Ok(Some(given)) => given,
+        Ok(None) => return answer(alloc, words, width, input, output, errors),
+        Err(status) => return status,
+    };
+    let Given { octets, words } = given;
+    let words = words.as_slice();
+    match octets {
+        Some(octets) => answer(alloc, words, width, &mut octets.as_slice(), output, errors),
+        None => answer(alloc, words, width, input, output, errors),
+    }
+}
+
 fn main(rt: HostRuntime) -> ExitCode {
     let alloc = rt.alloc();
     let mut errors = rt.stderr();
@@ -68,7 +91,7 @@ fn main(rt: HostRuntime) -> ExitCode {
     };
     let is_terminal = rt.stdout().is_terminal();
     let is_closed = Cell::new(false);
-    let status = answer(
+    let status = answer_all(
         alloc,
         words.as_slice(),
         width_of(&rt, is_terminal),

@@ -14,7 +14,8 @@ pub returns-then-status-ne1-clause-shown : goal.returns-then-status-ne1-clause-s
 returns-then-status-ne1-clause-shown g c =
     let T = the_type c.args.schema.now in
     unread (judged_by c.args.origin c.args.options.limit T c.args.octets.now) c.told_by-fault.result
-    (lost_by {X = Encoding} seen c.args.origin T c.args.options.limit c.args.octets.now (checked T c.args.octets.now) c.in-Err.fault c.told_by-fault.result c.told_by-fault.ensures c.in-Err.ensures.exact)
+    (lost_by {X = Encoding} seen c.args.origin T c.args.options.limit c.args.octets.now (checked T c.args.octets.now)
+    c.in-Err.fault c.told_by-fault.result c.told_by-fault.ensures c.in-Err.ensures.exact)
 
 pub returns-then-status-ne1-clause-displayed : goal.returns-then-status-ne1-clause-displayed
 returns-then-status-ne1-clause-displayed g c = λ small. c.if-status-ne1.true (c.status.ensures.status
@@ -25,7 +26,8 @@ pub returns-in-Ok-reason_line-clause-shown : goal.returns-in-Ok-reason_line-clau
 returns-in-Ok-reason_line-clause-shown g c =
     let T = the_type c.args.schema.now in
     rejected (judged_by c.args.origin c.args.options.limit T c.args.octets.now) c.told_by-fault.result c.in-Ok-reason_line.line
-    (lost_by {X = Encoding} seen c.args.origin T c.args.options.limit c.args.octets.now (checked T c.args.octets.now) c.in-Err.fault c.told_by-fault.result c.told_by-fault.ensures c.in-Err.ensures.exact)
+    (lost_by {X = Encoding} seen c.args.origin T c.args.options.limit c.args.octets.now (checked T c.args.octets.now)
+    c.in-Err.fault c.told_by-fault.result c.told_by-fault.ensures c.in-Err.ensures.exact)
     (sym c.status.ensures.status ∙ c.if-status-ne1.false) c.in-Ok-reason_line.ensures
 
 pub returns-in_err-place-clause-shown : goal.returns-in_err-place-clause-shown

@@ -1,0 +1,4 @@
+pub mod Depths
+pub mod Lines
+pub mod Asking
+pub mod Endings

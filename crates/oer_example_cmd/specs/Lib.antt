@@ -1,0 +1,3 @@
+pub mod Line
+pub mod Words
+pub mod Ending

@@ -1,0 +1,10 @@
+pub mod Counting
+pub mod Digits
+pub mod Endings
+pub mod Fronts
+pub mod Knowing
+pub mod Looping
+pub mod Messages
+pub mod Putting
+pub mod Splitting
+pub mod Taking

@@ -1,0 +1,73 @@
+//! The answers to all messages.
+ghost use Rattle.std.specs.Prelude.{◌≡◌, ◌≤◌, List, ℕ, IfOk, IfSome, max};
+ghost use Rattle.oer_model.specs.Parts.{Step};
+ghost use Rattle.oer_types.specs.Schema.{the_type};
+ghost use Rattle.oer_cmd.specs.Answer.{IsPathOf};
+ghost use Rattle.oer_cmd.specs.Expected.{Expected};
+ghost use Rattle.oer_lines_cmd.specs.Answers.{AnsweredAll, answers};
+ghost use Rattle.oer_lines_cmd.specs.Ending.{Runs};
+ghost use Rattle.oer_lines_cmd.specs.Tasks.{answer_told, path_of};
+
+use crate::answer::answer_line;
+use crate::failure::Failure;
+use crate::reading::take_line;
+use crate::task::Asked;
+use oer_cmd::report;
+use oer_types::Schema;
+use std::alloc::Global;
+use std::io::{BufRead, Write};
+
+// The worse of two statuses.
+fn worse(a: u8, b: u8) -> u8
+    ensures { result ≡ max a b }
+{
+    if a < b { b } else { a }
+}
+
+// Answers the messages on all lines of the input, each before the next line is read. The worst status.
+fn answer_lines<R: BufRead, W: Write, E: Write>(
+    alloc: Global,
+    schema: &Schema,
+    asked: Asked<'_>,
+    input: &mut R,
+    output: &mut W,
+    errors: &mut E,
+) -> Result<u8, Failure>
+    ensures exact { (octets : List ℕ) × IfSome (R.remaining input.old) (λ xs. xs ≡ octets)
+        × ((path : Expected (List Step)) → IsPathOf (path_of asked.entry.task) path
+        → AnsweredAll (answers (answer_told asked.entry.tells_nesting asked.entry.task (the_type schema.now) asked.entry.limit path) octets) result
+        record { output = W.contents output.old; output' = W.contents output.new; errors = E.contents errors.old; errors' = E.contents errors.new }) }
+    ensures statuses { IfOk result (λ status. status ≤ 2) }
+{
+    let mut line = Vec::new(alloc);
+    let mut worst = 0;
+    for number in 1..u64::MAX {
+        let is_ended = take_line(input, &mut line)?;
+        let status = answer_line(alloc, schema, asked, number, &line, output, errors)?;
+        worst = worse(worst, status);
+        if !is_ended {
+            return Ok(worst);
+        }
+    }
+    Err(Failure::Input)
+}
+
+/// Answers the messages on all lines of the input: a line for each on the output, before the next line is read, and on the errors one for
+/// each that is rejected. The status is the worst of them; or 3 where the machine failed, of which the errors tell.
+pub fn run_all<R: BufRead, W: Write, E: Write>(
+    alloc: Global,
+    schema: &Schema,
+    asked: Asked<'_>,
+    input: &mut R,
+    output: &mut W,
+    errors: &mut E,
+) -> u8
+    ensures runs { Runs asked.entry.tells_nesting asked.entry.task (the_type schema.now) asked.entry.limit (R.remaining input.old) result
+        record { output = W.contents output.old; output' = W.contents output.new; errors = E.contents errors.old; errors' = E.contents errors.new } }
+    ensures statuses { result ≤ 3 }
+{
+    match answer_lines(alloc, schema, asked, input, output, errors) {
+        Ok(status) => status,
+        Err(failure) => report(alloc, failure.fault(), errors),
+    }
+}

@@ -1,0 +1,6 @@
+pub mod Taken
+pub mod Components
+pub mod Zeros
+pub mod Numbers
+pub mod Fitting
+pub mod NoEnds
