@@ -27,14 +27,12 @@ _oer() {
     = | --type | --types | --name | --hex | --in | --path | --json | --limit) return ;;
   esac
   [ "$word" != = ] || return
-  # Of --type and of --types with --name a line takes only one, and --hex goes with neither --in nor --lines.
+  # Of --type and of --types with --name a line takes only one, and of --hex, --in and --lines.
   for ((at = 2; at < COMP_CWORD; at++)); do
     case ${COMP_WORDS[at]} in
       --type) given+='--type --types --name ' ;;
       --types | --name) given+="${COMP_WORDS[at]} --type " ;;
-      --hex*) given+='--hex --in --lines ' ;;
-      --in) given+='--in --hex ' ;;
-      --lines) given+='--hex --lines ' ;;
+      --hex | --in | --lines) given+='--hex --in --lines ' ;;
       --*) given+="${COMP_WORDS[at]%%=*} " ;;
     esac
   done
