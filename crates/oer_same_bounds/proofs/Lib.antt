@@ -1,0 +1,6 @@
+mod Integers
+mod Judged
+mod Numbers
+mod Ranges
+mod Rows
+mod Sizes

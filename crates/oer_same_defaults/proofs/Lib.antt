@@ -1,0 +1,6 @@
+mod Steps
+mod Tokens
+mod Leaves
+mod Settled
+mod Single
+mod Same

@@ -1,0 +1,6 @@
+pub mod Whole
+mod Counted
+mod Items
+mod Named
+mod Same
+mod Taken

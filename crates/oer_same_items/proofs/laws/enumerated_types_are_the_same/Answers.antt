@@ -1,0 +1,5 @@
+use Rattle.oer_same_items.proofs.Same.{same_enumerated}
+use Rattle.oer_same_items.proofs.laws.enumerated_types_are_the_same.Goals as goal
+
+pub returns : goal.returns
+returns c = same_enumerated

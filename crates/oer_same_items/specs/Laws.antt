@@ -1,0 +1,52 @@
+-- Laws of the items of an ENUMERATED, in the notation and in modules. They say nothing where the reader of modules has an error.
+use Rattle.std.specs.Prelude.{◌≡◌, ℕ, ℤ, List, map, Bool, true, Some, is_some, Ok}
+use Rattle.oer_lexer.specs.Token.{Token}
+use Rattle.oer_model.specs.AsnType.{AsnType, NamedNumber, leaf}
+use Rattle.oer_model.specs.AsnValue.{AsnValue, enum}
+use Rattle.oer_model.specs.LeafType.{LeafType, enumerated}
+use Rattle.oer_module_defaults.specs.Governors.{Governor}
+use Rattle.oer_module_defaults.specs.Items.{has_item}
+use Rattle.oer_module_defaults.specs.Leaves.{enumerated_at as item_at}
+use Rattle.oer_module_leaves.specs.Leaves.{enumerated_at}
+use Rattle.oer_module_leaves.specs.Numbered.{Numbered, NumberedItem, numbered_at}
+use Rattle.oer_module_lexer.specs.Token.{Spot}
+use Rattle.oer_module_names.specs.declared.error.Place.{Place}
+use Rattle.oer_module_syntax.specs.Tree.{Module, plain}
+use Rattle.oer_module_syntax.specs.declared.word.Builtin.TheVariants.{Enumerated}
+use Rattle.oer_module_terms.specs.Trees.{amount, named}
+use Rattle.oer_module_text.specs.Room.{Room}
+use Rattle.oer_notation.specs.Grammar.{IsItemNamed, IsLeaf}
+use Rattle.oer_same_trees.specs.Says.{Keeps}
+use Rattle.oer_value_notation.specs.Leaves.{listed}
+
+-- an item without its place
+abbrev pub as_named : NumberedItem → NamedNumber
+as_named i = record { name = i.name; number = i.number }
+
+-- the tokens are these items in braces, with a marker or without
+abbrev pub IsEnumeration : List NamedNumber → Bool → List Token → Type 0
+IsEnumeration items marker ts = IsLeaf (listed enumerated) (enumerated items marker) ts
+
+-- The items of an ENUMERATED have the same names and numbers in a module, in the same order, and there is a marker in both or in neither.
+abbrev pub SameItems : Type 0
+SameItems = (items : List NamedNumber) (marker : Bool) (ts : List Token) (ss : List Spot) → IsEnumeration items marker ts → Keeps ts ss
+    → (ms : List Module) (p : Place) (e : Numbered) → numbered_at ms p ss ≡ Ok e
+    → (map as_named e.items ≡ items) × (is_some e.marker ≡ marker)
+
+-- An ENUMERATED is the same type in a module.
+abbrev pub SameEnumerated : Type 0
+SameEnumerated = (L : LeafType) (ts : List Token) (ss : List Spot) → IsLeaf (listed enumerated) L ts → Keeps ts ss
+    → (ms : List Module) (p : Place) (r s : Room) (T : AsnType) → enumerated_at ms p ss r ≡ Ok (T, s) → T ≡ leaf L
+
+-- The name of an item is told by this ENUMERATED itself, in each module.
+abbrev pub HasItem : Type 0
+HasItem = (items : List NamedNumber) (marker : Bool) (ts : List Token) (ss : List Spot) → IsEnumeration items marker ts → Keeps ts ss
+    → (w : List ℕ) (z : ℤ) → IsItemNamed w z items → (m : ℕ) → has_item m ss w ≡ Ok true
+
+-- The name of an item stands for the same value in a module, where both types that govern it are this ENUMERATED.
+abbrev pub SameItem : Type 0
+SameItem = (items : List NamedNumber) (marker : Bool) (ts : List Token) → IsEnumeration items marker ts
+    → (w : List ℕ) (z : ℤ) → IsItemNamed w z items → (g h : Governor) (at by : ℕ) (ss us cs ds : List Spot)
+    → g.type ≡ plain at Enumerated ss cs → Keeps ts ss → h.type ≡ plain by Enumerated us ds → Keeps ts us
+    → (ms : List Module) (p : Place) (steps : List Spot) (r s : Room) (v : AsnValue)
+    → item_at ms g h p (Some (amount (named w steps))) r ≡ Ok (v, s) → v ≡ enum z

@@ -1,0 +1,34 @@
+-- A module whose body is definitions of the notation, and what our own parser reads of these.
+use Rattle.std.specs.Prelude.{◌≡◌, ℕ, List, [], ◌∷◌, ◌++◌, false, true, Some, Ok, codes}
+use Rattle.oer_lexer.specs.FallsInto.{FallsInto}
+use Rattle.oer_lexer.specs.Token.{word}
+use Rattle.oer_model.specs.AsnType.{AsnType}
+use Rattle.oer_module_syntax.specs.Words.{is_reference}
+use Rattle.oer_modules.specs.Asked.{is_qualified}
+use Rattle.oer_modules.specs.Schemas.{schema_of_modules}
+use Rattle.oer_nesting.specs.Deeper.{Deeper}
+use Rattle.oer_notation.specs.Parsing.{parse_all}
+use Rattle.oer_notation.specs.Reading.{Known, find}
+use Rattle.oer_same_tokens.specs.Same.{has_odd_space}
+use Rattle.oer_same_trees.specs.Defining.{AreUnreserved, header}
+use Rattle.oer_same_types.specs.Unsized.{unsized}
+
+-- The text is a module with this name, whose body, on lines of its own, is a text that our own parser reads as these definitions.
+-- No Name of theirs is a reserved word of X.680, and there is no space that means something else in modules.
+pub record IsModuleOf (text : List ℕ) (name : List ℕ) (ks : List Known) : Type 0 where
+  pub start : List ℕ
+  pub body : List ℕ
+  pub end : List ℕ
+  pub is : text ≡ start ++ 10 ∷ (body ++ 10 ∷ end)
+  pub header_is : FallsInto start (header name)
+  pub parsed : parse_all body ≡ Ok ks
+  pub end_is : FallsInto end (word (codes "END") ∷ [])
+  pub plain : has_odd_space text ≡ false
+  pub unreserved : AreUnreserved ks
+  pub reference : is_reference name ≡ true
+
+-- In such a module a Name has the type that the parser gives it, if it is given one: without the sizes of lists, which types of
+-- modules leave out, and with an end in place of each type that stands deeper than the nesting says.
+abbrev pub SameAsParser : Type 0
+SameAsParser = (text name : List ℕ) (ks : List Known) (w : List ℕ) (T S : AsnType) (n : ℕ) → IsModuleOf text name ks → is_qualified w ≡ false
+    → find ks w ≡ Some T → schema_of_modules (text ∷ []) w n ≡ Ok S → Deeper S (unsized T)

@@ -1,0 +1,15 @@
+//! Each function does nothing; its contract is the law.
+ghost use Rattle.oer_same_modules.specs.Laws.{SameAsParser};
+
+use oer_same_names::laws::names_are_found_anywhere;
+use oer_same_trees::laws::what_is_parsed_is_read;
+use oer_same_types::laws::trees_are_given_their_types;
+
+/// In a module whose body is definitions that our own parser reads, a Name has the type that the parser gives it, if it is given one.
+pub fn modules_give_the_types_of_the_notation()
+    ensures { SameAsParser }
+{
+    what_is_parsed_is_read();
+    names_are_found_anywhere();
+    trees_are_given_their_types();
+}

@@ -1,0 +1,4 @@
+pub mod Found
+pub mod Ways
+pub mod Written
+pub mod Tags

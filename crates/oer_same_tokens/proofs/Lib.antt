@@ -1,0 +1,6 @@
+mod Example
+mod Lengths
+mod Same
+mod Steps
+mod Tokens
+mod Turns

@@ -1,0 +1,5 @@
+use Rattle.oer_same_tokens.proofs.Example.{examples}
+use Rattle.oer_same_tokens.proofs.laws.examples.Goals as goal
+
+pub returns : goal.returns
+returns c = examples

@@ -1,0 +1,16 @@
+pub mod Words
+pub mod Placed
+pub mod Groups
+pub mod Grows
+pub mod Flat
+pub mod Values
+pub mod Turns
+pub mod Steps
+pub mod Reading
+pub mod Definitions
+pub mod Calm
+pub mod Lines
+pub mod Parsed
+pub mod Back
+pub mod OneLeaf
+pub mod One

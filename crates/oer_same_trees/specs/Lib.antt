@@ -1,0 +1,3 @@
+pub mod Says
+pub mod Defining
+pub mod Laws

@@ -1,0 +1,7 @@
+mod Giving
+mod Elements
+mod Gathering
+mod Types
+mod Defaults
+mod Leaves
+mod Same

@@ -1,0 +1,3 @@
+pub mod Unsized
+pub mod Gathering
+pub mod Laws

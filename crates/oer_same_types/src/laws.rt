@@ -1,0 +1,21 @@
+//! Each function does nothing but cite other laws; its contract is the law.
+ghost use Rattle.oer_same_types.specs.Laws.{SameType};
+
+use oer_same_bounds::laws::{ranges_of_numbers_are_the_same, sizes_of_strings_are_the_same};
+use oer_same_defaults::laws::defaults_are_the_same;
+use oer_same_items::laws::enumerated_types_are_the_same;
+use oer_same_names::laws::{alternatives_are_meant, tags_are_theirs, types_are_meant};
+
+/// A tree that says a type of the notation is given that type, if it is given one: without the sizes of its lists, and with an end
+/// in place of each type that stands deeper than the nesting says.
+pub fn trees_are_given_their_types()
+    ensures { SameType }
+{
+    types_are_meant();
+    alternatives_are_meant();
+    tags_are_theirs();
+    defaults_are_the_same();
+    ranges_of_numbers_are_the_same();
+    sizes_of_strings_are_the_same();
+    enumerated_types_are_the_same();
+}
