@@ -105,7 +105,9 @@ enum oer_reason {
     OER_PREAMBLE_PADDING = 15,    /* a preamble with a bit set after its last one */
     OER_TAG_FORM = 16,            /* no tag, or one with a number above 2^32 - 1 */
     OER_UNKNOWN_ALTERNATIVE = 17, /* a tag that no alternative has, in a CHOICE without a marker */
-    OER_UNKNOWN_ADDITION = 18     /* a bit set for an addition past place 65,535 */
+    OER_UNKNOWN_ADDITION = 18,    /* a bit set for an addition past place 65,535 */
+    OER_NESTING = 19              /* they nest deeper than the type, one of modules, is written out: only
+                                     oer_check_nesting says so */
 };
 
 /* Why definitions are rejected: `why` of oer_parsed at OER_REJECTED (docs/NOTATION.md). */
@@ -193,10 +195,11 @@ typedef struct oer_understood {
 typedef struct oer_checked {
     uint32_t status;    /* OER_OK, OER_REJECTED, OER_NO_TYPES or OER_UNNAMED; of oer_check_many
                            OER_OK, OER_REJECTED or OER_OUTSIDE; of oer_check_whole OER_NOT_CANONICAL
-                           or OER_FOLLOWS too */
+                           or OER_FOLLOWS too, of oer_check_nesting OER_MEMORY */
     uint32_t why;       /* at OER_REJECTED the reason, an enum oer_reason; else 0 */
     uint64_t octets;    /* at OER_OK, OER_NOT_CANONICAL and OER_FOLLOWS how many octets the encoding has;
-                           at OER_REJECTED how many had been looked at when it was rejected; else 0 */
+                           at OER_REJECTED how many had been looked at when it was rejected; else, and at
+                           OER_OK of oer_check_nesting, 0 */
     uint32_t canonical; /* at OER_OK and OER_FOLLOWS 1 where the encoding is canonical, 0 where it is
                            another one; else 0 */
 } oer_checked;
@@ -305,6 +308,15 @@ uint32_t oer_check_many(oer_types *types, const char *name, size_t name_length,
                         const uint8_t *octets, size_t octets_length,
                         const oer_message *messages, size_t messages_length,
                         oer_checked *answers, size_t answers_length) OER_NO_NULL;
+
+/* That octets don't nest deeper than the type with the name is written out. oer_types_read_modules writes a type
+ * that contains itself out to a nesting. Where it would stand once more is CHOICE {too-deep [PRIVATE 4294967295]
+ * NULL} in its place, and the other calls reject octets that get there with OER_UNKNOWN_ALTERNATIVE. Ask then: by
+ * types that are read with a greater nesting they may be an encoding.
+ * OER_OK: they don't, whether an encoding is at the front or not. OER_REJECTED: they do; `why` is OER_NESTING, and
+ * `octets` the place, which is that of the other calls. OER_NO_TYPES, OER_UNNAMED, OER_MEMORY. */
+oer_checked oer_check_nesting(oer_types *types, const char *name, size_t name_length,
+                              const uint8_t *octets, size_t octets_length) OER_NO_NULL;
 
 /* Writes the canonical octets (Canonical-OER) of the value whose encoding, of at most `limit` octets,
  * is at the front of the octets. What follows it is not looked at.

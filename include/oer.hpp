@@ -611,6 +611,16 @@ public:
         return checked_of(oer_check_whole(&held_, name.data(), name.size(), given.data(), given.size()));
     }
 
+    /* That octets don't nest deeper than the type with the name is written out by from_modules(). The other
+     * calls reject those that do as OER_UNKNOWN_ALTERNATIVE: oer_check_nesting in oer.h says more. Both numbers of
+     * the answer are 0.
+     *   OER_REJECTED  they do: `why` is OER_NESTING, `place` that of the other calls
+     *   OER_MEMORY   an allocation failed in the library */
+    result<checked> check_nesting(text_in name, octets_in given) noexcept {
+        if (missing(name, given)) return nowhere(subject::octets);
+        return checked_of(oer_check_nesting(&held_, name.data(), name.size(), given.data(), given.size()));
+    }
+
     /* Checks each message as check() does. A message is a part of the octets; messages may overlap. Its
      * answer is at its place among the answers: checked_of() of it is what check() returns, or the error
      * has OER_OUTSIDE where the message is not all in the octets. It takes no memory. The answer is how
@@ -847,7 +857,7 @@ inline const char *reason(std::uint32_t number) noexcept {
     static const char *const table[] = {
         nullptr,        nullptr,    nullptr,       "End",          "Limit",       "Window",    "LengthForm",
         "EmptyNumber",  "IntegerRange", "EnumForm", "UnknownEnum", "Size",        "Character", "BitUnused",
-        "ObjectId",     "PreamblePadding", "TagForm", "UnknownAlternative", "UnknownAddition"
+        "ObjectId",     "PreamblePadding", "TagForm", "UnknownAlternative", "UnknownAddition", "Nesting"
     };
     return at(table, number);
 }

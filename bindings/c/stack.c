@@ -17,10 +17,10 @@ enum { STACK = 8 << 20, FILL = 0xa5, LARGE = 1 << 20 };
 
 /* ---- a call in a thread of its own */
 
-enum call { NONE, READ, READ_WITHIN, READ_MODULES, SHARE, CHECK, CHECK_WHOLE, CHECK_MANY, CANON, PART, PART_AT, TO_JSON, FROM_JSON, FREE };
+enum call { NONE, READ, READ_WITHIN, READ_MODULES, SHARE, CHECK, CHECK_WHOLE, CHECK_NESTING, CHECK_MANY, CANON, PART, PART_AT, TO_JSON, FROM_JSON, FREE };
 
 static const char *const names[] = { "none", "oer_types_read", "oer_types_read_within", "oer_types_read_modules", "oer_types_share", "oer_check", "oer_check_whole",
-                                     "oer_check_many", "oer_canon", "oer_part", "oer_part_at", "oer_to_json", "oer_from_json", "oer_types_free" };
+                                     "oer_check_nesting", "oer_check_many", "oer_canon", "oer_part", "oer_part_at", "oer_to_json", "oer_from_json", "oer_types_free" };
 
 /* What the call is given; `status` is what it answers. */
 struct job {
@@ -67,6 +67,9 @@ static void *run(void *given) {
         break;
     case CHECK_WHOLE:
         job->status = oer_check_whole(&job->types, job->name, name, job->octets, job->octets_length).status;
+        break;
+    case CHECK_NESTING:
+        job->status = oer_check_nesting(&job->types, job->name, name, job->octets, job->octets_length).status;
         break;
     case CHECK_MANY:
         job->status = oer_check_many(&job->types, job->name, name, job->octets, job->octets_length, &message, 1, &answer, 1);
@@ -155,6 +158,7 @@ static void measure_all(const char *what, const char *types, const char *name, c
     measure(&job, CHECK, what, OER_OK);
     canonical = oer_check(&job.types, name, strlen(name), octets, length).canonical == 1;
     measure(&job, CHECK_WHOLE, what, canonical ? OER_OK : OER_NOT_CANONICAL);
+    measure(&job, CHECK_NESTING, what, OER_OK);
     measure(&job, CHECK_MANY, what, OER_OK);
     measure(&job, CANON, what, OER_OK);
     measure(&job, PART, what, OER_OK);
@@ -190,26 +194,33 @@ static const struct level levels[] = {
     { "CHOICE {b NULL, ..., a ", "}", { 0x81 }, 1, 1, "v" }
 };
 
-/* The leaf in 31 levels of the kind, or where there is none in all kinds in turn. */
-static void measure_deep(const struct level *kind, const char *leaf, const uint8_t *contents, size_t length) {
-    enum { DEEP = 31, KINDS = sizeof levels / sizeof *levels };
-    static char type[4096], path[256], what[4200];
-    static uint8_t octets[1024];
-    uint8_t *front = octets + sizeof octets - length;
+/* A type of many levels, with octets for it and the path to the innermost. */
+struct deep {
+    char type[4096], path[256], what[4200];
+    uint8_t octets[1024];
+    const uint8_t *front;
+    size_t length;
+};
+
+/* The leaf in so many levels of the kind, or where there is none in all kinds in turn. */
+static void make_deep(struct deep *made, const struct level *kind, int levels_around, const char *leaf, const uint8_t *contents,
+                      size_t length) {
+    enum { KINDS = sizeof levels / sizeof *levels };
+    uint8_t *end = made->octets + sizeof made->octets, *front = end - length;
     int i;
     memcpy(front, contents, length);
-    strcpy(type, "A ::= ");
-    path[0] = 0;
-    for (i = 0; i < DEEP; i++) {
+    strcpy(made->type, "A ::= ");
+    made->path[0] = 0;
+    for (i = 0; i < levels_around; i++) {
         const struct level *level = kind ? kind : &levels[i % KINDS];
-        strcat(type, level->before);
-        strcat(strcat(path, i ? "." : ""), level->step);
+        strcat(made->type, level->before);
+        strcat(strcat(made->path, i ? "." : ""), level->step);
     }
-    strcat(type, leaf);
-    for (i = DEEP; i-- > 0;) {
+    strcat(made->type, leaf);
+    for (i = levels_around; i-- > 0;) {
         const struct level *level = kind ? kind : &levels[i % KINDS];
-        size_t inner = (size_t)(octets + sizeof octets - front);
-        strcat(type, level->after);
+        size_t inner = (size_t)(end - front);
+        strcat(made->type, level->after);
         if (level->counted) {
             if (inner > 255) exit(2);
             *--front = (uint8_t)inner;
@@ -218,8 +229,30 @@ static void measure_deep(const struct level *kind, const char *leaf, const uint8
         front -= level->length;
         memcpy(front, level->octets, level->length);
     }
-    snprintf(what, sizeof what, "%s of 32 levels: %s", kind ? kind->before : "all kinds", leaf);
-    measure_all(what, type, "A", front, (size_t)(octets + sizeof octets - front), path);
+    made->front = front;
+    made->length = (size_t)(end - front);
+    snprintf(made->what, sizeof made->what, "%s of 32 levels: %s", kind ? kind->before : "all kinds", leaf);
+}
+
+static void measure_deep(const struct level *kind, const char *leaf, const uint8_t *contents, size_t length) {
+    static struct deep made;
+    make_deep(&made, kind, 31, leaf, contents, length);
+    measure_all(made.what, made.type, "A", made.front, made.length, made.path);
+}
+
+/* Octets that nest too deep, where a type is written out to 32 levels. */
+static void measure_end(const struct level *kind) {
+    static const uint8_t tag[] = { 0x80 };
+    static struct deep made;
+    struct job job;
+    make_deep(&made, kind, 30, "CHOICE {a [PRIVATE 4294967295] NULL}", tag, 1);
+    memset(&job, 0, sizeof job);
+    job.name = "A";
+    if (oer_types_read(&job.types, made.type, strlen(made.type)).status != OER_OK) exit(2);
+    job.octets = made.front;
+    job.octets_length = made.length;
+    measure(&job, CHECK_NESTING, made.what, OER_REJECTED);
+    oer_types_free(&job.types);
 }
 
 static char *contents(const char *folder, const char *name) {
@@ -424,6 +457,7 @@ int main(int count, char **words) {
         measure_deep(kind, "IA5String", one, 2);
         measure_deep(kind, "OBJECT IDENTIFIER", one, 2);
         measure_deep(kind, "ENUMERATED {a(1)}", one, 1);
+        measure_end(kind);
     }
     measure_texts();
     measure_modules(words[1]);

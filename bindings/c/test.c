@@ -478,12 +478,18 @@ static void test_modules(const char *folder) {
         EXPECT(oer_check(&types, "A", 1, message.at, message.length).status == OER_UNNAMED, "the earlier types are gone");
         checked = oer_check(&types, "Forwarded", 9, deep.at, deep.length);
         EXPECT(checked.status == OER_REJECTED && checked.why == OER_INTEGER_RANGE && checked.octets == 3, "as deep as it fits");
+        EXPECT(is_only(as_written(oer_check_nesting(&types, "Forwarded", 9, deep.at, deep.length)), OER_OK), "as deep as it fits");
         EXPECT(read_modules(&types, texts, 2, 1, words, sizeof words).status == OER_OK, "nesting");
         checked = oer_check(&types, "Forwarded", 9, deep.at, deep.length);
         EXPECT(checked.status == OER_REJECTED && checked.why == OER_UNKNOWN_ALTERNATIVE && checked.octets == 3, "nesting 1");
+        checked = oer_check_nesting(&types, "Forwarded", 9, deep.at, deep.length);
+        EXPECT(checked.status == OER_REJECTED && checked.why == OER_NESTING && checked.octets == 3 && checked.canonical == 0, "nesting 1");
+        EXPECT(is_only(as_written(oer_check_nesting(&types, "Forwarded", 9, deep.at, 2)), OER_OK), "octets that end before");
+        EXPECT(is_only(as_written(oer_check_nesting(&types, "A", 1, deep.at, deep.length)), OER_UNNAMED), "no such name");
     }
     EXPECT(strcmp(words, "abc") == 0, "no words");
     oer_types_free(&types);
+    EXPECT(is_only(as_written(oer_check_nesting(&types, "Forwarded", 9, deep.at, deep.length)), OER_NO_TYPES), "no types");
 }
 
 /* ---- the certificate of the example */

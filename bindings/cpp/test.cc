@@ -456,9 +456,12 @@ static void test_modules(const std::string &folder) {
     EXPECT(copy(types.from_json("Message", "{\"report\":{\"position\":{\"north\":1,\"east\":2}}}").value()) == message, "JSON");
     EXPECT(is_only(types.check("Log", message).error(), OER_UNNAMED), "a type that is refused");
     EXPECT(types.check("Forwarded", deep).error().why == OER_INTEGER_RANGE, "as deep as it fits");
+    EXPECT(types.check_nesting("Forwarded", deep).ok(), "as deep as it fits");
     const char *const letters[] = { texts[0].c_str(), texts[1].c_str() };
     types = oer::types::from_modules(letters, 1).value();
     EXPECT(types.check("Forwarded", deep).error().why == OER_UNKNOWN_ALTERNATIVE, "nesting 1");
+    const oer::error nested = types.check_nesting("Forwarded", deep).error();
+    EXPECT(nested.name() == std::string("Nesting") && nested.why == OER_NESTING && nested.place == 3, "nesting 1");
     EXPECT(oer::types::from_modules({ texts[1], texts[0].c_str() }).value().check_whole("Message", message).ok(), "a list");
     EXPECT(oer::types::from_modules(std::array<oer::text_in, 1>{ { texts[1] } }).ok(), "std::array");
     const char *null = nullptr;
@@ -657,6 +660,7 @@ static void test_null_pointers() {
         char letters[8];
         EXPECT(is_only(types.check(name, given).error(), OER_OUTSIDE), "check");
         EXPECT(is_only(types.check_whole(name, given).error(), OER_OUTSIDE), "check_whole");
+        EXPECT(is_only(types.check_nesting(name, given).error(), OER_OUTSIDE), "check_nesting");
         EXPECT(is_only(types.check_many(name, given, { &all, 1 }, { &answer, 1 }).error(), OER_OUTSIDE), "check_many");
         EXPECT(is_only(types.canon(name, given).error(), OER_OUTSIDE), "canon");
         EXPECT(is_only(types.canon_into(name, given, room).error(), OER_OUTSIDE), "canon_into");
@@ -778,7 +782,7 @@ static void test_numbers(const std::string &file) {
         statuses += status;
         tested++;
     }
-    EXPECT(tested == 59, std::to_string(tested) + " numbers");
+    EXPECT(tested == 60, std::to_string(tested) + " numbers");
     EXPECT(name_of(OER_REJECTED, 0, oer::subject::octets) == "UNKNOWN", "no reason");
     EXPECT(name_of(OER_REJECTED, 99, oer::subject::json) == "UNKNOWN", "no reason");
     EXPECT(name_of(99, 0, oer::subject::json) == "UNKNOWN", "no status");

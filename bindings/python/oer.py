@@ -69,6 +69,7 @@ class Reason(enum.IntEnum):
     TAG_FORM = 16  # no tag, or one with a number above 2^32 - 1
     UNKNOWN_ALTERNATIVE = 17  # a tag that no alternative has, in a CHOICE without a marker
     UNKNOWN_ADDITION = 18  # a bit set for an addition past place 65,535
+    NESTING = 19  # they nest deeper than the type, one of modules, is written out: only check_nesting() says so
 
 
 class TextReason(enum.IntEnum):
@@ -406,6 +407,7 @@ def _load() -> ctypes.CDLL:
         "oer_types_share": ([handle, handle], ctypes.c_uint32),
         "oer_check": ([handle] + given + given, _Checked),
         "oer_check_whole": ([handle] + given + given, _Checked),
+        "oer_check_nesting": ([handle] + given + given, _Checked),
         "oer_check_many": ([handle] + given + given + [ctypes.c_void_p, size] + out, ctypes.c_uint32),
         "oer_canon": ([handle] + given + given + [limit] + out, _Written),
         "oer_part": ([handle] + given + given + given + out, _Written),
@@ -624,6 +626,18 @@ class Types:
         answer = self._call(_library.oer_check_whole, named, len(named), given, len(given))
         if answer.status == _FOLLOWS:
             raise Follows(answer.octets)
+        if answer.status != _OK:
+            raise self._rejection(answer, named)
+
+    def check_nesting(self, name: Text, octets: Octets) -> None:
+        """That the octets don't nest deeper than the type with the name is written out by from_modules(). The other
+        calls reject those that do as UNKNOWN_ALTERNATIVE, at the same place: ask then, and by types that are read
+        with a greater nesting they may be an encoding.
+
+        Raises OctetsRejected, with the reason NESTING, if they do.
+        """
+        named, given = _text(name), _octets(octets)
+        answer = self._call(_library.oer_check_nesting, named, len(named), given, len(given))
         if answer.status != _OK:
             raise self._rejection(answer, named)
 

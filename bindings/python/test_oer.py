@@ -232,9 +232,11 @@ class Calls(unittest.TestCase):
             self.assertEqual(self.raised(lambda: types.check("Log", message)), (oer.Unnamed, None, None))
             deep = self.raised(lambda: types.check("Forwarded", bytes.fromhex("01818000")))
             self.assertEqual(deep, (oer.OctetsRejected, oer.Reason.INTEGER_RANGE, 3))
+            self.assertIsNone(types.check_nesting("Forwarded", bytes.fromhex("01818000")))  # type: ignore[func-returns-value]
         types = oer.Types.from_modules(*MODULES, nesting=1)
-        deep = self.raised(lambda: types.check("Forwarded", bytes.fromhex("01818000")))
-        self.assertEqual(deep, (oer.OctetsRejected, oer.Reason.UNKNOWN_ALTERNATIVE, 3))
+        for call, reason in ((types.check, oer.Reason.UNKNOWN_ALTERNATIVE), (types.check_nesting, oer.Reason.NESTING)):
+            deep = self.raised(lambda: call("Forwarded", bytes.fromhex("01818000")))  # type: ignore[operator]
+            self.assertEqual(deep, (oer.OctetsRejected, reason, 3))
         for nesting in (-1, 256, 2**70):
             self.assertRaises(ValueError, lambda: oer.Types.from_modules(*MODULES, nesting=nesting))
         self.assertRaises(TypeError, lambda: oer.Types.from_module_texts(5))  # type: ignore[arg-type]
@@ -251,7 +253,7 @@ class Calls(unittest.TestCase):
         for octets in (b"\x01\x05", bytearray(b"\x01\x05"), memoryview(b"\x00\x01\x05")[1:]):
             self.assertEqual(types.canon("A", octets), oer.Canonical(octets=b"\x01\x05", read=2))
         for octets in ("0105", 2, None, [1, 5], {1: 5}, {1, 5}):
-            for call in (types.check, types.check_whole, types.canon, types.to_json):
+            for call in (types.check, types.check_whole, types.check_nesting, types.canon, types.to_json):
                 self.assertRaises(TypeError, call, "A", octets)
             self.assertRaises(TypeError, types.part, "A", octets, "c0")
             self.assertRaises(TypeError, types.part_at, "A", octets, "c0")

@@ -364,6 +364,30 @@ impl Types {
         checked(&answer).map(|_| ())
     }
 
+    /// That the octets don't nest deeper than the type with the name is written out by
+    /// [`Types::from_modules`]. The other calls reject those that do as [`Reason::UnknownAlternative`], at the
+    /// same place: ask then, and by types that are read with a greater nesting they may be an encoding.
+    ///
+    /// # Errors
+    ///
+    /// [`Error::Octets`] with [`Reason::Nesting`] if they do, and [`Error::Memory`].
+    ///
+    /// ```
+    /// let text = "M DEFINITIONS AUTOMATIC TAGS ::= BEGIN X ::= CHOICE {a NULL, n X} END";
+    /// let types = oer::Types::from_modules(&[text], 1).unwrap();
+    /// let deep = oer::Error::Octets { reason: oer::Reason::Nesting, place: 2 };
+    /// assert_eq!(types.check_nesting("X", &[0x81, 0x80]), Err(deep));
+    /// assert_eq!(types.check_nesting("X", &[0x80]), Ok(()));
+    /// ```
+    pub fn check_nesting(&self, name: impl AsRef<[u8]>, octets: &[u8]) -> Result<(), Error> {
+        let name = name.as_ref();
+        // SAFETY: as in `check`.
+        let answer = unsafe {
+            sys::oer_check_nesting(self.held.get(), name.as_ptr().cast(), name.len(), octets.as_ptr(), octets.len())
+        };
+        checked(&answer).map(|_| ())
+    }
+
     /// Checks each message as [`Types::check`] does, in one call. A message is a range of the octets, and
     /// ranges may overlap. Returns the answers in the order of the messages. A range that ends before it
     /// starts is not in the octets.

@@ -77,6 +77,9 @@ reasons! {
         UnknownAlternative = 17,
         /// A bit set for an addition past place 65,535.
         UnknownAddition = 18,
+        /// They nest deeper than the type, one of modules, is written out. Only
+        /// [`Types::check_nesting`](crate::Types::check_nesting) says so.
+        Nesting = 19,
     }
 }
 

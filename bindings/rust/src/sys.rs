@@ -102,6 +102,13 @@ extern "C" {
         octets: *const u8,
         octets_length: usize,
     ) -> OerChecked;
+    pub fn oer_check_nesting(
+        types: *mut OerTypes,
+        name: *const c_char,
+        name_length: usize,
+        octets: *const u8,
+        octets_length: usize,
+    ) -> OerChecked;
     pub fn oer_check_many(
         types: *mut OerTypes,
         name: *const c_char,

@@ -254,9 +254,12 @@ fn the_modules_of_the_example() {
     assert_eq!(types.check_whole("Message", &message), Ok(()));
     assert_eq!(types.from_json("Message", json).unwrap(), message);
     assert_eq!(types.check("Log", &message), Err(Error::Unnamed));
-    let nested = |types: &Types| types.check("Forwarded", &[0x01, 0x81, 0x80, 0x00]).unwrap_err().reason();
-    assert_eq!(nested(&types), Some("IntegerRange"));
-    assert_eq!(nested(&Types::from_modules(&texts, 1).unwrap()), Some("UnknownAlternative"));
+    let deep = [0x01, 0x81, 0x80, 0x00];
+    let once = Types::from_modules(&texts, 1).unwrap();
+    assert_eq!(types.check("Forwarded", &deep).unwrap_err().reason(), Some("IntegerRange"));
+    assert_eq!(types.check_nesting("Forwarded", &deep), Ok(()));
+    assert_eq!(once.check("Forwarded", &deep).unwrap_err().reason(), Some("UnknownAlternative"));
+    assert_eq!(once.check_nesting("Forwarded", &deep), Err(Error::Octets { reason: Reason::Nesting, place: 3 }));
 }
 
 /// The name of the header without its underscores, in small letters.
@@ -278,7 +281,7 @@ fn numbers_are_those_of_the_header() {
         let (found, again) = found.unwrap();
         assert_eq!((found.to_lowercase(), again), (spelt(name), number));
     }
-    assert_eq!(rows.len(), 59);
+    assert_eq!(rows.len(), 60);
     assert_eq!((Reason::from_number(2), TextReason::from_number(1), JsonReason::from_number(7)), (None, None, None));
     assert_eq!(table::rows("version")[0][0], oer::version().to_string());
 }

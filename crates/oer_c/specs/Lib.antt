@@ -2,6 +2,7 @@ pub mod Held
 pub mod Sharing
 pub mod Reasons
 pub mod Naming
+pub mod Nesting
 pub mod Definitions
 pub mod Checking
 pub mod Messages

@@ -12,6 +12,7 @@ mod make;
 mod many;
 mod modules;
 mod naming;
+mod nesting;
 mod part;
 mod part_at;
 mod path;

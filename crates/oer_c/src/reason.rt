@@ -31,6 +31,10 @@ fn of_schema(fault: SchemaFault) -> u32
 /// stands for more octets.
 pub(crate) const TEXT_PARTS: u32 = 20;
 
+/// The number of the reason that octets nest deeper than a type of modules is written out. Reasons of the reader have the
+/// numbers below.
+pub(crate) const NESTING: u32 = 19;
+
 /// The number of the reason that what is understood of modules spells no types.
 pub(crate) const MODULES_NO_TYPES: u32 = 4;
 
