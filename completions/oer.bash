@@ -15,24 +15,27 @@ _oer() {
       [ "$COMP_CWORD" -gt 2 ] || COMPREPLY=($(compgen -W 'canon show check part make' -- "$word"))
       return
       ;;
-    show) options='--type --types --name --hex --in --lines --ascii --limit --help' ;;
-    canon | check) options='--type --types --name --hex --in --lines --limit --help' ;;
-    part) options='--type --types --name --hex --in --lines --path --limit --help' ;;
+    show) options='--type --types --name --hex --in --lines --framed --ascii --limit --help' ;;
+    canon) options='--type --types --name --hex --in --lines --framed --limit --help' ;;
+    check) options='--type --types --name --canonical --hex --in --lines --framed --limit --help' ;;
+    part) options='--type --types --name --hex --in --lines --framed --path --limit --help' ;;
     make) options='--type --types --name --json --limit --help' ;;
     example) options='--type --types --name --full --help' ;;
     *) return ;;
   esac
   # An equals sign is a word of its own here.
   case $before in
-    = | --type | --types | --name | --hex | --in | --path | --json | --limit) return ;;
+    = | --type | --types | --name | --hex | --in | --framed | --path | --json | --limit) return ;;
   esac
   [ "$word" != = ] || return
-  # Of --type and of --types with --name a line takes only one, and of --hex, --in and --lines.
+  # Of --type and of --types with --name a line takes only one, and of --hex, --in, --lines and --framed. --canonical takes one message.
   for ((at = 2; at < COMP_CWORD; at++)); do
     case ${COMP_WORDS[at]} in
       --type) given+='--type --types --name ' ;;
       --types | --name) given+="${COMP_WORDS[at]} --type " ;;
-      --hex | --in | --lines) given+='--hex --in --lines ' ;;
+      --hex | --in) given+='--hex --in --lines --framed ' ;;
+      --lines | --framed) given+='--canonical --hex --in --lines --framed ' ;;
+      --canonical) given+='--canonical --lines --framed ' ;;
       --*) given+="${COMP_WORDS[at]%%=*} " ;;
     esac
   done

@@ -1,11 +1,12 @@
 //! The program `oer`: values and their octets at the command line.
 #![tactic(auto)]
 
+use oer_canonical_cmd::{canonical_asked, run_canonical, run_canonical_for};
 use oer_cmd::{NoStart, run, stop};
 use oer_ends_cmd::run_for;
 use oer_example_cmd::{asks_example, run_example, run_example_for};
 use oer_input_cmd::{Given, Program, input_given};
-use oer_lines_cmd::{lines_asked, run_lines, run_lines_for};
+use oer_lines_cmd::{Way, framed_asked, lines_asked, run_many, run_many_for};
 use oer_module_cmd::type_given;
 use oer_module_options::Command;
 use oer_types_cmd::run_types;
@@ -49,8 +50,32 @@ fn answer_one<R: Read, W: Write, E: Write>(
     }
 }
 
-// Does what the arguments ask for with the messages on the lines of the input. The status.
-fn answer_lines<R: BufRead, W: Write, E: Write>(
+// Does what the arguments ask for with many messages. The status.
+fn answer_many<R: BufRead, W: Write, E: Write>(
+    alloc: Global,
+    way: Way,
+    words: &[String],
+    input: &mut R,
+    output: &mut W,
+    errors: &mut E,
+) -> u8 {
+    match type_given(alloc, Command::Oer, words, input, errors) {
+        Ok(Some(given)) => run_many_for(
+            alloc,
+            way,
+            &given.schema,
+            given.words.as_slice(),
+            input,
+            output,
+            errors,
+        ),
+        Ok(None) => run_many(alloc, way, words, input, output, errors),
+        Err(status) => status,
+    }
+}
+
+// Says whether one message is the canonical octets of a value. The status.
+fn answer_canonical<R: Read, W: Write, E: Write>(
     alloc: Global,
     words: &[String],
     input: &mut R,
@@ -58,7 +83,7 @@ fn answer_lines<R: BufRead, W: Write, E: Write>(
     errors: &mut E,
 ) -> u8 {
     match type_given(alloc, Command::Oer, words, input, errors) {
-        Ok(Some(given)) => run_lines_for(
+        Ok(Some(given)) => run_canonical_for(
             alloc,
             &given.schema,
             given.words.as_slice(),
@@ -66,7 +91,7 @@ fn answer_lines<R: BufRead, W: Write, E: Write>(
             output,
             errors,
         ),
-        Ok(None) => run_lines(alloc, words, input, output, errors),
+        Ok(None) => run_canonical(alloc, words, input, output, errors),
         Err(status) => status,
     }
 }
@@ -101,8 +126,23 @@ fn answer<R: BufRead, W: Write, E: Write>(
     output: &mut W,
     errors: &mut E,
 ) -> u8 {
+    match canonical_asked(alloc, words, errors) {
+        Ok(Some(words)) => return answer_canonical(alloc, words.as_slice(), input, output, errors),
+        Ok(None) => {}
+        Err(status) => return status,
+    }
+    match framed_asked(alloc, words, errors) {
+        Ok(Some(framed)) => {
+            let way = Way::Framed(framed.width);
+            return answer_many(alloc, way, framed.words.as_slice(), input, output, errors);
+        }
+        Ok(None) => {}
+        Err(status) => return status,
+    }
     match lines_asked(alloc, words, errors) {
-        Ok(Some(words)) => return answer_lines(alloc, words.as_slice(), input, output, errors),
+        Ok(Some(words)) => {
+            return answer_many(alloc, Way::Lines, words.as_slice(), input, output, errors);
+        }
         Ok(None) => {}
         Err(status) => return status,
     }

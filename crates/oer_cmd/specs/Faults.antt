@@ -14,7 +14,7 @@ use Rattle.oer_decoder.specs.declared.fault.RewriteFault.TheVariants as rewrite
 use Rattle.oer_value_notation.specs.Faults.{text_why_name}
 use Rattle.oer_json.specs.Faults.{json_fault_name}
 use Rattle.oer_cmd.specs.declared.fault.Fault.{Fault}
-use Rattle.oer_cmd.specs.declared.fault.Fault.TheVariants.{Read, Nesting, Follows, Longer, NoSuchStep, Absent, OneType, NoName, NoTypes, NoSource, «Type», Unnamed, Hex, Path, NotJson, Json, Input, Output, Memory}
+use Rattle.oer_cmd.specs.declared.fault.Fault.TheVariants.{Read, Nesting, Follows, NotCanonical, Longer, NoSuchStep, Absent, OneType, NoName, NoTypes, NoSource, «Type», Unnamed, Hex, Path, NotJson, Json, Input, Output, Memory}
 
 -- the notation was refused
 pub record IsOfText (e : TextFault) (fault : Fault) : Type 0 where
@@ -39,6 +39,7 @@ abbrev pub status_of : Fault → ℕ
 status_of (Read e) = 1
 status_of (Nesting n) = 1
 status_of (Follows n) = 1
+status_of NotCanonical = 1
 status_of (Longer n) = 1
 status_of NoSuchStep = 1
 status_of Absent = 1
@@ -65,6 +66,7 @@ abbrev pub text_of : Fault → Text
 text_of (Read e) = why_name e.why ++ codes " at " ++ decimal e.taken
 text_of (Nesting n) = codes "Nesting at " ++ decimal n
 text_of (Follows n) = codes "octets follow the value at " ++ decimal n
+text_of NotCanonical = codes "not canonical"
 text_of (Longer n) = codes "input longer than " ++ decimal n
 text_of NoSuchStep = codes "NoSuchStep"
 text_of Absent = codes "Absent"

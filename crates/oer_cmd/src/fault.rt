@@ -19,6 +19,8 @@ pub enum Fault<'a> {
     Nesting(u64),
     /// An octet follows the value, which took so many.
     Follows(u64),
+    /// The octets are an encoding of a value, and not the canonical one.
+    NotCanonical,
     /// There are more octets than the limit, which is this.
     Longer(u64),
     /// The path has a step that the type doesn't have, one past the last element, or one to an
@@ -97,7 +99,7 @@ impl<'a> Fault<'a> {
     {
         match self {
             Fault::Read(_) | Fault::Nesting(_) | Fault::Follows(_) | Fault::Longer(_) => 1,
-            Fault::NoSuchStep | Fault::Absent => 1,
+            Fault::NotCanonical | Fault::NoSuchStep | Fault::Absent => 1,
             Fault::OneType | Fault::NoName | Fault::NoTypes | Fault::NoSource => 2,
             Fault::Type(_) | Fault::Unnamed(_) | Fault::Hex => 2,
             Fault::Path | Fault::NotJson | Fault::Json(_) => 2,
@@ -114,6 +116,7 @@ impl fmt::Display for Fault<'_> {
             Fault::Read(fault) => write!(f, "{} at {}", fault.why.name(), fault.taken),
             Fault::Nesting(taken) => write!(f, "Nesting at {taken}"),
             Fault::Follows(taken) => write!(f, "octets follow the value at {taken}"),
+            Fault::NotCanonical => f.write_str("not canonical"),
             Fault::Longer(limit) => write!(f, "input longer than {limit}"),
             Fault::NoSuchStep => f.write_str("NoSuchStep"),
             Fault::Absent => f.write_str("Absent"),

@@ -21,5 +21,5 @@ pub use fault::Fault;
 pub use gathering::{GatherFault, gather};
 pub use given::run_for;
 pub use octets::{all_octets, spelt};
-pub use program::{line_of, print_line, put_all, refused, report, run};
+pub use program::{answer, line_of, print_line, put_all, refused, report, run};
 pub use start::{NoStart, stop};

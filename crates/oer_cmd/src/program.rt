@@ -124,8 +124,8 @@ fn line_of_types<'a, R: Read>(
     line_of_named(alloc, text.as_str(), name, options, input)
 }
 
-// The line that the options ask for.
-fn answer<'a, R: Read>(
+/// The line that the options ask for. The error says why there is none.
+pub fn answer<'a, R: Read>(
     alloc: Global,
     options: Options<'a>,
     input: &mut R,

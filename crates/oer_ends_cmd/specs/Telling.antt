@@ -1,8 +1,9 @@
 -- How it is told that octets nest deeper than a type is written out.
-use Rattle.std.specs.Prelude.{◌≡◌, ◌≤◌, ℕ, eqb, leb, ◌&&◌, List, length, Option, Some, None, if◌then◌else◌}
+use Rattle.std.specs.Prelude.{◌≡◌, ◌≤◌, ℕ, Bool, true, false, eqb, leb, ◌&&◌, List, length, Option, Some, None, if◌then◌else◌}
 use Rattle.clap.specs.Words.{Text}
 use Rattle.oer_model.specs.AsnType.{AsnType}
 use Rattle.oer_model.specs.Parts.{Step}
+use Rattle.oer_ends.specs.Ends.{has_end}
 use Rattle.oer_ends.specs.Nests.{nests_at}
 use Rattle.oer_options.specs.Words.{source_text}
 use Rattle.oer_options.specs.declared.options.Task.{Task}
@@ -50,6 +51,14 @@ answer_in_hand task T limit path octets = octets >>= λ b. told_answer T limit b
 abbrev pub nested_answer : Task → AsnType → ℕ → Expected (List Step) → Option (List ℕ) → Expected Text
 nested_answer (Make json) T limit path had = task_answer (Make json) T limit path had
 nested_answer task T limit path had = answer_in_hand task T limit path (octets_in_hand (source_text task) limit had)
+
+abbrev pub answer_by : Bool → Task → AsnType → ℕ → Expected (List Step) → Option (List ℕ) → Expected Text
+answer_by true task T limit path had = nested_answer task T limit path had
+answer_by false task T limit path had = task_answer task T limit path had
+
+-- The answer of a task for a type of modules.
+abbrev pub modules_answer : Task → AsnType → ℕ → Expected (List Step) → Option (List ℕ) → Expected Text
+modules_answer task T limit path had = answer_by (has_end T) task T limit path had
 
 -- ---- by where the type is from
 

@@ -11,7 +11,7 @@ ghost use Rattle.oer_cmd.specs.Run.{IsLineOf, NoLineAskedFor, PrintsFor};
 ghost use Rattle.oer_cmd.specs.Taking.{TakesFrom};
 ghost use Rattle.oer_ends.specs.Ends.{has_end};
 ghost use Rattle.oer_ends_cmd.specs.Ending.{EndsForModules, EndsNested};
-ghost use Rattle.oer_ends_cmd.specs.Telling.{answer_in_hand, nested_answer, told_answer};
+ghost use Rattle.oer_ends_cmd.specs.Telling.{answer_in_hand, modules_answer, nested_answer, told_answer};
 
 use crate::telling::told;
 use oer_cmd::{Fault, all_octets, line_of, print_line, refused, report, spelt};
@@ -77,6 +77,25 @@ fn nested_line<'a, R: Read>(
     match spelt(alloc, options.task.source())? {
         Some(octets) => line_in_hand(alloc, schema, options, octets.as_slice()),
         None => line_of_input(alloc, schema, options, input),
+    }
+}
+
+/// The line of the task for values of a type of modules, from the octets or the JSON of the options, else from the input. The error says why
+/// there is none: where the type has an end, `Nesting` if octets get there, and then all that the input has left is read first.
+pub fn line_given<'a, R: Read>(
+    alloc: Global,
+    schema: &Schema,
+    options: Options<'a>,
+    input: &mut R,
+) -> Result<String, Fault<'a>>
+    ensures exact { (path : Expected (List Step)) → IsPathOf (path_text options.entry.task) path
+        → Meets string_bytes (modules_answer options.entry.task (the_type schema.now) options.entry.limit path (R.remaining input.old)) result }
+    ensures untouched { source_text options.entry.task ≢ None → input.new ≡ input.old }
+{
+    if has_end(schema.shape()) {
+        nested_line(alloc, schema, options, input)
+    } else {
+        line_of(alloc, schema, options, input)
     }
 }
 

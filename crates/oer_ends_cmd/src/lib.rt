@@ -5,5 +5,5 @@
 mod given;
 mod telling;
 
-pub use given::run_for;
+pub use given::{line_given, run_for};
 pub use telling::{Origin, told, told_by};

@@ -34,6 +34,7 @@ with_coding p s (Some k) =
     if not (takes_octets p s.kept) then Err error.Command
     else if s.has_hex then Err error.Hex
     else if s.has_lines then Err error.Lines
+    else if s.has_framed then Err error.Framed
     else Ok k
 
 abbrev pub coding_in : Program → Scan → Text → Read Coding

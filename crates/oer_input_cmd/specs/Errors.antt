@@ -5,7 +5,7 @@ use Rattle.oer_input.specs.Faults.{text_of as fault_text}
 use Rattle.oer_input.specs.declared.fault.Fault.{Fault}
 use Rattle.oer_input.specs.declared.fault.Fault.TheVariants as fault
 use Rattle.oer_input_cmd.specs.declared.error.Error.{Error}
-use Rattle.oer_input_cmd.specs.declared.error.Error.TheVariants.{NoValue, Twice, Coding, Command, Hex, Lines, Text, Input, Memory}
+use Rattle.oer_input_cmd.specs.declared.error.Error.TheVariants.{NoValue, Twice, Coding, Command, Hex, Lines, Framed, Text, Input, Memory}
 
 abbrev pub error_by : Fault → Error
 error_by fault.Memory = Memory
@@ -38,6 +38,7 @@ text_of Coding = codes "--in takes hex, raw or base64"
 text_of Command = codes "--in needs canon, show, check or part"
 text_of Hex = codes "--in reads standard input, not --hex"
 text_of Lines = codes "one of --in and --lines"
+text_of Framed = codes "one of --in and --framed"
 text_of (Text f) = codes "input: " ++ fault_text f
 text_of Input = codes "input failed"
 text_of Memory = codes "out of memory"

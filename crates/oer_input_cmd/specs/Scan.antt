@@ -1,7 +1,7 @@
 -- The words of a command line, with `--in` taken out.
 use Rattle.std.specs.Prelude.{List, [], ◌∷◌, ◌++◌, map, Bool, true, false}
 use Rattle.std.specs.Borrow.{Bor}
-use Rattle.oer_input_cmd.specs.Words.{Text, Word, hex, in_alone, in_with, lines, other, rest, word_of}
+use Rattle.oer_input_cmd.specs.Words.{Text, Word, framed, hex, in_alone, in_with, lines, other, rest, word_of}
 use Rattle.oer_input_cmd.specs.declared.scan.Next.{Next}
 use Rattle.oer_input_cmd.specs.declared.scan.Next.TheVariants as expects
 use Rattle.oer_input_cmd.specs.declared.scan.Scan.{Scan as RawScan}
@@ -12,6 +12,7 @@ pub record Scan : Type 0 where
   pub kept : List Text
   pub has_hex : Bool
   pub has_lines : Bool
+  pub has_framed : Bool
 
 abbrev pub text_behind : Bor Text → Text
 text_behind t = t.now
@@ -23,11 +24,12 @@ scan_of s = record {
   kept = map text_behind s.kept.items;
   has_hex = s.has_hex;
   has_lines = s.has_lines;
+  has_framed = s.has_framed;
 }
 
 -- before the first word
 abbrev pub start : Scan
-start = record { next = expects.Option; values = []; kept = []; has_hex = false; has_lines = false }
+start = record { next = expects.Option; values = []; kept = []; has_hex = false; has_lines = false; has_framed = false }
 
 -- a word stays
 abbrev pub keep : Text → Scan → Scan
@@ -43,6 +45,7 @@ by_word in_alone w s = record s { next = expects.Value }
 by_word (in_with v) w s = add v s
 by_word hex w s = keep w (record s { has_hex = true })
 by_word lines w s = keep w (record s { has_lines = true })
+by_word framed w s = keep w (record s { has_framed = true })
 by_word other w s = keep w s
 
 -- a word where an option may stand

@@ -14,6 +14,7 @@ pub data Word : Type 0 where
   in_with : Text → Word
   hex : Word
   lines : Word
+  framed : Word
   other : Word
 
 abbrev pub word_seen : RawWord → Word
@@ -22,6 +23,7 @@ word_seen raw.In = in_alone
 word_seen (raw.InWith v) = in_with v.now
 word_seen raw.Hex = hex
 word_seen raw.Lines = lines
+word_seen raw.Framed = framed
 word_seen raw.Other = other
 
 -- the text behind a reference
@@ -32,22 +34,27 @@ behind = option_map (λ s. s.now)
 abbrev pub value_behind : Text → Text → Option Text
 value_behind w p = if bytes_eq (take (length p) w) p then Some (drop (length p) w) else None
 
-abbrev pub or_hex : Option Text → Word
-or_hex (Some v) = hex
-or_hex None = other
+abbrev pub or_framed : Option Text → Word
+or_framed (Some v) = framed
+or_framed None = other
+
+abbrev pub or_hex : Option Text → Text → Word
+or_hex (Some v) w = hex
+or_hex None w = or_framed (value_behind w (codes "--framed="))
 
 abbrev pub or_in : Option Text → Text → Word
 or_in (Some v) w = in_with v
-or_in None w = or_hex (value_behind w (codes "--hex="))
+or_in None w = or_hex (value_behind w (codes "--hex=")) w
 
 abbrev pub by_value : Text → Word
 by_value w = or_in (value_behind w (codes "--in=")) w
 
--- `--`, the options `--in` and `--hex`, alone or with `=` and a value, and `--lines`
+-- `--`, the options `--in`, `--hex` and `--framed`, alone or with `=` and a value, and `--lines`
 unfoldable pub word_of : Text → Word
 word_of w =
     if bytes_eq w (codes "--") then rest
     else if bytes_eq w (codes "--in") then in_alone
     else if bytes_eq w (codes "--hex") then hex
     else if bytes_eq w (codes "--lines") then lines
+    else if bytes_eq w (codes "--framed") then framed
     else by_value w

@@ -66,6 +66,9 @@ fn coding_in(program: Program, scan: &Scan<'_>, value: &[u8]) -> Result<Coding, 
     if scan.has_lines {
         return Err(Error::Lines);
     }
+    if scan.has_framed {
+        return Err(Error::Framed);
+    }
     Ok(coding)
 }
 
@@ -73,7 +76,8 @@ fn coding_in(program: Program, scan: &Scan<'_>, value: &[u8]) -> Result<Coding, 
 ///
 /// # Errors
 /// The first of: NoValue, if `--in` is the last word; Twice; Coding, if its value is none that it takes; Command, if the first
-/// word that stays is no subcommand that takes octets; Hex, if `--hex` stays; Lines, if `--lines` does.
+/// word that stays is no subcommand that takes octets; Hex, if `--hex` stays; Lines, if `--lines` does; Framed, if `--framed`
+/// does.
 #[tactic(auto, unfolding(crate::specs::Asked::asked))]
 pub fn asked(program: Program, scan: &Scan<'_>) -> Result<Option<Coding>, Error>
     ensures { result ≡ asked program (scan_of scan.now) }

@@ -24,6 +24,8 @@ pub enum Error {
     Hex,
     /// `--in` beside `--lines`.
     Lines,
+    /// `--in` beside `--framed`.
+    Framed,
     /// Standard input spells no octets.
     Text(Fault),
     /// A read of standard input failed.
@@ -44,6 +46,7 @@ impl Error {
             | Error::Command
             | Error::Hex
             | Error::Lines
+            | Error::Framed
             | Error::Text(_) => 2,
             Error::Input | Error::Memory => 3,
         }
@@ -61,6 +64,7 @@ impl fmt::Display for Error {
             Error::Command => f.write_str("--in needs canon, show, check or part"),
             Error::Hex => f.write_str("--in reads standard input, not --hex"),
             Error::Lines => f.write_str("one of --in and --lines"),
+            Error::Framed => f.write_str("one of --in and --framed"),
             Error::Text(fault) => write!(f, "input: {fault}"),
             Error::Input => f.write_str("input failed"),
             Error::Memory => f.write_str("out of memory"),

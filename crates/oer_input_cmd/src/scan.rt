@@ -26,6 +26,8 @@ pub struct Scan<'a> {
     pub has_hex: bool,
     /// Whether `--lines` stays.
     pub has_lines: bool,
+    /// Whether `--framed` stays.
+    pub has_framed: bool,
 }
 
 impl<'a> Scan<'a> {
@@ -38,6 +40,7 @@ impl<'a> Scan<'a> {
             kept: Vec::new(alloc),
             has_hex: false,
             has_lines: false,
+            has_framed: false,
         }
     }
 
@@ -64,6 +67,7 @@ impl<'a> Scan<'a> {
             }
             Word::Hex => self.has_hex = true,
             Word::Lines => self.has_lines = true,
+            Word::Framed => self.has_framed = true,
             Word::Other => {}
         }
         self.keep(word)

@@ -15,6 +15,8 @@ pub enum Word<'a> {
     Hex,
     /// `--lines`.
     Lines,
+    /// `--framed`, or `--framed=` and its value.
+    Framed,
     /// Another one.
     Other,
 }
@@ -33,8 +35,11 @@ fn by_value(word: &[u8]) -> Word<'_>
     if let Some(value) = value_behind(word, b"--in=") {
         return Word::InWith(value);
     }
-    match value_behind(word, b"--hex=") {
-        Some(_) => Word::Hex,
+    if value_behind(word, b"--hex=").is_some() {
+        return Word::Hex;
+    }
+    match value_behind(word, b"--framed=") {
+        Some(_) => Word::Framed,
         None => Word::Other,
     }
 }
@@ -55,6 +60,9 @@ pub fn word_of(word: &str) -> Word<'_>
     }
     if word == "--lines" {
         return Word::Lines;
+    }
+    if word == "--framed" {
+        return Word::Framed;
     }
     by_value(word.as_bytes())
 }

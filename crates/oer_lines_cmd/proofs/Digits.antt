@@ -1,35 +1,31 @@
--- The task for the digits of a line.
-use Rattle.std.proofs.Common.{inl, inr, Vec, option_map, ◌≤◌, Result, ◌≡◌, ◌∙◌, ℕ, zero, suc, ◌-◌, ◌<◌, Bool, true, false}
+-- The answer to the digits of a line.
+use Rattle.std.proofs.Common.{Vec, option_map, Result, ◌≡◌, ◌∙◌, ℕ, zero, suc, ◌-◌, ◌<◌, Bool, true, false}
 use Rattle.std.proofs.Common.{Option, None, Some, Ok, Err, List, [], ◌∷◌, cond, refl, sym, ap, subst, arith, String, Global}
 use Rattle.std.specs.Prelude.{◌&&◌, is_some, nat_le}
 use Rattle.std.proofs.lemmas.Bool.{leb-true}
-use Rattle.std.specs.Borrow.{Bor}
 use Rattle.std.specs.Str.{IsAscii, IsUtf8}
 use Rattle.std.specs.List.{AllPass}
 use Rattle.std.proofs.lemmas.Str.{IsUtf8-from_ascii}
 use Rattle.std.proofs.lemmas.List.Elements.{All-head, All-tail}
-use Rattle.clap.specs.Words.{Text}
 use Rattle.hex.specs.Hex.{decode_of, is_hex_digit}
 use Rattle.hex.specs.declared.error.FromHexError.{FromHexError}
 use Rattle.hex.proofs.HexLemmas.{decode_of-ok}
 use Rattle.oer_model.specs.AsnType.{AsnType}
 use Rattle.oer_model.specs.Parts.{Step}
-use Rattle.oer_options.specs.Words.{path_text}
-use Rattle.oer_options.specs.declared.options.Task.{Task}
-use Rattle.oer_cmd.specs.Answer.{IsPathOf, check_octets, decoded_as, digits_octets, limited_octets, part_octets, task_answer, value_answer, value_text}
-use Rattle.oer_cmd.specs.Expected.{Expected, Meets, Refusal, refusal, refusal_of, stop, unknown, value, value, ◌>>=◌}
+use Rattle.oer_cmd.specs.Answer.{IsPathOf, check_octets, decoded_as, digits_octets, hex_octets, limited_octets, part_octets, value_answer, value_text}
+use Rattle.oer_cmd.specs.Expected.{Expected, Meets, Refusal, refusal, refusal_of, stop, value, ◌>>=◌}
 use Rattle.oer_cmd.specs.declared.fault.Fault.{Fault}
 use Rattle.oer_cmd.specs.declared.fault.Fault.TheVariants.{Hex}
 use Rattle.oer_cmd.specs.declared.value.Form.{Form}
 use Rattle.oer_cmd.specs.declared.value.Form.TheVariants as form
-use Rattle.oer_cmd.specs.Faults.{status_of}
 use Rattle.oer_cmd.specs.Octets.{octets_of}
-use Rattle.oer_ends_cmd.specs.Telling.{IsFaultTold, told, told_answer}
+use Rattle.oer_ends_cmd.specs.Telling.{told_answer}
 use Rattle.oer_cmd.proofs.Meeting.{bytes, fails}
-use Rattle.oer_lines_cmd.specs.Answering.{TellsOf}
-use Rattle.oer_lines_cmd.specs.Tasks.{answer_told, message_answer, path_of, with_digits}
+use Rattle.oer_lines_cmd.specs.Answering.{IsKnown}
+use Rattle.oer_lines_cmd.specs.Tasks.{answer_told, message_answer, octets_answer, octets_told, path_of}
 use Rattle.oer_lines_cmd.specs.declared.task.LineTask.{LineTask}
 use Rattle.oer_lines_cmd.specs.declared.task.LineTask.TheVariants.{Canon, Check, Part, Show, ShowAscii}
+use Rattle.oer_lines_cmd.proofs.Knowing.{octets_known}
 
 -- ---- digits are text
 
@@ -88,104 +84,56 @@ pub no_text : (nests : Bool) (task : LineTask) (T : AsnType) (limit : ℕ) (path
 no_text nests task T limit path xs none = subst (λ o. Meets {X = String Global} bytes o (Err Hex))
     (sym (told_rejected nests (refusal_of Hex) task T limit path xs (no_digits xs none))) (λ small. refl)
 
--- ---- the answer to the task with digits
+-- ---- the answer to the octets that the digits spell
 
-path_same : (task : LineTask) (digits : Bor Text) → path_text (with_digits task digits) ≡ path_of task
-path_same Show digits = refl
-path_same ShowAscii digits = refl
-path_same Canon digits = refl
-path_same Check digits = refl
-path_same (Part text) digits = refl
+message_same : (task : LineTask) (T : AsnType) (limit : ℕ) (path : Expected (List Step)) (xs b : List ℕ) → digits_octets xs ≡ value b
+    → message_answer task T limit path xs ≡ octets_answer task T limit path b
+message_same Show T limit path xs b e = ap (λ o. o >>= value_text form.Json T limit) e
+message_same ShowAscii T limit path xs b e = ap (λ o. o >>= value_text form.Ascii T limit) e
+message_same Canon T limit path xs b e = ap (λ o. o >>= value_text form.Octets T limit) e
+message_same Check T limit path xs b e = ap (λ o. o >>= (λ x. value (Some x)) >>= λ spelt. limited_octets limit spelt (Some []) >>= check_octets T) e
+message_same (Part text) T limit path xs b e =
+    ap (λ o. o >>= (λ x. value (Some x)) >>= λ spelt. path >>= λ steps. limited_octets limit spelt (Some []) >>= part_octets T steps) e
 
-answer_same : (task : LineTask) (digits : Bor Text) (T : AsnType) (limit : ℕ) (path : Expected (List Step))
-    → task_answer (with_digits task digits) T limit path (Some []) ≡ message_answer task T limit path digits.now
-answer_same Show digits T limit path = refl
-answer_same ShowAscii digits T limit path = refl
-answer_same Canon digits T limit path = refl
-answer_same Check digits T limit path = refl
-answer_same (Part text) digits T limit path = refl
+told_same : (nests : Bool) (task : LineTask) (T : AsnType) (limit : ℕ) (path : Expected (List Step)) (xs b : List ℕ) → digits_octets xs ≡ value b
+    → answer_told nests task T limit path xs ≡ octets_told nests task T limit path b
+told_same false task T limit path xs b e = message_same task T limit path xs b e
+told_same true task T limit path xs b e = ap (λ o. o >>= λ x. told_answer T limit x (message_answer task T limit path xs)) e
+    ∙ ap (told_answer T limit b) (message_same task T limit path xs b e)
 
-pub of_task : (task : LineTask) (made : Task) (digits : Bor Text) (xs : List ℕ) (T : AsnType) (limit made_limit : ℕ) (told : Option (List ℕ))
-    (result : Result (String Global) Fault) → made ≡ with_digits task digits → digits.now ≡ xs → made_limit ≡ limit → told ≡ Some []
-    → ((path : Expected (List Step)) → IsPathOf (path_text made) path → Meets bytes (task_answer made T made_limit path told) result)
-    → (path : Expected (List Step)) → IsPathOf (path_of task) path → Meets bytes (message_answer task T limit path xs) result
-of_task task made digits xs T limit made_limit told result is text same none h path of =
-    let here = h path (subst (λ t. IsPathOf t path) (sym (ap path_text is ∙ path_same task digits)) of) in
-    let e : task_answer made T made_limit path told ≡ message_answer task T limit path xs =
-    ap (λ t. task_answer t T made_limit path told) is
-    ∙ ap (λ n. task_answer (with_digits task digits) T n path told) same
-    ∙ ap (λ k. task_answer (with_digits task digits) T limit path k) none
-    ∙ answer_same task digits T limit path
-    ∙ ap (message_answer task T limit path) text in
-    subst (λ o. Meets bytes o result) e here
+-- The answer to the message is known.
+pub told_known : (nests : Bool) (task : LineTask) (T : AsnType) (limit : ℕ) (path : Expected (List Step)) (xs : List ℕ) → IsPathOf (path_of task) path
+    → IsKnown (answer_told nests task T limit path xs)
+told_known nests task T limit path xs of = at (decode_of xs) refl where
+  at : (r : Result (List ℕ) FromHexError) → decode_of xs ≡ r → IsKnown (answer_told nests task T limit path xs)
+  at (Ok b) e = subst IsKnown (sym (told_same nests task T limit path xs b (ap decoded_as e))) (octets_known nests task T limit path b of)
+  at (Err f) e = subst IsKnown (sym (told_rejected nests (refusal_of Hex) task T limit path xs (ap decoded_as e))) tt
 
--- ---- the answer as it is told
+module _ (xs : List ℕ) where
+  spelt_octets : (r : Result (List ℕ) FromHexError) (octets : Vec ℕ Global)
+      → Meets (option_map octets_of) (decoded_as r >>= λ x. value (Some x)) (Ok (Some octets)) → decoded_as r ≡ value octets.items
+  spelt_octets (Ok b) octets h = let e : Some octets.items ≡ Some b = h in let all : octets.items ≡ b = cc in ap (λ (l : List ℕ). value l) (sym all)
+  spelt_octets (Err f) octets h = absurd h
 
-told_line_by : (o : Expected (List ℕ)) (T : AsnType) (limit : ℕ) (answer : Expected Text) (line : String Global)
-    → ((r : Refusal) → o ≡ refusal r → answer ≡ refusal r) → Meets bytes answer (Ok line) → Meets bytes (o >>= λ b. told_answer T limit b answer) (Ok line)
-told_line_by unknown T limit answer line none h = tt
-told_line_by (refusal r) T limit answer line none h = absurd (subst (λ x. Meets bytes x (Ok line)) (none r refl) h)
-told_line_by (value b) T limit unknown line none h = tt
-told_line_by (value b) T limit (refusal r) line none h = absurd h
-told_line_by (value b) T limit (value y) line none h = h
+  module _ (nests : Bool) (task : LineTask) (T : AsnType) (limit : ℕ) (path : Expected (List Step)) where
+    -- The answer to the octets is that to the digits.
+    pub by_octets : (octets : Vec ℕ Global) (b : List ℕ) (result : Result (String Global) Fault)
+        → Meets (option_map octets_of) (hex_octets (Some xs)) (Ok (Some octets)) → b ≡ octets.items
+        → Meets bytes (octets_told nests task T limit path b) result → Meets bytes (answer_told nests task T limit path xs) result
+    by_octets octets b result h same meets =
+        let spelt : digits_octets xs ≡ value b = spelt_octets (decode_of xs) octets h ∙ ap (λ (l : List ℕ). value l) (sym same) in
+        subst (λ x. Meets bytes x result) (sym (told_same nests task T limit path xs b spelt)) meets
 
--- A line is told as it is.
-pub line_told : (nests : Bool) (task : LineTask) (T : AsnType) (limit : ℕ) (path : Expected (List Step)) (xs : List ℕ) (line : String Global)
-    → Meets bytes (message_answer task T limit path xs) (Ok line) → Meets bytes (answer_told nests task T limit path xs) (Ok line)
-line_told false task T limit path xs line h = h
-line_told true task T limit path xs line h =
-    told_line_by (digits_octets xs) T limit (message_answer task T limit path xs) line (λ r e. rejected r task T limit path xs e) h
-
--- So is a fault where nothing is told of nesting.
-pub fault_same : (nests : Bool) (task : LineTask) (T : AsnType) (limit : ℕ) (path : Expected (List Step)) (xs : List ℕ) (fault : Fault) → nests ≡ false
-    → Meets {X = String Global} bytes (message_answer task T limit path xs) (Err fault) → Meets {X = String Global} bytes (answer_told nests task T limit path xs) (Err fault)
-fault_same nests task T limit path xs fault is h = subst (λ (b : Bool). Meets {X = String Global} bytes (answer_told b task T limit path xs) (Err fault)) (sym is) h
-
-told_fault_by : (o : Expected (List ℕ)) (T : AsnType) (limit : ℕ) (answer : Expected Text) (fault other : Fault) → Meets {X = String Global} bytes answer (Err fault)
-    → TellsOf T limit o fault other → Meets {X = String Global} bytes (o >>= λ b. told_answer T limit b answer) (Err other)
-told_fault_by unknown T limit answer fault other h tells = tt
-told_fault_by (refusal r) T limit answer fault other h tells = tells
-told_fault_by (value b) T limit answer fault other h (inl three) = fails bytes (told_answer T limit b answer) other (λ small. omega (arith, three, small))
-told_fault_by (value b) T limit unknown fault other h (inr tells) = tt
-told_fault_by (value b) T limit (value y) fault other h (inr tells) = λ small. h (tells.stays small)
-told_fault_by (value b) T limit (refusal r) fault other h (inr tells) = λ small. tells.tells small ∙ ap (told T limit b) (h (tells.stays small))
-
--- A fault is told of the octets.
-pub fault_told : (nests : Bool) (task : LineTask) (T : AsnType) (limit : ℕ) (path : Expected (List Step)) (xs : List ℕ) (fault other : Fault) → nests ≡ true
-    → Meets {X = String Global} bytes (message_answer task T limit path xs) (Err fault) → TellsOf T limit (digits_octets xs) fault other
-    → Meets {X = String Global} bytes (answer_told nests task T limit path xs) (Err other)
-fault_told nests task T limit path xs fault other is h tells =
-    subst (λ (b : Bool). Meets {X = String Global} bytes (answer_told b task T limit path xs) (Err other)) (sym is)
-    (told_fault_by (digits_octets xs) T limit (message_answer task T limit path xs) fault other h tells)
-
--- The octets are spelt, or not.
-pub tells_octets : (o : Expected (List ℕ)) (T : AsnType) (limit : ℕ) (spelt : Option (Vec ℕ Global)) (octets : Vec ℕ Global) (b : List ℕ) (fault other : Fault)
-    → Meets (option_map octets_of) (o >>= λ x. value (Some x)) (Ok spelt) → spelt ≡ Some octets → b ≡ octets.items → IsFaultTold T limit b fault other
-    → TellsOf T limit o fault other
-tells_octets unknown T limit spelt octets b fault other h some same tells = tt
-tells_octets (refusal r) T limit spelt octets b fault other h some same tells = absurd h
-tells_octets (value x) T limit spelt octets b fault other h some same tells =
-    let e : option_map octets_of (Some octets) ≡ Some x = sym (ap (option_map octets_of) some) ∙ h in
-    let f : Some octets.items ≡ Some x = e in
-    let all : b ≡ x = cc in
-    inr (subst (λ l. IsFaultTold T limit l fault other) all tells)
-
-none_some : (x : List ℕ) → None ≡ Some x → ⊥
-none_some x e = cc
-
-pub tells_none : (o : Expected (List ℕ)) (T : AsnType) (limit : ℕ) (spelt : Option (Vec ℕ Global)) (fault other : Fault)
-    → Meets (option_map octets_of) (o >>= λ x. value (Some x)) (Ok spelt) → spelt ≡ None → TellsOf T limit o fault other
-tells_none unknown T limit spelt fault other h none = tt
-tells_none (refusal r) T limit spelt fault other h none = absurd h
-tells_none (value x) T limit spelt fault other h none = absurd (none_some x (sym (ap (option_map octets_of) none) ∙ h))
-
-pub tells_refusal : (o : Expected (List ℕ)) (T : AsnType) (limit : ℕ) (fault other : Fault)
-    → Meets {X = Option (Vec ℕ Global)} (option_map octets_of) (o >>= λ x. value (Some x)) (Err other) → TellsOf T limit o fault other
-tells_refusal unknown T limit fault other h = tt
-tells_refusal (refusal r) T limit fault other h = h
-tells_refusal (value x) T limit fault other h = inl (above (status_of other) h) where
-  above : (n : ℕ) → (n ≤ 2 → ⊥) → 3 ≤ n
-  above n no_more = grind (arith, no_more)
+    -- So is the fault where they spell none.
+    pub by_fault : (fault : Fault) → Meets {X = Option (Vec ℕ Global)} (option_map octets_of) (hex_octets (Some xs)) (Err fault)
+        → Meets {X = String Global} bytes (answer_told nests task T limit path xs) (Err fault)
+    by_fault fault h = at (decode_of xs) refl h where
+      at : (r : Result (List ℕ) FromHexError) → decode_of xs ≡ r
+          → Meets {X = Option (Vec ℕ Global)} (option_map octets_of) (decoded_as r >>= λ x. value (Some x)) (Err fault)
+          → Meets {X = String Global} bytes (answer_told nests task T limit path xs) (Err fault)
+      at (Ok b) e high = fails bytes (answer_told nests task T limit path xs) fault high
+      at (Err f) e is = subst (λ x. Meets {X = String Global} bytes x (Err fault))
+          (sym (told_rejected nests (refusal_of Hex) task T limit path xs (ap decoded_as e))) is
 
 -- the answer to the same digits
 pub same_digits : (nests : Bool) (task : LineTask) (T : AsnType) (limit : ℕ) (xs ys : List ℕ) (result : Result (String Global) Fault) → xs ≡ ys

@@ -17,19 +17,21 @@ use Rattle.oer_cmd.proofs.Endings.{by_status, keeps_same, moved}
 use Rattle.oer_lines_cmd.specs.Ending.{Does, DoesFor, IsBroken, Misuses, Runs, RunsBy, lines_type}
 use Rattle.oer_lines_cmd.specs.Errors.{misuse_line}
 use Rattle.oer_lines_cmd.specs.Tasks.{line_task}
+use Rattle.oer_lines_cmd.specs.Ways.{word_of}
 use Rattle.oer_lines_cmd.specs.declared.misuse.Misuse.{Misuse}
 use Rattle.oer_lines_cmd.specs.declared.task.LineTask.{LineTask}
-use Rattle.oer_lines_cmd.proofs.Knowing.{IsKnown}
+use Rattle.oer_lines_cmd.specs.declared.way.Way.{Way}
+use Rattle.oer_lines_cmd.specs.Answering.{IsKnown}
 use Rattle.oer_lines_cmd.proofs.Looping.{streams}
 
-module _ (task : LineTask) (limit : ℕ) (told : Option (List ℕ)) (untouched : Type 0) where
+module _ (way : Way) (task : LineTask) (limit : ℕ) (told : Option (List ℕ)) (untouched : Type 0) where
   -- There is a type.
   pub by_type : {X : Type 0} (view : X → AsnType) (expected : Expected AsnType) (x : X) (nests : Bool) (status : ℕ) (s : Streams) → nests ≡ false → IsKnown expected
-      → Meets view expected (Ok x) → Runs nests task (view x) limit told status s → RunsBy expected task limit told untouched status s
+      → Meets view expected (Ok x) → Runs way nests task (view x) limit told status s → RunsBy way expected task limit told untouched status s
   by_type view unknown x nests status s plain known meets runs = absurd known
   by_type view (refusal r) x nests status s plain known meets runs = absurd meets
-  by_type view (value T) x nests status s plain known meets runs = inl (subst (λ U. Runs false task U limit told status s) meets
-      (subst (λ (b : Bool). Runs b task (view x) limit told status s) plain runs))
+  by_type view (value T) x nests status s plain known meets runs = inl (subst (λ U. Runs way false task U limit told status s) meets
+      (subst (λ (b : Bool). Runs way b task (view x) limit told status s) plain runs))
 
   broken : (fault : Fault) (status : ℕ) (o e e' : Option (List ℕ)) → status_of fault ≡ 3 → IsMachineLine (error_line fault) → Reports fault status e e'
       → IsBroken status (streams o o e e')
@@ -38,7 +40,7 @@ module _ (task : LineTask) (limit : ℕ) (told : Option (List ℕ)) (untouched :
 
   refused : (expected : Expected AsnType) (fault : Fault) (status : ℕ) (o e e' : Option (List ℕ)) → IsKnown expected → Meets {X = AsnType} (λ T. T) expected (Err fault)
       → Reports fault status e e' → untouched → (status_of fault ≤ 2) ⊎ ((status_of fault ≡ 3) × IsMachineLine (error_line fault))
-      → RunsBy expected task limit told untouched status (streams o o e e')
+      → RunsBy way expected task limit told untouched status (streams o o e e')
   refused unknown fault status o e e' known meets tells same which = absurd known
   refused (value T) fault status o e e' known meets tells same (inl small) = absurd (meets small)
   refused (value T) fault status o e e' known meets tells same (inr (three, own)) = inr (same, broken fault status o e e' three own tells)
@@ -57,55 +59,68 @@ module _ (task : LineTask) (limit : ℕ) (told : Option (List ℕ)) (untouched :
 
   -- There is none.
   pub by_fault : {X : Type 0} (view : X → AsnType) (expected : Expected AsnType) (fault : Fault) (status : ℕ) (o e e' : Option (List ℕ)) → IsKnown expected
-      → Meets {X = X} view expected (Err fault) → Reports fault status e e' → untouched → RunsBy expected task limit told untouched status (streams o o e e')
+      → Meets {X = X} view expected (Err fault) → Reports fault status e e' → untouched → RunsBy way expected task limit told untouched status (streams o o e e')
   by_fault view expected fault status o e e' known meets tells same =
       refused expected fault status o e e' known (any_view view expected fault meets) tells same (by_status fault)
 
   -- The texts are of a type, or of definitions that are given.
-  pub given : (t : Texts) (status : ℕ) (s : Streams) → reads_types t ≡ false → RunsBy (expected_type t) task limit told untouched status s
-      → RunsBy (lines_type t) task limit told untouched status s
-  given t status s own h = subst (λ (b : Bool). RunsBy (if b then stop NoSource else expected_type t) task limit told untouched status s) (sym own) h
+  pub given : (t : Texts) (status : ℕ) (s : Streams) → reads_types t ≡ false → RunsBy way (expected_type t) task limit told untouched status s
+      → RunsBy way (lines_type t) task limit told untouched status s
+  given t status s own h = subst (λ (b : Bool). RunsBy way (if b then stop NoSource else expected_type t) task limit told untouched status s) (sym own) h
 
   -- The definitions are on the input.
   pub sourceless : (t : Texts) (status : ℕ) (o e e' : Option (List ℕ)) → reads_types t ≡ true → Reports NoSource status e e' → untouched
-      → RunsBy (lines_type t) task limit told untouched status (streams o o e e')
+      → RunsBy way (lines_type t) task limit told untouched status (streams o o e e')
   sourceless t status o e e' reads tells same =
-      subst (λ (b : Bool). RunsBy (if b then stop NoSource else expected_type t) task limit told untouched status (streams o o e e')) (sym reads)
+      subst (λ (b : Bool). RunsBy way (if b then stop NoSource else expected_type t) task limit told untouched status (streams o o e e')) (sym reads)
       (by_fault {X = AsnType} (λ T. T) (stop NoSource) NoSource status o e e' tt (λ small. refl) tells same)
 
   -- The options name no type.
   pub typeless : (t : Texts) (fault : Fault) (status : ℕ) (o e e' : Option (List ℕ)) → reads_types t ≡ false → expected_type t ≡ stop fault
-      → Reports fault status e e' → untouched → RunsBy (lines_type t) task limit told untouched status (streams o o e e')
+      → Reports fault status e e' → untouched → RunsBy way (lines_type t) task limit told untouched status (streams o o e e')
   typeless t fault status o e e' own is tells same = given t status (streams o o e e') own
-      (subst (λ x. RunsBy x task limit told untouched status (streams o o e e')) (sym is)
+      (subst (λ x. RunsBy way x task limit told untouched status (streams o o e e')) (sym is)
       (by_fault {X = AsnType} (λ T. T) (stop fault) fault status o e e' tt (λ small. refl) tells same))
 
   -- the same texts
-  pub renamed : (t u : Texts) (status : ℕ) (s : Streams) → t ≡ u → RunsBy (lines_type t) task limit told untouched status s
-      → RunsBy (lines_type u) task limit told untouched status s
-  renamed t u status s is h = subst (λ x. RunsBy (lines_type x) task limit told untouched status s) is h
+  pub renamed : (t u : Texts) (status : ℕ) (s : Streams) → t ≡ u → RunsBy way (lines_type t) task limit told untouched status s
+      → RunsBy way (lines_type u) task limit told untouched status s
+  renamed t u status s is h = subst (λ x. RunsBy way (lines_type x) task limit told untouched status s) is h
 
 pub misused : (m : Misuse) (untouched : Type 0) (status : ℕ) (o e e' : Option (List ℕ)) → untouched → status ≡ 2 → AppendsFront e e' (misuse_line m)
     → Misuses m untouched status (streams o o e e')
 misused m untouched status o e e' same two front = (same, (two, keeps_same o, front))
 
-module _ (words : List Text) (told : Option (List ℕ)) (untouched : Type 0) (status : ℕ) (s : Streams) (options : Options) (asks : Asks words options) where
-  pub for_misuse : (T : AsnType) (m : Misuse) → line_task options.task ≡ Err m → Misuses m untouched status s → DoesFor T words told untouched status s
+module _ (words : List Text) (told : Option (List ℕ)) (untouched : Type 0) (status : ℕ) (s : Streams) (options : Options) (asks : Asks words options) (way : Way) where
+  pub for_misuse : (T : AsnType) (m : Misuse) → line_task (word_of way) options.task ≡ Err m → Misuses m untouched status s → DoesFor way T words told untouched status s
   for_misuse T m is h = record { options = options; asks = asks; does = inl (m, is, h) }
 
-  pub for_task : (T : AsnType) (nests : Bool) (task : LineTask) (limit : ℕ) → nests ≡ has_end T → line_task options.task ≡ Ok task → limit ≡ options.limit
-      → Runs nests task T limit told status s
-      → DoesFor T words told untouched status s
-  for_task T nests task limit tells is same h = record {
+  pub for_task : (T : AsnType) (by : Way) (nests : Bool) (task : LineTask) (limit : ℕ) → by ≡ way → nests ≡ has_end T
+      → line_task (word_of way) options.task ≡ Ok task → limit ≡ options.limit → Runs by nests task T limit told status s
+      → DoesFor way T words told untouched status s
+  for_task T by nests task limit alike tells is same h = record {
     options = options;
     asks = asks;
-    does = inr (task, is, subst (λ n. Runs (has_end T) task T n told status s) same (subst (λ (b : Bool). Runs b task T limit told status s) tells h));
+    does = inr (
+      task,
+      is,
+      subst (λ n. Runs way (has_end T) task T n told status s) same
+          (subst (λ (b : Bool). Runs way b task T limit told status s) tells (subst (λ w. Runs w nests task T limit told status s) alike h)),
+    );
   }
 
-  pub by_misuse : (m : Misuse) → line_task options.task ≡ Err m → Misuses m untouched status s → Does words told untouched status s
+  pub by_misuse : (m : Misuse) → line_task (word_of way) options.task ≡ Err m → Misuses m untouched status s → Does way words told untouched status s
   by_misuse m is h = record { options = options; asks = asks; does = inl (m, is, h) }
 
-  pub by_task : (task : LineTask) (limit : ℕ) → line_task options.task ≡ Ok task → limit ≡ options.limit
-      → RunsBy (lines_type (texts_of options)) task limit told untouched status s → Does words told untouched status s
-  by_task task limit is same h =
-      record { options = options; asks = asks; does = inr (task, is, subst (λ n. RunsBy (lines_type (texts_of options)) task n told untouched status s) same h) }
+  pub by_task : (by : Way) (task : LineTask) (limit : ℕ) → by ≡ way → line_task (word_of way) options.task ≡ Ok task → limit ≡ options.limit
+      → RunsBy by (lines_type (texts_of options)) task limit told untouched status s → Does way words told untouched status s
+  by_task by task limit alike is same h = record {
+    options = options;
+    asks = asks;
+    does = inr (
+      task,
+      is,
+      subst (λ n. RunsBy way (lines_type (texts_of options)) task n told untouched status s) same
+          (subst (λ w. RunsBy w (lines_type (texts_of options)) task limit told untouched status s) alike h),
+    );
+  }

@@ -1,9 +1,6 @@
 -- The answer to a message is known.
 use Rattle.std.proofs.Common.{Result, ℕ, Bool, true, false, Option, None, Some, Ok, Err, List, [], ◌∷◌, length, leb, cond}
-use Rattle.std.specs.Prelude.{⊤}
 use Rattle.clap.specs.Words.{Text}
-use Rattle.hex.specs.Hex.{decode_of}
-use Rattle.hex.specs.declared.error.FromHexError.{FromHexError}
 use Rattle.oer_units.specs.Reader.{Outcome, at, got, refused}
 use Rattle.oer_model.specs.AsnType.{AsnType}
 use Rattle.oer_model.specs.Checking.{check_value}
@@ -15,33 +12,22 @@ use Rattle.oer_json.specs.Made.{made}
 use Rattle.oer_model.specs.Canonical.{canonical_octets}
 use Rattle.oer_cmd.specs.Run.{verdict_text}
 use Rattle.oer_cmd.specs.declared.fault.Fault.TheVariants.{Longer}
-use Rattle.oer_cmd.specs.Answer.{IsPathOf, canonical_of, check_octets, checked, decoded_as, digits_octets, ended, handed, hex_octets, in_ascii, in_digits}
-use Rattle.oer_cmd.specs.Answer.{in_text, json_of, limited_octets, named_as, parsed, part_octets, value_read, value_text, whole, within_limit}
+use Rattle.oer_cmd.specs.Answer.{IsPathOf, canonical_of, check_octets, checked, ended, handed, in_ascii, in_digits}
+use Rattle.oer_cmd.specs.Answer.{in_text, json_of, named_as, parsed, part_octets, value_read, value_text, whole, within_limit}
 use Rattle.oer_value_notation.specs.declared.fault.TextFault.{TextFault}
 use Rattle.oer_cmd.specs.Expected.{Expected, refusal, stop, unknown, value, ◌>>=◌}
 use Rattle.oer_cmd.specs.declared.value.Form.{Form}
 use Rattle.oer_cmd.specs.declared.value.Form.TheVariants as form
 use Rattle.oer_ends_cmd.specs.Telling.{told_answer}
-use Rattle.oer_lines_cmd.specs.Tasks.{answer_told, message_answer, path_of}
+use Rattle.oer_lines_cmd.specs.Answering.{IsKnown}
+use Rattle.oer_lines_cmd.specs.Tasks.{long_answer, octets_answer, octets_told, path_of}
 use Rattle.oer_lines_cmd.specs.declared.task.LineTask.{LineTask}
 use Rattle.oer_lines_cmd.specs.declared.task.LineTask.TheVariants.{Canon, Check, Part, Show, ShowAscii}
-
-abbrev pub IsKnown : {A : Type 0} → Expected A → Type 0
-IsKnown unknown = ⊥
-IsKnown (refusal r) = ⊤
-IsKnown (value x) = ⊤
 
 pub known_then : {A B : Type 0} (e : Expected A) (next : A → Expected B) → IsKnown e → ((x : A) → IsKnown (next x)) → IsKnown (e >>= next)
 known_then unknown next h k = absurd h
 known_then (refusal r) next h k = tt
 known_then (value x) next h k = k x
-
-decoded_known : (r : Result (List ℕ) FromHexError) → IsKnown (decoded_as r)
-decoded_known (Ok b) = tt
-decoded_known (Err e) = tt
-
-hex_known : (digits : Text) → IsKnown (hex_octets (Some digits))
-hex_known digits = known_then (digits_octets digits) (λ b. value (Some b)) (decoded_known (decode_of digits)) (λ b. tt)
 
 ended_known : {A : Type 0} (n : ℕ) (x : A) (xs : List ℕ) → IsKnown (ended n x xs)
 ended_known n x [] = tt
@@ -57,10 +43,6 @@ within_known limit b = by (leb (length b) limit) where
   by true = tt
   by false = tt
 
-limited_known : (limit : ℕ) (spelt : Option (List ℕ)) → IsKnown (limited_octets limit spelt (Some []))
-limited_known limit (Some b) = within_known limit b
-limited_known limit None = within_known limit []
-
 read_known : (T : AsnType) (limit : ℕ) (b : List ℕ) → IsKnown (value_read T limit b)
 read_known T limit b = whole_known b (read_value T (at b limit))
 
@@ -73,9 +55,6 @@ text_known form.Octets T limit b = known_then (canonical_of T limit b) in_digits
 text_known form.Json T limit b = known_then (json_of T limit b) in_text (json_known T limit b) (λ j. tt)
 text_known form.Ascii T limit b = known_then (json_of T limit b >>= in_text) in_ascii (known_then (json_of T limit b) in_text (json_known T limit b) (λ j. tt)) (λ t. tt)
 
-value_known : (f : Form) (T : AsnType) (limit : ℕ) (digits : Text) → IsKnown (digits_octets digits >>= value_text f T limit)
-value_known f T limit digits = known_then (digits_octets digits) (value_text f T limit) (decoded_known (decode_of digits)) (text_known f T limit)
-
 checked_known : (T : AsnType) (b : List ℕ) → IsKnown (checked T b)
 checked_known T b = whole_known b (check_value T (at b most))
 
@@ -84,41 +63,44 @@ handed_known (part.found U s) = tt
 handed_known part.no_such_step = tt
 handed_known part.absent_part = tt
 
-check_known : (T : AsnType) (limit : ℕ) (digits : Text) → IsKnown (hex_octets (Some digits) >>= λ spelt. limited_octets limit spelt (Some []) >>= check_octets T)
-check_known T limit digits = known_then (hex_octets (Some digits)) (λ spelt. limited_octets limit spelt (Some []) >>= check_octets T) (hex_known digits)
-    (λ spelt. known_then (limited_octets limit spelt (Some [])) (check_octets T) (limited_known limit spelt)
-    (λ b. known_then (checked T b) (λ canonical. value (verdict_text canonical (length b))) (checked_known T b) (λ canonical. tt)))
+check_known : (T : AsnType) (b : List ℕ) → IsKnown (check_octets T b)
+check_known T b = known_then (checked T b) (λ canonical. value (verdict_text canonical (length b))) (checked_known T b) (λ canonical. tt)
 
-part_known : (T : AsnType) (limit : ℕ) (digits : Text) (path : Expected (List Step)) → IsKnown path
-    → IsKnown (hex_octets (Some digits) >>= λ spelt. path >>= λ steps. limited_octets limit spelt (Some []) >>= part_octets T steps)
-part_known T limit digits path h = known_then (hex_octets (Some digits)) (λ spelt. path >>= λ steps. limited_octets limit spelt (Some []) >>= part_octets T steps)
-    (hex_known digits) (λ spelt. known_then path (λ steps. limited_octets limit spelt (Some []) >>= part_octets T steps) h
-    (λ steps. known_then (limited_octets limit spelt (Some [])) (part_octets T steps) (limited_known limit spelt)
-    (λ b. known_then (checked T b) (λ canonical. handed (find_part (Some T) b steps)) (checked_known T b) (λ canonical. handed_known (find_part (Some T) b steps)))))
+part_known : (T : AsnType) (path : List Step) (b : List ℕ) → IsKnown (part_octets T path b)
+part_known T path b = known_then (checked T b) (λ canonical. handed (find_part (Some T) b path)) (checked_known T b) (λ canonical. handed_known (find_part (Some T) b path))
 
 path_known : (text : Option Text) (path : Expected (List Step)) → IsPathOf text path → IsKnown path
 path_known text unknown h = h
 path_known text (refusal r) h = tt
 path_known text (value p) h = tt
 
-message_known : (task : LineTask) (T : AsnType) (limit : ℕ) (path : Expected (List Step)) (digits : Text) → IsPathOf (path_of task) path
-    → IsKnown (message_answer task T limit path digits)
-message_known Show T limit path digits h = value_known form.Json T limit digits
-message_known ShowAscii T limit path digits h = value_known form.Ascii T limit digits
-message_known Canon T limit path digits h = value_known form.Octets T limit digits
-message_known Check T limit path digits h = check_known T limit digits
-message_known (Part text) T limit path digits h = part_known T limit digits path (path_known (path_of (Part text)) path h)
+answer_known : (task : LineTask) (T : AsnType) (limit : ℕ) (path : Expected (List Step)) (b : List ℕ) → IsPathOf (path_of task) path
+    → IsKnown (octets_answer task T limit path b)
+answer_known Show T limit path b h = text_known form.Json T limit b
+answer_known ShowAscii T limit path b h = text_known form.Ascii T limit b
+answer_known Canon T limit path b h = text_known form.Octets T limit b
+answer_known Check T limit path b h = known_then (within_limit limit b) (check_octets T) (within_known limit b) (check_known T)
+answer_known (Part text) T limit path b h =
+    known_then path (λ steps. within_limit limit b >>= part_octets T steps) (path_known (path_of (Part text)) path h)
+    (λ steps. known_then (within_limit limit b) (part_octets T steps) (within_known limit b) (part_known T steps))
 
 told_answer_known : {A : Type 0} (T : AsnType) (limit : ℕ) (b : List ℕ) (x : Expected A) → IsKnown x → IsKnown (told_answer T limit b x)
 told_answer_known T limit b unknown h = absurd h
 told_answer_known T limit b (refusal r) h = tt
 told_answer_known T limit b (value y) h = tt
 
-pub told_known : (nests : Bool) (task : LineTask) (T : AsnType) (limit : ℕ) (path : Expected (List Step)) (digits : Text) → IsPathOf (path_of task) path
-    → IsKnown (answer_told nests task T limit path digits)
-told_known false task T limit path digits h = message_known task T limit path digits h
-told_known true task T limit path digits h = known_then (digits_octets digits) (λ b. told_answer T limit b (message_answer task T limit path digits))
-    (decoded_known (decode_of digits)) (λ b. told_answer_known T limit b (message_answer task T limit path digits) (message_known task T limit path digits h))
+pub octets_known : (nests : Bool) (task : LineTask) (T : AsnType) (limit : ℕ) (path : Expected (List Step)) (b : List ℕ) → IsPathOf (path_of task) path
+    → IsKnown (octets_told nests task T limit path b)
+octets_known false task T limit path b h = answer_known task T limit path b h
+octets_known true task T limit path b h = told_answer_known T limit b (octets_answer task T limit path b) (answer_known task T limit path b h)
+
+-- So is that to one that is too long.
+pub long_known : (task : LineTask) (limit : ℕ) (path : Expected (List Step)) → IsPathOf (path_of task) path → IsKnown (long_answer task limit path)
+long_known Show limit path h = tt
+long_known ShowAscii limit path h = tt
+long_known Canon limit path h = tt
+long_known Check limit path h = tt
+long_known (Part text) limit path h = known_then path (λ steps. stop (Longer limit)) (path_known (path_of (Part text)) path h) (λ steps. tt)
 
 pub parsed_known : {A : Type 0} (r : Result A TextFault) → IsKnown (parsed r)
 parsed_known (Ok x) = tt

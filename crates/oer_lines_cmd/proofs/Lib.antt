@@ -1,6 +1,8 @@
+pub mod Blocks
 pub mod Counting
 pub mod Digits
 pub mod Endings
+pub mod Framing
 pub mod Fronts
 pub mod Knowing
 pub mod Looping
@@ -8,3 +10,6 @@ pub mod Messages
 pub mod Putting
 pub mod Splitting
 pub mod Taking
+pub mod Telling
+pub mod TooLong
+pub mod Took

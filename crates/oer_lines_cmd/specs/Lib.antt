@@ -1,7 +1,11 @@
 pub mod Answering
 pub mod Answers
+pub mod Asking
 pub mod Ending
 pub mod Errors
+pub mod Frames
+pub mod Laws
 pub mod Lines
 pub mod Scan
 pub mod Tasks
+pub mod Ways

@@ -7,41 +7,59 @@ use Rattle.oer_model.specs.Parts.{Step}
 use Rattle.oer_options.specs.Words.{behind}
 use Rattle.oer_options.specs.declared.options.Task.{Task}
 use Rattle.oer_options.specs.declared.options.Task.TheVariants as task
-use Rattle.oer_cmd.specs.Answer.{check_answer, digits_octets, part_answer, value_answer}
-use Rattle.oer_cmd.specs.Expected.{Expected, ◌>>=◌}
+use Rattle.oer_cmd.specs.Answer.{check_answer, digits_octets, part_answer, task_answer, value_answer}
+use Rattle.oer_cmd.specs.Expected.{Expected, stop, ◌>>=◌}
+use Rattle.oer_cmd.specs.declared.fault.Fault.TheVariants.{Longer}
 use Rattle.oer_cmd.specs.declared.value.Form.TheVariants as form
 use Rattle.oer_ends_cmd.specs.Telling.{told_answer}
 use Rattle.oer_lines_cmd.specs.declared.misuse.Misuse.{Misuse}
 use Rattle.oer_lines_cmd.specs.declared.misuse.Misuse.TheVariants.{Hex, Subcommand}
 use Rattle.oer_lines_cmd.specs.declared.task.LineTask.{LineTask}
 use Rattle.oer_lines_cmd.specs.declared.task.LineTask.TheVariants.{Canon, Check, Part, Show, ShowAscii}
+use Rattle.oer_lines_cmd.specs.declared.way.Word.{Word}
 
 -- that, unless octets are given
-abbrev pub unless_given : Option (Bor Text) → LineTask → Result LineTask Misuse
-unless_given None t = Ok t
-unless_given (Some digits) t = Err Hex
+abbrev pub unless_given : Word → Option (Bor Text) → LineTask → Result LineTask Misuse
+unless_given word None t = Ok t
+unless_given word (Some digits) t = Err (Hex word)
 
 -- what a task does with each message, or why it can't
-abbrev pub line_task : Task → Result LineTask Misuse
-line_task (task.Show hex) = unless_given hex Show
-line_task (task.ShowAscii hex) = unless_given hex ShowAscii
-line_task (task.Canon hex) = unless_given hex Canon
-line_task (task.Check hex) = unless_given hex Check
-line_task (task.Make json) = Err Subcommand
-line_task (task.Part hex path) = unless_given hex (Part path)
+abbrev pub line_task : Word → Task → Result LineTask Misuse
+line_task word (task.Show hex) = unless_given word hex Show
+line_task word (task.ShowAscii hex) = unless_given word hex ShowAscii
+line_task word (task.Canon hex) = unless_given word hex Canon
+line_task word (task.Check hex) = unless_given word hex Check
+line_task word (task.Make json) = Err (Subcommand word)
+line_task word (task.Part hex path) = unless_given word hex (Part path)
 
 -- the text of `--path`
 abbrev pub path_of : LineTask → Option Text
 path_of (Part path) = behind path
 path_of _ = None
 
--- the task on the octets that these digits spell
-abbrev pub with_digits : LineTask → Bor Text → Task
-with_digits Show digits = task.Show (Some digits)
-with_digits ShowAscii digits = task.ShowAscii (Some digits)
-with_digits Canon digits = task.Canon (Some digits)
-with_digits Check digits = task.Check (Some digits)
-with_digits (Part path) digits = task.Part (Some digits) path
+-- the task on the octets of standard input
+abbrev pub on_input : LineTask → Task
+on_input Show = task.Show None
+on_input ShowAscii = task.ShowAscii None
+on_input Canon = task.Canon None
+on_input Check = task.Check None
+on_input (Part path) = task.Part None path
+
+-- The answer to a message of these octets: that of a run that has them on standard input.
+abbrev pub octets_answer : LineTask → AsnType → ℕ → Expected (List Step) → List ℕ → Expected Text
+octets_answer task T limit path b = task_answer (on_input task) T limit path (Some b)
+
+-- The same as it is told: for a type of modules that has an end (oer_ends), a refusal of octets that nest deeper says so.
+abbrev pub octets_told : Bool → LineTask → AsnType → ℕ → Expected (List Step) → List ℕ → Expected Text
+octets_told false task T limit path b = octets_answer task T limit path b
+octets_told true task T limit path b = told_answer T limit b (octets_answer task T limit path b)
+
+-- The answer to a message longer than the limit, whatever its octets are: the path is looked at first.
+abbrev pub long_answer : LineTask → ℕ → Expected (List Step) → Expected Text
+long_answer (Part text) limit path = path >>= λ steps. stop (Longer limit)
+long_answer task limit path = stop (Longer limit)
+
+-- ---- by digits
 
 -- The answer to a message: that to the task with these digits, where the input has nothing left.
 abbrev pub message_answer : LineTask → AsnType → ℕ → Expected (List Step) → Text → Expected Text

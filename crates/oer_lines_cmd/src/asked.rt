@@ -1,9 +1,10 @@
-//! Whether the words of a command line ask for many messages.
+//! Whether the words of a command line ask for a message on each line.
 ghost use Rattle.std.specs.Prelude.{List, ℕ, ◌≡◌, ◌∷◌, ◌≤◌, IfOk, length, map, option_map, string_bytes};
 ghost use Rattle.oer_lines_cmd.specs.Errors.{EndsAsked};
-ghost use Rattle.oer_lines_cmd.specs.Scan.{begins_with_task, lines_asked, others, takes_lines, times, words_of};
+ghost use Rattle.oer_lines_cmd.specs.Scan.{begins_with_task, lines_asked, others, takes_many, times, words_of};
 
 use crate::misuse::{Misuse, tell};
+use crate::way::Word;
 use oer_cmd::{NoStart, stop};
 use std::alloc::{AllocError, Global};
 use std::io::Write;
@@ -44,9 +45,9 @@ fn others(alloc: Global, program: &str, words: &[String]) -> Result<Vec<String>,
     Ok(kept)
 }
 
-// Whether the word is a subcommand that takes `--lines`.
-fn takes_lines(word: &str) -> bool
-    ensures { result ≡ takes_lines word.now }
+/// Whether the word is a subcommand that takes `--lines` or `--framed`.
+pub fn takes_many(word: &str) -> bool
+    ensures { result ≡ takes_many word.now }
 {
     word == "canon" || word == "show" || word == "check" || word == "part"
 }
@@ -56,7 +57,7 @@ fn asks_task(words: &[String]) -> bool
     ensures { (program : List ℕ) → (rest : List (List ℕ)) → map string_bytes words.now ≡ program ∷ rest → result ≡ begins_with_task rest }
 {
     match words.get(1) {
-        Some(word) => takes_lines(word.as_str()),
+        Some(word) => takes_many(word.as_str()),
         None => false,
     }
 }
@@ -82,13 +83,13 @@ pub fn lines_asked<E: Write>(
         return Ok(None);
     }
     if times > 1 {
-        return Err(tell(Misuse::Twice, errors));
+        return Err(tell(Misuse::Twice(Word::Lines), errors));
     }
     let Ok(kept) = others(alloc, program.as_str(), rest) else {
         return Err(stop(NoStart::NoMemory, errors));
     };
     if !asks_task(&kept) {
-        return Err(tell(Misuse::Subcommand, errors));
+        return Err(tell(Misuse::Subcommand(Word::Lines), errors));
     }
     Ok(Some(kept))
 }

@@ -1,20 +1,27 @@
-//! Why `--lines` is rejected.
+//! Why `--lines` or `--framed` is rejected.
 ghost use Rattle.std.specs.Prelude.{◌≡◌};
 ghost use Rattle.oer_cmd.specs.Faults.{AppendsFront};
 ghost use Rattle.oer_lines_cmd.specs.Errors.{misuse_line};
 
+use crate::way::Word;
 use oer_cmd::put_all;
 use std::io::Write;
 
-/// Why `--lines` is rejected.
+/// Why `--lines` or `--framed` is rejected.
 #[derive(Clone, Copy, Debug, PartialEq, Eq)]
 pub enum Misuse {
+    /// `--framed` is the last word, and its value isn't there.
+    NoValue,
     /// It stands twice among the words.
-    Twice,
+    Twice(Word),
+    /// The value of `--framed` is none that it takes.
+    Size,
+    /// `--framed` beside `--lines`.
+    Both,
     /// The subcommand is none that takes it.
-    Subcommand,
+    Subcommand(Word),
     /// The octets are given by `--hex`.
-    Hex,
+    Hex(Word),
 }
 
 impl Misuse {
@@ -23,14 +30,20 @@ impl Misuse {
         ensures { result.now ≡ misuse_line self }
     {
         match self {
-            Misuse::Twice => "oer: --lines is given twice\n",
-            Misuse::Subcommand => "oer: --lines needs canon, show, check or part\n",
-            Misuse::Hex => "oer: --lines reads standard input, not --hex\n",
+            Misuse::NoValue => "oer: --framed needs a value\n",
+            Misuse::Twice(Word::Lines) => "oer: --lines is given twice\n",
+            Misuse::Twice(Word::Framed) => "oer: --framed is given twice\n",
+            Misuse::Size => "oer: --framed takes 1, 2, 4 or 8\n",
+            Misuse::Both => "oer: one of --framed and --lines\n",
+            Misuse::Subcommand(Word::Lines) => "oer: --lines needs canon, show, check or part\n",
+            Misuse::Subcommand(Word::Framed) => "oer: --framed needs canon, show, check or part\n",
+            Misuse::Hex(Word::Lines) => "oer: --lines reads standard input, not --hex\n",
+            Misuse::Hex(Word::Framed) => "oer: --framed reads standard input, not --hex\n",
         }
     }
 }
 
-/// Writes why `--lines` is rejected, in one call, and returns the status, which is 2. A failure to write the line is ignored.
+/// Writes why the word is rejected, in one call, and returns the status, which is 2. A failure to write the line is ignored.
 pub fn tell<E: Write>(misuse: Misuse, errors: &mut E) -> u8
     ensures line { AppendsFront (E.contents errors.old) (E.contents errors.new) (misuse_line misuse) }
     ensures status { result ≡ 2 }

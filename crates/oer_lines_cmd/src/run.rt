@@ -1,4 +1,4 @@
-//! The command with `--lines`.
+//! The command with `--lines` or `--framed`.
 ghost use Rattle.std.specs.Prelude.{◌≡◌, ◌≤◌, false, map, string_bytes};
 ghost use Rattle.oer_types.specs.Schema.{the_type};
 ghost use Rattle.oer_cmd.specs.Answer.{expected_type};
@@ -9,6 +9,7 @@ ghost use Rattle.oer_lines_cmd.specs.Ending.{Ends, EndsFor, RunsBy, lines_type};
 use crate::loop_over::run_all;
 use crate::misuse::tell;
 use crate::task::Asked;
+use crate::way::Way;
 use oer_cmd::type_text::{TypeText, definitions, named_type, one_type, type_text};
 use oer_cmd::{Fault, refused, report};
 use oer_ends::has_end;
@@ -24,19 +25,20 @@ fn tells_nesting(schema: &Schema) -> bool
     has_end(schema.shape())
 }
 
-/// Runs the command with `--lines` for messages of this type: `words` are the arguments without that word, the program's name first; those
-/// on types count for nothing. Each line of the input is a message in hexadecimal digits, but for empty ones, and those that begin with
-/// `#`. Where the type has an end, since it is written out to a nesting, octets that nest deeper are rejected as `Nesting`. Returns the
-/// status of the program.
-pub fn run_lines_for<R: BufRead, W: Write, E: Write>(
+/// Runs the command for many messages of this type: `words` are the arguments without `--lines` or `--framed` and its value, the program's
+/// name first; those on types count for nothing. The way says how the messages stand on the input: each line is one in hexadecimal digits,
+/// but for empty ones, and those that begin with `#`; or each is raw, behind its length. Where the type has an end, since it is written out
+/// to a nesting, octets that nest deeper are rejected as `Nesting`. Returns the status of the program.
+pub fn run_many_for<R: BufRead, W: Write, E: Write>(
     alloc: Global,
+    way: Way,
     schema: &Schema,
     words: &[String],
     input: &mut R,
     output: &mut W,
     errors: &mut E,
 ) -> u8
-    ensures exact { EndsFor (the_type schema.now) (map string_bytes words.now) (R.remaining input.old) (input.new ≡ input.old) result
+    ensures exact { EndsFor way (the_type schema.now) (map string_bytes words.now) (R.remaining input.old) (input.new ≡ input.old) result
         (W.contents output.old) (W.contents output.new) (E.contents errors.old) (E.contents errors.new) }
     ensures statuses { result ≤ 3 }
 {
@@ -44,7 +46,7 @@ pub fn run_lines_for<R: BufRead, W: Write, E: Write>(
         Ok(options) => options,
         Err(error) => return refused(alloc, &error, output, errors),
     };
-    match Asked::of(options, tells_nesting(schema)) {
+    match Asked::of(way, options, tells_nesting(schema)) {
         Ok(asked) => run_all(alloc, schema, asked, input, output, errors),
         Err(misuse) => tell(misuse, errors),
     }
@@ -60,7 +62,7 @@ fn run_one<R: BufRead, W: Write, E: Write>(
     errors: &mut E,
 ) -> u8
     requires { asked.tells_nesting ≡ false }
-    ensures runs { RunsBy (expected_type (texts_at (TypeText.One text.entry))) asked.entry.task asked.entry.limit (R.remaining input.old)
+    ensures runs { RunsBy asked.entry.way (expected_type (texts_at (TypeText.One text.entry))) asked.entry.task asked.entry.limit (R.remaining input.old)
         (input.new ≡ input.old) result
         record { output = W.contents output.old; output' = W.contents output.new; errors = E.contents errors.old; errors' = E.contents errors.new } }
     ensures statuses { result ≤ 3 }
@@ -82,7 +84,7 @@ fn run_named<R: BufRead, W: Write, E: Write>(
     errors: &mut E,
 ) -> u8
     requires { asked.tells_nesting ≡ false }
-    ensures runs { RunsBy (expected_type (texts_at (TypeText.Named types.entry name.entry))) asked.entry.task asked.entry.limit (R.remaining input.old)
+    ensures runs { RunsBy asked.entry.way (expected_type (texts_at (TypeText.Named types.entry name.entry))) asked.entry.task asked.entry.limit (R.remaining input.old)
         (input.new ≡ input.old) result
         record { output = W.contents output.old; output' = W.contents output.new; errors = E.contents errors.old; errors' = E.contents errors.new } }
     ensures statuses { result ≤ 3 }
@@ -107,7 +109,7 @@ fn run_of<R: BufRead, W: Write, E: Write>(
     errors: &mut E,
 ) -> u8
     requires { asked.tells_nesting ≡ false }
-    ensures runs { RunsBy (lines_type (texts_at text.entry)) asked.entry.task asked.entry.limit (R.remaining input.old)
+    ensures runs { RunsBy asked.entry.way (lines_type (texts_at text.entry)) asked.entry.task asked.entry.limit (R.remaining input.old)
         (input.new ≡ input.old) result
         record { output = W.contents output.old; output' = W.contents output.new; errors = E.contents errors.old; errors' = E.contents errors.new } }
     ensures statuses { result ≤ 3 }
@@ -121,16 +123,17 @@ fn run_of<R: BufRead, W: Write, E: Write>(
     }
 }
 
-/// Runs the command with `--lines` for messages of the type that the words name, as `run_lines_for` does for a type that is given. Where
-/// they name none, nothing is read.
-pub fn run_lines<R: BufRead, W: Write, E: Write>(
+/// Runs the command for many messages of the type that the words name, as `run_many_for` does for a type that is given. Where they name
+/// none, nothing is read.
+pub fn run_many<R: BufRead, W: Write, E: Write>(
     alloc: Global,
+    way: Way,
     words: &[String],
     input: &mut R,
     output: &mut W,
     errors: &mut E,
 ) -> u8
-    ensures exact { Ends (map string_bytes words.now) (R.remaining input.old) (input.new ≡ input.old) result
+    ensures exact { Ends way (map string_bytes words.now) (R.remaining input.old) (input.new ≡ input.old) result
         (W.contents output.old) (W.contents output.new) (E.contents errors.old) (E.contents errors.new) }
     ensures statuses { result ≤ 3 }
 {
@@ -138,7 +141,7 @@ pub fn run_lines<R: BufRead, W: Write, E: Write>(
         Ok(options) => options,
         Err(error) => return refused(alloc, &error, output, errors),
     };
-    let asked = match Asked::of(options, false) {
+    let asked = match Asked::of(way, options, false) {
         Ok(asked) => asked,
         Err(misuse) => return tell(misuse, errors),
     };

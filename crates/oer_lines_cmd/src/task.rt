@@ -1,8 +1,10 @@
 //! What is done with each message.
 ghost use Rattle.std.specs.Prelude.{◌≡◌, IfOk, MatchResult, Ok, Err};
-ghost use Rattle.oer_lines_cmd.specs.Tasks.{line_task, unless_given, with_digits};
+ghost use Rattle.oer_lines_cmd.specs.Tasks.{line_task, on_input, unless_given};
+ghost use Rattle.oer_lines_cmd.specs.Ways.{word_of};
 
 use crate::misuse::Misuse;
+use crate::way::{Way, Word};
 use oer_options::{Options, Task};
 
 /// What is done with each message.
@@ -20,9 +22,10 @@ pub enum LineTask<'a> {
     Part { path: Option<&'a str> },
 }
 
-/// What is done with each message, and how many octets it may take.
+/// How messages stand on the input, what is done with each, and how many octets it may take.
 #[derive(Clone, Copy)]
 pub struct Asked<'a> {
+    pub way: Way,
     pub task: LineTask<'a>,
     pub limit: u64,
     /// Whether it is told that octets nest deeper than the type is written out.
@@ -30,44 +33,47 @@ pub struct Asked<'a> {
 }
 
 // That task, unless octets are given.
-fn unless_given<'a>(hex: Option<&'a str>, task: LineTask<'a>) -> Result<LineTask<'a>, Misuse>
-    ensures { result ≡ unless_given hex.entry task.entry }
+fn unless_given<'a>(
+    word: Word,
+    hex: Option<&'a str>,
+    task: LineTask<'a>,
+) -> Result<LineTask<'a>, Misuse>
+    ensures { result ≡ unless_given word hex.entry task.entry }
 {
     match hex {
         None => Ok(task),
-        Some(_) => Err(Misuse::Hex),
+        Some(_) => Err(Misuse::Hex(word)),
     }
 }
 
 impl<'a> LineTask<'a> {
-    /// What a task does with each message.
+    /// What a task does with each message, of which this word asks for many.
     ///
     /// # Errors
     /// Subcommand, if the task makes octets; Hex, if octets are given.
-    pub fn of(task: Task<'a>) -> Result<LineTask<'a>, Misuse>
-        ensures { result ≡ line_task task.entry }
+    pub fn of(word: Word, task: Task<'a>) -> Result<LineTask<'a>, Misuse>
+        ensures { result ≡ line_task word task.entry }
     {
         match task {
-            Task::Show { hex } => unless_given(hex, LineTask::Show),
-            Task::ShowAscii { hex } => unless_given(hex, LineTask::ShowAscii),
-            Task::Canon { hex } => unless_given(hex, LineTask::Canon),
-            Task::Check { hex } => unless_given(hex, LineTask::Check),
-            Task::Make { .. } => Err(Misuse::Subcommand),
-            Task::Part { hex, path } => unless_given(hex, LineTask::Part { path }),
+            Task::Show { hex } => unless_given(word, hex, LineTask::Show),
+            Task::ShowAscii { hex } => unless_given(word, hex, LineTask::ShowAscii),
+            Task::Canon { hex } => unless_given(word, hex, LineTask::Canon),
+            Task::Check { hex } => unless_given(word, hex, LineTask::Check),
+            Task::Make { .. } => Err(Misuse::Subcommand(word)),
+            Task::Part { hex, path } => unless_given(word, hex, LineTask::Part { path }),
         }
     }
 
-    // The task on the octets that these digits spell.
-    fn with_digits(self, digits: &'a str) -> Task<'a>
-        ensures { result ≡ with_digits self.entry digits.entry }
+    // The task on the octets of standard input.
+    fn on_input(self) -> Task<'a>
+        ensures { result ≡ on_input self.entry }
     {
-        let hex = Some(digits);
         match self {
-            LineTask::Show => Task::Show { hex },
-            LineTask::ShowAscii => Task::ShowAscii { hex },
-            LineTask::Canon => Task::Canon { hex },
-            LineTask::Check => Task::Check { hex },
-            LineTask::Part { path } => Task::Part { hex, path },
+            LineTask::Show => Task::Show { hex: None },
+            LineTask::ShowAscii => Task::ShowAscii { hex: None },
+            LineTask::Canon => Task::Canon { hex: None },
+            LineTask::Check => Task::Check { hex: None },
+            LineTask::Part { path } => Task::Part { hex: None, path },
         }
     }
 }
@@ -77,13 +83,16 @@ impl<'a> Asked<'a> {
     ///
     /// # Errors
     /// Those of `LineTask::of`.
-    pub fn of(options: Options<'a>, tells_nesting: bool) -> Result<Asked<'a>, Misuse>
-        ensures task { MatchResult result (λ asked. line_task options.entry.task ≡ Ok asked.task) (λ m. line_task options.entry.task ≡ Err m) }
+    pub fn of(way: Way, options: Options<'a>, tells_nesting: bool) -> Result<Asked<'a>, Misuse>
+        ensures task { MatchResult result (λ asked. line_task (word_of way) options.entry.task ≡ Ok asked.task)
+            (λ m. line_task (word_of way) options.entry.task ≡ Err m) }
+        ensures way { IfOk result (λ asked. asked.way ≡ way) }
         ensures limit { IfOk result (λ asked. asked.limit ≡ options.entry.limit) }
         ensures tells { IfOk result (λ asked. asked.tells_nesting ≡ tells_nesting) }
     {
-        match LineTask::of(options.task) {
+        match LineTask::of(way.word(), options.task) {
             Ok(task) => Ok(Asked {
+                way,
                 task,
                 limit: options.limit,
                 tells_nesting,
@@ -92,13 +101,13 @@ impl<'a> Asked<'a> {
         }
     }
 
-    /// The options of one message, with these digits.
-    pub fn with_digits(self, digits: &'a str) -> Options<'a>
-        ensures task { result.task ≡ with_digits self.entry.task digits.entry }
+    /// The options of one message, whose octets stand on standard input.
+    pub fn on_input(self) -> Options<'a>
+        ensures task { result.task ≡ on_input self.entry.task }
         ensures limit { result.limit ≡ self.entry.limit }
     {
         Options {
-            task: self.task.with_digits(digits),
+            task: self.task.on_input(),
             type_text: None,
             types: None,
             name: None,

@@ -61,6 +61,7 @@ macro_rules! octets_help {
             "Options of standard input:
   --in <CODING>  The octets are in digits (hex) or in base64, and not raw
   --lines        Each line is a message in digits, and has a line of output
+  --framed <N>   Each message is raw, behind its length in N octets
 
 ",
             $notes
@@ -119,8 +120,12 @@ Examples:
 pub const CHECK: Help = octets_help!(
     usage!("check"),
     "Say whether octets are the canonical ones of a value",
-    "Prints \"canonical N\" where the octets are the canonical ones of a value, and
-\"basic N\" where they are another encoding of one. N is how many they are.
+    "Option of check:
+  --canonical  Other encodings are an error, \"oer: not canonical\", with status 1
+
+Prints \"canonical N\" where the octets are the canonical ones of a value, and
+\"basic N\" where they are another encoding of one. N is how many they are. Where
+a signature is at stake, ask with --canonical.
 
 Examples:
   $ oer check --type \"SEQUENCE OF BOOLEAN\" --hex 0102ff00

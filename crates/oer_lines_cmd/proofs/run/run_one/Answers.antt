@@ -8,9 +8,9 @@ use Rattle.oer_lines_cmd.proofs.Knowing.{parsed_known}
 use Rattle.oer_lines_cmd.proofs.run.run_one.Goals as goal
 
 pub returns-in-Ok-clause-runs : goal.returns-in-Ok-clause-runs
-returns-in-Ok-clause-runs g c = by_type c.args.asked.task c.args.asked.limit _ _ the_type (parsed (parse c.args.text.now)) c.in-Ok.schema c.args.asked.tells_nesting c.run_all.result _
+returns-in-Ok-clause-runs g c = by_type c.args.asked.way c.args.asked.task c.args.asked.limit _ _ the_type (parsed (parse c.args.text.now)) c.in-Ok.schema c.args.asked.tells_nesting c.run_all.result _
     c.requires (parsed_known (parse c.args.text.now)) c.in-Ok.ensures.exact c.run_all.ensures.runs
 
 pub returns-in-Err-clause-runs : goal.returns-in-Err-clause-runs
-returns-in-Err-clause-runs g c = by_fault c.args.asked.task c.args.asked.limit _ _ {X = Schema} the_type (parsed (parse c.args.text.now)) c.in-Err.fault c.report.result _ _ _
+returns-in-Err-clause-runs g c = by_fault c.args.asked.way c.args.asked.task c.args.asked.limit _ _ {X = Schema} the_type (parsed (parse c.args.text.now)) c.in-Err.fault c.report.result _ _ _
     (parsed_known (parse c.args.text.now)) c.in-Err.ensures.exact c.report.ensures.line refl

@@ -1,0 +1,3 @@
+pub mod Strictly
+pub mod Lines
+mod Asking

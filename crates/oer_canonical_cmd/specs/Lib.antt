@@ -1,0 +1,4 @@
+pub mod Strict
+pub mod Scan
+pub mod Errors
+pub mod Ending
