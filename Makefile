@@ -3,7 +3,7 @@
 # make test: the whole gate, then the commands that the documents show, what a release has, and memory refused in turn
 # make test_programs: runs the programs by the tables of rows in tests/ and of oer_vectors, on devices that fail, on the modules in tests/modules, and beside Wireshark
 # make lib: proves and builds the library for C and C++, in lib/
-# make test_lib: tests it from C, C++, Rust and Python; OER_STRINGS=1000 tries so many random strings of octets, else a million in C and 100,000 in each other language
+# make test_lib: tests it from C, C++, Rust and Python; OER_STRINGS=20000 tries so many random strings of octets, else a million in C and 100,000 in each other language
 # make bench: the instructions and the memory of our codec and of a plain one, side by side, and how they grow (docs/PERFORMANCE.md)
 # make install PREFIX=.. DESTDIR=..: programs, library, manual, completions, documents and examples, under PREFIX; make uninstall: takes them away
 # make dist: the archive of a release, in out/
@@ -42,6 +42,7 @@ test_programs: bin/oer
 	@tools/test_programs bin
 	@tools/test_devices bin
 	@tools/test_modules bin
+	@tools/test_modules bin --published
 	@tools/test_input bin
 	@tools/test_lines bin
 	@tools/test_example bin
