@@ -1,5 +1,5 @@
-//! The notation of types is ASN.1. The law: in a module whose body is definitions of the notation, each Name has the type that the parser of
-//! the notation gives it, but for the sizes of lists.
+//! The notation of types is ASN.1. The law: in a module, a tree that says a type of the notation is given that type, if it is given
+//! one, without the sizes of lists, and with ends where it is nested too deep.
 #![tactic(auto)]
 
 pub mod laws;
