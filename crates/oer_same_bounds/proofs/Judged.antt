@@ -1,5 +1,5 @@
 -- The range of a type whose own constraint is one range.
-use Rattle.std.proofs.Common.{◌≡◌, ℕ, List, [], ◌∷◌, map, get_or, Bool, true, false, ℤ, pos, Option, Some, None, Ok, Err, refl, sym, ap, subst, ◌∙◌}
+use Rattle.std.proofs.Common.{◌≡◌, ℕ, List, [], ◌∷◌, map, get_or, Bool, true, false, ℤ, pos, Option, Some, None, Ok, Err, refl, sym, ap, subst}
 use Rattle.std.proofs.lemmas.Bool.{and_parts, eq-eqb}
 use Rattle.oer_module_bounds.specs.Hull.{effective}
 use Rattle.oer_module_bounds.specs.Loose.{loose_effective}
@@ -9,7 +9,7 @@ use Rattle.oer_module_lexer.specs.Token.{Spot}
 use Rattle.oer_module_limits.specs.Limits.{range_of, judged, same_form, same_sizes, same_octets, is_fixed, is_from, unsigned_octets, signed_octets}
 use Rattle.oer_module_limits.specs.Sets as limits
 use Rattle.oer_module_limits.specs.Sets.{Measure, number, size, row_read}
-use Rattle.oer_module_limits.specs.Errors.{Error, Read}
+use Rattle.oer_module_limits.specs.Errors.{Error, Read, empty}
 use Rattle.oer_module_limits.specs.Written.{all_given_none}
 use Rattle.oer_module_names.specs.declared.error.Place.{Place}
 use Rattle.oer_module_syntax.specs.Modules.{many, none_left}
@@ -17,7 +17,7 @@ use Rattle.oer_module_syntax.specs.Tree.{Module, Tree}
 use Rattle.oer_module_terms.specs.Trees as terms
 use Rattle.oer_module_values.specs.Types.{Given, constraints, set, type_in}
 use Rattle.oer_same_bounds.specs.Bounds.{standing}
-use Rattle.oer_same_bounds.proofs.Ranges.{Only, one}
+use Rattle.oer_same_bounds.proofs.Ranges.{Reads, one, reads_this, rejects}
 use Rattle.oer_same_bounds.proofs.Rows.{placed}
 
 -- ---- a range gives values the octets that it gives them
@@ -48,11 +48,12 @@ effective_is low high = sym (plain_is_effective (one low high ∷ []) refl)
 abbrev of_one : Measure → Place → Option ℤ → Option ℤ → Read Span
 of_one k p low high = judged (same_octets k) p (effective (one low high ∷ [])) (loose_effective (one low high ∷ []))
 
-judged_by : (k : Measure) (p : Place) (low high : Option ℤ) (b : Bool) → crossed low high ≡ b → Only (record { low = low; high = high }) (of_one k p low high)
-judged_by k p low high false h y is =
-    let told : Ok (record { low = low; high = high }) ≡ Ok y =
-    rw (effective_is low high, loose_is low high h, same_itself k (record { low = low; high = high })) at is in cc
-judged_by k p low high true h y is = let told = rw (effective_is low high, loose_none low high h) at is in absurd (cc)
+judged_by : (k : Measure) (p : Place) (low high : Option ℤ) (b : Bool) → crossed low high ≡ b
+    → Reads low high (record { low = low; high = high }) (of_one k p low high)
+judged_by k p low high false h =
+    reads_this low high _ _ (rw (effective_is low high, loose_is low high h, same_itself k (record { low = low; high = high })) refl)
+judged_by k p low high true h =
+    rejects low high _ _ (record { place = p; why = empty }) (rw (effective_is low high, loose_none low high h) refl) h
 
 -- what is given without constraints
 nothing_read : (m : ℕ) (ts : List Spot) → none_left ts ≡ true → row_read m ts ≡ Ok []
@@ -86,21 +87,23 @@ module _ (ms : List Module) (p : Place) (k own_k : Measure) (m : ℕ) (t : Tree)
   from_one c x low high h e is =
       subst (λ (v : Constraint). range_of ms k p (standing m t gs) ≡ judged (same_octets k) p (effective (v ∷ [])) (loose_effective (v ∷ []))) is (from_row c x h e)
 
-  judged_from : (c : terms.Constraint) (low high : Option ℤ) → row_read m cs ≡ Ok (c ∷ []) → Only (one low high) (limits.constraint (limits.set_at ms 255) own_k m c)
-      → (x : Read Constraint) → limits.constraint (limits.set_at ms 255) own_k m c ≡ x → Only (record { low = low; high = high }) (range_of ms k p (standing m t gs))
-  judged_from c low high h only (Ok x) e y is = judged_by k p low high (crossed low high) refl y (sym (from_one c x low high h e (only x e)) ∙ is)
-  judged_from c low high h only (Err f) e y is = let told = sym (row_fails c f h e) ∙ is in absurd (cc)
+  judged_from : (c : terms.Constraint) (low high : Option ℤ) → row_read m cs ≡ Ok (c ∷ []) → (x : Read Constraint) → Reads low high (one low high) x
+      → limits.constraint (limits.set_at ms 255) own_k m c ≡ x → Reads low high (record { low = low; high = high }) (range_of ms k p (standing m t gs))
+  judged_from c low high h (Ok x) same e =
+      subst (λ r. Reads low high (record { low = low; high = high }) r) (sym (from_one c x low high h e same)) (judged_by k p low high (crossed low high) refl)
+  judged_from c low high h (Err f) rejected e = rejects low high _ _ f (row_fails c f h e) rejected
 
-  pub one_judged : (c : terms.Constraint) (low high : Option ℤ) → row_read m cs ≡ Ok (c ∷ []) → Only (one low high) (limits.constraint (limits.set_at ms 255) own_k m c)
-      → Only (record { low = low; high = high }) (range_of ms k p (standing m t gs))
-  one_judged c low high h only = judged_from c low high h only (limits.constraint (limits.set_at ms 255) own_k m c) refl
+  pub one_judged : (c : terms.Constraint) (low high : Option ℤ) → row_read m cs ≡ Ok (c ∷ [])
+      → Reads low high (one low high) (limits.constraint (limits.set_at ms 255) own_k m c)
+      → Reads low high (record { low = low; high = high }) (range_of ms k p (standing m t gs))
+  one_judged c low high h reads = judged_from c low high h (limits.constraint (limits.set_at ms 255) own_k m c) reads refl
 
   none_is : row_read m cs ≡ Ok [] → range_of ms k p (standing m t gs) ≡ Ok (record { low = None; high = None })
   unfolding range_of limits.rows limits.own_rows limits.row
   none_is h = rw (own, h, nothing_given ms (limits.measure_of k (type_in m t)) gs none, same_itself k (record { low = None; high = None })) refl
 
-  pub none_judged : row_read m cs ≡ Ok [] → Only (record { low = None; high = None }) (range_of ms k p (standing m t gs))
-  none_judged h y is = let told = sym (none_is h) ∙ is in let same : y ≡ record { low = None; high = None } = cc in same
+  pub none_judged : row_read m cs ≡ Ok [] → Reads None None (record { low = None; high = None }) (range_of ms k p (standing m t gs))
+  none_judged h = reads_this None None _ _ (none_is h)
 
 -- ---- places
 

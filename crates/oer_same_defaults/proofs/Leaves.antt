@@ -1,5 +1,5 @@
 -- What governs a value of a type of the notation.
-use Rattle.std.proofs.Common.{◌≡◌, ℕ, List, Bool, Some, Ok, refl, ap, ◌∙◌}
+use Rattle.std.proofs.Common.{◌≡◌, ℕ, List, Bool, false, Option, Some, Ok, ℤ, refl, ap, ◌∙◌}
 use Rattle.oer_lexer.specs.Token as notation
 use Rattle.oer_lexer.specs.declared.leaf.LeafWord.{LeafWord}
 use Rattle.oer_lexer.specs.declared.leaf.LeafWord.TheVariants as leaf_word
@@ -13,6 +13,8 @@ use Rattle.oer_module_names.specs.declared.error.Place.{Place}
 use Rattle.oer_module_syntax.specs.Tree.{Module, Tree, plain}
 use Rattle.oer_module_syntax.specs.declared.word.Builtin.TheVariants as bi
 use Rattle.oer_module_text.specs.Errors.{told_by, ◌>>=◌}
+use Rattle.oer_module_values.specs.Errors as told
+use Rattle.oer_module_values.specs.Numbers as numbers
 use Rattle.oer_module_values.specs.Types.{Meaning, meaning, type_in}
 use Rattle.oer_notation.specs.Grammar.{IsLeaf, nothing_behind, bounds_behind, items_behind, size_behind}
 use Rattle.oer_notation.specs.Reading.{Known}
@@ -62,10 +64,9 @@ leaf_tree (says_leaf {at} k {ts} {items} {constraints} l i c) b =
     record { word = k; at = at; items = items; constraints = constraints; behind = ts; is = refl; leaf_is = l; keeps = i }
 leaf_tree (says_name n d) b = absurd b
 
--- what governs a value of the type: a tree in the first module, and the kind of its values
+-- what governs a value of the type: its tree, and the kind of its values
 pub record Governs (L : LeafType) (g : Governor) : Type 0 where
   pub tree : LeafTree L g.type
-  pub first : g.«module» ≡ 0
   pub kind_is : g.kind ≡ leaf_kind L
   pub items_are : g.items ≡ tree.items
 
@@ -92,11 +93,29 @@ leaf_governed ms ks L t m h i =
       is = governor_of ms t m l.at l.word l.items l.constraints (leaf_kind L) h (i.of ∙ ap (type_in 0) l.is) e;
       governs = record {
         tree = record { word = l.word; at = l.at; items = l.items; constraints = l.constraints; behind = l.behind; is = refl; leaf_is = l.leaf_is; keeps = l.keeps };
-        first = refl;
         kind_is = refl;
         items_are = refl;
       };
     }
+
+-- what governs a number of an INTEGER
+module _ (low high : Option ℤ) (at : ℕ) (spots constraints : List Spot) (ts : List notation.Token) where
+  integer_by : (k : LeafWord) → IsLeaf (leaf_form k) (integer low high) ts
+      → numbers.governor_by 0 (plain at (builtin k) spots constraints) ≡ Ok (record { «module» = 0; enumerated = false; items = spots })
+  integer_by leaf_word.Integer l = refl
+  integer_by k l = elim l [ ]
+
+pub number_governed : (ms : List Module) (ks : List Known) {low high : Option ℤ} (t : Tree) (m : Meaning) → meaning ms (type_in 0 t) ≡ Ok m
+    → IsMeant ks (leaf (integer low high)) m
+    → (items : List Spot) × (numbers.governor ms (type_in 0 t) ≡ Ok (record { «module» = 0; enumerated = false; items = items }))
+unfolding numbers.governor
+number_governed ms ks {low} {high} t m h i =
+    let l = leaf_tree i.says.says i.built in (
+      l.items,
+      ap (λ r. told.◌>>=◌ r (λ r. numbers.governor_by r.of.«module» r.of.type)) h
+          ∙ ap (λ u. numbers.governor_by u.«module» u.type) (i.of ∙ ap (type_in 0) l.is)
+          ∙ integer_by low high l.at l.items l.constraints l.behind l.word l.leaf_is,
+    )
 
 -- a tree that says an ENUMERATED
 pub record EnumeratedTree (items : List NamedNumber) (marker : Bool) (spots : List Spot) (u : Tree) : Type 0 where

@@ -1,4 +1,3 @@
-mod Steps
 mod Tokens
 mod Leaves
 mod Settled

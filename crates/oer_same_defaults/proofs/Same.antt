@@ -1,5 +1,7 @@
--- The value that tokens after DEFAULT stand for in a module is that of the notation.
+-- The value that tokens after DEFAULT stand for in a module is that of the notation, or it is rejected for a limit.
 use Rattle.std.proofs.Common.{◌≡◌, ℕ, List, [], ◌∷◌, Bool, true, false, cond, Some, None, Ok, ℤ, refl, sym, ap, subst, ◌∙◌, append-nil, arith}
+use Rattle.std.specs.Prelude.{FitsSigned}
+use Rattle.std.specs.Int.{w128}
 use Rattle.oer_lexer.specs.Token as notation
 use Rattle.oer_model.specs.AsnType.{AsnType, NamedNumber, leaf}
 use Rattle.oer_model.specs.AsnValue.{AsnValue, bool, nothing, int, enum, bit_list, octets, oid}
@@ -17,7 +19,8 @@ use Rattle.oer_module_text.specs.Room.{Room}
 use Rattle.oer_module_values.specs.Looks.{own}
 use Rattle.oer_module_values.specs.Numbers.{place_of_first}
 use Rattle.oer_module_values.specs.Types.{Meaning, meaning, type_in}
-use Rattle.oer_notation.specs.Grammar.{IsItemNamed, IsValue, true_value, false_value, null_value, number_value, item_value, octets_value, digit_bits_value, bits_value, text_value, utf8_value, arcs_value}
+use Rattle.oer_notation.specs.Grammar.{IsItemNamed, an_integer, IsValue, true_value, false_value, null_value, number_value, item_value, octets_value}
+use Rattle.oer_notation.specs.Grammar.{digit_bits_value, bits_value, text_value, utf8_value, arcs_value}
 use Rattle.oer_notation.specs.Reading.{Known}
 use Rattle.oer_same_names.specs.Meant.{IsMeant}
 use Rattle.oer_same_tokens.specs.Same.{same_token, same_tokens}
@@ -26,10 +29,9 @@ use Rattle.oer_same_trees.proofs.Placed.{Placed, none_placed, placed, placed_as}
 use Rattle.oer_same_items.proofs.Whole.{IsWhole, from_zero, below_zero, integer_whole}
 use Rattle.oer_same_items.specs.Laws.{HasItem, SameItem}
 use Rattle.oer_same_defaults.specs.Laws.{SameDefault}
-use Rattle.oer_same_defaults.proofs.Leaves.{Governs, enumerated_tree, leaf_governed, leaf_kind}
+use Rattle.oer_same_defaults.proofs.Leaves.{Governs, enumerated_tree, leaf_governed, leaf_kind, number_governed}
 use Rattle.oer_same_defaults.proofs.Settled.{IsLiteral, settled}
 use Rattle.oer_same_defaults.proofs.Single.{Finds, finds_arcs, finds_bits, finds_digit_bits, finds_number, finds_octets, finds_text}
-use Rattle.oer_same_defaults.proofs.Steps.{same_value}
 use Rattle.oer_same_defaults.proofs.Tokens.{Reads, reads_arcs, reads_bits, reads_digits, reads_false, reads_name, reads_negative, reads_null, reads_number, reads_text, reads_true}
 
 holds_none : (L : LeafType) → holds_others (leaf_kind L) ≡ false
@@ -56,23 +58,25 @@ module _ (there : HasItem) (same_item : SameItem) (ms : List Module) (ks : List 
 
   found_by : (L : LeafType) → IsMeant ks (leaf L) m → (ss : List Spot) (v : Value) → Reads ss v
       → ((g : Governor) → Governs L g → IsLiteral ms (type_in 0 t) g ss v) → (y : AsnValue) → FindsKind L ss v y → FindsDefault ss y
-  found_by L i ss v h n y finds r x s d =
+  found_by L i ss v h n y finds r =
       let g = leaf_governed ms ks L t m means i in
-      let k = g.governs.kind_is in
-      finds g.governor g.governs r x s
-      (ap (λ k. kind_at (value_at ms 31) ms k (record { of = type_in 0 t; governor = g.governor })
-      (record { place = place_of_first 0 ss; governor = g.governor; value = v }) r) (sym k)
-      ∙ sym (settled ms (type_in 0 t) g.governor ss v r g.is h (n g.governor g.governs) (ap holds_others k ∙ holds_none L)) ∙ d)
+      rw (settled ms (type_in 0 t) g.governor ss v r g.is h (n g.governor g.governs) (leaf_kind L) g.governs.kind_is (holds_none L))
+      (finds g.governor g.governs r)
 
   -- of a value that is no name
   literal_by : (L : LeafType) → IsMeant ks (leaf L) m → (ss : List Spot) (v : Value) → Reads ss v → name_in v ≡ None → (y : AsnValue) → FindsKind L ss v y → FindsDefault ss y
   literal_by L i ss v h n y finds = found_by L i ss v h (λ g w. ap (reference_by ms (place_of_first 0 ss) g) n) y finds
 
-  number_by : {low high : _} {z : ℤ} (us : List Token) → IsWhole z us → IsMeant ks (leaf (integer low high)) m → (ss : List Spot) → Placed us ss → FindsDefault ss (int z)
-  number_by {low} {high} {z} _ (from_zero {w} n) i ss (placed at none_placed) =
-      literal_by (integer low high) i ss (atom at (amount (number false w))) (reads_number at w) refl (int z) (λ g k r. finds_number ms (type_in 0 t) _ false w z r n)
-  number_by {low} {high} {z} _ (below_zero {w} n) i ss (placed at (placed by none_placed)) =
-      literal_by (integer low high) i ss (atom at (amount (number true w))) (reads_negative at by w) refl (int z) (λ g k r. finds_number ms (type_in 0 t) _ true w z r n)
+  number_by : {low high : _} {z : ℤ} (us : List Token) → IsWhole z us → FitsSigned w128 z → IsMeant ks (leaf (integer low high)) m
+      → (ss : List Spot) → Placed us ss → FindsDefault ss (int z)
+  number_by {low} {high} {z} _ (from_zero {w} n) fits i ss (placed at none_placed) =
+      let q = number_governed ms ks t m means i in
+      literal_by (integer low high) i ss (atom at (amount (number false w))) (reads_number at w) refl (int z)
+      (λ g k r. finds_number ms (type_in 0 t) q.0 (place_of_first 0 ss) false w z r q.1 n fits)
+  number_by {low} {high} {z} _ (below_zero {w} n) fits i ss (placed at (placed by none_placed)) =
+      let q = number_governed ms ks t m means i in
+      literal_by (integer low high) i ss (atom at (amount (number true w))) (reads_negative at by w) refl (int z)
+      (λ g k r. finds_number ms (type_in 0 t) q.0 (place_of_first 0 ss) true w z r q.1 n fits)
 
   -- the name of an item is no reference
   item_literal : (items : List NamedNumber) (marker : Bool) (w : List ℕ) (z : ℤ) (ss : List Spot) (at : ℕ) → IsItemNamed w z items
@@ -85,16 +89,23 @@ module _ (there : HasItem) (same_item : SameItem) (ms : List Module) (ks : List 
 
   item_found : (items : List NamedNumber) (marker : Bool) (w : List ℕ) (z : ℤ) (ss : List Spot) (at : ℕ) → IsItemNamed w z items
       → FindsKind (enumerated items marker) ss (atom at (amount (named w []))) (enum z)
-  item_found items marker w z ss at n g k r x s h =
+  item_found items marker w z ss at n g k r =
       let e = enumerated_tree k.tree in
-      same_item items marker e.behind e.spelt w z n g g e.at e.at k.tree.items k.tree.items e.constraints e.constraints e.is e.keeps e.is e.keeps ms
-      (place_of_first 0 ss) [] r s x h
+      record {
+        given = same_item items marker e.behind e.spelt w z n g g e.at e.at k.tree.items k.tree.items e.constraints e.constraints
+            e.is e.keeps e.is e.keeps ms (place_of_first 0 ss) [] r;
+      }
 
   value_found : {T : AsnType} {v : AsnValue} {ts : List notation.Token} → IsValue T v ts → IsMeant ks T m → (ss : List Spot) → Placed (same_tokens ts) ss → FindsDefault ss v
-  value_found true_value i ss (placed at none_placed) = literal_by boolean i ss (atom at (fixed words.True)) (reads_true at) refl (bool true) (λ g k r x s h. same_value h)
-  value_found false_value i ss (placed at none_placed) = literal_by boolean i ss (atom at (fixed words.False)) (reads_false at) refl (bool false) (λ g k r x s h. same_value h)
-  value_found null_value i ss (placed at none_placed) = literal_by null i ss (atom at (fixed words.Null)) (reads_null at) refl nothing (λ g k r x s h. same_value h)
-  value_found (number_value {t} n) i ss p = number_by (same_token t) (integer_whole n) i ss (subst (λ l. Placed l ss) (append-nil (same_token t)) p)
+  value_found true_value i ss (placed at none_placed) =
+      literal_by boolean i ss (atom at (fixed words.True)) (reads_true at) refl (bool true) (λ g k r. record { given = refl })
+  value_found false_value i ss (placed at none_placed) =
+      literal_by boolean i ss (atom at (fixed words.False)) (reads_false at) refl (bool false) (λ g k r. record { given = refl })
+  value_found null_value i ss (placed at none_placed) =
+      literal_by null i ss (atom at (fixed words.Null)) (reads_null at) refl nothing (λ g k r. record { given = refl })
+  value_found (number_value (an_integer {w} n e f)) i ss p =
+      let same = same_token (notation.number w) in
+      number_by same (integer_whole (an_integer {w = w} n e f)) f i ss (subst (λ l. Placed l ss) (append-nil same) p)
   value_found (item_value {items} {marker} {w} {z} d n) i ss (placed at none_placed) =
       found_by (enumerated items marker) i ss (atom at (amount (named w []))) (reads_name at d) (item_literal items marker w z ss at n) (enum z)
       (item_found items marker w z ss at n)
@@ -102,13 +113,17 @@ module _ (there : HasItem) (same_item : SameItem) (ms : List Module) (ks : List 
       literal_by (octet_string size) i ss (atom at (digits w)) (reads_digits at w) refl (octets xs) (λ g k r. finds_octets _ w xs r a)
   value_found (digit_bits_value {size} {w} {s} a) i ss (placed at none_placed) =
       literal_by (bit_string size) i ss (atom at (digits w)) (reads_digits at w) refl (bit_list s) (λ g k r. finds_digit_bits _ w s r a)
-  value_found (bits_value {size} {w}) i ss (placed at none_placed) = literal_by (bit_string size) i ss (atom at (bits w)) (reads_bits at w) refl _ (λ g k r. finds_bits _ w r)
+  value_found (bits_value {size} {w}) i ss (placed at none_placed) =
+      literal_by (bit_string size) i ss (atom at (bits w)) (reads_bits at w) refl _ (λ g k r. finds_bits _ w r)
   value_found (text_value {letters} {size} {w}) i ss (placed at none_placed) =
       literal_by (restricted_string letters size) i ss (atom at (text w)) (reads_text at w) refl _ (λ g k r. finds_text _ w r)
-  value_found (utf8_value {size} {w}) i ss (placed at none_placed) = literal_by (utf8_string size) i ss (atom at (text w)) (reads_text at w) refl _ (λ g k r. finds_text _ w r)
+  value_found (utf8_value {size} {w}) i ss (placed at none_placed) =
+      literal_by (utf8_string size) i ss (atom at (text w)) (reads_text at w) refl _ (λ g k r. finds_text _ w r)
   value_found (arcs_value {a} {b} {arcs} d) i _ (placed {ss} at p) =
       let q = reads_arcs (a ∷ b ∷ arcs) d (omega arith) at ss p in
       literal_by object_id i _ (braces at (member (parts_from q.parts) no_members)) q.is refl (oid (a ∷ b ∷ arcs)) (λ g k r. finds_arcs _ at a b arcs q.parts r q.says)
 
 pub same_default : HasItem → SameItem → SameDefault
-same_default there same_item ms ks T t m means i v x ts ss r s value keeps h = value_found there same_item ms ks t m means value i ss (placed_as (same_tokens ts) ss keeps) r x s h
+same_default there same_item ms ks T t m means i v ts ss r value keeps =
+    let found = value_found there same_item ms ks t m means value i ss (placed_as (same_tokens ts) ss keeps) r in
+    found.given

@@ -4,6 +4,7 @@ use Rattle.oer_module_defaults.specs.Defaults.{Target, default_at, kind_at, lite
 use Rattle.oer_module_defaults.specs.Governors.{Governor, governor_at, holds_others}
 use Rattle.oer_module_defaults.specs.Values.{alone, value_in}
 use Rattle.oer_module_defaults.specs.Walks.{Literal, Source, after, outcome_by, reference_at, step, walk}
+use Rattle.oer_module_defaults.specs.declared.governor.Kind.{Kind}
 use Rattle.oer_module_lexer.specs.Token.{Spot}
 use Rattle.oer_module_names.specs.declared.error.Place.{Place}
 use Rattle.oer_module_syntax.specs.Tree.{Module}
@@ -41,10 +42,12 @@ module _ (ms : List Module) (t : TypeIn) (g : Governor) (ss : List Spot) (v : Va
   taken : (r : Room) → holds_others g.kind ≡ false → literal_at (inner_at ms 31) ms target literal r ≡ kind_at (inner_at ms 31) ms g.kind target literal r
   taken r h = rw h refl
 
-  pub settled : (r : Room) → ((p : Place) → governor_at ms p t ≡ Ok g) → Reads ss v → IsLiteral → holds_others g.kind ≡ false
-      → default_at ms t 0 ss r ≡ kind_at (inner_at ms 31) ms g.kind (record { of = t; governor = g })
+  pub settled : (r : Room) → ((p : Place) → governor_at ms p t ≡ Ok g) → Reads ss v → IsLiteral
+      → (k : Kind) → g.kind ≡ k → holds_others k ≡ false
+      → default_at ms t 0 ss r ≡ kind_at (inner_at ms 31) ms k (record { of = t; governor = g })
       (record { place = place_of_first 0 ss; governor = g; value = v }) r
   unfolding default_at
-  settled r e h n k =
+  settled r e h n k is others =
       ap (λ x. x >>= λ g. source_at (inner_at ms 31) ms (record { of = t; governor = g }) (record { «module» = 0; governor = g; spots = ss }) r) (e (place_of_first 0 ss))
-      ∙ ap (λ x. x >>= λ l. literal_at (inner_at ms 31) ms target l r) (reached (value_read ss v h) n) ∙ taken r k
+      ∙ ap (λ x. x >>= λ l. literal_at (inner_at ms 31) ms target l r) (reached (value_read ss v h) n)
+      ∙ taken r (ap holds_others is ∙ others) ∙ ap (λ k. kind_at (inner_at ms 31) ms k target literal r) is

@@ -14,7 +14,8 @@ use Rattle.oer_module_syntax.specs.Modules.{many}
 use Rattle.oer_module_syntax.specs.Ranges.{pairs_len}
 use Rattle.oer_module_syntax.specs.State.{State, Read, ◌>>=◌, at_sign, bump, place_among, skip_sign}
 use Rattle.oer_module_terms.specs.Looks.{no_comma}
-use Rattle.oer_module_terms.specs.Trees.{Value, Parts, amount, atom, bits as bit_atom, braces, digits as digit_atom, fixed, member, members_from, named, no_members, number as digits_of, parts_from, text as text_atom}
+use Rattle.oer_module_terms.specs.Trees.{Value, Parts, amount, atom, bits as bit_atom, braces, digits as digit_atom, fixed}
+use Rattle.oer_module_terms.specs.Trees.{member, members_from, named, no_members, number as digits_of, parts_from, text as text_atom}
 use Rattle.oer_module_terms.specs.Values.{any_value_at, braces_at, fixed_of, member_at, member_ends, named_at, part_at, single_at, some_members_at, unbraced_by, value_at}
 use Rattle.oer_module_terms.specs.declared.tree.Fixed.TheVariants as words
 use Rattle.oer_module_values.specs.Kept.{kept}

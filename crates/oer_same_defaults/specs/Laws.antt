@@ -1,4 +1,4 @@
--- The law of values after DEFAULT, in the notation and in modules. It says nothing where the reader of modules has an error.
+-- The law of values after DEFAULT, in the notation and in modules.
 use Rattle.std.specs.Prelude.{◌≡◌, List, Ok}
 use Rattle.oer_lexer.specs.Token.{Token}
 use Rattle.oer_model.specs.AsnType.{AsnType}
@@ -10,11 +10,13 @@ use Rattle.oer_module_text.specs.Room.{Room}
 use Rattle.oer_module_values.specs.Types.{Meaning, meaning, type_in}
 use Rattle.oer_notation.specs.Grammar.{IsValue}
 use Rattle.oer_notation.specs.Reading.{Known}
+use Rattle.oer_same_items.specs.Told.{Tells}
 use Rattle.oer_same_names.specs.Meant.{IsMeant}
 use Rattle.oer_same_trees.specs.Says.{Keeps}
 
--- What the tokens of a value stand for in a module is this value, where the tree of its type stands for a tree that says the type.
+-- What the tokens of a value stand for in a module is this value, where the tree of its type stands for a tree that says the type; or
+-- it is rejected for a limit.
 abbrev pub SameDefault : Type 0
 SameDefault = (ms : List Module) (ks : List Known) (T : AsnType) (t : Tree) (m : Meaning) → meaning ms (type_in 0 t) ≡ Ok m → IsMeant ks T m
-    → (v x : AsnValue) (ts : List Token) (ss : List Spot) (r s : Room) → IsValue T v ts → Keeps ts ss
-    → default_at ms (type_in 0 t) 0 ss r ≡ Ok (x, s) → x ≡ v
+    → (v : AsnValue) (ts : List Token) (ss : List Spot) (r : Room) → IsValue T v ts → Keeps ts ss
+    → Tells (λ x. x.0 ≡ v) (default_at ms (type_in 0 t) 0 ss r)

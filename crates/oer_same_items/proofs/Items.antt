@@ -1,7 +1,8 @@
 -- What the name of an item stands for.
-use Rattle.std.proofs.Common.{◌≡◌, ℕ, List, [], ◌∷◌, ◌++◌, map, Bool, true, false, cond, ◌||◌, Option, Some, None, is_some, Ok, ℤ, refl, sym, ap, subst, ◌∙◌}
+use Rattle.std.proofs.Common.{◌≡◌, ℕ, List, [], ◌∷◌, ◌++◌, map, Bool, true, false, ◌||◌, Option, Some, None, is_some, Ok, ℤ, refl, sym, ap, subst, ◌∙◌}
 use Rattle.std.specs.Ordering.{int_eq}
 use Rattle.std.specs.Str.{bytes_eq}
+use Rattle.std.proofs.lemmas.Bool.Decides.{Decides-int_eq}
 use Rattle.std.proofs.lemmas.Slice.Eq.{bytes_eq-Decides}
 use Rattle.oer_lexer.specs.Token as notation
 use Rattle.oer_model.specs.AsnType.{NamedNumber}
@@ -11,19 +12,20 @@ use Rattle.oer_module_defaults.specs.Items.{agreed, has_item, is_among, item_num
 use Rattle.oer_module_leaves.specs.Numbered.{NumberedItem, enumeration_by, numbered_at, numbered_items}
 use Rattle.oer_module_lexer.specs.Token.{Spot}
 use Rattle.oer_module_names.specs.declared.error.Place.{Place}
-use Rattle.oer_module_syntax.specs.Tree.{Module, plain}
+use Rattle.oer_module_syntax.specs.Tree.{Module, Tree, plain}
 use Rattle.oer_module_syntax.specs.declared.word.Builtin.TheVariants.{Enumerated}
 use Rattle.oer_module_syntax.specs.State.{place_among}
 use Rattle.oer_module_terms.specs.Trees.{Item}
-use Rattle.oer_module_text.specs.Errors.{error, in_module, no_such_value, place_in, ◌>>=◌}
-use Rattle.oer_module_text.specs.Room.{put}
+use Rattle.oer_module_text.specs.Errors.{in_module, place_in, ◌>>=◌}
 use Rattle.oer_module_values.specs.Numbers.{item_named, more_items}
 use Rattle.oer_module_values.specs.Types.{type_in}
 use Rattle.oer_module_values.proofs.Items.{item_second}
 use Rattle.oer_notation.specs.Grammar.{IsItemNamed, this_item, later_item}
 use Rattle.oer_same_trees.specs.Says.{Keeps}
 use Rattle.oer_same_items.specs.Laws.{HasItem, IsEnumeration, SameItem, as_named}
-use Rattle.oer_same_items.proofs.Same.{bind_ok, long_same, read_in, same_items, same_ok}
+use Rattle.oer_same_items.proofs.Limited.{long_passes, numbered_passes}
+use Rattle.oer_same_items.proofs.Same.{items_same, read_in}
+use Rattle.oer_same_items.proofs.Telling.{Gives, bind, choose, told}
 use Rattle.oer_same_items.proofs.Taken.{SayItems, say_item, say_none}
 
 unnamed : (v w : List ℕ) → (v ≡ w → ⊥) → bytes_eq v w ≡ false
@@ -39,39 +41,40 @@ named_same [] has = elim has [ ]
 named_same {w} (i ∷ is) (this_item e) = rw ((bytes_eq-Decides i.name w).1 e) refl
 named_same {w} (i ∷ is) (later_item other more) = rw (unnamed i.name w other) (named_same is more)
 
-agreed_same : (p : Place) (y z v : ℤ) → agreed p y z ≡ Ok v → z ≡ v
-agreed_same p y z v h = by (int_eq y z) h
-  where
-    by : (b : Bool) → cond b (Ok z) (error {A = ℤ} p no_such_value) ≡ Ok v → z ≡ v
-    by true h = same_ok h
-    by false h = absurd (cc)
+agreed_tells : (p : Place) (y x z : ℤ) → y ≡ z → x ≡ z → Gives (λ v. v ≡ z) (agreed p y x)
+agreed_tells p y x z e f =
+    choose (λ v. v ≡ z) (int_eq y x) _ _ (λ same. record { given = f }) (λ other. absurd (cc (other, (Decides-int_eq y x).1 (e ∙ sym f))))
 
 module _ (ms : List Module) (items : List NamedNumber) (marker : Bool) (ts : List notation.Token) (spelt : IsEnumeration items marker ts)
     (w : List ℕ) (z : ℤ) (has : IsItemNamed w z items) (p : Place) where
   -- where the type is this ENUMERATED
-  number_same : (g : Governor) (at : ℕ) (ss cs : List Spot) → g.type ≡ plain at Enumerated ss cs → Keeps ts ss → (y : ℤ) → item_number ms g p w ≡ Ok y → y ≡ z
-  unfolding item_number
-  number_same g at ss cs is keeps y h =
-      let listed = bind_ok (numbered_items ms (type_in g.«module» g.type)) (λ is. number_by p (number_named w is)) y h in
-      let found = bind_ok (enumeration_by ms g.«module» g.type) (λ e. Ok e.items) listed.0 listed.1 in
-      let numbered : numbered_at ms (place_in g.«module» at) ss ≡ Ok found.0 = subst (λ t. enumeration_by ms g.«module» t ≡ Ok found.0) is found.1 in
-      let same = same_items items marker ts ss spelt keeps ms (place_in g.«module» at) found.0 numbered in
-      let named : IsItemNamed w z (map as_named found.0.items) = subst (λ is. IsItemNamed w z is) (sym same.0) has in
-      let number : number_named w listed.0 ≡ Some z = ap (number_named w) (sym (same_ok found.2)) ∙ named_same found.0.items named in
-      sym (long_same p z y (sym (ap (number_by p) number) ∙ listed.2))
+  numbered_tells : (m : ℕ) (t : Tree) (at : ℕ) (ss cs : List Spot) → t ≡ plain at Enumerated ss cs → Keeps ts ss
+      → Gives (λ e. number_named w e.items ≡ Some z) (enumeration_by ms m t)
+  numbered_tells m t at ss cs is keeps =
+      subst (λ u. Gives (λ e. number_named w e.items ≡ Some z) (enumeration_by ms m u)) (sym is)
+      (told (λ e. number_named w e.items ≡ Some z) (numbered_at ms (place_in m at) ss) (numbered_passes ms (place_in m at) spelt ss keeps) (λ e given.
+      let same = items_same items marker ts ss spelt keeps ms (place_in m at) e given in
+      named_same e.items (subst (λ is. IsItemNamed w z is) (sym same.0) has)))
 
-  both_same : (g h : Governor) (at by : ℕ) (ss us cs ds : List Spot) → g.type ≡ plain at Enumerated ss cs → Keeps ts ss → h.type ≡ plain by Enumerated us ds → Keeps ts us
-      → (v : ℤ) → number_in_both ms g h p w ≡ Ok v → v ≡ z
+  number_tells : (g : Governor) (at : ℕ) (ss cs : List Spot) → g.type ≡ plain at Enumerated ss cs → Keeps ts ss → Gives (λ y. y ≡ z) (item_number ms g p w)
+  unfolding item_number
+  number_tells g at ss cs is keeps =
+      bind (λ is. number_named w is ≡ Some z) (λ y. y ≡ z) (numbered_items ms (type_in g.«module» g.type)) _
+      (bind (λ e. number_named w e.items ≡ Some z) _ (enumeration_by ms g.«module» g.type) _ (numbered_tells g.«module» g.type at ss cs is keeps)
+      (λ e h. record { given = h }))
+      (λ is h. subst (λ o. Gives (λ y. y ≡ z) (number_by p o)) (sym h) (long_passes p z))
+
+  both_tell : (g h : Governor) (at by : ℕ) (ss us cs ds : List Spot) → g.type ≡ plain at Enumerated ss cs → Keeps ts ss → h.type ≡ plain by Enumerated us ds → Keeps ts us
+      → Gives (λ v. v ≡ z) (number_in_both ms g h p w)
   unfolding number_in_both
-  both_same g h at by ss us cs ds is keeps its kept v e =
-      let second = bind_ok (item_number ms h p w) (λ y. item_number ms g p w >>= agreed p y) v e in
-      let first = bind_ok (item_number ms g p w) (agreed p second.0) v second.2 in
-      sym (agreed_same p second.0 first.0 v first.2) ∙ number_same g at ss cs is keeps first.0 first.1
+  both_tell g h at by ss us cs ds is keeps its kept =
+      bind (λ y. y ≡ z) (λ v. v ≡ z) (item_number ms h p w) _ (number_tells h by us ds its kept) (λ y e.
+      bind (λ y. y ≡ z) (λ v. v ≡ z) (item_number ms g p w) _ (number_tells g at ss cs is keeps) (λ x f. agreed_tells p y x z e f))
 
 pub same_item : SameItem
-same_item items marker ts spelt w z has g h at by ss us cs ds is keeps its kept ms p steps r s v e =
-    let number = bind_ok (number_in_both ms g h p w) (λ z. Ok (enum z, put w r)) (v, s) e in
-    sym (ap (λ x. x.0) (same_ok number.2)) ∙ ap enum (both_same ms items marker ts spelt w z has p g h at by ss us cs ds is keeps its kept number.0 number.1)
+same_item items marker ts spelt w z has g h at by ss us cs ds is keeps its kept ms p steps r =
+    (bind (λ v. v ≡ z) (λ x. x.0 ≡ enum z) (number_in_both ms g h p w) _
+    (both_tell ms items marker ts spelt w z has p g h at by ss us cs ds is keeps its kept) (λ v e. record { given = ap enum e })).given
 
 -- ---- the names in braces
 

@@ -1,6 +1,8 @@
+pub mod Telling
 pub mod Whole
 mod Counted
 mod Items
 mod Named
 mod Same
 mod Taken
+pub mod Limited

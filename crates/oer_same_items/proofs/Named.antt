@@ -28,7 +28,7 @@ module _ (ms : List Module) where
   unfolding numeral step
   digits_reached n p minus w = refl
 
-  digits_counted : (p : Place) (minus : Bool) (w : List ℕ) → integer_at ms p (number minus w) ≡ fitting p (whole_of minus w)
+  pub digits_counted : (p : Place) (minus : Bool) (w : List ℕ) → integer_at ms p (number minus w) ≡ fitting p (whole_of minus w)
   unfolding count
   digits_counted p minus w = ap (λ r. r >>= whole) (digits_reached 254 p minus w)
 

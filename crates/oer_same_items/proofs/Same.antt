@@ -5,7 +5,7 @@ use Rattle.oer_lexer.specs.Token as notation
 use Rattle.oer_lexer.specs.declared.token.Sign.TheVariants as signs
 use Rattle.oer_model.specs.AsnType.{AsnType, NamedNumber, leaf}
 use Rattle.oer_model.specs.LeafType.{LeafType, enumerated}
-use Rattle.oer_module_leaves.specs.Leaves.{enumerated_by, lacks_marker, listed_at}
+use Rattle.oer_module_leaves.specs.Leaves.{enumerated_at, enumerated_by, lacks_marker, listed_at}
 use Rattle.oer_module_leaves.specs.Numbered.{Numbered, NumberedItem, marker_of, numbered_at, numbers_of, unless_misnumbered, with_numbers}
 use Rattle.oer_module_leaves.specs.Shapes.{enumerated_type, in_64_bits, is_signed_long, named_at, named_items}
 use Rattle.oer_module_leaves.specs.Texts.{items_at}
@@ -26,7 +26,7 @@ use Rattle.oer_notation.specs.Grammar.{AreItems, IsLeaf, items_behind}
 use Rattle.oer_same_tokens.specs.Same.{same_tokens}
 use Rattle.oer_same_trees.specs.Says.{Keeps}
 use Rattle.oer_same_trees.proofs.Placed.{Placed, closed, placed, placed_as, spot}
-use Rattle.oer_same_items.specs.Laws.{SameEnumerated, SameItems, as_named}
+use Rattle.oer_same_items.specs.Laws.{IsEnumeration, as_named}
 use Rattle.oer_same_items.proofs.Counted.{numbers_same}
 use Rattle.oer_same_items.proofs.Named.{all_given, names_same}
 use Rattle.oer_same_items.proofs.Taken.{EnumerationRead, SayItems, enumeration_read}
@@ -99,12 +99,12 @@ marker_same None e h = ap (λ o. is_some (option_map (λ more. length e.root) o)
 marker_same (Some m) e h = ap (λ o. is_some (option_map (λ more. length e.root) o)) (sym h)
 
 module _ (ms : List Module) (p : Place) where
-  numbers_by : Enumeration → Read Numbered
+  unfoldable pub numbers_by : Enumeration → Read Numbered
   numbers_by e =
       told_by (given_numbers ms p.«module» e.root) >>= λ root. told_by (given_numbers ms p.«module» (more_items e.more)) >>= λ more.
       numbers_of p.«module» (all_items e) root more >>= λ ns. Ok (record { items = with_numbers (all_items e) ns; marker = marker_of e })
 
-  numbered_by : (ss : List Spot) (rest : State) (e : Enumeration) → enumeration_at (kept ss p.at) ≡ Ok (e, rest) → numbered_at ms p ss ≡ numbers_by e
+  pub numbered_by : (ss : List Spot) (rest : State) (e : Enumeration) → enumeration_at (kept ss p.at) ≡ Ok (e, rest) → numbered_at ms p ss ≡ numbers_by e
   unfolding numbered_at numbers_by
   numbered_by ss rest e h = ap (λ r. (in_module p.«module» r >>= λ e. Ok e.0) >>= numbers_by) h
 
@@ -132,8 +132,9 @@ module _ (ms : List Module) (p : Place) where
       let same = items_found r.numbered r.items r.read.found found r.read.says (sym (numbered_by ss r.read.rest r.read.found r.read.is) ∙ h) in
       r.is ∙ ap (λ is. enumerated is r.marker) (sym same.0) ∙ ap (λ m. enumerated (map as_named found.items) m) (sym (same.1 ∙ r.read.same))
 
-pub same_items : SameItems
-same_items items marker ts ss spelt keeps ms p found h =
+pub items_same : (items : List NamedNumber) (marker : Bool) (ts : List notation.Token) (ss : List Spot) → IsEnumeration items marker ts → Keeps ts ss
+    → (ms : List Module) (p : Place) (found : Numbered) → numbered_at ms p ss ≡ Ok found → (map as_named found.items ≡ items) × (is_some found.marker ≡ marker)
+items_same items marker ts ss spelt keeps ms p found h =
     let same : enumerated items marker ≡ enumerated (map as_named found.items) (is_some found.marker) = enumerated_found ms p spelt ss keeps found h in
     (cc, cc)
 
@@ -173,8 +174,9 @@ listed_same m e r s T h =
     let type = bind_ok (enumerated_type m e) (λ t. Ok (t, text.0)) (T, s) text.2 in
     sym (ap (λ x. x.0) (same_ok type.2)) ∙ type_same m e type.0 type.1
 
-pub same_enumerated : SameEnumerated
-same_enumerated L ts ss is keeps ms p r s T h =
+pub enumerated_same : (L : LeafType) (ts : List notation.Token) (ss : List Spot) → IsLeaf (listed enumerated) L ts → Keeps ts ss
+    → (ms : List Module) (p : Place) (r s : Room) (T : AsnType) → enumerated_at ms p ss r ≡ Ok (T, s) → T ≡ leaf L
+enumerated_same L ts ss is keeps ms p r s T h =
     let found = bind_ok (numbered_at ms p ss) (enumerated_by ms p r) (T, s) h in
     let put_in = put (codes "ENUMERATED {") r in
     listed_same p.«module» found.0 put_in s T (if_ok (lacks_marker ms p.«module» found.0) (listed_at p.«module» found.0 put_in) _ (T, s) found.2)

@@ -2,12 +2,12 @@
 ghost use Rattle.oer_same_items.specs.Laws.{HasItem, SameEnumerated, SameItem, SameItems};
 
 /// The items of an ENUMERATED have the same names and numbers in a module, in the same order, and there is an extension marker
-/// in both or in neither.
+/// in both or in neither. They are rejected only for a limit of the reader of modules.
 pub fn items_are_the_same()
     ensures { SameItems }
 {}
 
-/// An ENUMERATED is the same type in a module.
+/// An ENUMERATED is the same type in a module whose header doesn't say EXTENSIBILITY IMPLIED, or is rejected for a limit.
 pub fn enumerated_types_are_the_same()
     ensures { SameEnumerated }
 {}
@@ -17,7 +17,7 @@ pub fn named_items_are_there()
     ensures { HasItem }
 {}
 
-/// After DEFAULT the name of an item stands for the same value in a module.
+/// After DEFAULT the name of an item stands for the same value in a module, or is rejected for a limit.
 pub fn named_items_are_the_same()
     ensures { SameItem }
 {}

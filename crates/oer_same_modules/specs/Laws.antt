@@ -1,17 +1,19 @@
 -- A module whose body is definitions of the notation, and what our own parser reads of these.
-use Rattle.std.specs.Prelude.{◌≡◌, ℕ, List, [], ◌∷◌, ◌++◌, false, true, Some, Ok, codes}
+use Rattle.std.specs.Prelude.{◌≡◌, ℕ, List, [], ◌∷◌, ◌++◌, false, true, Some, Result, Ok, Err, codes}
 use Rattle.oer_lexer.specs.FallsInto.{FallsInto}
 use Rattle.oer_lexer.specs.Token.{word}
 use Rattle.oer_model.specs.AsnType.{AsnType}
+use Rattle.oer_model.specs.FaultTest.{first_fault}
 use Rattle.oer_module_syntax.specs.Words.{is_reference}
 use Rattle.oer_modules.specs.Asked.{is_qualified}
-use Rattle.oer_modules.specs.Schemas.{schema_of_modules}
-use Rattle.oer_nesting.specs.Deeper.{Deeper}
+use Rattle.oer_modules.specs.Schemas.{NoType, refused, rejected, schema_of_modules}
 use Rattle.oer_notation.specs.Parsing.{parse_all}
 use Rattle.oer_notation.specs.Reading.{Known, find}
+use Rattle.oer_same_items.specs.Told.{IsLimit}
 use Rattle.oer_same_tokens.specs.Same.{has_odd_space}
 use Rattle.oer_same_trees.specs.Defining.{AreUnreserved, header}
 use Rattle.oer_same_types.specs.Unsized.{unsized}
+use Rattle.oer_value_notation.specs.declared.fault.TextWhy.TheVariants.{Schema}
 
 -- The text is a module with this name, whose body, on lines of its own, is a text that our own parser reads as these definitions.
 -- No Name of theirs is a reserved word of X.680, and there is no space that means something else in modules.
@@ -27,8 +29,15 @@ pub record IsModuleOf (text : List ℕ) (name : List ℕ) (ks : List Known) : Ty
   pub unreserved : AreUnreserved ks
   pub reference : is_reference name ≡ true
 
--- In such a module a Name has the type that the parser gives it, if it is given one: without the sizes of lists, which types of
--- modules leave out, and with an end in place of each type that stands deeper than the nesting says.
+-- What is said of a Name whose type is T: this type; or that it is rejected for a limit, or since it isn't well-formed.
+abbrev pub SaysOf : AsnType → Result AsnType NoType → Type 0
+SaysOf T (Ok S) = S ≡ T
+SaysOf T (Err (refused r)) = IsLimit r.why
+SaysOf T (Err (rejected p (Schema f))) = first_fault T ≡ Some f
+SaysOf T (Err (rejected p why)) = ⊥
+
+-- In such a module a Name has the type that the parser gives it, but for the sizes of lists, which types of modules leave out; or it is
+-- rejected for a limit, or since its type isn't well-formed. How deep types may nest makes no difference, since none contains itself.
 abbrev pub SameAsParser : Type 0
-SameAsParser = (text name : List ℕ) (ks : List Known) (w : List ℕ) (T S : AsnType) (n : ℕ) → IsModuleOf text name ks → is_qualified w ≡ false
-    → find ks w ≡ Some T → schema_of_modules (text ∷ []) w n ≡ Ok S → Deeper S (unsized T)
+SameAsParser = (text name : List ℕ) (ks : List Known) (w : List ℕ) (T : AsnType) (n : ℕ) → IsModuleOf text name ks → is_qualified w ≡ false
+    → find ks w ≡ Some T → SaysOf (unsized T) (schema_of_modules (text ∷ []) w n)

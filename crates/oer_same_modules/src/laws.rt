@@ -1,18 +1,20 @@
 //! Each function does nothing; its contract is the law.
 ghost use Rattle.oer_same_modules.specs.Laws.{SameAsParser};
 
+use oer_module_places::laws::places_rise;
 use oer_same_names::laws::names_are_found_anywhere;
 use oer_same_trees::laws::what_is_parsed_is_read;
 use oer_same_types::laws::trees_are_given_their_types;
 
-/// In a module whose body is definitions that our own parser reads, a Name has the type that the parser gives it, if it is given one:
-/// without the sizes of lists, which types of modules leave out, and with an end in place of each type that stands deeper than the
-/// nesting says. The header has AUTOMATIC TAGS and nothing else, no Name is a reserved word of X.680, and the text has no vertical
-/// tabulation or form feed, which mean something else in modules (X.680, 12.1.6).
+/// In a module whose body is definitions that our own parser reads, a Name has the type that the parser gives it, but for the sizes of
+/// lists, which types of modules leave out. Or it is rejected: for a limit of the reader of modules (`IsLimit`, of `oer_same_items`), or
+/// since its type isn't well-formed. The header has AUTOMATIC TAGS and nothing else, no Name is a reserved word of X.680, and the text
+/// has no vertical tabulation or form feed, which mean something else in modules (X.680, 12.1.6).
 pub fn modules_give_the_types_of_the_notation()
     ensures { SameAsParser }
 {
     what_is_parsed_is_read();
     names_are_found_anywhere();
+    places_rise();
     trees_are_given_their_types();
 }

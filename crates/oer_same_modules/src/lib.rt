@@ -1,5 +1,5 @@
 //! The notation of types is ASN.1. The law: in a module whose body is definitions of the notation, a Name has the type that the
-//! parser of the notation gives it, if it is given one, without the sizes of lists, and with ends where it is nested too deep.
+//! parser of the notation gives it, without the sizes of lists, or is rejected for a limit.
 #![tactic(auto)]
 
 pub mod laws;

@@ -1,40 +1,45 @@
 -- The way from a tree that says a type of the notation.
-use Rattle.std.proofs.Common.{◌≡◌, ℕ, zero, suc, List, [], ◌∷◌, ◌++◌, Bool, Some, Result, Ok, Err, refl, sym, ap, subst, ◌∙◌, if◌then◌else◌}
+use Rattle.std.proofs.Common.{◌≡◌, ◌<◌, ℕ, zero, suc, List, [], ◌∷◌, length, slice_get, Bool, Some, Result, Ok, Err, inl, inr, refl, sym, ap, subst, ◌∙◌, if◌then◌else◌, arith}
 use Rattle.oer_model.specs.AsnType.{AsnType}
-use Rattle.oer_module_names.specs.Finding.{Fault, find}
+use Rattle.oer_module_names.specs.Finding.{find}
 use Rattle.oer_module_names.specs.declared.error.Found.{Found}
 use Rattle.oer_module_syntax.specs.Modules.{none_left}
 use Rattle.oer_module_syntax.specs.Tree.{Module, Tree, named}
 use Rattle.oer_module_values.specs.Errors.{Error, error, place_in, unsettled, ◌>>=◌}
 use Rattle.oer_module_values.specs.Types.{Given, constraints, Meaning, type_in, held, entered_by, followed, after, answered, follow, step, walk}
-use Rattle.oer_notation.specs.Grammar.{IsDefined, later_definition, this_definition}
+use Rattle.oer_notation.specs.Grammar.{IsDefined}
 use Rattle.oer_notation.specs.Reading.{Known}
-use Rattle.oer_same_names.proofs.Found.{found_defines}
+use Rattle.oer_same_names.proofs.Found.{assignments_home, found_defines}
 use Rattle.oer_same_names.specs.Home.{IsBare, IsFront, IsHome}
 use Rattle.oer_same_names.specs.Laws.{FindsDefinition}
-use Rattle.oer_same_names.specs.Meant.{IsBuilt, IsMeant}
+use Rattle.oer_same_names.specs.Meant.{IsBuilt, IsTreeBehind, LeadsTo, LeadsToType, untagged}
 use Rattle.oer_same_trees.specs.Says.{Says, SaysTagged, says_choice, says_extensible_sequence, says_leaf, says_name, says_own_tag, says_sequence, says_sequence_of, says_tag_by_place}
 use Rattle.oer_units.specs.declared.tagging.Tag.{Tag}
 
-defined_behind : (w : List ℕ) (T : AsnType) (known rest : List Known) → IsDefined w T known → IsDefined w T (known ++ rest)
-defined_behind w _ _ rest (this_definition {k} {ks} e) = this_definition {ks = ks ++ rest} e
-defined_behind w T _ rest (later_definition {k = k} {ks = ks} n d) = later_definition n (defined_behind w T ks rest d)
+-- a tree that says a type has no tag before it
+says_untagged : {known : List Known} {T : AsnType} {t : Tree} → Says known T t → untagged t ≡ t
+says_untagged (says_leaf k l i c) = refl
+says_untagged (says_name n d) = refl
+says_untagged (says_sequence s) = refl
+says_untagged (says_extensible_sequence s) = refl
+says_untagged (says_sequence_of z s) = refl
+says_untagged (says_choice s) = refl
 
--- what is defined by the first definitions is defined by all
-pub defined_in : (w : List ℕ) (T : AsnType) (known ks : List Known) → IsFront known ks → IsDefined w T known → IsDefined w T ks
-defined_in w T known ks front d = subst (IsDefined w T) (sym front.1) (defined_behind w T known front.0 d)
+module _ (ms : List Module) (ks : List Known) (h : IsHome ms ks) where
+  abbrev Meets : List Known → AsnType → Tree → Result Meaning Error → Type 0
+  Meets known T t r = LeadsToType h.home.assignments ks known T t r
 
-module _ (ms : List Module) (ks : List Known) (h : IsHome ms ks) (m : Meaning) where
   -- what is found in so many steps, where nothing was given by then but empty constraints
   abbrev Comes : ℕ → Type 0
   Comes k = (known : List Known) (T : AsnType) (t : Tree) (gs : List Given) → IsFront known ks → Says known T t → IsBare gs
-      → walk ms k (type_in 0 t) gs ≡ Ok m → IsMeant ks T m
+      → Meets known T t (walk ms k (type_in 0 t) gs)
 
   meant_here : (known : List Known) (T : AsnType) (t : Tree) (gs : List Given) → IsBuilt t → IsFront known ks → Says known T t → IsBare gs
-      → ◌≡◌ {A = Result Meaning Error} (Ok (record { of = type_in 0 t; given = gs })) (Ok m) → IsMeant ks T m
-  meant_here known T t gs built front says bare e =
-      let same : record { of = type_in 0 t; given = gs } ≡ m = cc in
-      subst (IsMeant ks T) same (record { tree = t; of = refl; built = built; says = record { known = known; front = front; says = says }; bare = bare })
+      → Meets known T t (Ok (record { of = type_in 0 t; given = gs }))
+  meant_here known T t gs built front says bare = record {
+    meant = record { tree = t; of = refl; built = built; says = record { known = known; front = front; says = says }; bare = bare };
+    leads = inl (refl, sym (says_untagged says));
+  }
 
   -- the step from a Name leads to the tree of its definition
   name_leads : (at : ℕ) (w : List ℕ) (T : AsnType) (f : Found) (gs : List Given) → (d : FindsDefinition ms ks w T f)
@@ -46,36 +51,68 @@ module _ (ms : List Module) (ks : List Known) (h : IsHome ms ks) (m : Meaning) w
       ∙ ap (λ n. entered_by (place_in 0 at) [] n d.0.body gs) d.1
       ∙ ap (λ b. entered_by (place_in 0 at) [] 0 b gs) d.3.body_is
 
-  name_comes : (k at : ℕ) (w : List ℕ) (T : AsnType) (gs : List Given) (r : Result Found Fault) → Comes k → IsDefined w T ks → IsBare gs
-      → find ms 0 w ≡ r
-      → (answered ms (place_in 0 at) w r >>= followed (place_in 0 at) [] gs >>= after (walk ms k) (type_in 0 (named at w [] [] []))) ≡ Ok m
-      → IsMeant ks T m
-  name_comes k at w T gs (Err x) rest d bare found e = absurd (cc)
-  name_comes k at w T gs (Ok f) rest d bare found e =
-      let x : FindsDefinition ms ks w T f = found_defines ms ks h w T f d found in
-      let on = ap (λ s. s >>= after (walk ms k) (type_in 0 (named at w [] [] []))) (name_leads at w T f gs x) in
-      rest x.3.says.known T x.3.tree (constraints 0 [] ∷ gs) x.3.says.front x.3.says.says (refl, bare) (sym on ∙ e)
+  -- its tree stands behind the definitions before it
+  stands_there : (w : List ℕ) (T : AsnType) (f : Found) (d : FindsDefinition ms ks w T f) → IsTreeBehind h.home.assignments d.3.says.known d.3.tree
+  stands_there w T f d = record {
+    assignment = d.0;
+    is = ap (λ n. slice_get h.home.assignments n) d.4 ∙ ap (λ l. slice_get l f.assignment) (sym (assignments_home ms ks h f.«module» d.1)) ∙ d.2;
+    body_is = d.3.body_is;
+  }
+
+  module _ (known : List Known) (w : List ℕ) (T : AsnType) (t : Tree) (f : Found) (x : FindsDefinition ms ks w T f) (less : f.assignment < length known) where
+    -- what the tree of a definition leads to is what each tree behind it leads to
+    leads_behind : (by : List Known) (u : Tree) → LeadsTo h.home.assignments x.3.says.known x.3.tree by u → LeadsTo h.home.assignments known t by u
+    leads_behind by u (inl (same, is)) =
+        let count = ap (λ (l : List Known). length l) same ∙ x.4 in
+        let there : IsTreeBehind h.home.assignments by x.3.tree =
+        subst (λ l. IsTreeBehind h.home.assignments l x.3.tree) (sym same) (stands_there w T f x) in
+        inr (omega (arith, count, less), subst (λ v. IsTreeBehind h.home.assignments by v) (sym (is ∙ says_untagged x.3.says.says)) there)
+    leads_behind by u (inr (before, there)) = let count = x.4 in inr (omega (arith, count, less, before), there)
+
+    meets_behind : (r : Result Meaning Error) → Meets x.3.says.known T x.3.tree r → Meets known T t r
+    meets_behind (Ok m) y = record { meant = y.meant; leads = leads_behind y.meant.says.known y.meant.tree y.leads }
+    meets_behind (Err e) y = y
+
+  name_comes : (k at : ℕ) (known : List Known) (w : List ℕ) (T : AsnType) (gs : List Given) → Comes k → IsFront known ks → IsDefined w T known → IsBare gs
+      → Meets known T (named at w [] [] [])
+      (answered ms (place_in 0 at) w (find ms 0 w) >>= followed (place_in 0 at) [] gs >>= after (walk ms k) (type_in 0 (named at w [] [] [])))
+  name_comes k at known w T gs rest front d bare =
+      let there = found_defines ms ks h known w T front d in
+      let f : Found = there.0 in
+      let x : FindsDefinition ms ks w T f = there.2 in
+      let on = ap (λ r. answered ms (place_in 0 at) w r >>= followed (place_in 0 at) [] gs) there.1 ∙ name_leads at w T f gs x in
+      subst (λ s. Meets known T (named at w [] [] []) (s >>= after (walk ms k) (type_in 0 (named at w [] [] [])))) (sym on)
+      (meets_behind known w T (named at w [] [] []) f x there.3 (walk ms k (type_in 0 x.3.tree) (constraints 0 [] ∷ gs))
+      (rest x.3.says.known T x.3.tree (constraints 0 [] ∷ gs) x.3.says.front x.3.says.says (refl, bare)))
 
   comes_by : (k : ℕ) (known : List Known) (T : AsnType) (t : Tree) (gs : List Given) → Comes k → IsFront known ks → Says known T t
-      → IsBare gs → (step ms (type_in 0 t) gs >>= after (walk ms k) (type_in 0 t)) ≡ Ok m → IsMeant ks T m
+      → IsBare gs → Meets known T t (step ms (type_in 0 t) gs >>= after (walk ms k) (type_in 0 t))
   unfolding step follow
-  comes_by k known _ _ gs rest front (says_leaf j l i c) bare e = meant_here known _ _ gs tt front (says_leaf j l i c) bare e
-  comes_by k known _ _ gs rest front (says_name {at = at} {w = w} {T = T} name d) bare e =
-      name_comes k at w T gs _ rest (defined_in w T known ks front d) bare refl e
-  comes_by k known _ _ gs rest front (says_sequence s) bare e = meant_here known _ _ gs tt front (says_sequence s) bare e
-  comes_by k known _ _ gs rest front (says_extensible_sequence s) bare e = meant_here known _ _ gs tt front (says_extensible_sequence s) bare e
-  comes_by k known _ _ gs rest front (says_sequence_of z s) bare e = meant_here known _ _ gs tt front (says_sequence_of z s) bare e
-  comes_by k known _ _ gs rest front (says_choice s) bare e = meant_here known _ _ gs tt front (says_choice s) bare e
+  comes_by k known _ _ gs rest front (says_leaf j l i c) bare = meant_here known _ _ gs tt front (says_leaf j l i c) bare
+  comes_by k known _ _ gs rest front (says_name {at = at} {w = w} {T = T} name d) bare = name_comes k at known w T gs rest front d bare
+  comes_by k known _ _ gs rest front (says_sequence s) bare = meant_here known _ _ gs tt front (says_sequence s) bare
+  comes_by k known _ _ gs rest front (says_extensible_sequence s) bare = meant_here known _ _ gs tt front (says_extensible_sequence s) bare
+  comes_by k known _ _ gs rest front (says_sequence_of z s) bare = meant_here known _ _ gs tt front (says_sequence_of z s) bare
+  comes_by k known _ _ gs rest front (says_choice s) bare = meant_here known _ _ gs tt front (says_choice s) bare
 
   pub comes : (k : ℕ) → Comes k
   unfolding walk
-  comes zero known T t gs front says bare e = absurd (cc)
-  comes (suc k) known T t gs front says bare e = comes_by k known T t gs (comes k) front says bare e
+  comes zero known T t gs front says bare = refl
+  comes (suc k) known T t gs front says bare = comes_by k known T t gs (comes k) front says bare
+
+  -- a tag before the tree leads nowhere else
+  meets_tagged : (known : List Known) (T : AsnType) (t u : Tree) → untagged u ≡ t → untagged t ≡ t → (r : Result Meaning Error) → Meets known T t r → Meets known T u r
+  meets_tagged known T t u is plain (Ok m) y = record { meant = y.meant; leads = by y.leads } where
+    by : LeadsTo h.home.assignments known t y.meant.says.known y.meant.tree → LeadsTo h.home.assignments known u y.meant.says.known y.meant.tree
+    by (inl (same, here)) = inl (same, here ∙ plain ∙ sym is)
+    by (inr there) = inr there
+  meets_tagged known T t u is plain (Err e) y = y
 
   -- the same of the type of an alternative
   pub tagged_comes : (k : ℕ) (known : List Known) (is_tagged : Bool) (place : ℕ) (g : Tag) (T : AsnType) (t : Tree) (gs : List Given)
-      → IsFront known ks → SaysTagged known is_tagged place g T t → IsBare gs → walk ms k (type_in 0 t) gs ≡ Ok m → IsMeant ks T m
+      → IsFront known ks → SaysTagged known is_tagged place g T t → IsBare gs → Meets known T t (walk ms k (type_in 0 t) gs)
   unfolding walk step
-  tagged_comes k known _ place g T t gs front (says_tag_by_place tag says) bare e = comes k known T t gs front says bare e
-  tagged_comes zero known _ place g T _ gs front (says_own_tag tag keeps says) bare e = absurd (cc)
-  tagged_comes (suc k) known _ place g T _ gs front (says_own_tag {tree = t} tag keeps says) bare e = comes k known T t gs front says bare e
+  tagged_comes k known _ place g T t gs front (says_tag_by_place tag says) bare = comes k known T t gs front says bare
+  tagged_comes zero known _ place g T _ gs front (says_own_tag tag keeps says) bare = refl
+  tagged_comes (suc k) known _ place g T _ gs front (says_own_tag {ss = ss} {tree = t} tag keeps says) bare =
+      meets_tagged known T t _ refl (says_untagged says) (walk ms k (type_in 0 t) gs) (comes k known T t gs front says bare)

@@ -1,9 +1,11 @@
 -- Tags in brackets: the tokens that write a tag of the notation are read as this tag.
-use Rattle.std.proofs.Common.{◌≡◌, ℕ, suc, ◌^◌, ◌==◌, ℤ, pos, List, [], ◌∷◌, ◌++◌, Bool, true, false, Option, Some, None, Ok, refl, sym, ap, subst, ◌∙◌}
-use Rattle.std.proofs.Common.{if◌then◌else◌, arith}
-use Rattle.std.specs.Prelude.{codes, nat_lt}
+use Rattle.std.proofs.Common.{◌≡◌, ℕ, suc, ◌^◌, ◌<◌, ◌==◌, pos, List, [], ◌∷◌, ◌++◌, length, Bool, true, false, Some, Ok, refl, sym, ap, subst, ◌∙◌}
+use Rattle.std.proofs.Common.{arith}
+use Rattle.std.specs.Prelude.{codes}
 use Rattle.std.specs.Str.Parse.{IsNumeral, digits_value, without_leading_plus}
-use Rattle.std.proofs.lemmas.Bool.{eqb-true}
+use Rattle.std.specs.Str.{all_ascii_digits}
+use Rattle.std.proofs.lemmas.Bool.{eqb-true, lt-ltb}
+use Rattle.std.proofs.lemmas.Str.Parse.{tells_all_ascii_digits, numerals_by_value, IsNumeralModel}
 use Rattle.oer_lexer.specs.Characters.{hyphen, starts_with}
 use Rattle.oer_lexer.specs.Token as own
 use Rattle.oer_lexer.specs.declared.token.Sign.TheVariants as own_signs
@@ -15,12 +17,12 @@ use Rattle.oer_module_parts.specs.Tags as parts
 use Rattle.oer_module_syntax.specs.State.{skip_sign}
 use Rattle.oer_module_syntax.specs.Tree.{Module}
 use Rattle.oer_module_tags.specs.Headers.{has_tags_in_brackets}
-use Rattle.oer_module_tags.specs.Outermost.{fitting, tag, tag_in, written_tag}
+use Rattle.oer_module_tags.specs.Outermost.{tag, tag_in, written_tag}
 use Rattle.oer_module_terms.specs.Trees.{Amount}
 use Rattle.oer_module_terms.specs.Trees as amounts
 use Rattle.oer_module_terms.specs.Values.{amount_at}
-use Rattle.oer_module_text.specs.Errors.{error, place_in, tag_number, told_by, ◌>>=◌}
-use Rattle.oer_module_values.specs.Digits.{in_range, is_numeral, whole_of}
+use Rattle.oer_module_text.specs.Errors.{place_in}
+use Rattle.oer_module_values.specs.Digits.{is_numeral, whole_of}
 use Rattle.oer_module_values.specs.Numbers.{Wanted, bare, count, integer_at, numeral, step, whole}
 use Rattle.oer_module_values.specs.Numbers as numbers
 use Rattle.oer_notation.specs.Grammar.{IsClass, IsTag, a_natural, application, context, own_tag, private, universal}
@@ -122,17 +124,17 @@ module _ (m at : ℕ) (w : List ℕ) where
 abbrev value_of : List ℕ → ℕ
 value_of w = digits_value 10 (without_leading_plus w)
 
-whole_is : (w : List ℕ) (z : ℤ) → whole_of false w ≡ Some z → z ≡ pos (value_of w)
-unfolding whole_of
-whole_is w z h = by_digits (is_numeral (without_leading_plus w)) h
-  where
-    by_size : (b : Bool) → (if b then Some (pos (value_of w)) else None) ≡ Some z → z ≡ pos (value_of w)
-    by_size true e = cc
-    by_size false e = absurd (cc)
+tells_numerals : IsNumeralModel (λ ds. all_ascii_digits ds ≡ true) (digits_value 10)
+tells_numerals = numerals_by_value _ tells_all_ascii_digits
 
-    by_digits : (b : Bool) → (if b then in_range false (value_of w) else None) ≡ Some z → z ≡ pos (value_of w)
-    by_digits true e = by_size (nat_lt (value_of w) (2 ^ 127)) e
-    by_digits false e = absurd (cc)
+numeral_true : (w : List ℕ) → IsNumeral 10 w → is_numeral w ≡ true
+numeral_true w h = rw (lt-ltb 0 (length w) h.0, tells_numerals.from w h.1) refl
+
+whole_is : (w : List ℕ) → IsNumeral 10 (without_leading_plus w) → value_of w < 2 ^ 32 → whole_of false w ≡ Some (pos (value_of w))
+unfolding whole_of
+whole_is w digits small =
+    let few : value_of w < 2 ^ 127 = omega (arith, small) in
+    rw (numeral_true (without_leading_plus w) digits, lt-ltb (value_of w) (2 ^ 127) few) refl
 
 module _ (ms : List Module) (p : Place) (w : List ℕ) where
   numeral_is : (k : ℕ) → numeral ms (suc k) (record { place = p; governor = bare p.«module»; amount = amounts.number false w })
@@ -144,27 +146,20 @@ module _ (ms : List Module) (p : Place) (w : List ℕ) where
   unfolding count
   integer_is = rw (numeral_is 254) refl
 
-  -- what becomes of the number
-  numbered : (c : Class) (f : Tag) (o : Option ℤ) → whole_of false w ≡ o
-      → (told_by (numbers.fitting p o) >>= λ z. fitting p z >>= λ n. Ok (tag c n)) ≡ Ok f → f ≡ tag c (value_of w)
-  numbered c f None is h = absurd (cc)
-  numbered c f (Some z) is h = by_size (nat_lt (value_of w) (2 ^ 32)) (subst (λ y. (fitting p y >>= λ n. Ok (tag c n)) ≡ Ok f) (whole_is w z is) h)
-    where
-      by_size : (b : Bool) → ((if b then Ok (value_of w) else error p tag_number) >>= λ n. Ok (tag c n)) ≡ Ok f → f ≡ tag c (value_of w)
-      by_size true e = cc
-      by_size false e = absurd (cc)
-
 module _ (ms : List Module) (brackets : has_tags_in_brackets ms 0 ≡ true) (at : ℕ) where
-  class_written : {c : Class} {ts : List own.Token} (ss : List Spot) (w : List ℕ) (f : Tag) → IsClass c ts → starts_with hyphen w ≡ false
-      → Keeps (between ts w) ss → written_tag ms 0 at ss ≡ Ok f → f ≡ tag c (value_of w)
+  class_written : {c : Class} {ts : List own.Token} (ss : List Spot) (w : List ℕ) → IsClass c ts → IsNumeral 10 (without_leading_plus w)
+      → value_of w < 2 ^ 32 → Keeps (between ts w) ss → written_tag ms 0 at ss ≡ Ok (tag c (value_of w))
   unfolding written_tag
-  class_written {c = c} ss w f class h keeps e =
-      let read = is_read 0 at w ss class h keeps in
-      let integer = integer_is ms (place_in 0 at) w in
-      numbered ms (place_in 0 at) w c f (whole_of false w) refl (rw (brackets, read, integer) at e)
+  class_written {c = c} ss w class digits small keeps =
+      rw (
+        brackets,
+        is_read 0 at w ss class (no_hyphen w digits) keeps,
+        integer_is ms (place_in 0 at) w,
+        whole_is w digits small,
+        lt-ltb (value_of w) (2 ^ 32) small,
+      ) refl
 
   -- the tag that tokens write is that of the notation
-  pub written_is : {place : ℕ} {g : Tag} {ts : List own.Token} (ss : List Spot) (f : Tag) → IsTag true place g ts → Keeps ts ss
-      → written_tag ms 0 at ss ≡ Ok f → f ≡ g
-  written_is ss f (own_tag {class = c} class (a_natural {w = w} digits value small)) keeps e =
-      class_written ss w f class (no_hyphen w digits) keeps e ∙ ap (tag c) value
+  pub written_is : {place : ℕ} {g : Tag} {ts : List own.Token} (ss : List Spot) → IsTag true place g ts → Keeps ts ss → written_tag ms 0 at ss ≡ Ok g
+  written_is ss (own_tag {class = c} class (a_natural {n = n} {w = w} digits value small)) keeps =
+      class_written ss w class digits (subst (λ k. k < 2 ^ 32) (sym value) small) keeps ∙ ap (λ k. Ok (tag c k)) value

@@ -4,8 +4,9 @@ use Rattle.std.specs.Prelude.{if◌then◌else◌, slice_get}
 use Rattle.oer_model.specs.AsnType.{Additions, Alternatives, AsnType, Fields, addition, alternative, field, later, no_additions, no_alternatives, no_fields}
 use Rattle.oer_model.specs.AsnType as model
 use Rattle.oer_module_names.specs.declared.error.Place.{Place}
-use Rattle.oer_module_syntax.specs.Tree.{Module, Tree, Elements}
-use Rattle.oer_module_syntax.specs.Tree.{Need, must}
+use Rattle.oer_module_places.specs.Rising.{AllLie, Lies}
+use Rattle.oer_module_syntax.specs.Tree.{Assignment, Module, Tree, Element, Elements, element}
+use Rattle.oer_module_syntax.specs.Tree.{Need, component, marker, must}
 use Rattle.oer_module_text.specs.Errors.{Read, ◌>>=◌}
 use Rattle.oer_module_text.specs.Room.{Room}
 use Rattle.oer_module_types.specs.Gathered.{Gathered, with_marker, with_part}
@@ -13,14 +14,13 @@ use Rattle.oer_module_types.specs.Types.{added_at, after, behind, component_at, 
 use Rattle.oer_module_types.specs.declared.element.After.{After}
 use Rattle.oer_module_types.specs.declared.element.Before.{Before}
 use Rattle.oer_module_values.specs.Types.{TypeIn, type_in}
-use Rattle.oer_module_nesting.proofs.Gathered.{AreNested, marked_now, part_more}
-use Rattle.oer_nesting.specs.Deeper.{Deeper}
 use Rattle.oer_notation.specs.Reading.{Known}
+use Rattle.oer_same_items.proofs.Telling.{Gives, Passes, bind, choose}
 use Rattle.oer_same_names.specs.Home.{IsFront}
 use Rattle.oer_same_names.specs.Meant.{tags_of}
 use Rattle.oer_same_trees.specs.Says.{MayBeOptional, Says, SaysAdditions, SaysComponents, SaysNeed, plain_addition, optional_addition, says_no_components, says_component, says_components_marker, says_none_added, says_added, SaysAlternatives, says_none_left, says_alternative, says_alternatives_marker, SaysLater, says_none_later, says_later, SaysTagged}
 use Rattle.oer_units.specs.declared.tagging.Tag.{Tag}
-use Rattle.oer_same_types.proofs.Giving.{Gives, bind, choose, once}
+use Rattle.oer_same_types.proofs.Clear.{IsClear, clear_of}
 use Rattle.oer_same_types.specs.Gathering.{with_additions, with_alternatives, with_fields, with_later}
 use Rattle.oer_same_types.specs.Unsized.{unsized}
 
@@ -30,19 +30,38 @@ Types = List Place → TypeIn → Room → Read (AsnType × Room)
 abbrev pub Roots : Type 0
 Roots = List Place → Bool → Place → Tree → Gathered → Room → Read (Bool × Gathered × Room)
 
--- The type is that of the notation, without the sizes of its lists, but for ends.
+-- The type is that of the notation, without the sizes of its lists.
 abbrev pub IsFor : AsnType → AsnType × Room → Type 0
-IsFor T x = Deeper x.0 (unsized T)
+IsFor T x = x.0 ≡ unsized T
 
--- each tree that says a type is given it
-abbrev pub TypesSay : List Known → Types → Type 0
-TypesSay ks type = (known : List Known) (T : AsnType) (t : Tree) (path : List Place) (r : Room) → IsFront known ks → Says known T t
-    → Gives (IsFor T) (type path (type_in 0 t) r)
+-- No place of the path stands in the tree, or in a definition before it.
+abbrev pub IsApart : List Assignment → List Known → Tree → List Place → Type 0
+IsApart found known t path = IsClear (λ low high. Lies low high t) found known path
+
+-- the same of elements
+abbrev pub AreApart : List Assignment → List Known → Elements → List Place → Type 0
+AreApart found known es path = IsClear (λ low high. AllLie low high es) found known path
+
+rest_apart : (found : List Assignment) (known : List Known) (e : Element) (es : Elements) (path : List Place) → AreApart found known (element e es) path
+    → AreApart found known es path
+rest_apart found known e es path c =
+    clear_of (λ low high. AllLie low high (element e es)) (λ low high. AllLie low high es) found known path c (λ low high l. l.1)
+
+first_apart : (found : List Assignment) (known : List Known) (at : ℕ) (w : List ℕ) (t : Tree) (n : Need) (es : Elements) (path : List Place)
+    → AreApart found known (element (component at w t n) es) path → IsApart found known t path
+first_apart found known at w t n es path c = clear_of (λ low high. AllLie low high (element (component at w t n) es))
+    (λ low high. Lies low high t) found known path c (λ low high l. l.0)
+
+-- each tree that says a type, and that has no place of the path in it, is given it
+abbrev pub TypesSay : List Assignment → List Known → Types → Type 0
+TypesSay found ks type = (known : List Known) (T : AsnType) (t : Tree) (path : List Place) (r : Room) → IsFront known ks → Says known T t
+    → IsApart found known t path → Gives (IsFor T) (type path (type_in 0 t) r)
 
 -- the same of the types of alternatives, which may have a tag before them
-abbrev pub AlternativesSay : List Known → Types → Type 0
-AlternativesSay ks type = (known : List Known) (is_tagged : Bool) (place : ℕ) (tag : Tag) (T : AsnType) (t : Tree) (path : List Place) (r : Room)
-    → IsFront known ks → SaysTagged known is_tagged place tag T t → Gives (IsFor T) (type path (type_in 0 t) r)
+abbrev pub AlternativesSay : List Assignment → List Known → Types → Type 0
+AlternativesSay found ks type = (known : List Known) (is_tagged : Bool) (place : ℕ) (tag : Tag) (T : AsnType) (t : Tree) (path : List Place)
+    (r : Room) → IsFront known ks → SaysTagged known is_tagged place tag T t → IsApart found known t path
+    → Gives (IsFor T) (type path (type_in 0 t) r)
 
 -- each value after DEFAULT that says one is given it
 abbrev pub DefaultsSay : List Module → List Known → Type 0
@@ -71,56 +90,70 @@ needed_none : (ms : List Module) (t : Tree) (marked : Bool) (at : ℕ) (r : Room
 unfolding need_at
 needed_none ms t marked at r = choose _ marked _ _ (λ on. record { given = tt }) (λ off. record { given = tt })
 
-module _ (ms : List Module) (ks : List Known) (type : Types) (types : TypesSay ks type) (defaults : DefaultsSay ms ks) (roots : Roots) where
+-- one marker may stand there
+marker_passes : (m at : ℕ) (b : Before) (r : Room) → b.marked ≡ false → Passes (marker_at m at b r)
+marker_passes m at b r root = choose _ b.marked _ _ (λ on. absurd (cc (on, root))) (λ off. record { given = tt })
+
+-- what is gathered behind the same with the same
+part_same : (o : Option Tag) (w : List ℕ) (n m : model.Need) (S U : AsnType) (g h : Gathered) → g ≡ h → n ≡ m → S ≡ U → with_part o w n S g ≡ with_part o w m U h
+part_same o w n m S U g h before need is =
+    ap (with_part o w n S) before ∙ ap (λ k. with_part o w k S h) need ∙ ap (λ V. with_part o w m V h) is
+
+module _ (ms : List Module) (found : List Assignment) (ks : List Known) (type : Types) (types : TypesSay found ks type) (defaults : DefaultsSay ms ks)
+    (roots : Roots) where
   -- ---- components of a SEQUENCE: they have no tags
 
   -- what is given of an element: whether the marker is among them, and what is gathered
   abbrev Gathers : Bool → Gathered → After × Gathered × Room → Type 0
-  Gathers marked h x = (x.0.marked ≡ marked) × AreNested x.1 h
+  Gathers marked h x = (x.0.marked ≡ marked) × (x.1 ≡ h)
 
   abbrev Gathered_as : Gathered → After × Gathered × Room → Type 0
-  Gathered_as h x = AreNested x.1 h
+  Gathered_as h x = x.1 ≡ h
 
   component_given : {known : List Known} {T : AsnType} {t : Tree} {need : model.Need} {n : Need} → Says known T t → SaysNeed T need n → IsFront known ks
-      → (w : List ℕ) (at : ℕ) (path : List Place) (b : Before) (g h : Gathered) (r : Room) → b.marked ≡ false → AreNested g h
+      → (w : List ℕ) (at : ℕ) (path : List Place) → IsApart found known t path → (b : Before) (g h : Gathered) (r : Room) → b.marked ≡ false → g ≡ h
       → Gives (Gathers false (with_part None w need (unsized T) h)) (component_at ms type 0 [] path b at w t n g r)
-  component_given {known} {T} {t} {need} {n} says needs front w at path b g h r root nested =
-      bind (IsFor T) _ _ _ (types known T t path _ front says) (λ x is.
+  component_given {known} {T} {t} {need} {n} says needs front w at path apart b g h r root same_before =
+      bind (IsFor T) _ _ _ (types known T t path _ front says apart) (λ x is.
       bind (λ (y : model.Need × Room). y.0 ≡ need) _ _ _ (needed_root ms ks defaults known T t need n b.marked at x.1 front says needs root) (λ y same.
-      record { given = (root, part_more g h nested None w y.0 need x.0 (unsized T) same is) }))
+      record { given = (root, part_same None w y.0 need x.0 (unsized T) g h same_before same is) }))
 
   addition_given : {known : List Known} {T : AsnType} {t : Tree} {n : Need} → Says known T t → MayBeOptional n → IsFront known ks
-      → (w : List ℕ) (at : ℕ) (path : List Place) (b : Before) (g h : Gathered) (r : Room) → b.marked ≡ true → AreNested g h
+      → (w : List ℕ) (at : ℕ) (path : List Place) → IsApart found known t path → (b : Before) (g h : Gathered) (r : Room) → b.marked ≡ true → g ≡ h
       → Gives (Gathers true (with_part None w model.may (unsized T) h)) (component_at ms type 0 [] path b at w t n g r)
-  addition_given {known} {T} {t} {n} says opts front w at path b g h r behind_marker nested =
-      bind (IsFor T) _ _ _ (types known T t path _ front says) (λ x is.
+  addition_given {known} {T} {t} {n} says opts front w at path apart b g h r behind_marker same_before =
+      bind (IsFor T) _ _ _ (types known T t path _ front says apart) (λ x is.
       bind (λ (y : model.Need × Room). y.0 ≡ model.may) _ _ _ (needed_added ms t n b.marked at x.1 opts behind_marker) (λ y same.
-      record { given = (behind_marker, part_more g h nested None w y.0 model.may x.0 (unsized T) same is) }))
+      record { given = (behind_marker, part_same None w y.0 model.may x.0 (unsized T) g h same_before same is) }))
 
-  marker_given : (m at : ℕ) (b : Before) (g h : Gathered) (r : Room) → AreNested g h
+  marker_given : (m at : ℕ) (b : Before) (g h : Gathered) (r : Room) → b.marked ≡ false → g ≡ h
       → Gives (Gathers true (with_marker h)) (marker_at m at b r >>= λ s. Ok (after true true, with_marker g, s))
-  marker_given m at b g h r nested = once _ (marker_at m at b r) _ (λ s is. record { given = (refl, marked_now g h nested) })
+  marker_given m at b g h r root same = bind _ _ (marker_at m at b r) _ (marker_passes m at b r root) (λ s u. record { given = (refl, ap with_marker same) })
 
   additions_given : {known : List Known} {more : Additions} {es : Elements} → SaysAdditions known more es → IsFront known ks
-      → (path : List Place) (b : Before) (g h : Gathered) (r : Room) → b.marked ≡ true → AreNested g h
+      → (path : List Place) → AreApart found known es path → (b : Before) (g h : Gathered) (r : Room) → b.marked ≡ true → g ≡ h
       → Gives (Gathered_as (with_additions more h)) (elements_at ms type roots 0 [] path b es g r)
   unfolding with_additions
-  additions_given says_none_added front path b g h r marked nested = record { given = nested }
-  additions_given (says_added {at} {w} {T} {more} {t} {n} {es} is says opts rest) front path b g h r marked nested =
-      bind (Gathers true (with_part None w model.may (unsized T) h)) _ _ _ (addition_given says opts front w at path b g h r marked nested) (λ x now.
-      additions_given rest front path (behind b x.0) x.1 (with_part None w model.may (unsized T) h) x.2 now.0 now.1)
+  additions_given says_none_added front path apart b g h r marked same = record { given = same }
+  additions_given {known} (says_added {at} {w} {T} {more} {t} {n} {es} is says opts rest) front path apart b g h r marked same =
+      bind (Gathers true (with_part None w model.may (unsized T) h)) _ _ _
+      (addition_given says opts front w at path (first_apart found known at w t n es path apart) b g h r marked same) (λ x now.
+      additions_given rest front path (rest_apart found known (component at w t n) es path apart) (behind b x.0) x.1
+      (with_part None w model.may (unsized T) h) x.2 now.0 now.1)
 
   pub components_given : {known : List Known} {fs : Fields} {more : Option Additions} {es : Elements} → SaysComponents known fs more es → IsFront known ks
-      → (path : List Place) (b : Before) (g h : Gathered) (r : Room) → b.marked ≡ false → AreNested g h
+      → (path : List Place) → AreApart found known es path → (b : Before) (g h : Gathered) (r : Room) → b.marked ≡ false → g ≡ h
       → Gives (Gathered_as (with_fields fs more h)) (elements_at ms type roots 0 [] path b es g r)
   unfolding with_fields
-  components_given says_no_components front path b g h r root nested = record { given = nested }
-  components_given (says_component {at} {w} {T} {need} {fs} {more} {t} {n} {es} is says needs rest) front path b g h r root nested =
-      bind (Gathers false (with_part None w need (unsized T) h)) _ _ _ (component_given says needs front w at path b g h r root nested) (λ x now.
-      components_given rest front path (behind b x.0) x.1 (with_part None w need (unsized T) h) x.2 now.0 now.1)
-  components_given (says_components_marker {at} {more} {es} rest) front path b g h r root nested =
-      bind (Gathers true (with_marker h)) _ _ _ (marker_given 0 at b g h r nested) (λ x now.
-      additions_given rest front path (behind b x.0) x.1 (with_marker h) x.2 now.0 now.1)
+  components_given says_no_components front path apart b g h r root same = record { given = same }
+  components_given {known} (says_component {at} {w} {T} {need} {fs} {more} {t} {n} {es} is says needs rest) front path apart b g h r root same =
+      bind (Gathers false (with_part None w need (unsized T) h)) _ _ _
+      (component_given says needs front w at path (first_apart found known at w t n es path apart) b g h r root same) (λ x now.
+      components_given rest front path (rest_apart found known (component at w t n) es path apart) (behind b x.0) x.1
+      (with_part None w need (unsized T) h) x.2 now.0 now.1)
+  components_given {known} (says_components_marker {at} {more} {es} rest) front path apart b g h r root same =
+      bind (Gathers true (with_marker h)) _ _ _ (marker_given 0 at b g h r root same) (λ x now.
+      additions_given rest front path (rest_apart found known (marker at []) es path apart) (behind b x.0) x.1 (with_marker h) x.2 now.0 now.1)
 
 -- ---- alternatives of a CHOICE
 
@@ -150,40 +183,42 @@ needless : (t : Tag) (w : List ℕ) (n m : model.Need) (U : AsnType) (h : Gather
 unfolding with_part
 needless t w n m U h = refl
 
-module _ (ms : List Module) (ks : List Known) (type : Types) (types : AlternativesSay ks type) (roots : Roots) (gs : List Tag) where
-  abbrev Found : Bool → ℕ → Gathered → After × Gathered × Room → Type 0
-  Found marked p h x = (x.0.marked ≡ marked) × AreNested x.1 h
+module _ (ms : List Module) (found : List Assignment) (ks : List Known) (type : Types) (types : AlternativesSay found ks type) (roots : Roots)
+    (gs : List Tag) where
+  abbrev Found : Bool → Gathered → After × Gathered × Room → Type 0
+  Found marked h x = (x.0.marked ≡ marked) × (x.1 ≡ h)
 
   abbrev All : Gathered → After × Gathered × Room → Type 0
-  All h x = AreNested x.1 h
+  All h x = x.1 ≡ h
 
   alternative_given : {known : List Known} {is_tagged : Bool} {place : ℕ} {t : Tag} {T : AsnType} {tree : Tree} → SaysTagged known is_tagged place t T tree
-      → IsFront known ks → (w : List ℕ) (at : ℕ) (path : List Place) (b : Before) (g h : Gathered) (r : Room) (p : ℕ) → Stands b p
-      → slice_get gs p ≡ Some t → AreNested g h
-      → Gives (Found b.marked p (with_part (Some t) w model.must (unsized T) h)) (component_at ms type 0 gs path b at w tree must g r)
-  alternative_given {known} {is_tagged} {place} {t} {T} {tree} says front w at path b g h r p stands tag nested =
-      bind (IsFor T) _ _ _ (types known is_tagged place t T tree path _ front says) (λ x is.
-      once _ (need_at ms b.marked 0 at tree must x.1) _ (λ y gave.
+      → IsFront known ks → (w : List ℕ) (at : ℕ) (path : List Place) → IsApart found known tree path → (b : Before) (g h : Gathered) (r : Room) (p : ℕ)
+      → Stands b p → slice_get gs p ≡ Some t → g ≡ h
+      → Gives (Found b.marked (with_part (Some t) w model.must (unsized T) h)) (component_at ms type 0 gs path b at w tree must g r)
+  alternative_given {known} {is_tagged} {place} {t} {T} {tree} says front w at path apart b g h r p stands tag same =
+      bind (IsFor T) _ _ _ (types known is_tagged place t T tree path _ front says apart) (λ x is.
+      bind _ _ (need_at ms b.marked 0 at tree must x.1) _ (needed_none ms tree b.marked at x.1) (λ y u.
       record {
         given = (
           refl,
-          subst (λ o. AreNested (with_part o w y.0 x.0 g) (with_part (Some t) w model.must (unsized T) h)) (sym here)
-              (subst (λ f. AreNested (with_part (Some t) w y.0 x.0 g) f) (needless t w y.0 model.must (unsized T) h)
-              (part_more g h nested (Some t) w y.0 y.0 x.0 (unsized T) refl is)),
+          ap (λ o. with_part o w y.0 x.0 g) here ∙ part_same (Some t) w y.0 y.0 x.0 (unsized T) g h same refl is
+              ∙ needless t w y.0 model.must (unsized T) h,
         );
       })) where
         here : tag_at gs b ≡ Some t
         here = ap (slice_get gs) (index_by b.marked b.elements p stands) ∙ tag
 
   later_given : {known : List Known} {is_tagged : Bool} {place : ℕ} {more : Alternatives} {es : Elements} → SaysLater known is_tagged place more es → IsFront known ks
-      → (path : List Place) (b : Before) (g h : Gathered) (r : Room) (p : ℕ) → Stands b p → AreTagsFrom gs p (tags_of more) → AreNested g h
-      → Gives (All (with_later more h)) (elements_at ms type roots 0 gs path b es g r)
+      → (path : List Place) → AreApart found known es path → (b : Before) (g h : Gathered) (r : Room) (p : ℕ) → Stands b p
+      → AreTagsFrom gs p (tags_of more) → g ≡ h → Gives (All (with_later more h)) (elements_at ms type roots 0 gs path b es g r)
   unfolding with_later
-  later_given says_none_later front path b g h r p stands tags nested = record { given = nested }
-  later_given (says_later {at} {w} {t} {T} {more} {tree} {es} is says rest) front path b g h r p stands tags nested =
-      bind (Found b.marked p (with_part (Some t) w model.must (unsized T) h)) _ _ _
-      (alternative_given says front w at path b g h r p stands (tag_here gs (tags_of more) p t tags) nested) (λ x now.
-      later_given rest front path (behind b x.0) x.1 (with_part (Some t) w model.must (unsized T) h) x.2 (suc p)
+  later_given says_none_later front path apart b g h r p stands tags same = record { given = same }
+  later_given {known} (says_later {at} {w} {t} {T} {more} {tree} {es} is says rest) front path apart b g h r p stands tags same =
+      bind (Found b.marked (with_part (Some t) w model.must (unsized T) h)) _ _ _
+      (alternative_given says front w at path (first_apart found known at w tree must es path apart) b g h r p stands
+      (tag_here gs (tags_of more) p t tags) same) (λ x now.
+      later_given rest front path (rest_apart found known (component at w tree must) es path apart) (behind b x.0) x.1
+      (with_part (Some t) w model.must (unsized T) h) x.2 (suc p)
       (subst (λ m. suc b.elements ≡ (if m then suc (suc p) else suc p)) (sym now.0) (next_by b.marked b.elements p stands))
       (tags_next gs (tags_of more) p t tags) now.1)
 
@@ -194,32 +229,32 @@ module _ (ms : List Module) (ks : List Known) (type : Types) (types : Alternativ
   marked_later says_none_later h = refl
   marked_later (says_later is says rest) h = refl
 
-  marker_found : (m at : ℕ) (b : Before) (g h : Gathered) (r : Room) → AreNested g h
-      → Gives (λ (x : After × Gathered × Room). (b.marked ≡ false) × (x.0 ≡ after true true) × AreNested x.1 (with_marker h))
-      (marker_at m at b r >>= λ s. Ok (after true true, with_marker g, s))
-  marker_found m at b g h r nested = by b.marked refl where
-    by : (marked : Bool) → b.marked ≡ marked
-        → Gives (λ (x : After × Gathered × Room). (b.marked ≡ false) × (x.0 ≡ after true true) × AreNested x.1 (with_marker h))
-        (marker_at m at b r >>= λ s. Ok (after true true, with_marker g, s))
-    by true is = rw is (record { given = tt })
-    by false is = rw is (record { given = (refl, refl, marked_now g h nested) })
+  -- where the marker may stand, what is gathered with it
+  abbrev Marks : Before → Gathered → After × Gathered × Room → Type 0
+  Marks b h x = (b.marked ≡ false) × (x.0 ≡ after true true) × (x.1 ≡ with_marker h)
 
-  pub alternatives_given : {known : List Known} {is_tagged : Bool} {place : ℕ} {more : Alternatives} {marker : Bool} {es : Elements}
-      → SaysAlternatives known is_tagged place more marker es → IsFront known ks
-      → (path : List Place) (b : Before) (g h : Gathered) (r : Room) (p : ℕ) → b.marked ≡ false → Stands b p → AreTagsFrom gs p (tags_of more) → AreNested g h
-      → Gives (All (with_alternatives marker more h)) (elements_at ms type roots 0 gs path b es g r)
+  marker_found : (m at : ℕ) (b : Before) (g h : Gathered) (r : Room) → b.marked ≡ false → g ≡ h
+      → Gives (Marks b h) (marker_at m at b r >>= λ s. Ok (after true true, with_marker g, s))
+  marker_found m at b g h r root same = bind _ _ (marker_at m at b r) _ (marker_passes m at b r root) (λ s u. record { given = (root, refl, ap with_marker same) })
+
+  pub alternatives_given : {known : List Known} {is_tagged : Bool} {place : ℕ} {more : Alternatives} {marked : Bool} {es : Elements}
+      → SaysAlternatives known is_tagged place more marked es → IsFront known ks
+      → (path : List Place) → AreApart found known es path → (b : Before) (g h : Gathered) (r : Room) (p : ℕ) → b.marked ≡ false → Stands b p
+      → AreTagsFrom gs p (tags_of more) → g ≡ h → Gives (All (with_alternatives marked more h)) (elements_at ms type roots 0 gs path b es g r)
   unfolding with_alternatives
-  alternatives_given says_none_left front path b g h r p root stands tags nested = record { given = nested }
-  alternatives_given (says_alternative {at} {w} {t} {T} {more} {marker} {tree} {es} is says rest) front path b g h r p root stands tags nested =
-      bind (Found b.marked p (with_part (Some t) w model.must (unsized T) h)) _ _ _
-      (alternative_given says front w at path b g h r p stands (tag_here gs (tags_of more) p t tags) nested) (λ x now.
-      alternatives_given rest front path (behind b x.0) x.1 (with_part (Some t) w model.must (unsized T) h) x.2 (suc p) (now.0 ∙ root)
+  alternatives_given says_none_left front path apart b g h r p root stands tags same = record { given = same }
+  alternatives_given {known} (says_alternative {at} {w} {t} {T} {more} {marker = m} {tree} {es} is says rest) front path apart b g h r p root stands tags same =
+      bind (Found b.marked (with_part (Some t) w model.must (unsized T) h)) _ _ _
+      (alternative_given says front w at path (first_apart found known at w tree must es path apart) b g h r p stands
+      (tag_here gs (tags_of more) p t tags) same) (λ x now.
+      alternatives_given rest front path (rest_apart found known (component at w tree must) es path apart) (behind b x.0) x.1
+      (with_part (Some t) w model.must (unsized T) h) x.2 (suc p) (now.0 ∙ root)
       (subst (λ m. suc b.elements ≡ (if m then suc (suc p) else suc p)) (sym now.0) (next_by b.marked b.elements p stands))
       (tags_next gs (tags_of more) p t tags) now.1)
-  alternatives_given (says_alternatives_marker {at} {more} {es} rest) front path b g h r p root stands tags nested =
-      bind (λ (x : After × Gathered × Room). (b.marked ≡ false) × (x.0 ≡ after true true) × AreNested x.1 (with_marker h)) _ _ _ (marker_found 0 at b g h r nested) (λ x now.
+  alternatives_given {known} (says_alternatives_marker {at} {more} {es} rest) front path apart b g h r p root stands tags same =
+      bind (Marks b h) _ _ _ (marker_found 0 at b g h r root same) (λ x now.
       subst (λ f. Gives (All f) (elements_at ms type roots 0 gs path (behind b x.0) es x.1 x.2)) (marked_later rest h)
-      (later_given rest front path (behind b x.0) x.1 (with_marker h) x.2 p
+      (later_given rest front path (rest_apart found known (marker at []) es path apart) (behind b x.0) x.1 (with_marker h) x.2 p
       (ahead b x.0 p root stands now.1) tags now.2)) where
         ahead : (b : Before) (a : After) (p : ℕ) → b.marked ≡ false → Stands b p → a ≡ after true true → Stands (behind b a) p
         ahead b a p root stands is = rw is (ap suc (stands ∙ ap (λ m. if m then suc p else p) root))

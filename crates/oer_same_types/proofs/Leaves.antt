@@ -1,5 +1,5 @@
 -- A type that holds no other has in a module the bounds, sizes and items that it has in the notation.
-use Rattle.std.proofs.Common.{◌≡◌, ◌∙◌, ◌^◌, ℕ, ℤ, pos, List, [], ◌∷◌, Bool, true, false, not, ◌&&◌, Option, Some, None, Result, Ok, Err, is_none, refl, sym, ap, subst, arith}
+use Rattle.std.proofs.Common.{◌≡◌, ◌∙◌, ◌^◌, ℕ, ℤ, pos, List, [], ◌∷◌, Bool, true, false, not, ◌&&◌, Option, Some, None, Ok, Err, is_none, refl, sym, ap, subst, arith}
 use Rattle.std.specs.Prelude.{int_lt, nat_lt, option_and_then, option_map}
 use Rattle.std.proofs.lemmas.Int.{ints}
 use Rattle.oer_lexer.specs.Token.{Token}
@@ -9,13 +9,14 @@ use Rattle.oer_model.specs.AsnType.{AsnType, leaf, integer}
 use Rattle.oer_model.specs.LeafType.{LeafType}
 use Rattle.oer_model.specs.declared.size.Size.{Size}
 use Rattle.oer_module_bounds.specs.Sets.{Span}
-use Rattle.oer_module_leaves.specs.Leaves.{bits_by, counted_at, enumerated_at, leaf_at, plain_at, sizes_at}
+use Rattle.oer_module_leaves.specs.Leaves.{bits_by, counted_at, is_implied, leaf_at, plain_at, sizes_at}
 use Rattle.oer_module_leaves.specs.Shapes.{counted_type, size_at, unless_wide}
 use Rattle.oer_module_leaves.specs.Texts.{Sizes, fixed, long, low_end, size_above, size_of, sizes_within}
 use Rattle.oer_module_leaves.specs.declared.shape.Counted.{Counted}
 use Rattle.oer_module_leaves.specs.declared.shape.Counted.TheVariants.{Bits, Octets, Ia5, Visible, Numeric, Printable, Utf8}
 use Rattle.oer_module_lexer.specs.Token.{Spot}
-use Rattle.oer_module_limits.specs.Errors.{Error as LimitedError}
+use Rattle.oer_module_limits.specs.Errors as limits
+use Rattle.oer_module_limits.specs.Errors.{Read as LimitedRead, Why as LimitedWhy}
 use Rattle.oer_module_limits.specs.Limits.{integer_range, size_range}
 use Rattle.oer_module_limits.specs.Sets.{has_size}
 use Rattle.oer_module_limits.specs.Written.{all_given_none}
@@ -23,24 +24,35 @@ use Rattle.oer_module_names.specs.declared.error.Place.{Place}
 use Rattle.oer_module_syntax.specs.Modules.{none_left}
 use Rattle.oer_module_syntax.specs.Tree.{Module, Tree, plain}
 use Rattle.oer_module_syntax.specs.declared.word.Builtin.TheVariants as bi
-use Rattle.oer_module_text.specs.Errors.{limited_by, place_in, ◌>>=◌}
+use Rattle.oer_module_text.specs.Errors.{from_limits, limited_by, place_in, ◌>>=◌}
 use Rattle.oer_module_text.specs.Room.{Room}
 use Rattle.oer_module_values.specs.Types.{Given, Meaning, TypeIn, constraints, set}
 use Rattle.oer_notation.specs.Grammar.{AreBounds, IsBracketedSize, IsLeaf, nothing_behind, bounds_behind, size_behind}
 use Rattle.oer_notation.specs.Reading.{Known}
-use Rattle.oer_same_bounds.specs.Bounds.{IsRange, any, ends, standing}
-use Rattle.oer_same_bounds.specs.Laws.{HasSize, SameRange, SameSizes}
+use Rattle.oer_same_bounds.specs.Bounds.{AreRejected, IsRange, ReadsRange, ReadsSize, any, ends, standing}
+use Rattle.oer_same_bounds.specs.Laws.{SameRange, SameSizes}
+use Rattle.oer_same_items.proofs.Telling.{Gives, bind, choose}
 use Rattle.oer_same_items.specs.Laws.{SameEnumerated}
+use Rattle.oer_same_items.specs.Told.{IsLimit}
 use Rattle.oer_same_names.specs.Home.{IsBare}
 use Rattle.oer_same_names.specs.Meant.{IsBuilt}
 use Rattle.oer_same_trees.specs.Says.{Keeps, Says, builtin, constraints_in, items_in, says_leaf, says_name}
 use Rattle.oer_value_notation.specs.Leaves.{leaf_form}
-use Rattle.oer_same_types.proofs.Giving.{Gives, bind, choose, giving, once}
 use Rattle.oer_same_types.proofs.Types.{LeavesSay}
 
-limited_ok : {A : Type 0} (r : Result A LimitedError) (x : A) → limited_by r ≡ Ok x → r ≡ Ok x
-limited_ok (Ok y) x h = let e : y ≡ x = cc in ap (λ v. Ok v) e
-limited_ok (Err e) x h = absurd (cc)
+-- what is told of limits is told of the type
+rejected_limit : (low high : Option ℤ) (w : LimitedWhy) → AreRejected low high w → IsLimit (from_limits w)
+rejected_limit low high limits.too_large h = tt
+rejected_limit low high limits.empty h = tt
+rejected_limit low high w h = absurd h
+
+range_told : (low high : Option ℤ) (r : LimitedRead Span) → ReadsRange low high r → Gives (λ s. s ≡ record { low = low; high = high }) (limited_by r)
+range_told low high (Ok s) h = record { given = h }
+range_told low high (Err e) h = record { given = rejected_limit low high e.why h }
+
+size_told : (size : Size) (r : LimitedRead Span) → ReadsSize size r → Gives (IsRange size) (limited_by r)
+size_told size (Ok s) h = record { given = h }
+size_told size (Err e) h = record { given = rejected_limit (Some (pos size.low)) (option_map pos size.high) e.why h }
 
 none_given : (gs : List Given) → IsBare gs → all_given_none gs ≡ true
 none_given [] h = refl
@@ -108,45 +120,49 @@ size_only (ends {low} {high = Some n}) y h =
 abbrev Make : Size → Sizes → Type 0
 Make size s = (y : Size) → size_of s ≡ Some y → y ≡ size
 
-wide_ok : (p : Place) (o : Option Size) (y : Size) → unless_wide p o ≡ Ok y → o ≡ Some y
-wide_ok p None y h = absurd (cc)
-wide_ok p (Some s) y h = let e : s ≡ y = cc in ap (λ v. Some v) e
+wide_told : (p : Place) (o : Option Size) → Gives (λ y. o ≡ Some y) (unless_wide p o)
+wide_told p None = record { given = tt }
+wide_told p (Some s) = record { given = refl }
 
 module _ (ms : List Module) (size : Size) where
-  sizes_make : (p : Place) (m : Meaning) → HasSize ms p m size → Gives (Make size) (sizes_at ms p m)
-  sizes_make p m has = once (Make size) (limited_by (size_range ms p m)) _ (λ s is. record { given = size_only (has s (limited_ok _ s is)) })
+  sizes_make : (p : Place) (m : Meaning) → ReadsSize size (size_range ms p m) → Gives (Make size) (sizes_at ms p m)
+  sizes_make p m reads = bind (IsRange size) (Make size) (limited_by (size_range ms p m)) _ (size_told size (size_range ms p m) reads) (λ s is. record { given = size_only is })
 
   counted_made : (c : Counted) (q : Place) (r : Room) (s : Sizes) → Make size s → Gives (λ (x : AsnType × Room). x.0 ≡ counted_type c size) (counted_at q c r s)
-  counted_made c q r s make = once _ (size_at q s) _ (λ y is. record { given = ap (counted_type c) (make y (wide_ok q (size_of s) y is)) })
+  counted_made c q r s make = bind _ _ (size_at q s) _ (wide_told q (size_of s)) (λ y is. record { given = ap (counted_type c) (make y is) })
 
-  counted_same : (c : Counted) (p : Place) (m : Meaning) (q : Place) (r : Room) → HasSize ms p m size
+  counted_same : (c : Counted) (p : Place) (m : Meaning) (q : Place) (r : Room) → ReadsSize size (size_range ms p m)
       → Gives (λ (x : AsnType × Room). x.0 ≡ counted_type c size) (sizes_at ms p m >>= counted_at q c r)
-  counted_same c p m q r has = bind (Make size) _ (sizes_at ms p m) _ (sizes_make p m has) (λ s make. counted_made c q r s make)
+  counted_same c p m q r reads = bind (Make size) _ (sizes_at ms p m) _ (sizes_make p m reads) (λ s make. counted_made c q r s make)
 
-  bits_same : (p : Place) (m : Meaning) (q : Place) (ts : List Spot) (r : Room) → HasSize ms p m size
+  bits_same : (p : Place) (m : Meaning) (q : Place) (ts : List Spot) (r : Room) → none_left ts ≡ true → ReadsSize size (size_range ms p m)
       → Gives (λ (x : AsnType × Room). x.0 ≡ counted_type Bits size) (sizes_at ms p m >>= bits_by ms q ts r)
-  bits_same p m q ts r has = bind (Make size) _ (sizes_at ms p m) _ (sizes_make p m has) (λ s make.
-      choose _ (not (none_left ts) && is_none (fixed s)) _ _ (λ named. record { given = tt }) (λ none. counted_made Bits q r s make))
+  bits_same p m q ts r none reads = bind (Make size) _ (sizes_at ms p m) _ (sizes_make p m reads) (λ s make.
+      choose _ (not (none_left ts) && is_none (fixed s)) _ _ (λ named. absurd (unnamed (none_left ts) (is_none (fixed s)) none named))
+      (λ plain. counted_made Bits q r s make)) where
+        unnamed : (a b : Bool) → a ≡ true → (not a && b) ≡ true → ⊥
+        unnamed true b h e = absurd (cc)
+        unnamed false b h e = absurd (cc)
 
 -- ---- each word
 
 module _ (same_range : SameRange) (same_sizes : SameSizes) (same_enumerated : SameEnumerated) (ms : List Module) (gs : List Given)
-    (bare : all_given_none gs ≡ true) (at : ℕ) (p q : Place) (r : Room) where
+    (bare : all_given_none gs ≡ true) (at : ℕ) (p q : Place) (r : Room) (unimplied : is_implied ms q.«module» ≡ false) where
   abbrev IsOf : LeafType → AsnType × Room → Type 0
   IsOf L x = x.0 ≡ leaf L
 
   -- a type whose values SIZE counts has its size
   has : (k : LeafWord) {size : Size} {ts : List Token} (items cs : List Spot) → has_size (builtin k) ≡ true → IsBracketedSize size ts → Keeps [] items → Keeps ts cs
-      → HasSize ms p (standing 0 (plain at (builtin k) items cs) gs) size
+      → ReadsSize size (size_range ms p (standing 0 (plain at (builtin k) items cs) gs))
   has k {size} {ts} items cs sized is none keeps =
-      subst (λ (items : List Spot). HasSize ms p (standing 0 (plain at (builtin k) items cs) gs) size) (sym (no_items items none))
+      subst (λ (items : List Spot). ReadsSize size (size_range ms p (standing 0 (plain at (builtin k) items cs) gs))) (sym (no_items items none))
       (same_sizes ms 0 at p gs (builtin k) size ts cs bare is keeps sized)
 
   range_same : {low high : Option ℤ} {ts : List Token} (items cs : List Spot) → AreBounds low high ts → Keeps [] items → Keeps ts cs
-      → (s : Span) → integer_range ms p (standing 0 (plain at bi.Integer items cs) gs) ≡ Ok s → s ≡ record { low = low; high = high }
-  range_same {low} {high} {ts} items cs is none keeps s h =
-      same_range ms 0 at p gs low high ts cs bare is keeps s
-      (subst (λ (items : List Spot). integer_range ms p (standing 0 (plain at bi.Integer items cs) gs) ≡ Ok s) (no_items items none) h)
+      → ReadsRange low high (integer_range ms p (standing 0 (plain at bi.Integer items cs) gs))
+  range_same {low} {high} {ts} items cs is none keeps =
+      subst (λ (items : List Spot). ReadsRange low high (integer_range ms p (standing 0 (plain at bi.Integer items cs) gs))) (sym (no_items items none))
+      (same_range ms 0 at p gs low high ts cs bare is keeps)
 
   word_same : (k : LeafWord) {L : LeafType} {ts : List Token} (items cs : List Spot) → IsLeaf (leaf_form k) L ts
       → Keeps (items_in (leaf_form k) ts) items → Keeps (constraints_in (leaf_form k) ts) cs
@@ -155,12 +171,12 @@ module _ (same_range : SameRange) (same_sizes : SameSizes) (same_enumerated : Sa
   word_same leaf_word.Null items cs nothing_behind i c = record { given = refl }
   word_same leaf_word.ObjectIdentifier items cs nothing_behind i c = record { given = refl }
   word_same leaf_word.Integer items cs (bounds_behind {low} {high} b) i c =
-      once _ (limited_by (integer_range ms p (standing 0 (plain at bi.Integer items cs) gs))) _ (λ s is.
-      let e = range_same items cs b i c s (limited_ok _ s is) in
-      record { given = ap (λ (s : Span). integer s.low s.high) e })
-  word_same leaf_word.Enumerated {L} {ts} items cs l i c =
-      giving _ (enumerated_at ms q items r) (λ x is. same_enumerated L ts items l i ms q r x.1 x.0 is)
-  word_same leaf_word.BitString items cs (size_behind {size} s) i c = bits_same ms size p _ q items r (has leaf_word.BitString items cs refl s i c)
+      bind _ _ (limited_by (integer_range ms p (standing 0 (plain at bi.Integer items cs) gs))) _
+      (range_told low high (integer_range ms p (standing 0 (plain at bi.Integer items cs) gs)) (range_same items cs b i c))
+      (λ s e. record { given = ap (λ (s : Span). integer s.low s.high) e })
+  word_same leaf_word.Enumerated {L} {ts} items cs l i c = record { given = same_enumerated L ts items l i ms q r unimplied }
+  word_same leaf_word.BitString items cs (size_behind {size} s) i c =
+      bits_same ms size p _ q items r (ap none_left (no_items items i)) (has leaf_word.BitString items cs refl s i c)
   word_same leaf_word.OctetString items cs (size_behind {size} s) i c = counted_same ms size Octets p _ q r (has leaf_word.OctetString items cs refl s i c)
   word_same leaf_word.Ia5String items cs (size_behind {size} s) i c = counted_same ms size Ia5 p _ q r (has leaf_word.Ia5String items cs refl s i c)
   word_same leaf_word.VisibleString items cs (size_behind {size} s) i c = counted_same ms size Visible p _ q r (has leaf_word.VisibleString items cs refl s i c)
@@ -170,13 +186,13 @@ module _ (same_range : SameRange) (same_sizes : SameSizes) (same_enumerated : Sa
 
 -- ---- each leaf
 
-module _ (same_range : SameRange) (same_sizes : SameSizes) (same_enumerated : SameEnumerated) (ms : List Module) where
+module _ (same_range : SameRange) (same_sizes : SameSizes) (same_enumerated : SameEnumerated) (ms : List Module) (unimplied : is_implied ms 0 ≡ false) where
   leaf_said : {known : List Known} {L : LeafType} {t : Tree} → Says known (leaf L) t → IsBuilt t → (p : Place) (gs : List Given) (r : Room)
       → all_given_none gs ≡ true → Gives (λ (x : AsnType × Room). x.0 ≡ leaf L) (leaf_at ms p (standing 0 t gs) r)
   unfolding leaf_at
   leaf_said (says_leaf {at} k {L} {ts} {items} {constraints} l i c) built p gs r bare =
       bind (λ (x : AsnType × Room). x.0 ≡ leaf L) _ _ _
-      (word_same same_range same_sizes same_enumerated ms gs bare at p (place_in 0 at) r k items constraints l i c) (λ x is. record { given = is })
+      (word_same same_range same_sizes same_enumerated ms gs bare at p (place_in 0 at) r unimplied k items constraints l i c) (λ x is. record { given = is })
   leaf_said (says_name n d) built p gs r bare = absurd built
 
   pub leaves_said : (ks : List Known) → LeavesSay ms ks

@@ -1,4 +1,4 @@
-mod Giving
+mod Clear
 mod Elements
 mod Gathering
 mod Types

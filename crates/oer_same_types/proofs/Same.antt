@@ -6,9 +6,9 @@ use Rattle.oer_same_names.specs.Laws.{AlternativesAreMeant, TagsAreTheirs, Types
 use Rattle.oer_same_types.specs.Laws.{SameType}
 use Rattle.oer_same_types.proofs.Defaults.{defaults_said}
 use Rattle.oer_same_types.proofs.Leaves.{leaves_said}
-use Rattle.oer_same_types.proofs.Types.{type_same}
+use Rattle.oer_same_types.proofs.Types.{none_implied, type_same}
 
 pub same_type : TypesAreMeant → AlternativesAreMeant → TagsAreTheirs → SameDefault → SameRange → SameSizes → SameEnumerated → SameType
-same_type means choices tags same_default range sizes enumerated ms ks known T t nesting levels path r x home front says is =
-    type_same ms ks (defaults_said same_default means ms ks home) (leaves_said range sizes enumerated ms ks) means choices tags home nesting
-    known T t levels path r x front says is
+same_type means choices tags same_default range sizes enumerated ms ks known T t nesting levels r home rise front there says once_at_least =
+    type_same ms ks (defaults_said same_default means ms ks home) (leaves_said range sizes enumerated ms (none_implied ms ks home) ks) means choices tags home rise
+    nesting once_at_least known T t levels r front there says

@@ -6,8 +6,8 @@ use oer_same_defaults::laws::defaults_are_the_same;
 use oer_same_items::laws::enumerated_types_are_the_same;
 use oer_same_names::laws::{alternatives_are_meant, tags_are_theirs, types_are_meant};
 
-/// A tree that says a type of the notation is given that type, if it is given one: without the sizes of its lists, and with an end
-/// in place of each type that stands deeper than the nesting says.
+/// The tree of a definition that says a type of the notation is given that type, without the sizes of its lists, or is rejected for a
+/// limit of the reader of modules. Places have to rise: then no type in it is one that it stands in, and none is written out to its end.
 pub fn trees_are_given_their_types()
     ensures { SameType }
 {

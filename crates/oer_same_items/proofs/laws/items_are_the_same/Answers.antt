@@ -1,4 +1,4 @@
-use Rattle.oer_same_items.proofs.Same.{same_items}
+use Rattle.oer_same_items.proofs.Limited.{same_items}
 use Rattle.oer_same_items.proofs.laws.items_are_the_same.Goals as goal
 
 pub returns : goal.returns

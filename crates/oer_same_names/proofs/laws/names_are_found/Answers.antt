@@ -2,4 +2,4 @@ use Rattle.oer_same_names.proofs.Found.{found_defines}
 use Rattle.oer_same_names.proofs.laws.names_are_found.Goals as goal
 
 pub returns : goal.returns
-returns c ms ks w T f h d e = found_defines ms ks h w T f d e
+returns c ms ks known w T h front d = found_defines ms ks h known w T front d

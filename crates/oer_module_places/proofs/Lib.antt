@@ -1,0 +1,4 @@
+pub mod Spans
+pub mod Lexed
+pub mod Trees
+pub mod Modules
