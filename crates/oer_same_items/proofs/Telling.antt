@@ -21,20 +21,9 @@ pub weaken : {A : Type 0} (P Q : A → Type 0) (p : Read A) → Gives P p → ((
 weaken P Q (Ok x) h k = record { given = k x h.given }
 weaken P Q (Err e) h k = record { given = h.given }
 
--- with what it is
-pub knowing : {A : Type 0} (P : A → Type 0) (p : Read A) → Gives P p → Gives (λ x. (p ≡ Ok x) × P x) p
-knowing P (Ok x) h = record { given = (refl, h.given) }
-knowing P (Err e) h = record { given = h.given }
-
-pub gave : {A : Type 0} (P : A → Type 0) (p : Read A) (x : A) → Gives P p → p ≡ Ok x → P x
-gave P p x h e = subst (Tells P) e h.given
-
 -- what is told of something that is the same
 pub same_told : {A : Type 0} (P : A → Type 0) (p q : Read A) → p ≡ q → Gives P q → Gives P p
 same_told P p q e h = subst (Gives P) (sym e) h
-
-pub ok : {A : Type 0} (P : A → Type 0) (x : A) → P x → Gives P (Ok x)
-ok P x h = record { given = h }
 
 -- it is rejected for a limit, if it is rejected
 abbrev pub Passes : {A : Type 0} → Read A → Type 0

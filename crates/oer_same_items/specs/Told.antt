@@ -5,10 +5,10 @@ use Rattle.oer_module_text.specs.Errors.{Read, Why, unresolved, unlimited, not_t
 use Rattle.oer_module_text.specs.declared.error.Part.TheVariants.{Value}
 use Rattle.oer_module_values.specs.Errors as values
 
--- Why a type that the notation has may be rejected in a module: it is larger than the reader of modules takes, in levels, parts, octets
--- of its text, steps from Name to Name, bits of a number or alternatives; a range or size holds no number; the numbers of items are
--- repeated, or don't rise behind the marker; or a value after DEFAULT has white space among its bits, a control character in its text,
--- or 2^62 hexadecimal digits.
+-- The reasons that the reader of modules may give where it rejects a type that the notation has: levels, parts, octets of its text,
+-- steps from Name to Name, bits of a number, alternatives; a range or size that holds no number; numbers of items that are repeated, or
+-- don't rise behind the marker; or a value after DEFAULT, for white space among its bits, a control character in its text, or 2^62
+-- hexadecimal digits. That the reason holds isn't said.
 abbrev pub IsLimit : Why → Type 0
 IsLimit too_deep = Unit {0}
 IsLimit too_many_parts = Unit {0}

@@ -33,6 +33,7 @@ use Rattle.oer_notation.specs.Reading.{Known, find}
 use Rattle.oer_notation.proofs.WordTable.{find_sound}
 use Rattle.oer_same_items.proofs.Telling.{Gives, bind, choose}
 use Rattle.oer_same_items.specs.Told.{IsLimit}
+use Rattle.oer_same_names.proofs.Found.{assignments_home}
 use Rattle.oer_same_names.specs.Home.{IsFront, IsHome}
 use Rattle.oer_same_names.specs.Laws.{FindsDefinition, NamesAreFoundAnywhere}
 use Rattle.oer_same_names.specs.Meant.{Defines, IsTreeBehind}
@@ -92,12 +93,6 @@ is_assigned ms ks w T x a d is =
     ap (λ o. option_map_or (λ (b : Assignment). type_by x.«module» b.at b.parameters b.body) o (error (place_in x.«module» 0) (unresolved not_a_type))) is
     ∙ ap (λ ps. type_by x.«module» a.at ps a.body) d.without ∙ ap (λ b. type_by x.«module» a.at [] b) d.body_is
 
--- the assignments of the one module
-home_assignments : (ms : List Module) (ks : List Known) (home : IsHome ms ks) (k : ℕ) → k ≡ 0 → assignments_in ms k ≡ home.home.assignments
-unfolding assignments_in
-home_assignments ms ks home k e =
-    ap (λ n. option_map_or (λ m. m.assignments) (slice_get ms n) []) e ∙ ap (λ l. option_map_or (λ m. m.assignments) (slice_get l 0) []) home.alone
-
 -- what is found for a Name is the tree of its definition
 assigned : (ms : List Module) (ks : List Known) (home : IsHome ms ks) (w : List ℕ) (T : AsnType) (x : Found) → FindsDefinition ms ks w T x
     → (t : Tree) × IsDefinition ms ks home T t × (assigned_type ms x ≡ Ok (type_in 0 t))
@@ -109,7 +104,7 @@ assigned ms ks home w T x (a, at_home, is, d, count) = (
     there = record {
       assignment = a;
       is = ap (slice_get home.home.assignments) count
-          ∙ ap (λ l. slice_get l x.assignment) (sym (home_assignments ms ks home x.«module» at_home)) ∙ is;
+          ∙ ap (λ l. slice_get l x.assignment) (sym (assignments_home ms ks home x.«module» at_home)) ∙ is;
       body_is = d.body_is;
     };
     says = d.says.says;

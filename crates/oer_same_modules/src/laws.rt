@@ -7,8 +7,8 @@ use oer_same_trees::laws::what_is_parsed_is_read;
 use oer_same_types::laws::trees_are_given_their_types;
 
 /// In a module whose body is definitions that our own parser reads, a Name has the type that the parser gives it, but for the sizes of
-/// lists, which types of modules leave out. Or it is rejected: for a limit of the reader of modules (`IsLimit`, of `oer_same_items`), or
-/// since its type isn't well-formed. The header has AUTOMATIC TAGS and nothing else, no Name is a reserved word of X.680, and the text
+/// lists, which types of modules leave out. Or it is rejected: since its type isn't well-formed, or with one of the reasons of `IsLimit`
+/// (`oer_same_items`). That such a reason holds, as that there are too many parts, isn't said. The header has AUTOMATIC TAGS and nothing else, no Name is a reserved word of X.680, and the text
 /// has no vertical tabulation or form feed, which mean something else in modules (X.680, 12.1.6).
 pub fn modules_give_the_types_of_the_notation()
     ensures { SameAsParser }

@@ -1,6 +1,6 @@
 -- The places of the types around a tree are others than those in it, and so it isn't nested too deep.
-use Rattle.std.proofs.Common.{◌≡◌, ◌⊎◌, ◌≤◌, ◌<◌, ◌==◌, ℕ, zero, suc, List, [], ◌∷◌, ◌++◌, length, nat_le, Bool, true, false, ◌&&◌, inl, inr, refl, sym, ap, subst, ◌∙◌, if◌then◌else◌, arith}
-use Rattle.std.proofs.lemmas.Bool.{eqb-true, leb-true}
+use Rattle.std.proofs.Common.{◌≡◌, ◌⊎◌, ◌≤◌, ◌<◌, ◌==◌, ℕ, zero, suc, List, [], ◌∷◌, ◌++◌, length, nat_le, Bool, true, false, inl, inr, refl, sym, ap, subst, ◌∙◌, if◌then◌else◌, arith}
+use Rattle.std.proofs.lemmas.Bool.{and_parts, eqb-true, leb-true}
 use Rattle.oer_module_names.specs.Standing.{IsAt}
 use Rattle.oer_module_names.specs.declared.error.Place.{Place}
 use Rattle.oer_module_places.specs.Rising.{BodyLies, Lies, Rise}
@@ -47,10 +47,6 @@ off_inside floor low high at (p ∷ path) f l h (above, apart, off) = (above, ne
   next (inl less) = inl (omega (arith, less, l))
   next (inr more) = inr more
 
-and_second : (a b : Bool) → (a && b) ≡ true → b ≡ true
-and_second true b h = h
-and_second false b h = absurd (cc)
-
 -- no place that is off is the place of what lies there
 never_same : (floor low high at : ℕ) (path : List Place) → low ≤ at → at < high → AreOff floor low high path → times (place_in 0 at) path ≡ 0
 never_same floor low high at [] l h off = refl
@@ -61,7 +57,7 @@ never_same floor low high at (p ∷ path) l h (above, apart, off) = by (never_sa
 
   by : times (place_in 0 at) path ≡ 0 → (b : Bool) → is_same (place_in 0 at) p ≡ b
       → (if b then suc (times (place_in 0 at) path) else times (place_in 0 at) path) ≡ 0
-  by rest true e = absurd (differs l h apart (eqb-true at p.at (and_second (0 == p.«module») (at == p.at) e)))
+  by rest true e = absurd (differs l h apart (eqb-true at p.at (and_parts (0 == p.«module») (at == p.at) e).1))
   by rest false e = rest
 
 pub record Inside (M : ℕ → ℕ → Type 0) (found : List Assignment) (known : List Known) (nesting at : ℕ) (path : List Place) : Type 0 where
