@@ -1,0 +1,10 @@
+pub mod Results
+pub mod Numbers
+pub mod Roots
+pub mod Ranges
+pub mod Items
+pub mod Leaves
+pub mod SoleSets
+pub mod SoleRanges
+pub mod SoleItems
+pub mod SoleLeaves

@@ -1,0 +1,4 @@
+pub mod Laws
+pub mod Leaves
+pub mod Ranges
+pub mod Sets
