@@ -2,14 +2,17 @@
 ghost use Rattle.oer_same_modules.specs.Laws.{SameAsParser};
 
 use oer_module_places::laws::places_rise;
+use oer_same_limits::laws::types_take_their_parts;
 use oer_same_names::laws::names_are_found_anywhere;
 use oer_same_trees::laws::what_is_parsed_is_read;
 use oer_same_types::laws::trees_are_given_their_types;
 
 /// In a module whose body is definitions that our own parser reads, a Name has the type that the parser gives it, but for the sizes of
 /// lists, which types of modules leave out. Or it is rejected: since its type isn't well-formed, or with one of the reasons of `IsLimit`
-/// (`oer_same_items`). That such a reason holds, as that there are too many parts, isn't said. The header has AUTOMATIC TAGS and nothing else, no Name is a reserved word of X.680, and the text
-/// has no vertical tabulation or form feed, which mean something else in modules (X.680, 12.1.6).
+/// (`oer_same_items`). If the type is well-formed, that isn't that types nest too deep, that there are too many parts, or that the number
+/// of a tag is too large (`IsOther` of `oer_same_limits`). That one of the other reasons holds isn't said. The header has AUTOMATIC TAGS
+/// and nothing else, no Name is a reserved word of X.680, and the text has no vertical tabulation or form feed, which mean something
+/// else in modules (X.680, 12.1.6).
 pub fn modules_give_the_types_of_the_notation()
     ensures { SameAsParser }
 {
@@ -17,4 +20,5 @@ pub fn modules_give_the_types_of_the_notation()
     names_are_found_anywhere();
     places_rise();
     trees_are_given_their_types();
+    types_take_their_parts();
 }

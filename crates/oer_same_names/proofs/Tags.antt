@@ -61,7 +61,7 @@ later_untagged : {known : List Known} {place : ℕ} {more : Alternatives} {es : 
 later_untagged says_none_later = refl
 later_untagged (says_later id s rest) = rw (tree_untagged s) (later_untagged rest)
 
-untagged : {known : List Known} {place : ℕ} {more : Alternatives} {marker : Bool} {es : Elements}
+pub untagged : {known : List Known} {place : ℕ} {more : Alternatives} {marker : Bool} {es : Elements}
     → SaysAlternatives known false place more marker es → list_any has_tag (marks_of es) ≡ false
 untagged says_none_left = refl
 untagged (says_alternative id s rest) = rw (tree_untagged s) (untagged rest)
@@ -76,7 +76,7 @@ later_none : {known : List Known} {place : ℕ} {more : Alternatives} {es : Elem
 later_none says_none_later e = (refl, refl)
 later_none (says_later id s rest) e = let tag = tree_tagged s in let no = rw tag at e in absurd (cc)
 
-none_tagged : {known : List Known} {place : ℕ} {more : Alternatives} {marker : Bool} {es : Elements}
+pub none_tagged : {known : List Known} {place : ℕ} {more : Alternatives} {marker : Bool} {es : Elements}
     → SaysAlternatives known true place more marker es → list_any has_tag (marks_of es) ≡ false → AreNone more es
 none_tagged says_none_left e = (refl, refl)
 none_tagged (says_alternative id s rest) e = let tag = tree_tagged s in let no = rw tag at e in absurd (cc)
@@ -148,7 +148,7 @@ module _ (ms : List Module) (ks : List Known) (h : IsHome ms ks) where
   later_own says_none_later = refl
   later_own (says_later id s rest) = rw (own_is s, later_own rest) refl
 
-  own : {known : List Known} {place : ℕ} {more : Alternatives} {marker : Bool} {es : Elements} → SaysAlternatives known true place more marker es
+  pub own : {known : List Known} {place : ℕ} {more : Alternatives} {marker : Bool} {es : Elements} → SaysAlternatives known true place more marker es
       → own_tags ms 0 es ≡ Ok (tags_of more)
   own says_none_left = refl
   own (says_alternative id s rest) = rw (own_is s, own rest) refl
@@ -161,7 +161,7 @@ later_checked : {known : List Known} {tagged : Bool} {place : ℕ} {more : Alter
 later_checked says_none_later = refl
 later_checked (says_later id s rest) = later_checked rest
 
-all_checked : {known : List Known} {tagged : Bool} {place : ℕ} {more : Alternatives} {marker : Bool} {es : Elements}
+pub all_checked : {known : List Known} {tagged : Bool} {place : ℕ} {more : Alternatives} {marker : Bool} {es : Elements}
     → SaysAlternatives known tagged place more marker es → checked 0 es ≡ Ok tt
 all_checked says_none_left = refl
 all_checked (says_alternative id s rest) = all_checked rest
@@ -169,12 +169,12 @@ all_checked (says_alternatives_marker rest) = later_checked rest
 
 module _ (ms : List Module) (ks : List Known) (h : IsHome ms ks) where
   -- what is found where no alternative has a tag, and where one has
-  by_place : (es : Elements) → list_any has_tag (marks_of es) ≡ false → checked 0 es ≡ Ok tt
+  pub by_place : (es : Elements) → list_any has_tag (marks_of es) ≡ false → checked 0 es ≡ Ok tt
       → alternative_tags ms 0 es ≡ automatic_tags (module_place ms 0) (marks_of es)
   unfolding alternative_tags
   by_place es none all = rw (automatic ms ks h, none, all) refl
 
-  by_types : (es : Elements) → list_any has_tag (marks_of es) ≡ true → alternative_tags ms 0 es ≡ own_tags ms 0 es
+  pub by_types : (es : Elements) → list_any has_tag (marks_of es) ≡ true → alternative_tags ms 0 es ≡ own_tags ms 0 es
   unfolding alternative_tags
   by_types es some = rw (automatic ms ks h, some) refl
 

@@ -42,12 +42,12 @@ IsApart found known t path = IsClear (λ low high. Lies low high t) found known 
 abbrev pub AreApart : List Assignment → List Known → Elements → List Place → Type 0
 AreApart found known es path = IsClear (λ low high. AllLie low high es) found known path
 
-rest_apart : (found : List Assignment) (known : List Known) (e : Element) (es : Elements) (path : List Place) → AreApart found known (element e es) path
+pub rest_apart : (found : List Assignment) (known : List Known) (e : Element) (es : Elements) (path : List Place) → AreApart found known (element e es) path
     → AreApart found known es path
 rest_apart found known e es path c =
     clear_of (λ low high. AllLie low high (element e es)) (λ low high. AllLie low high es) found known path c (λ low high l. l.1)
 
-first_apart : (found : List Assignment) (known : List Known) (at : ℕ) (w : List ℕ) (t : Tree) (n : Need) (es : Elements) (path : List Place)
+pub first_apart : (found : List Assignment) (known : List Known) (at : ℕ) (w : List ℕ) (t : Tree) (n : Need) (es : Elements) (path : List Place)
     → AreApart found known (element (component at w t n) es) path → IsApart found known t path
 first_apart found known at w t n es path c = clear_of (λ low high. AllLie low high (element (component at w t n) es))
     (λ low high. Lies low high t) found known path c (λ low high l. l.0)

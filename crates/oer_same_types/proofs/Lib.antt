@@ -1,5 +1,5 @@
-mod Clear
-mod Elements
+pub mod Clear
+pub mod Elements
 mod Gathering
 mod Types
 mod Defaults

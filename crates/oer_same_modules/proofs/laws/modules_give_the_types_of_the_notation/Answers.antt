@@ -3,4 +3,4 @@ use Rattle.oer_same_modules.proofs.laws.modules_give_the_types_of_the_notation.G
 
 pub returns : goal.returns
 returns c = same_as_parser c.what_is_parsed_is_read.ensures c.names_are_found_anywhere.ensures
-    c.places_rise.ensures c.trees_are_given_their_types.ensures
+    c.places_rise.ensures c.trees_are_given_their_types.ensures c.types_take_their_parts.ensures

@@ -1,0 +1,8 @@
+pub mod Telling
+mod Room
+mod Values
+mod Leaves
+mod Tags
+mod Elements
+mod Types
+pub mod Counted
