@@ -17,7 +17,7 @@ use Rattle.oer_module_types.specs.declared.element.Before.{Before}
 use Rattle.oer_module_values.specs.Types.{Given, Means, TypeIn, type_in}
 use Rattle.oer_units.specs.declared.tagging.Tag.{Tag}
 use Rattle.oer_meant_types.proofs.Gathering.{all_marked, first_of, flag_moves, flagged, one_marked, part_put, put_all, put_append, put_one, rest_of, typed}
-use Rattle.oer_meant_types.proofs.Holding.{Holds, bind, choose, unknown, weaken}
+use Rattle.oer_meant_types.proofs.Holding.{Holds, bind, choose, not_both, unknown, weaken}
 use Rattle.oer_meant_types.proofs.Needs.{need_is}
 use Rattle.oer_meant_types.specs.Types.{AreTyped, IsNeed, IsType, Typed, another_typed, none_typed}
 use Rattle.oer_meant_values.specs.Laws.{DefaultsAreSound}
@@ -77,9 +77,6 @@ index_marked : (b : Before) → b.marked ≡ true → index_of b ≡ b.elements 
 index_marked b e = ap (λ m. if m then b.elements - 1 else b.elements) e
 
 -- ---- behind the marker there is no other, and no COMPONENTS OF
-
-not_both : (b : Bool) → b ≡ true → b ≡ false → ⊥
-not_both b e f = let c : true ≡ false = sym e ∙ f in cc
 
 no_second : (m at : ℕ) (b : Before) (r : Room) → b.marked ≡ true → Holds (λ s. ⊥) (marker_at m at b r)
 no_second m at b r e = choose _ b.marked _ _ (λ h. record { told = tt }) (λ h. absurd (not_both b.marked e h))

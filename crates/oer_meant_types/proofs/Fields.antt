@@ -10,9 +10,9 @@ use Rattle.oer_module_syntax.specs.Tree.{Assignment, Module}
 use Rattle.oer_module_syntax.specs.Words.{is_useful_class}
 use Rattle.oer_module_text.specs.Errors.{place_in, told_by}
 use Rattle.oer_module_types.specs.Fields.{has_field, is_open, is_open_by}
-use Rattle.oer_module_values.specs.Errors.{Error as Told}
 use Rattle.oer_module_values.specs.Looks.{own}
 use Rattle.oer_module_values.specs.Types.{Referent, answered, held, referred}
+use Rattle.oer_meant_leaves.proofs.Results.{text_told}
 use Rattle.oer_meant_types.proofs.Holding.{Holds, choose, once}
 use Rattle.oer_meant_types.specs.Types.{HasTypeField, defined, useful}
 
@@ -30,10 +30,6 @@ module _ (ms : List Module) (m at : ℕ) (class w : List ℕ) where
   found_defined (Ok f) c is h has = held_defined f _ c is refl h has
   found_defined (Err e) c is h has = absurd (cc)
 
-  told_ok : {A : Type 0} (r : Result A Told) (x : A) → told_by r ≡ Ok x → r ≡ Ok x
-  told_ok (Ok y) x e = cc
-  told_ok (Err y) x e = absurd (cc)
-
   by_assignment : (o : Option Referent) → referred ms (place_in m at) class own ≡ Ok o → is_open_by w o ≡ true → HasTypeField ms m class w
   by_assignment None is has = absurd (cc)
   by_assignment (Some c) is has = found_defined (find ms m class) c refl is has
@@ -42,7 +38,7 @@ module _ (ms : List Module) (m at : ℕ) (class w : List ℕ) where
   is_type_field = choose _ (is_useful_class class) _ _
       (λ known. record { told = λ same. useful known (equal same) })
       (λ other. once _ (told_by (referred ms (place_in m at) class own)) _ (λ c is.
-      record { told = by_assignment c (told_ok (referred ms (place_in m at) class own) c is) }))
+      record { told = by_assignment c (text_told (referred ms (place_in m at) class own) c is) }))
     where
       equal : bytes_eq w (codes "&Type") ≡ true → w ≡ codes "&Type"
       equal same = (bytes_eq-Decides w (codes "&Type")).0 same

@@ -1,6 +1,9 @@
 -- A property holds of a reading if it holds of what is read.
-use Rattle.std.proofs.Common.{◌≡◌, Bool, true, false, Ok, Err, if◌then◌else◌, refl, subst}
+use Rattle.std.proofs.Common.{◌≡◌, Bool, true, false, Ok, Err, if◌then◌else◌, ◌∙◌, refl, subst, sym}
 use Rattle.oer_module_text.specs.Errors.{Read, ◌>>=◌}
+
+pub not_both : (b : Bool) → b ≡ true → b ≡ false → ⊥
+not_both b e f = let c : true ≡ false = sym e ∙ f in cc
 
 abbrev pub Told : {A : Type 0} → (A → Type 0) → Read A → Type 0
 Told P (Ok x) = P x

@@ -1,5 +1,5 @@
 -- A type of a module is one type.
-use Rattle.std.proofs.Common.{◌≡◌, ◌∙◌, ◌≤◌, ◌<◌, ℕ, Option, List, [], ◌∷◌, ◌++◌, Bool, true, false, refl, sym, ap, subst, arith}
+use Rattle.std.proofs.Common.{◌≡◌, ◌∙◌, ◌≤◌, ◌<◌, ℕ, Option, List, [], ◌∷◌, ◌++◌, Bool, refl, sym, ap, subst, arith}
 use Rattle.oer_model.specs.AsnType.{AsnType, sequence_of}
 use Rattle.oer_model.specs.AsnType as asn
 use Rattle.oer_model.specs.Constraints.{any_size}
@@ -20,6 +20,7 @@ use Rattle.oer_meant_leaves.specs.Laws.{LeavesAreSole}
 use Rattle.oer_meant_leaves.specs.Leaves.{IsLeaf, is_bit_string, is_boolean, is_enumerated, is_integer, is_null, is_object_id, is_string}
 use Rattle.oer_meant_values.proofs.SoleParts.{parts_sole}
 use Rattle.oer_meant_values.proofs.SoleTags.{tags_sole}
+use Rattle.oer_meant_types.proofs.Holding.{not_both}
 use Rattle.oer_meant_types.specs.Laws.{TypesAreSole}
 use Rattle.oer_meant_types.specs.Types.{AreTyped, HoldsOthers, IsNeed, IsType, Typed, absent, added, another_typed, by_choice, by_default, by_end, by_field, by_leaf}
 use Rattle.oer_meant_types.specs.Types.{by_list, by_sequence, none_typed, there}
@@ -59,9 +60,6 @@ leaf_shape ms _ gs _ (is_integer m at items ts _ r h) = refl
 leaf_shape ms _ gs _ (is_enumerated m at items ts _ is marked h) = refl
 leaf_shape ms _ gs _ (is_string m at b items ts _ r s _ h k l) = refl
 leaf_shape ms _ gs _ (is_bit_string m at items ts _ r s h k l) = refl
-
-not_both : (b : Bool) → b ≡ true → b ≡ false → ⊥
-not_both b e f = let c : true ≡ false = sym e ∙ f in cc
 
 needs_apart : (n k : Need) (o : Need) → o ≡ n → o ≡ k → (n ≡ k → ⊥) → ⊥
 needs_apart n k o e f h = h (sym e ∙ f)

@@ -1,5 +1,5 @@
 -- The type that is found for a type of a module is the one that it is: by induction on the levels.
-use Rattle.std.proofs.Common.{◌≡◌, ◌∙◌, ◌≤◌, ◌<◌, inl, inr, ℕ, zero, suc, ◌==◌, List, [], ◌∷◌, ◌++◌, Bool, true, false, Option, Some, None, Result, Ok, Err}
+use Rattle.std.proofs.Common.{◌≡◌, ◌∙◌, ◌≤◌, ◌<◌, inl, inr, ℕ, zero, suc, ◌==◌, List, [], ◌∷◌, ◌++◌, Bool, true, false, Option, Some, None, Ok, Err}
 use Rattle.std.proofs.Common.{◌&&◌, ◌+◌, refl, sym, ap, subst, arith, slice_get}
 use Rattle.std.proofs.lemmas.Bool.{leb-false, leb-true}
 use Rattle.oer_model.specs.AsnType.{AsnType}
@@ -17,19 +17,19 @@ use Rattle.oer_module_parts.specs.Automatic.{are_untagged, marks_of}
 use Rattle.oer_module_tags.specs.Alternatives.{alternative_tags, checked, own_tag, own_tags}
 use Rattle.oer_module_tags.specs.Headers.{tags_automatically}
 use Rattle.oer_module_tags.specs.Laws.{AlternativesAreSound}
-use Rattle.oer_module_text.specs.Errors.{Read, place_in, told_by}
+use Rattle.oer_module_text.specs.Errors.{Read, place_in}
 use Rattle.oer_module_text.specs.Room.{Room, new, take_part}
 use Rattle.oer_module_types.specs.Fields.{field_at, field_of, if_open, open_at}
 use Rattle.oer_module_types.specs.Gathered.{Gathered, choice_in, empty, sequence_in}
 use Rattle.oer_module_types.specs.Levels.{end_at, end_type, is_full, times}
 use Rattle.oer_module_types.specs.Types.{braces_at, closed, elements_at, first, included_at, inside_at, list_at, meant_as, nested_at, roots_at, single_at}
 use Rattle.oer_module_types.specs.Types.{single_by, stands_for, structure_at, type_at, type_place, typed}
-use Rattle.oer_module_values.specs.Errors.{Error as Told}
 use Rattle.oer_module_values.specs.Looks.{place_of}
 use Rattle.oer_module_values.proofs.References.{none_left-nil}
 use Rattle.oer_module_values.specs.Laws.{TypesAreSound as MeaningsAreSound}
 use Rattle.oer_module_values.specs.Types.{Given, Meaning, Means, TypeIn, meaning, type_in}
 use Rattle.oer_units.specs.declared.tagging.Tag.{Tag}
+use Rattle.oer_meant_leaves.proofs.Results.{text_told}
 use Rattle.oer_meant_leaves.specs.Laws.{LeavesAreSound}
 use Rattle.oer_meant_types.proofs.Elements.{Fits, Included, NoneIncluded, Roots, RootsSound, Types, TypesSound, parted, rooted_are}
 use Rattle.oer_meant_types.proofs.Fields.{is_type_field}
@@ -67,10 +67,6 @@ module _ (ms : List Module) where
 
 -- ---- what is meant
 
-told_ok : {A : Type 0} (r : Result A Told) (x : A) → told_by r ≡ Ok x → r ≡ Ok x
-told_ok (Ok y) x e = cc
-told_ok (Err y) x e = absurd (cc)
-
 -- the SEQUENCE that a type is
 abbrev IsSequenceOf : Tree → Option Elements → Type 0
 IsSequenceOf t None = Unit {0}
@@ -99,7 +95,7 @@ module _ (leaves : LeavesAreSound) (defaults : DefaultsAreSound) (meanings : Mea
     (ms : List Module) (nesting : ℕ) where
   means : (t : TypeIn) (u : Meaning) → stands_for ms t ≡ Ok u → Means ms t.«module» t.type u.of u.given
   unfolding stands_for
-  means t u is = meanings ms t.«module» t.type u.of u.given (told_ok (meaning ms t) u is)
+  means t u is = meanings ms t.«module» t.type u.of u.given (text_told (meaning ms t) u is)
 
   -- ---- types that hold no other
 

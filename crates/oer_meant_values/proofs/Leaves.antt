@@ -49,7 +49,8 @@ use Rattle.oer_meant_leaves.specs.Laws.{EnumerationsAreSound, RangesAreEffective
 use Rattle.oer_meant_leaves.specs.Ranges.{IsRange}
 use Rattle.oer_meant_values.specs.Values.{AreArcs, no_arcs, another_arc, AreBits, no_bits, another_bit, AreOfSize, HasItem, has_item, IsNumberOf, this_item, another_item}
 use Rattle.oer_meant_values.specs.Values.{IsOf, is_true, is_false, is_null, is_number, is_item, are_octets, are_ones, are_digits, are_names, is_text, are_arcs}
-use Rattle.oer_meant_values.proofs.Apart.{bind_ok, else_ok, front_ok, limited_ok, limits_bind, limits_told, read_ok, same_ok, then_ok, then_some, told_ok}
+use Rattle.oer_meant_leaves.proofs.Results.{limit_step, limit_told, text_limited, text_read, text_step, text_told}
+use Rattle.oer_meant_values.proofs.Apart.{else_ok, front_ok, same_ok, then_ok, then_some}
 
 -- ---- OBJECT IDENTIFIER
 
@@ -64,15 +65,15 @@ or_too_wide_ok p (Some k) n h = cc
 arc_is : (p : Place) (v : Value) (r : Room) (x : ℕ × Room) → arc_at p v r ≡ Ok x → (w : List ℕ) × (digits_in v ≡ Some w) × (arc_of w ≡ Some x.0)
 unfolding arc_at
 arc_is p v r x h =
-    let w = bind_ok (or_no_text p (digits_in v)) _ x h in
-    let n = bind_ok (or_too_wide p (arc_of w.0)) _ x w.2 in
+    let w = text_step (or_no_text p (digits_in v)) _ x h in
+    let n = text_step (or_too_wide p (arc_of w.0)) _ x w.2 in
     (w.0, or_no_text_ok p (digits_in v) w.0 w.1, or_too_wide_ok p (arc_of w.0) n.0 n.1 ∙ ap Some (front_ok n.0 _ x n.2))
 
 each_arc : (p : Place) (vs : Parts) (r : Room) (x : List ℕ × Room) → some_arcs p vs r ≡ Ok x → AreArcs vs x.0
 each_arc p no_parts r x h = subst (AreArcs no_parts) (front_ok [] r x h) no_arcs
 each_arc p (part v vs) r x h =
-    let a = bind_ok (arc_at p v r) _ x h in
-    let s = bind_ok (some_arcs p vs a.0.1) _ x a.2 in
+    let a = text_step (arc_at p v r) _ x h in
+    let s = text_step (some_arcs p vs a.0.1) _ x a.2 in
     let one = arc_is p v r a.0 a.1 in
     subst (AreArcs (part v vs)) (front_ok (a.0.0 ∷ s.0.0) s.0.1 x s.2)
     (another_arc v vs one.0 a.0.0 s.0.0 one.1 one.2 (each_arc p vs a.0.1 s.0 s.1))
@@ -148,8 +149,8 @@ module _ (ms : List Module) (enumerated : EnumerationsAreSound) where
   item_is : (g : Governor) (p : Place) (w : List ℕ) (z : ℤ) → item_number ms g p w ≡ Ok z → HasItem ms w z g.«module» g.type
   unfolding item_number
   item_is g p w z h =
-      let b = bind_ok (numbered_items ms (type_in g.«module» g.type)) _ z h in
-      let e = bind_ok (enumeration_by ms g.«module» g.type) _ b.0 b.1 in
+      let b = text_step (numbered_items ms (type_in g.«module» g.type)) _ z h in
+      let e = text_step (enumeration_by ms g.«module» g.type) _ b.0 b.1 in
       item_in w z g.«module» g.type e.0 e.1
       (ap (number_named w) (same_ok e.0.items b.0 e.2) ∙ numbered_by p (number_named w b.0) z b.2)
 
@@ -164,8 +165,8 @@ module _ (ms : List Module) (enumerated : EnumerationsAreSound) where
       → HasItem ms w z h.«module» h.type × HasItem ms w z g.«module» g.type
   unfolding number_in_both
   item_in_both g h p w z is =
-      let y = bind_ok (item_number ms h p w) _ z is in
-      let x = bind_ok (item_number ms g p w) _ z y.2 in
+      let y = text_step (item_number ms h p w) _ z is in
+      let x = text_step (item_number ms g p w) _ z y.2 in
       let e = agree p y.0 x.0 z x.2 in
       (item_is h p w z (y.1 ∙ ap Ok e.0), item_is g p w z (x.1 ∙ ap Ok e.1))
 
@@ -208,9 +209,9 @@ module _ (ms : List Module) where
       → i.number ≡ o → amount_bit ms p most (place_in m at) o ≡ Ok n → Bit m most is w n
   amount_is p m most is w n at i None there is_given h = absurd (cc)
   amount_is p m most is w n at i (Some a) there is_given h =
-      let b = bind_ok (told_by (whole_at ms (place_in m at) a)) _ n h in
+      let b = text_step (told_by (whole_at ms (place_in m at) a)) _ n h in
       let e = within_is p most (short b.0) n b.2 in
-      let d = counted ms (record { place = place_in m at; governor = bare m; amount = a }) b.0 (told_ok _ b.0 b.1) in
+      let d = counted ms (record { place = place_in m at; governor = bare m; amount = a }) b.0 (text_told _ b.0 b.1) in
       record {
         it = i;
         given = a;
@@ -244,8 +245,8 @@ module _ (ms : List Module) where
       → AreBits ms m most is more ns
   bits_are p m most is no_members ns h = subst (AreBits ms m most is no_members) (same_ok [] ns h) no_bits
   bits_are p m most is (member vs more) ns h =
-      let n = bind_ok (bit_named ms p m most is vs) _ ns h in
-      let l = bind_ok (bit_numbers ms p m most is more) _ ns n.2 in
+      let n = text_step (bit_named ms p m most is vs) _ ns h in
+      let l = text_step (bit_numbers ms p m most is more) _ ns n.2 in
       let b = named_bit p m most is vs n.0 n.1 in
       let q = named_part vs b.0 b.1 in
       let bit = b.2 in
@@ -257,8 +258,8 @@ module _ (ms : List Module) where
     sizes_are : (t : TypeIn) (p : Place) (s : Span) (n : ℕ) → size_limits ms t ≡ Ok s → fixed_size p s ≡ Ok n → AreOfSize ms t.«module» t.type n
     unfolding size_limits
     sizes_are t p s n h is =
-        let u = limits_bind (limits.told_by (meaning ms t)) _ s h in
-        let f = found ms 255 t [] u.0 (limits_told _ u.0 u.1) in
+        let u = limit_step (limits.told_by (meaning ms t)) _ s h in
+        let f = found ms 255 t [] u.0 (limit_told _ u.0 u.1) in
         let e = one_size_is p s.low s.high n is in
         let same : s ≡ record { low = Some (pos n); high = Some (pos n) } = λ i. record { low = e.0 i; high = e.1 i } in
         record {
@@ -289,15 +290,15 @@ module _ (ms : List Module) (t : TypeIn) (g h : Governor) (p : Place) (r : Room)
 
   pub integer : (v : Value) → h.kind ≡ Integer → integer_at ms t p (single v) r ≡ Ok x → Is v
   integer (atom at (amount a)) k is =
-      let z = bind_ok (told_by (number_at ms t p a)) _ x is in
-      let d = numbered_under ms t.«module» t.type p a z.0 (told_ok _ z.0 z.1) in
+      let z = text_step (told_by (number_at ms t p a)) _ x is in
+      let d = numbered_under ms t.«module» t.type p a z.0 (text_told _ z.0 z.1) in
       subst (IsOf ms t.«module» t.type g p.«module» h (atom at (amount a))) (front_ok (int z.0) _ x z.2)
       (is_number t.«module» p.«module» at t.type g h a d.0 z.0 k d.1 d.2)
   integer v k is = absurd (cc)
 
   pub enumerated : EnumerationsAreSound → (v : Value) → h.kind ≡ Enumerated → enumerated_at ms g h p (single v) r ≡ Ok x → Is v
   enumerated law (atom at (amount (named w steps))) k is =
-      let z = bind_ok (number_in_both ms g h p w) _ x is in
+      let z = text_step (number_in_both ms g h p w) _ x is in
       let b = item_in_both ms law g h p w z.0 z.1 in
       subst (IsOf ms t.«module» t.type g p.«module» h (atom at (amount (named w steps)))) (front_ok (enum z.0) _ x z.2)
       (is_item t.«module» p.«module» at t.type g h w steps z.0 k b.0 b.1)
@@ -325,14 +326,14 @@ module _ (ms : List Module) (t : TypeIn) (g h : Governor) (p : Place) (r : Room)
   some_names : RangesAreEffective → (at : ℕ) (more : Members) → h.kind ≡ Bits → some_bits ms t p h more r ≡ Ok x → Is (braces at more)
   unfolding bits_of
   some_names law at more k is =
-      let b = bind_ok (bits_of h) _ x is in
-      let c = bind_ok (in_module h.«module» (items_at Unsigned (kept h.items))) _ b.0 b.1 in
-      let s = bind_ok (limited_by (size_limits ms t)) _ x b.2 in
-      let n = bind_ok (fixed_size p s.0) _ x s.2 in
-      let l = bind_ok (bit_numbers ms p h.«module» n.0 b.0 more) _ x n.2 in
-      let sized = sizes_are ms law t p s.0 n.0 (limited_ok _ s.0 s.1) n.1 in
+      let b = text_step (bits_of h) _ x is in
+      let c = text_step (in_module h.«module» (items_at Unsigned (kept h.items))) _ b.0 b.1 in
+      let s = text_step (limited_by (size_limits ms t)) _ x b.2 in
+      let n = text_step (fixed_size p s.0) _ x s.2 in
+      let l = text_step (bit_numbers ms p h.«module» n.0 b.0 more) _ x n.2 in
+      let sized = sizes_are ms law t p s.0 n.0 (text_limited _ s.0 s.1) n.1 in
       let read : items_at Unsigned (kept h.items) ≡ Ok (b.0, c.0.1) =
-      read_ok h.«module» _ c.0 c.1 ∙ ap (λ is. Ok (is, c.0.1)) (same_ok c.0.0 b.0 c.2) in
+      text_read h.«module» _ c.0 c.1 ∙ ap (λ is. Ok (is, c.0.1)) (same_ok c.0.0 b.0 c.2) in
       subst (IsOf ms t.«module» t.type g p.«module» h (braces at more)) {x = bit_list (bits_from l.0 0 n.0)} (front_ok (bit_list (bits_from l.0 0 n.0)) _ x l.2)
       (are_names t.«module» p.«module» at n.0 t.type g h b.0 c.0.1 more l.0 k read sized (bits_are ms p h.«module» n.0 b.0 more l.0 l.1))
 
@@ -354,7 +355,7 @@ module _ (ms : List Module) (t : TypeIn) (g h : Governor) (p : Place) (r : Room)
   object_parts at no_parts k is = absurd (cc)
   object_parts at (part v no_parts) k is = absurd (cc)
   object_parts at (part v (part w vs)) k is =
-      let s = bind_ok (some_arcs p (part v (part w vs)) (put (codes "{") r)) _ x is in
+      let s = text_step (some_arcs p (part v (part w vs)) (put (codes "{") r)) _ x is in
       subst (IsOf ms t.«module» t.type g p.«module» h (braces at (member (part v (part w vs)) no_members))) (front_ok (oid s.0.0) _ x s.2)
       (are_arcs t.«module» p.«module» at t.type g h v w vs s.0.0 k (each_arc p (part v (part w vs)) (put (codes "{") r) s.0 s.1))
 

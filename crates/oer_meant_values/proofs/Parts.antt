@@ -24,7 +24,8 @@ use Rattle.oer_units.specs.declared.tagging.Tag.{Tag}
 use Rattle.oer_meant_values.specs.Parts.{Part, part, AreAdded, none_added, another_added, IsRoot, no_more, up_to_marker, another, included, AreParts}
 use Rattle.oer_meant_values.specs.Parts.{no_parts, behind_marker, another_part, included_parts}
 use Rattle.oer_meant_values.specs.Values.{IsAlternative, this_part, another_part as another_alternative}
-use Rattle.oer_meant_values.proofs.Apart.{bind_ok, front_ok, same_ok, told_ok}
+use Rattle.oer_meant_leaves.proofs.Results.{text_step, text_told}
+use Rattle.oer_meant_values.proofs.Apart.{front_ok, same_ok}
 
 -- a part as the code has it
 abbrev pub seen : Part → Component
@@ -93,7 +94,7 @@ module _ (ms : List Module) (f : Included) (f_includes : IncludesThose ms f) (m 
   listed : (l : Listing) (at : ℕ) (w : List ℕ) (t : Tree) (need : Need) (cs : List Component) (r : Room) (x : List Component × Room)
       → inner_at f l (component at w t need) cs r ≡ Ok x → x.0 ≡ cs ++ seen (part l.«module» l.marked w t need) ∷ []
   listed l at w t need cs r x h =
-      let b = bind_ok (take_part (place_in l.«module» at) r) _ x h in sym (front_ok _ b.0 x b.2)
+      let b = text_step (take_part (place_in l.«module» at) r) _ x h in sym (front_ok _ b.0 x b.2)
 
   none_past : (es : Elements) (cs : List Component) (r : Room) (x : List Component × Room) → elements_at f (past m) es cs r ≡ Ok x → cs ≡ x.0
   none_past no_elements cs r x h = front_ok cs r x h
@@ -109,7 +110,7 @@ module _ (ms : List Module) (f : Included) (f_includes : IncludesThose ms f) (m 
       record { parts = []; root = up_to_marker m at ts es; are = none_behind cs x.0 (none_past es cs r x h) }
   roots (element (group at gs) es) cs r x h = absurd (cc)
   roots (element (components_of at t) es) cs r x h =
-      let b = bind_ok (f (place_in m at) t cs r) _ x h in
+      let b = text_step (f (place_in m at) t cs r) _ x h in
       let i = f_includes (place_in m at) t cs r b.0 b.1 in
       let more = roots es b.0.0 b.0.1 x b.2 in
       record {
@@ -118,7 +119,7 @@ module _ (ms : List Module) (f : Included) (f_includes : IncludesThose ms f) (m 
         are = both_behind cs b.0.0 x.0 i.parts more.parts i.are more.are;
       }
   roots (element (component at w t need) es) cs r x h =
-      let b = bind_ok (inner_at f (root_of m) (component at w t need) cs r) _ x h in
+      let b = text_step (inner_at f (root_of m) (component at w t need) cs r) _ x h in
       let more = roots es b.0.0 b.0.1 x b.2 in
       record {
         parts = part m false w t need ∷ more.parts;
@@ -133,7 +134,7 @@ module _ (ms : List Module) (f : Included) (f_includes : IncludesThose ms f) (m 
   adds (element (group at gs) es) cs r x h = absurd (cc)
   adds (element (components_of at t) es) cs r x h = absurd (cc)
   adds (element (component at w t need) es) cs r x h =
-      let b = bind_ok (inner_at f (additions m) (component at w t need) cs r) _ x h in
+      let b = text_step (inner_at f (additions m) (component at w t need) cs r) _ x h in
       let more = adds es b.0.0 b.0.1 x b.2 in
       record {
         parts = part m true w t need ∷ more.parts;
@@ -149,7 +150,7 @@ module _ (ms : List Module) (f : Included) (f_includes : IncludesThose ms f) (m 
       record { parts = more.parts; marked = true; all = behind_marker at ts es more.parts more.added; are = more.are }
   has (element (group at gs) es) cs r x h = absurd (cc)
   has (element (components_of at t) es) cs r x h =
-      let b = bind_ok (f (place_in m at) t cs r) _ x h in
+      let b = text_step (f (place_in m at) t cs r) _ x h in
       let i = f_includes (place_in m at) t cs r b.0 b.1 in
       let more = has es b.0.0 b.0.1 x b.2 in
       record {
@@ -159,7 +160,7 @@ module _ (ms : List Module) (f : Included) (f_includes : IncludesThose ms f) (m 
         are = both_behind cs b.0.0 x.0 i.parts more.parts i.are more.are;
       }
   has (element (component at w t need) es) cs r x h =
-      let b = bind_ok (inner_at f (whole m) (component at w t need) cs r) _ x h in
+      let b = text_step (inner_at f (whole m) (component at w t need) cs r) _ x h in
       let more = has es b.0.0 b.0.1 x b.2 in
       record {
         parts = part m false w t need ∷ more.parts;
@@ -178,11 +179,11 @@ sequence_is p v es h = absurd (cc)
 module _ (ms : List Module) where
   meant_includes : (f : Included) → IncludesThose ms f → IncludesThose ms (meant_at ms f)
   meant_includes f f_includes p t cs r x h =
-      let u = bind_ok (told_by (meaning ms (type_in p.«module» t))) _ x h in
-      let s = bind_ok (take_part p r) _ x u.2 in
-      let e = bind_ok (included_by p (sequence_of u.0.of.type)) _ x s.2 in
+      let u = text_step (told_by (meaning ms (type_in p.«module» t))) _ x h in
+      let s = text_step (take_part p r) _ x u.2 in
+      let e = text_step (included_by p (sequence_of u.0.of.type)) _ x s.2 in
       let i = sequence_is p u.0.of.type e.0 e.1 in
-      let n = is_found ms 255 (type_in p.«module» t) [] u.0 (told_ok _ u.0 u.1) in
+      let n = is_found ms 255 (type_in p.«module» t) [] u.0 (text_told _ u.0 u.1) in
       let more = roots ms f f_includes u.0.of.«module» e.0 cs s.0 x e.2 in
       record {
         there = u.0.of.«module»;
@@ -299,10 +300,10 @@ module _ (ms : List Module) where
       → Alternate ms g w x.0
   unfolding alternative_at
   alternative_is p g w r x h =
-      let e = bind_ok (elements_of p g.type) _ x h in
-      let t = bind_ok (alternative_tags ms g.«module» e.0) _ x e.2 in
-      let c = bind_ok (components_at ms g.«module» e.0 r) _ x t.2 in
-      let a = bind_ok (alternative_in p t.0 c.0.0 (index_of 0 w c.0.0)) _ x c.2 in
+      let e = text_step (elements_of p g.type) _ x h in
+      let t = text_step (alternative_tags ms g.«module» e.0) _ x e.2 in
+      let c = text_step (components_at ms g.«module» e.0 r) _ x t.2 in
+      let a = text_step (alternative_in p t.0 c.0.0 (index_of 0 w c.0.0)) _ x c.2 in
       let i = elements_are p g.type e.0 e.1 in
       let all = components_are ms g.«module» e.0 r c.0 c.1 in
       let one = chosen p w all.parts t.0 a.0 (ap (λ cs. alternative_in p t.0 cs (index_of 0 w cs)) (sym all.are) ∙ a.1) in

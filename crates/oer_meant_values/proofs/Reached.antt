@@ -23,7 +23,8 @@ use Rattle.oer_module_values.specs.Looks.{path_of}
 use Rattle.oer_module_values.specs.Numbers.{place_of_first}
 use Rattle.oer_module_values.specs.Types.{Given, Means, Referent, Refers, TypeIn, meaning, referred, type_in}
 use Rattle.oer_meant_values.specs.Reaching.{Governs, Reaches, Writes, no_name, own_name, through}
-use Rattle.oer_meant_values.proofs.Apart.{bind_ok, read_ok, same_ok, then_ok, told_ok}
+use Rattle.oer_meant_leaves.proofs.Results.{text_read, text_step, text_told}
+use Rattle.oer_meant_values.proofs.Apart.{same_ok, then_ok}
 
 -- ---- kinds
 
@@ -70,8 +71,8 @@ module _ (ms : List Module) where
   pub governs : (p : Place) (m : ℕ) (t : Tree) (g : Governor) → governor_at ms p (type_in m t) ≡ Ok g → Governs ms m t g
   unfolding governor_at
   governs p m t g h =
-      let b = bind_ok (told_by (meaning ms (type_in m t))) _ g h in
-      let f = found ms 255 (type_in m t) [] b.0 (told_ok _ b.0 b.1) in
+      let b = text_step (told_by (meaning ms (type_in m t))) _ g h in
+      let f = found ms 255 (type_in m t) [] b.0 (text_told _ b.0 b.1) in
       governs_by p m t b.0.of f.0 g (governed b.0.of.«module» b.0.of.type) f.2 refl b.2
 
 -- ---- the value that tokens are
@@ -84,8 +85,8 @@ writes_by ts p v w s is h =
 writes : (m : ℕ) (ts : List Spot) (v : Value) → value_in m ts ≡ Ok v → Writes ts v
 unfolding value_in
 writes m ts v h =
-    let b = bind_ok (in_module m (value_at 64 (kept ts))) _ v h in
-    writes_by ts (place_of_first m ts) b.0.0 v b.0.1 (read_ok m (value_at 64 (kept ts)) b.0 b.1) b.2
+    let b = text_step (in_module m (value_at 64 (kept ts))) _ v h in
+    writes_by ts (place_of_first m ts) b.0.0 v b.0.1 (text_read m (value_at 64 (kept ts)) b.0 b.1) b.2
 
 -- ---- the value for which a name stands
 
@@ -103,8 +104,8 @@ module _ (ms : List Module) where
   body_stands p m n w steps k (set_body t ts) s refer h = absurd (cc)
   body_stands p m n w steps k (class_body fs ts) s refer h = absurd (cc)
   body_stands p m n w steps k (value_body t ts) s refer h =
-      let b = bind_ok (governor_at ms p (type_in n t) >>= of_kind p k) _ s h in
-      let c = bind_ok (governor_at ms p (type_in n t)) _ b.0 b.1 in
+      let b = text_step (governor_at ms p (type_in n t) >>= of_kind p k) _ s h in
+      let c = text_step (governor_at ms p (type_in n t)) _ b.0 b.1 in
       let e = then_ok (same_kind k c.0.kind) (Ok c.0) _ b.0 c.2 in
       let g = same_ok c.0 b.0 e.1 in
       subst (Stands ms m w steps k) (same_ok _ s b.2) (record {
@@ -125,8 +126,8 @@ module _ (ms : List Module) where
       → Stands ms p.«module» w steps k s
   unfolding valued
   stands p w steps k s h =
-      let b = bind_ok (told_by (referred ms p w (path_of steps))) _ s h in
-      referent_stands p w steps k b.0 s (told_ok _ b.0 b.1) b.2
+      let b = text_step (told_by (referred ms p w (path_of steps))) _ s h in
+      referent_stands p w steps k b.0 s (text_told _ b.0 b.1) b.2
 
   -- what is reached from the tokens to which a value leads is reached from it; it is reached itself where it leads to none
   abbrev pub Leads : ℕ → Governor → Value → Option Source → Type 0
@@ -141,7 +142,7 @@ module _ (ms : List Module) where
   named_leads at w steps p g true o is h =
       subst (Leads p.«module» g (atom at (amount (named w steps)))) (same_ok None o h) (own_name p.«module» at g w steps is)
   named_leads at w steps p g false o is h =
-      let b = bind_ok (valued ms p g.kind w (path_of steps)) _ o h in
+      let b = text_step (valued ms p g.kind w (path_of steps)) _ o h in
       let s = stands p w steps g.kind b.0 b.1 in
       let onto : Leads p.«module» g (atom at (amount (named w steps))) (Some b.0) =
       λ v x k i wrote on. through p.«module» at b.0.«module» k g b.0.governor i w steps b.0.spots s.from v x is s.refer s.governed_by s.same wrote on in
@@ -149,7 +150,7 @@ module _ (ms : List Module) where
 
   pub leads : (p : Place) (g : Governor) (v : Value) (o : Option Source) → reference_at ms p g v ≡ Ok o → Leads p.«module» g v o
   leads p g (atom at (amount (named w steps))) o h =
-      let b = bind_ok (is_own g w (path_of steps)) _ o h in named_leads at w steps p g b.0 o b.1 b.2
+      let b = text_step (is_own g w (path_of steps)) _ o h in named_leads at w steps p g b.0 o b.1 b.2
   leads p g v o h = subst (Leads p.«module» g v) (same_ok None o h) (no_name p.«module» g v refl)
 
 -- ---- the whole way
@@ -174,8 +175,8 @@ module _ (ms : List Module) where
       → step ms s ≡ Ok o → after (walk ms n) s o ≡ Ok l → Walked ms s l
   unfolding step
   walked_by n s l o more is h =
-      let v = bind_ok (value_in s.«module» s.spots) _ o is in
-      let r = bind_ok (reference_at ms (source_place s) s.governor v.0) _ o v.2 in
+      let v = text_step (value_in s.«module» s.spots) _ o is in
+      let r = text_step (reference_at ms (source_place s) s.governor v.0) _ o v.2 in
       walked_on n s l v.0 r.0 more (writes s.«module» s.spots v.0 v.1) (leads ms (source_place s) s.governor v.0 r.0 r.1)
       (ap (λ x. after (walk ms n) s x) (same_ok _ o r.2) ∙ h)
 
@@ -183,4 +184,4 @@ module _ (ms : List Module) where
   pub walked : (n : ℕ) (s : Source) (l : Literal) → walk ms n s ≡ Ok l → Walked ms s l
   unfolding walk
   walked zero s l h = absurd (cc)
-  walked (suc n) s l h = let b = bind_ok (step ms s) _ l h in walked_by n s l b.0 (λ u is. walked n u l is) b.1 b.2
+  walked (suc n) s l h = let b = text_step (step ms s) _ l h in walked_by n s l b.0 (λ u is. walked n u l is) b.1 b.2

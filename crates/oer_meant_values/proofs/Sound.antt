@@ -32,7 +32,8 @@ use Rattle.oer_meant_values.specs.Parts.{Part}
 use Rattle.oer_meant_values.specs.Reaching.{Governs, Reaches}
 use Rattle.oer_meant_values.specs.Values.{ArePlaces, no_more, in_root, in_additions, not_in_root, not_in_additions, AreValues, no_more_values, another_value}
 use Rattle.oer_meant_values.specs.Values.{AreValue, IsNext, IsOf, IsValue, is_choice, is_list, is_sequence, is_value}
-use Rattle.oer_meant_values.proofs.Apart.{bind_ok, front_ok, same_ok, then_ok}
+use Rattle.oer_meant_leaves.proofs.Results.{text_step}
+use Rattle.oer_meant_values.proofs.Apart.{front_ok, same_ok, then_ok}
 use Rattle.oer_meant_values.proofs.Leaves.{bit_string, boolean, characters, enumerated, integer, name_is, null, object_identifier, octet_string}
 use Rattle.oer_meant_values.proofs.Parts.{alternative_is, components_are, elements_are, seen}
 use Rattle.oer_meant_values.proofs.Reached.{Leads, governs, leads, walked}
@@ -79,7 +80,7 @@ entries_are : (p : Place) (more : Members) (before after : List Entry) → entri
 entries_are p no_members before after h =
     record { own = []; are = no_entries; is = sym (same_ok before after h) ∙ sym (append-nil before) }
 entries_are p (member vs more) before after h =
-    let e = bind_ok (entry_at p vs) _ after h in
+    let e = text_step (entry_at p vs) _ after h in
     let i = entry_is p vs e.0 e.1 in
     let rest = entries_are p more (before ++ e.0 ∷ []) after e.2 in
     record {
@@ -162,14 +163,14 @@ module _ (ms : List Module) (k : ℕ) (q : Part) (ps : List Part) (f g : Filled)
 module _ (ms : List Module) (value : Valued) (values_are : ValuesAre ms value) where
   inner : (t : TypeIn) (m : ℕ) (v : Value) (r : Room) (x : AsnValue × Room) → inner_at value t m v r ≡ Ok x
       → IsValue ms t.«module» t.type m v x.0
-  inner t m v r x h = let s = bind_ok (take_part (value_place m v) r) _ x h in values_are t m v s.0 x s.2
+  inner t m v r x h = let s = text_step (take_part (value_place m v) r) _ x h in values_are t m v s.0 x s.2
 
   -- ---- SEQUENCE
 
   one_given : (k : ℕ) (q : Part) (v : Value) (f : Filled) (r : Room) (x : Filled × Room) → slot_by value k (seen q) (Some v) f r ≡ Ok x
       → (y : AsnValue) × IsValue ms q.«module» q.type k v y × (x.0 ≡ with_value q.added (Some y) f)
   one_given k q v f r x h =
-      let b = bind_ok (inner_at value (type_in q.«module» q.type) k v (put_name f.any q.name r)) _ x h in
+      let b = text_step (inner_at value (type_in q.«module» q.type) k v (put_name f.any q.name r)) _ x h in
       (b.0.0, inner (type_in q.«module» q.type) k v (put_name f.any q.name r) b.0 b.1, sym (front_ok _ b.0.1 x b.2))
 
   filled : (k : ℕ) (ps : List Part) (more : Members) (es : List Entry) (ss : List Slot) (f : Filled) (r : Room) (x : Filled × Room)
@@ -184,7 +185,7 @@ module _ (ms : List Module) (value : Valued) (values_are : ValuesAre ms value) w
         added_is = ap (λ g. g.added) (sym e) ∙ sym (append-nil f.added);
       }
   filled k (q ∷ ps) _ _ _ f r x (is_there e es c cs ss named_it fills) (another_entry at w v more d ds w_is v_is are) h =
-      let b = bind_ok (slot_by value k (seen q) (Some e.value) f r) _ x h in
+      let b = text_step (slot_by value k (seen q) (Some e.value) f r) _ x h in
       let one = one_given k q e.value f r b.0 b.1 in
       let rest = filled k ps more es ss b.0.0 b.0.1 x fills are b.2 in
       one_here ms k q ps f x.0 q.added at w v more one.0 refl (w_is ∙ named_it)
@@ -204,13 +205,13 @@ module _ (ms : List Module) (value : Valued) (values_are : ValuesAre ms value) w
       → g.kind ≡ Sequence → sequence_at value ms p g more r ≡ Ok x → IsOf ms m t o p.«module» g (braces at more) x.0
   unfolding empty
   in_sequence p g at more r x m t o kind h =
-      let e = bind_ok (elements_of p g.type) _ x h in
-      let c = bind_ok (components_at ms g.«module» e.0 r) _ x e.2 in
-      let s = bind_ok (slots_in p c.0.0 more) _ x c.2 in
-      let y = bind_ok (filled_at value p.«module» s.0 empty (put (codes "{") c.0.1)) _ x s.2 in
+      let e = text_step (elements_of p g.type) _ x h in
+      let c = text_step (components_at ms g.«module» e.0 r) _ x e.2 in
+      let s = text_step (slots_in p c.0.0 more) _ x c.2 in
+      let y = text_step (filled_at value p.«module» s.0 empty (put (codes "{") c.0.1)) _ x s.2 in
       let i = elements_are p g.type e.0 e.1 in
       let all = components_are ms g.«module» e.0 r c.0 c.1 in
-      let d = bind_ok (entries_at p more []) _ s.0 s.1 in
+      let d = text_step (entries_at p more []) _ s.0 s.1 in
       let given = subst (λ cs. Give d.0 cs s.0) {x = c.0.0} {y = map seen all.parts} all.are (all_given p d.0 c.0.0 s.0 d.2) in
       let places = filled p.«module» all.parts more d.0 s.0 empty (put (codes "{") c.0.1) y.0 given (all_entries p more d.0 d.1) y.1 in
       subst (IsOf ms m t o p.«module» g (braces at more)) {x = seq (places_from places.root) (places_from places.added) []}
@@ -235,8 +236,8 @@ module _ (ms : List Module) (value : Valued) (values_are : ValuesAre ms value) w
       record { own = []; are = no_more_values t.«module» p.«module» t.type; is = sym (front_ok before r x h) ∙ sym (append-nil before) }
   each_item p t (member no_parts more) before r x h = absurd (cc)
   each_item p t (member (part v no_parts) more) before r x h =
-      let b = bind_ok (item_by value p (member_place p (part v no_parts)) t (Some v) before r) _ x h in
-      let y = bind_ok (inner_at value t p.«module» v (put_comma (has_any before) r)) _ b.0 b.1 in
+      let b = text_step (item_by value p (member_place p (part v no_parts)) t (Some v) before r) _ x h in
+      let y = text_step (inner_at value t p.«module» v (put_comma (has_any before) r)) _ b.0 b.1 in
       let rest = each_item p t more b.0.0 b.0.1 x b.2 in
       record {
         own = y.0.0 ∷ rest.own;
@@ -249,7 +250,7 @@ module _ (ms : List Module) (value : Valued) (values_are : ValuesAre ms value) w
       (r : Room) (x : AsnValue × Room) (m : ℕ) (t : Tree) (o : Governor) → g.kind ≡ SequenceOf → g.type ≡ trees.list_of from b sized ss w i
       → list_at value p (type_in g.«module» i) more r ≡ Ok x → IsOf ms m t o p.«module» g (braces at more) x.0
   in_list p g at from b sized ss w i more r x m t o kind is h =
-      let y = bind_ok (items_at value p (type_in g.«module» i) more [] (put (codes "{") r)) _ x h in
+      let y = text_step (items_at value p (type_in g.«module» i) more [] (put (codes "{") r)) _ x h in
       let l = each_item p (type_in g.«module» i) more [] (put (codes "{") r) y.0 y.1 in
       subst (IsOf ms m t o p.«module» g (braces at more)) (ap (λ l. items (values_from l)) (sym l.is) ∙ front_ok _ _ x y.2)
       (is_list m p.«module» at from t i o g b sized ss w more (values_from l.own) kind is l.are)
@@ -266,9 +267,9 @@ module _ (ms : List Module) (value : Valued) (values_are : ValuesAre ms value) w
   choice_is : (p : Place) (g : Governor) (v : Value) (r : Room) (x : AsnValue × Room) (m : ℕ) (t : Tree) (o : Governor)
       → g.kind ≡ Choice → choice_by value ms p g v r ≡ Ok x → IsOf ms m t o p.«module» g v x.0
   choice_is p g (choice at w v) r x m t o kind h =
-      let b = bind_ok (alternative_at ms p g w r) _ x h in
+      let b = text_step (alternative_at ms p g w r) _ x h in
       let a = alternative_is ms p g w r b.0 b.1 in
-      let y = bind_ok (inner_at value b.0.0.of p.«module» v (put (codes " : ") (put w b.0.1))) _ x b.2 in
+      let y = text_step (inner_at value b.0.0.of p.«module» v (put (codes " : ") (put w b.0.1))) _ x b.2 in
       let of_it = subst (λ (u : TypeIn). IsValue ms u.«module» u.type p.«module» v y.0.0) a.of_it (inner b.0.0.of p.«module» v (put (codes " : ") (put w b.0.1)) y.0 y.1) in
       subst (IsOf ms m t o p.«module» g (choice at w v)) (front_ok (chosen b.0.0.tag y.0.0) _ x y.2)
       (is_choice m p.«module» at a.at t o g a.word a.elements a.constraints a.parts a.marked a.tags w v a.one b.0.0.tag y.0.0 kind a.is a.all
@@ -314,7 +315,7 @@ module _ (ms : List Module) (value : Valued) (values_are : ValuesAre ms value) w
         let l : Literal = record { place = p; governor = g; value = v } in
         value_of t p.«module» g v l x.0 governed on (literal (record { of = t; governor = g }) l r x h)
     found t g p v (Some u) r x governed on h =
-        let l = bind_ok (walk ms 255 u) _ x h in
+        let l = text_step (walk ms 255 u) _ x h in
         let w = walked ms 255 u l.0 l.1 in
         value_of t p.«module» g v l.0 x.0 governed (on w.read l.0.value l.0.place.«module» l.0.governor w.written w.reaches)
         (literal (record { of = t; governor = g }) l.0 r x l.2)
@@ -322,8 +323,8 @@ module _ (ms : List Module) (value : Valued) (values_are : ValuesAre ms value) w
     governed_value : (t : TypeIn) (p : Place) (v : Value) (r : Room) (x : AsnValue × Room) → governed_at value ms t p v r ≡ Ok x
         → IsValue ms t.«module» t.type p.«module» v x.0
     governed_value t p v r x h =
-        let g = bind_ok (governor_at ms p t) _ x h in
-        let o = bind_ok (reference_at ms p g.0 v) _ x g.2 in
+        let g = text_step (governor_at ms p t) _ x h in
+        let o = text_step (reference_at ms p g.0 v) _ x g.2 in
         found t g.0 p v o.0 r x (governs ms p t.«module» t.type g.0 g.1) (leads ms p g.0 v o.0 o.1) o.2
 
     -- tokens in a module are a value of a type
@@ -332,7 +333,7 @@ module _ (ms : List Module) (value : Valued) (values_are : ValuesAre ms value) w
         → AreValue ms t.«module» t.type m ts x.0
     tokens t g m ts r x governed h =
         let u : Source = record { «module» = m; governor = g; spots = ts } in
-        let l = bind_ok (walk ms 255 u) _ x h in
+        let l = text_step (walk ms 255 u) _ x h in
         let w = walked ms 255 u l.0 l.1 in
         record {
           read = w.read;
@@ -360,7 +361,7 @@ module _ (ms : List Module) (ranges : RangesAreEffective) (enumerations : Enumer
       → AreValue ms t.«module» t.type m ts x.0
   unfolding default_at
   default_is t m ts r x h =
-      let g = bind_ok (governor_at ms (place_of_first m ts) t) _ x h in
+      let g = text_step (governor_at ms (place_of_first m ts) t) _ x h in
       tokens ms (value_at ms 31) (all_levels 31) ranges enumerations t g.0 m ts r x
       (governs ms (place_of_first m ts) t.«module» t.type g.0 g.1) g.2
 
