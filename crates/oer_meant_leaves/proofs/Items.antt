@@ -35,7 +35,7 @@ module _ (ms : List Module) where
       let denoted = counted ms (record { place = place_in m i.at; governor = bare m; amount = a }) s.0 s.1 in
       subst (λ x. HaveNumbers ms m (i ∷ is) (x ∷ os)) (same_ok s.2) (with i a s.0 is os e denoted more)
 
-  given_have : (m : ℕ) (is : List Item) (os : List (Option ℤ)) → given_numbers ms m is ≡ Ok os → HaveNumbers ms m is os
+  pub given_have : (m : ℕ) (is : List Item) (os : List (Option ℤ)) → given_numbers ms m is ≡ Ok os → HaveNumbers ms m is os
   given_have m [] os h = subst (HaveNumbers ms m []) (same_ok h) no_items
   given_have m (i ∷ is) os h =
       let a = value_step (given_number ms m i) _ os h in

@@ -20,7 +20,7 @@ amount_or_none : {A : Type 0} (o : Option Amount) (a : Amount) → o ≡ None �
 amount_or_none o a e f = absurd (cc)
 
 module _ (ms : List Module) (m : ℕ) where
-  have_sole : (is : List Item) (xs ys : List (Option ℤ)) → HaveNumbers ms m is xs → HaveNumbers ms m is ys → xs ≡ ys
+  pub have_sole : (is : List Item) (xs ys : List (Option ℤ)) → HaveNumbers ms m is xs → HaveNumbers ms m is ys → xs ≡ ys
   have_sole _ _ _ no_items no_items = refl
   have_sole _ _ _ (without i is xs e h) (without _ _ ys f j) = ap (λ l. None ∷ l) (have_sole is xs ys h j)
   have_sole _ _ _ (without i is xs e h) (with _ a n _ ys f d j) = amount_or_none i.number a e f

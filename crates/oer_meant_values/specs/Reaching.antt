@@ -26,8 +26,9 @@ module _ (ms : List Module) where
     pub means : Means ms m t of given
     pub is : governed of.«module» of.type ≡ Some g
 
-  -- A value in a module, which a type governs, is that of a module and another type: itself, if it is no name, or a name that the
-  -- type itself tells; else that of the assignment for which the name stands, of a type of the same kind.
+  -- Which value one in a module stands for, each with the type that governs it. A value that is no name stands for itself, and so does
+  -- a name that the type has itself, as that of an item. Another name stands for what the value of its assignment does, whose type has
+  -- the same kind.
   pub data Reaches : ℕ → Governor → Value → ℕ → Governor → Value → Type 0 where
     no_name : (m : ℕ) (g : Governor) (v : Value) → name_in v ≡ None → Reaches m g v m g v
     own_name : (m at : ℕ) (g : Governor) (w : List ℕ) (steps : List Spot) → is_own g w (path_of steps) ≡ Ok true

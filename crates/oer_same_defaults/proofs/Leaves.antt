@@ -1,5 +1,5 @@
 -- What governs a value of a type of the notation.
-use Rattle.std.proofs.Common.{◌≡◌, ℕ, List, Bool, false, Option, Some, Ok, ℤ, refl, ap, ◌∙◌}
+use Rattle.std.proofs.Common.{◌≡◌, ℕ, List, Bool, false, Option, Some, Ok, ℤ, refl, sym, ap, ◌∙◌}
 use Rattle.oer_lexer.specs.Token as notation
 use Rattle.oer_lexer.specs.declared.leaf.LeafWord.{LeafWord}
 use Rattle.oer_lexer.specs.declared.leaf.LeafWord.TheVariants as leaf_word
@@ -15,7 +15,7 @@ use Rattle.oer_module_syntax.specs.declared.word.Builtin.TheVariants as bi
 use Rattle.oer_module_text.specs.Errors.{told_by, ◌>>=◌}
 use Rattle.oer_module_values.specs.Errors as told
 use Rattle.oer_module_values.specs.Numbers as numbers
-use Rattle.oer_module_values.specs.Types.{Meaning, meaning, type_in}
+use Rattle.oer_module_values.specs.Types.{Meaning, TypeIn, meaning, type_in}
 use Rattle.oer_notation.specs.Grammar.{IsLeaf, nothing_behind, bounds_behind, items_behind, size_behind}
 use Rattle.oer_notation.specs.Reading.{Known}
 use Rattle.oer_same_names.specs.Meant.{IsBuilt, IsMeant}
@@ -70,10 +70,11 @@ pub record Governs (L : LeafType) (g : Governor) : Type 0 where
   pub kind_is : g.kind ≡ leaf_kind L
   pub items_are : g.items ≡ tree.items
 
-pub record Governed (ms : List Module) (L : LeafType) (t : Tree) : Type 0 where
+pub record Governed (ms : List Module) (L : LeafType) (t : Tree) (u : TypeIn) : Type 0 where
   pub governor : Governor
   pub is : (p : Place) → governor_at ms p (type_in 0 t) ≡ Ok governor
   pub governs : Governs L governor
+  pub of_is : type_in governor.«module» governor.type ≡ u
 
 governor_of : (ms : List Module) (t : Tree) (m : Meaning) (at : ℕ) (k : LeafWord) (items constraints : List Spot) (x : Kind) → meaning ms (type_in 0 t) ≡ Ok m
     → m.of ≡ type_in 0 (plain at (builtin k) items constraints) → kind_of (builtin k) ≡ Some x → (p : Place)
@@ -84,7 +85,7 @@ governor_of ms t m at k items constraints x h of e p =
     ∙ ap (λ u. or_refused p (governed u.«module» u.type)) of
     ∙ ap (λ o. or_refused p (governed_by 0 (plain at (builtin k) items constraints) o)) e
 
-pub leaf_governed : (ms : List Module) (ks : List Known) (L : LeafType) (t : Tree) (m : Meaning) → meaning ms (type_in 0 t) ≡ Ok m → IsMeant ks (leaf L) m → Governed ms L t
+pub leaf_governed : (ms : List Module) (ks : List Known) (L : LeafType) (t : Tree) (m : Meaning) → meaning ms (type_in 0 t) ≡ Ok m → IsMeant ks (leaf L) m → Governed ms L t m.of
 leaf_governed ms ks L t m h i =
     let l = leaf_tree i.says.says i.built in
     let e = word_kind l.word L l.behind l.leaf_is in
@@ -96,6 +97,7 @@ leaf_governed ms ks L t m h i =
         kind_is = refl;
         items_are = refl;
       };
+      of_is = sym (i.of ∙ ap (type_in 0) l.is);
     }
 
 -- what governs a number of an INTEGER

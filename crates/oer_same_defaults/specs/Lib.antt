@@ -1,1 +1,2 @@
+pub mod Tame
 pub mod Laws

@@ -183,10 +183,13 @@ place_values : {place : ℕ} {items : List NamedNumber} {os : List (Option ℤ)}
 place_values no_more = refl
 place_values (one_more {place} by_place more) = ap (λ l. pos place ∷ l) (place_values more)
 
--- The numbers that the reader of modules finds are those of the items.
+-- The numbers that X.680 gives them are those of the items.
+pub numbers_are : (numbered : Bool) (items : List NamedNumber) (os qs : List (Option ℤ)) (ns : List ℤ) → AreGiven numbered 0 items (os ++ qs)
+    → AreNumbered os qs ns → ns ≡ map (λ i. i.number) items
+numbers_are true items os qs ns g has = let a = both true os qs (all_given g) in numbers_given os qs ns has a.front a.behind ∙ own_values g
+numbers_are false items os qs ns g has = let a = both false os qs (all_given g) in numbers_counted os qs ns has a.front a.behind ∙ place_values g
+
+-- So are those that the reader of modules finds.
 pub numbers_same : (numbered : Bool) (items : List NamedNumber) (os qs : List (Option ℤ)) (ns : List ℤ) → AreGiven numbered 0 items (os ++ qs)
     → number_items os qs ≡ Ok ns → ns ≡ map (λ i. i.number) items
-numbers_same true items os qs ns g h =
-    let a = both true os qs (all_given g) in numbers_given os qs ns (numbers_sound os qs ns h) a.front a.behind ∙ own_values g
-numbers_same false items os qs ns g h =
-    let a = both false os qs (all_given g) in numbers_counted os qs ns (numbers_sound os qs ns h) a.front a.behind ∙ place_values g
+numbers_same numbered items os qs ns g h = numbers_are numbered items os qs ns g (numbers_sound os qs ns h)

@@ -1,6 +1,7 @@
 pub mod Telling
 pub mod Whole
 mod Counted
+mod Widths
 mod Items
 mod Named
 mod Same

@@ -39,7 +39,7 @@ bind_ok (Err e) f b h = absurd (cc)
 pub same_ok : {A E : Type 0} {x y : A} → ◌≡◌ {A = Result A E} (Ok x) (Ok y) → x ≡ y
 same_ok h = cc
 
-told_ok : {A : Type 0} (r : Result A ToldError) (x : A) → told_by r ≡ Ok x → r ≡ Ok x
+pub told_ok : {A : Type 0} (r : Result A ToldError) (x : A) → told_by r ≡ Ok x → r ≡ Ok x
 told_ok (Ok y) x h = ap Ok (same_ok h)
 told_ok (Err e) x h = absurd (cc)
 

@@ -1,2 +1,3 @@
 pub mod Told
+pub mod Ordinary
 pub mod Laws

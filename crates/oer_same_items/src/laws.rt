@@ -2,7 +2,8 @@
 ghost use Rattle.oer_same_items.specs.Laws.{HasItem, SameEnumerated, SameItem, SameItems};
 
 /// The items of an ENUMERATED have the same names and numbers in a module, in the same order, and there is an extension marker
-/// in both or in neither. They are rejected only for a limit of the reader of modules.
+/// in both or in neither. They are rejected only for a limit of the reader of modules (`IsLimit`); and those that
+/// X.680, 20 numbers (`AreOrdinary`) not for their numbers.
 pub fn items_are_the_same()
     ensures { SameItems }
 {}

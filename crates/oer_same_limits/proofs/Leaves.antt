@@ -91,7 +91,7 @@ listed_takes m e r n is =
 abbrev Counts : List NamedNumber → Numbered → Type 0
 Counts items e = length e.items ≡ length items
 
-counted_by : (items : List NamedNumber) (marker : Bool) (r : Read Numbered) → Tells (λ (e : Numbered). (map as_named e.items ≡ items) × (is_some e.marker ≡ marker)) r → Goes r
+counted_by : (items : List NamedNumber) (marker : Bool) (r : Read Numbered) → Tells false (λ (e : Numbered). (map as_named e.items ≡ items) × (is_some e.marker ≡ marker)) r → Goes r
     → Stays (Counts items) r
 counted_by items marker (Ok e) h g = record { given = sym (length-map e.items as_named) ∙ ap length h.0 }
 counted_by items marker (Err e) h g = record { given = g.given }
@@ -119,7 +119,7 @@ module _ (same_items : SameItems) (ms : List Module) where
       let nodes : leaf_nodes L ≡ suc (length x.items) = ap leaf_nodes x.is in
       let room : r.parts ≡ n + length x.items = omega (arith, e, nodes) in
       bind (Counts x.items) _ (numbered_at ms q ss) _
-      (counted_by x.items x.marker (numbered_at ms q ss) (same_items x.items x.marker ts ss spelt keeps ms q) (numbered_goes ms q ss)) (λ e count.
+      (counted_by x.items x.marker (numbered_at ms q ss) (same_items false x.items x.marker ts ss spelt keeps ms q (λ on. absurd (cc))) (numbered_goes ms q ss)) (λ e count.
       listed_by q x.items r n room e count)
 
   -- ---- each word

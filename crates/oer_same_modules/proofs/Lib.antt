@@ -1,1 +1,2 @@
+mod Odd
 mod Modules

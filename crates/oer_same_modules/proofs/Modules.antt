@@ -1,12 +1,14 @@
 -- From the type of a tree to that of a Name in a module.
-use Rattle.std.proofs.Common.{◌≡◌, ◌∙◌, ◌==◌, ◌≤◌, ℕ, zero, suc, List, [], ◌∷◌, ◌++◌, false, Option, Some, None, Result, Ok, Err, refl, sym, ap, subst, arith}
+use Rattle.std.proofs.Common.{◌≡◌, ◌∙◌, ◌==◌, ◌≤◌, ℕ, zero, suc, List, [], ◌∷◌, ◌++◌, Bool, true, false, Option, Some, None, Result, Ok, Err, refl, sym, ap, subst, arith}
 use Rattle.std.specs.Prelude.{map, slice_get}
 use Rattle.std.specs.List.{All}
 use Rattle.std.specs.Option.{option_map_or}
 use Rattle.oer_model.specs.AsnType.{AsnType}
 use Rattle.oer_model.specs.FaultTest.{first_fault}
 use Rattle.oer_model.specs.Nodes.{type_nodes}
+use Rattle.oer_model.specs.WellFormed.{IsWellFormed}
 use Rattle.oer_model.specs.declared.fault.SchemaFault.{SchemaFault}
+use Rattle.oer_model.specs.declared.fault.SchemaFault.TheVariants.{BoundOrder, SizeOrder}
 use Rattle.oer_module_lexer.specs.Lexing.{lex}
 use Rattle.oer_module_names.specs.Finding.{find_anywhere}
 use Rattle.oer_module_names.specs.Tables.{assignments_in}
@@ -16,7 +18,7 @@ use Rattle.oer_module_places.specs.Laws.{PlacesRise}
 use Rattle.oer_module_places.specs.Rising.{Rise}
 use Rattle.oer_module_syntax.specs.Modules.{modules_of}
 use Rattle.oer_module_syntax.specs.Tree.{Assignment, Module, Tree}
-use Rattle.oer_module_text.specs.Errors.{Read, error, place_in, unresolved}
+use Rattle.oer_module_text.specs.Errors.{Read, Why, error, place_in, too_long, unresolved}
 use Rattle.oer_module_values.specs.Errors.{not_a_type}
 use Rattle.oer_module_text.specs.Room.{Room, new}
 use Rattle.oer_module_types.specs.Types.{type_at, typed}
@@ -29,24 +31,28 @@ use Rattle.oer_modules.specs.Nesting.{Typed, else_less, is_over, most, typed_by,
 use Rattle.oer_modules.specs.Schemas.{name_place, placed_type, schema_by, schema_of_modules, sound_by, sound_in}
 use Rattle.oer_modules.specs.Texts.{Library, no_modules, read_each, with_modules, with_read, with_text}
 use Rattle.oer_modules.specs.Texts.{◌>>=◌ as ◌>>=ᵗ◌}
-use Rattle.oer_notation.specs.Grammar.{IsDefined}
+use Rattle.oer_notation.specs.Grammar.{AreWellFormed, IsDefined, later_definition, this_definition}
+use Rattle.oer_notation.specs.Laws.{ParseAllSound}
 use Rattle.oer_notation.specs.Reading.{Known, find}
 use Rattle.oer_notation.proofs.WordTable.{find_sound}
-use Rattle.oer_same_items.specs.Told.{Tells}
+use Rattle.oer_same_items.specs.Told.{IsLimit, Tells}
 use Rattle.oer_same_limits.proofs.Counted.{is_within}
 use Rattle.oer_same_limits.proofs.Telling.{Gives, bind, choose}
 use Rattle.oer_same_limits.specs.Laws.{TakesItsParts}
-use Rattle.oer_same_limits.specs.Takes.{Takes}
+use Rattle.oer_same_limits.specs.Takes.{IsOther, Takes}
 use Rattle.oer_same_names.proofs.Found.{assignments_home}
 use Rattle.oer_same_names.specs.Home.{IsFront, IsHome}
 use Rattle.oer_same_names.specs.Laws.{FindsDefinition, NamesAreFoundAnywhere}
 use Rattle.oer_same_names.specs.Meant.{Defines, IsTreeBehind}
 use Rattle.oer_same_tokens.specs.Same.{has_odd_space}
+use Rattle.oer_same_trees.specs.Defining.{AssignmentsSay, IsPlain}
 use Rattle.oer_same_trees.specs.Laws.{AreRead, ReadsParsed, lexed}
 use Rattle.oer_same_trees.specs.Says.{Says}
-use Rattle.oer_same_types.specs.Laws.{SameType}
+use Rattle.oer_same_types.specs.Laws.{SameType, UnsizedIsSound}
+use Rattle.oer_same_types.specs.Ordinary.{IsOrdinary}
 use Rattle.oer_same_types.specs.Unsized.{unsized}
-use Rattle.oer_same_modules.specs.Laws.{IsModuleOf, IsReason, SameAsParser, SaysOf}
+use Rattle.oer_same_modules.proofs.Odd.{nothing_odd, only_long}
+use Rattle.oer_same_modules.specs.Laws.{IsModuleOf, IsOrdinaryIn, IsParsersLimit, OrdinaryAsParser, SameAsParser, SaysOf}
 
 -- ---- a type that stands in none
 
@@ -57,46 +63,36 @@ record IsDefinition (ms : List Module) (ks : List Known) (home : IsHome ms ks) (
   there : IsTreeBehind home.home.assignments known t
   says : Says known T t
 
--- what two laws say of one type
-both_told : (T : AsnType) (n : ℕ) (r : Room) (p : Read (AsnType × Room)) → Tells (λ (x : AsnType × Room). x.0 ≡ unsized T) p
-    → (first_fault (unsized T) ≡ None → Takes n r p) → Gives (IsReason (unsized T)) (λ (x : AsnType × Room). x.0 ≡ unsized T) p
-both_told T n r (Ok x) h k = record { given = h }
-both_told T n r (Err e) h k = record { given = (h, k) }
+-- the type without the sizes of its lists, or such a reason
+abbrev GivesType : {B : Type 0} → (Why → Type 0) → AsnType → Read (AsnType × B) → Type 0
+GivesType {B} R T r = Gives R (λ (y : AsnType × B). y.0 ≡ unsized T) r
 
--- the type without the sizes of its lists, or a reason for which it may be rejected
-abbrev GivesType : AsnType → Read Typed → Type 0
-GivesType T r = Gives (IsReason (unsized T)) (λ (y : Typed). y.0 ≡ unsized T) r
-
-typed_same : (type_same : SameType) (parts : TakesItsParts) (ms : List Module) (ks : List Known) (T : AsnType) (t : Tree) (n : ℕ) (home : IsHome ms ks)
-    → Rise 0 home.home.assignments → IsDefinition ms ks home T t → 1 ≤ n → GivesType T (typed ms n (type_in 0 t))
+typed_same : (R : Why → Type 0) (ms : List Module) (T : AsnType) (t : Tree) (n : ℕ) → GivesType R T (type_at ms n 32 [] (type_in 0 t) new)
+    → GivesType R T (typed ms n (type_in 0 t))
 unfolding typed
-typed_same type_same parts ms ks T t n home rise d once =
-    bind (λ (x : AsnType × Room). x.0 ≡ unsized T) (λ (y : Typed). y.0 ≡ unsized T) (type_at ms n 32 [] (type_in 0 t) new) _
-    (both_told T (type_nodes T) new (type_at ms n 32 [] (type_in 0 t) new)
-    (type_same ms ks d.known T t n 32 new home rise d.front d.there d.says once) (λ sound.
-    let w = is_within T sound in
-    parts ms ks d.known T t n 32 new home rise d.front d.there d.says once w.levels w.parts (omega arith))) (λ x is. record { given = is })
+typed_same R ms T t n h = bind (λ (x : AsnType × Room). x.0 ≡ unsized T) (λ (y : Typed). y.0 ≡ unsized T) (type_at ms n 32 [] (type_in 0 t) new) _ h (λ x is.
+    record { given = is })
 
 -- the most that fits is written out to some nesting
-less_told : (T : AsnType) (r less : Read Typed) → GivesType T r → GivesType T less → GivesType T (else_less r less)
-less_told T (Ok y) less h k = h
-less_told T (Err e) less h k = choose (λ (y : Typed). y.0 ≡ unsized T) (is_over e.why) less (Err e) (λ over. k) (λ other. record { given = h.given })
+less_told : (R : Why → Type 0) (T : AsnType) (r less : Read Typed) → GivesType R T r → GivesType R T less → GivesType R T (else_less r less)
+less_told R T (Ok y) less h k = h
+less_told R T (Err e) less h k = choose (λ (y : Typed). y.0 ≡ unsized T) (is_over e.why) less (Err e) (λ over. k) (λ other. record { given = h.given })
 
-most_told : (T : AsnType) (f : ℕ → Read Typed) (k : ℕ) → ((n : ℕ) → 1 ≤ n → GivesType T (f n)) → GivesType T (most f k)
+most_told : (R : Why → Type 0) (T : AsnType) (f : ℕ → Read Typed) (k : ℕ) → ((n : ℕ) → 1 ≤ n → GivesType R T (f n)) → GivesType R T (most f k)
 unfolding most
-most_told T f zero all = all 1 (omega arith)
-most_told T f (suc k) all = less_told T (f (suc (suc k))) (most f k) (all (suc (suc k)) (omega arith)) (most_told T f k all)
+most_told R T f zero all = all 1 (omega arith)
+most_told R T f (suc k) all = less_told R T (f (suc (suc k))) (most f k) (all (suc (suc k)) (omega arith)) (most_told R T f k all)
 
 some_nesting : (n : ℕ) → n == 0 ≡ false → 1 ≤ n
 some_nesting zero h = absurd (cc)
 some_nesting (suc n) h = omega arith
 
-typed_by_same : (type_same : SameType) (parts : TakesItsParts) (ms : List Module) (ks : List Known) (T : AsnType) (t : Tree) (n : ℕ) (home : IsHome ms ks)
-    → Rise 0 home.home.assignments → IsDefinition ms ks home T t → GivesType T (typed_by ms n (type_in 0 t))
+typed_by_same : (R : Why → Type 0) (ms : List Module) (T : AsnType) (t : Tree) (n : ℕ) → ((k : ℕ) → 1 ≤ k → GivesType R T (type_at ms k 32 [] (type_in 0 t) new))
+    → GivesType R T (typed_by ms n (type_in 0 t))
 unfolding usual
-typed_by_same type_same parts ms ks T t n home rise d =
-    choose (λ (y : Typed). y.0 ≡ unsized T) (n == 0) _ _ (λ none. most_told T (λ k. typed ms k (type_in 0 t)) 7 (λ k once. typed_same type_same parts ms ks T t k home rise d once))
-    (λ some. typed_same type_same parts ms ks T t n home rise d (some_nesting n some))
+typed_by_same R ms T t n h =
+    choose (λ (y : Typed). y.0 ≡ unsized T) (n == 0) _ _ (λ none. most_told R T (λ k. typed ms k (type_in 0 t)) 7 (λ k once. typed_same R ms T t k (h k once)))
+    (λ some. typed_same R ms T t n (h n (some_nesting n some)))
 
 -- ---- what a Name stands for
 
@@ -133,35 +129,42 @@ unfolding asked
 asked_alone ms w alone = rw alone refl
 
 -- what is told of a Name, with a place
-abbrev TellsOf : AsnType → Result (Place × AsnType) Cause → Type 0
-TellsOf T (Ok y) = y.1 ≡ unsized T
-TellsOf T (Err c) = IsReason (unsized T) c.why
+abbrev TellsOf : (Why → Type 0) → AsnType → Result (Place × AsnType) Cause → Type 0
+TellsOf R T (Ok y) = y.1 ≡ unsized T
+TellsOf R T (Err c) = R c.why
 
-with_place : (T : AsnType) (p : Place) (r : Read Typed) → GivesType T r → TellsOf T (by_type r >>=ᶜ λ y. Ok (p, y.0))
-with_place T p (Ok y) h = h.given
-with_place T p (Err e) h = h.given
+with_place : (R : Why → Type 0) (T : AsnType) (p : Place) (r : Read Typed) → GivesType R T r → TellsOf R T (by_type r >>=ᶜ λ y. Ok (p, y.0))
+with_place R T p (Ok y) h = h.given
+with_place R T p (Err e) h = h.given
 
-placed_same : (type_same : SameType) (parts : TakesItsParts) (found : NamesAreFoundAnywhere) (ms : List Module) (ks : List Known) (w : List ℕ) (T : AsnType) (n : ℕ)
-    (home : IsHome ms ks) → Rise 0 home.home.assignments → IsDefined w T ks → is_qualified w ≡ false → TellsOf T (placed_type ms w n)
+-- each tree of a definition of this type is given it, or there is such a reason
+abbrev TreesGive : (Why → Type 0) → (ms : List Module) (ks : List Known) → IsHome ms ks → AsnType → Type 0
+TreesGive R ms ks home T = (t : Tree) → IsDefinition ms ks home T t → (k : ℕ) → 1 ≤ k → GivesType R T (type_at ms k 32 [] (type_in 0 t) new)
+
+placed_same : (R : Why → Type 0) (found : NamesAreFoundAnywhere) (ms : List Module) (ks : List Known) (w : List ℕ) (T : AsnType) (n : ℕ)
+    (home : IsHome ms ks) → TreesGive R ms ks home T → IsDefined w T ks → is_qualified w ≡ false → TellsOf R T (placed_type ms w n)
 unfolding placed_type
-placed_same type_same parts found ms ks w T n home rise defined alone =
+placed_same R found ms ks w T n home give defined alone =
     let there = found ms ks w T home defined in
     let x : Found = there.0 in
     let s = assigned ms ks home w T x there.2 in
-    subst (λ r. TellsOf T (by_name r >>=ᶜ λ x. by_type (assigned_type ms x) >>=ᶜ λ t. by_type (typed_by ms n t) >>=ᶜ λ y. Ok (name_place ms x, y.0)))
+    subst (λ r. TellsOf R T (by_name r >>=ᶜ λ x. by_type (assigned_type ms x) >>=ᶜ λ t. by_type (typed_by ms n t) >>=ᶜ λ y. Ok (name_place ms x, y.0)))
     (sym (asked_alone ms w alone ∙ there.1))
-    (subst (λ r. TellsOf T (by_type r >>=ᶜ λ t. by_type (typed_by ms n t) >>=ᶜ λ y. Ok (name_place ms x, y.0))) (sym s.2)
-    (with_place T (name_place ms x) (typed_by ms n (type_in 0 s.0)) (typed_by_same type_same parts ms ks T s.0 n home rise s.1)))
+    (subst (λ r. TellsOf R T (by_type r >>=ᶜ λ t. by_type (typed_by ms n t) >>=ᶜ λ y. Ok (name_place ms x, y.0))) (sym s.2)
+    (with_place R T (name_place ms x) (typed_by ms n (type_in 0 s.0)) (typed_by_same R ms T s.0 n (give s.0 s.1))))
 
 -- ---- a text
 
-sound_same : (ts : List Text) (l : Library) (p : Place) (S U : AsnType) (f : Option SchemaFault) → S ≡ U → first_fault S ≡ f → SaysOf U (sound_by ts l p S f)
-sound_same ts l p S U None is h = is
-sound_same ts l p S U (Some f) is h = ap first_fault (sym is) ∙ h
+-- a type without faults isn't rejected for one
+sound_same : (R : Why → Type 0) (ts : List Text) (l : Library) (p : Place) (S U : AsnType) (f : Option SchemaFault) → S ≡ U → first_fault S ≡ f
+    → first_fault U ≡ None → SaysOf R U (sound_by ts l p S f)
+sound_same R ts l p S U None is h none = is
+sound_same R ts l p S U (Some f) is h none = absurd (let some = sym (ap first_fault is) ∙ h in let e = sym none ∙ some in cc)
 
-sounds : (ts : List Text) (l : Library) (T : AsnType) (r : Result (Place × AsnType) Cause) → TellsOf T r → SaysOf (unsized T) (sound_in ts l r)
-sounds ts l T (Ok y) is = sound_same ts l y.0 y.1 (unsized T) (first_fault y.1) is refl
-sounds ts l T (Err c) limit = limit
+sounds : (R : Why → Type 0) (ts : List Text) (l : Library) (T : AsnType) (r : Result (Place × AsnType) Cause) → TellsOf R T r → first_fault (unsized T) ≡ None
+    → SaysOf R (unsized T) (sound_in ts l r)
+sounds R ts l T (Ok y) is none = sound_same R ts l y.0 y.1 (unsized T) (first_fault y.1) is refl none
+sounds R ts l T (Err c) limit none = limit
 
 text_read : (text : List ℕ) (m : Module) → modules_of 64 (lexed text) ≡ Ok (m ∷ [])
     → read_each 0 (map lex (text ∷ [])) no_modules ≡ Ok (with_modules 0 (m ∷ []) no_modules)
@@ -172,16 +175,20 @@ text_read text m reads = ap (λ r. with_read 0 no_modules r >>=ᵗ read_each 1 [
 of_one : (P : Module → Type 0) (m : Module) → All P (m ∷ []) → P m
 of_one P m all = all 0 m (omega arith)
 
-module_same : (type_same : SameType) (parts : TakesItsParts) (found : NamesAreFoundAnywhere) (rise : PlacesRise) (text name : List ℕ) (ks : List Known) (w : List ℕ) (T : AsnType) (n : ℕ)
-    → AreRead 64 name ks (lexed text) → is_qualified w ≡ false → find ks w ≡ Some T → SaysOf (unsized T) (schema_of_modules (text ∷ []) w n)
+-- the module that is read, alone
+abbrev home_of : (name : List ℕ) (ks : List Known) (m : Module) → IsPlain name m → AssignmentsSay [] ks m.assignments → IsHome (m ∷ []) ks
+home_of name ks m plain says = record { name = name; home = m; alone = refl; plain = plain; says = says }
+
+module_same : (R : Why → Type 0) (found : NamesAreFoundAnywhere) (text name : List ℕ) (ks : List Known) (w : List ℕ) (T : AsnType) (n : ℕ)
+    (read : AreRead 64 name ks (lexed text)) → TreesGive R (read.0 ∷ []) ks (home_of name ks read.0 read.2 read.3) T → is_qualified w ≡ false
+    → find ks w ≡ Some T → first_fault (unsized T) ≡ None → SaysOf R (unsized T) (schema_of_modules (text ∷ []) w n)
 unfolding schema_of_modules
-module_same type_same parts found rise text name ks w T n (m, reads, plain, says) alone defined =
+module_same R found text name ks w T n (m, reads, plain, says) give alone defined none =
     let ts : List Text = text ∷ [] in
     let l : Library = with_modules 0 (m ∷ []) no_modules in
-    let home : IsHome (m ∷ []) ks = record { name = name; home = m; alone = refl; plain = plain; says = says } in
-    let rises : Rise 0 m.assignments = of_one (λ k. Rise 0 k.assignments) m (rise 64 text (m ∷ []) reads) in
-    subst (λ r. SaysOf (unsized T) (schema_by ts w n r)) (sym (text_read text m reads))
-    (sounds ts l T (placed_type (m ∷ []) w n) (placed_same type_same parts found (m ∷ []) ks w T n home rises (find_sound ks w T defined) alone))
+    let home : IsHome (m ∷ []) ks = home_of name ks m plain says in
+    subst (λ r. SaysOf R (unsized T) (schema_by ts w n r)) (sym (text_read text m reads))
+    (sounds R ts l T (placed_type (m ∷ []) w n) (placed_same R found (m ∷ []) ks w T n home give (find_sound ks w T defined) alone) none)
 
 module_read : ReadsParsed → (text name : List ℕ) (ks : List Known) → IsModuleOf text name ks → AreRead 64 name ks (lexed text)
 module_read reads text name ks m =
@@ -189,6 +196,63 @@ module_read reads text name ks m =
     subst (λ (t : List ℕ). AreRead 64 name ks (lexed t)) (sym m.is)
     (reads 64 name ks m.start m.body m.end m.header_is m.parsed m.end_is plain m.unreserved (omega arith) m.reference)
 
-pub same_as_parser : ReadsParsed → NamesAreFoundAnywhere → PlacesRise → SameType → TakesItsParts → SameAsParser
-same_as_parser reads found rise type_same parts text name ks w T n m alone defined =
-    module_same type_same parts found rise text name ks w T n (module_read reads text name ks m) alone defined
+-- ---- the laws
+
+-- the type of a Name that our parser reads is well-formed
+defined_sound : (w : List ℕ) (T : AsnType) (ks : List Known) → AreWellFormed ks → IsDefined w T ks → IsWellFormed T
+defined_sound w _ _ all (this_definition e) = all.0
+defined_sound w T _ all (later_definition {ks = ks} other d) = defined_sound w T ks all.1 d
+
+module _ (parsed : ParseAllSound) (reads : ReadsParsed) (found : NamesAreFoundAnywhere) (rise : PlacesRise) (type_same : SameType) (parts : TakesItsParts)
+    (sound : UnsizedIsSound) (text name : List ℕ) (ks : List Known) (w : List ℕ) (T : AsnType) (n : ℕ) (is : IsModuleOf text name ks)
+    (alone : is_qualified w ≡ false) (defined : find ks w ≡ Some T) where
+  read : AreRead 64 name ks (lexed text)
+  read = module_read reads text name ks is
+
+  well_formed : IsWellFormed T
+  well_formed = defined_sound w T ks (parsed is.body ks is.parsed).1 (find_sound ks w T defined)
+
+  none : first_fault (unsized T) ≡ None
+  none = sound T well_formed
+
+  abbrev home : IsHome (read.0 ∷ []) ks
+  home = home_of name ks read.0 read.2 read.3
+
+  -- what two laws say of one type
+  both_told : (R : Why → Type 0) (o : Bool) (m : ℕ) (r : Room) (p : Read (AsnType × Room)) → ((why : Why) → IsLimit o why → IsOther why → R why)
+      → Tells o (λ (x : AsnType × Room). x.0 ≡ unsized T) p → Takes m r p → GivesType R T p
+  both_told R o m r (Ok x) both h k = record { given = h }
+  both_told R o m r (Err e) both h k = record { given = both e.why h k }
+
+  trees_give : (R : Why → Type 0) (o : Bool) → ((why : Why) → IsLimit o why → IsOther why → R why) → (o ≡ true → IsOrdinary (read.0 ∷ []) ks read.0.assignments T)
+      → TreesGive R (read.0 ∷ []) ks home T
+  trees_give R o both ordinary t d k once =
+      let rises : Rise 0 read.0.assignments = of_one (λ m. Rise 0 m.assignments) read.0 (rise 64 text (read.0 ∷ []) read.1) in
+      let within = is_within T none in
+      both_told R o (type_nodes T) new (type_at (read.0 ∷ []) k 32 [] (type_in 0 t) new) both
+      (type_same o (read.0 ∷ []) ks d.known T t k 32 new home rises d.front d.there d.says once ordinary)
+      (parts (read.0 ∷ []) ks d.known T t k 32 new home rises d.front d.there d.says once within.levels within.parts (omega arith))
+
+  pub parser_same : SaysOf IsParsersLimit (unsized T) (schema_of_modules (text ∷ []) w n)
+  parser_same = module_same IsParsersLimit found text name ks w T n read (trees_give IsParsersLimit false (λ why limit other. (limit, other)) (λ on. absurd (cc)))
+      alone defined none
+
+  ordinary_of : IsOrdinaryIn text ks T → IsOrdinary (read.0 ∷ []) ks read.0.assignments T
+  ordinary_of h = record {
+    few = h.few;
+    standard = h.standard read.0 read.1;
+    sound = nothing_odd T (well_formed.faultless BoundOrder) (well_formed.faultless SizeOrder) h.no_last_end;
+    widths = well_formed.widths;
+  }
+
+  pub ordinary_same : IsOrdinaryIn text ks T → SaysOf (λ why. why ≡ too_long) (unsized T) (schema_of_modules (text ∷ []) w n)
+  ordinary_same h = module_same (λ why. why ≡ too_long) found text name ks w T n read (trees_give (λ why. why ≡ too_long) true only_long (λ on. ordinary_of h))
+      alone defined none
+
+pub same_as_parser : ParseAllSound → ReadsParsed → NamesAreFoundAnywhere → PlacesRise → SameType → TakesItsParts → UnsizedIsSound → SameAsParser
+same_as_parser parsed reads found rise type_same parts sound text name ks w T n is alone defined =
+    parser_same parsed reads found rise type_same parts sound text name ks w T n is alone defined
+
+pub ordinary_as_parser : ParseAllSound → ReadsParsed → NamesAreFoundAnywhere → PlacesRise → SameType → TakesItsParts → UnsizedIsSound → OrdinaryAsParser
+ordinary_as_parser parsed reads found rise type_same parts sound text name ks w T n is alone defined h =
+    ordinary_same parsed reads found rise type_same parts sound text name ks w T n is alone defined h

@@ -32,7 +32,7 @@ NamesAreFoundAnywhere = (ms : List Module) (ks : List Known) (w : List ℕ) (T :
     → (f : Found) × (find_anywhere ms w ≡ Ok f) × FindsDefinition ms ks w T f
 
 -- What is found for a tree that says a type of the notation says this type, and is neither a tag nor a Name. It is the tree itself,
--- or that of a definition before it. Nothing is found only where that takes too many steps.
+-- or that of a definition before it. Nothing is found only where that takes too many steps, and so many definitions stand before it.
 abbrev pub TypesAreMeant : Type 0
 TypesAreMeant = (ms : List Module) (ks known : List Known) (T : AsnType) (t : Tree) (home : IsHome ms ks) → IsFront known ks
     → Says known T t → LeadsToType home.home.assignments ks known T t (meaning ms (type_in 0 t))

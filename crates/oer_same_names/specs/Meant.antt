@@ -1,5 +1,5 @@
 -- What is found for a type and a Name of the notation in a module.
-use Rattle.std.specs.Prelude.{◌≡◌, ◌⊎◌, ◌<◌, ℕ, List, [], ◌∷◌, length, Result, Ok, Err}
+use Rattle.std.specs.Prelude.{◌≡◌, ◌⊎◌, ◌<◌, ◌≤◌, ℕ, List, [], ◌∷◌, length, Result, Ok, Err}
 use Rattle.oer_model.specs.AsnType.{Alternatives, AsnType, no_alternatives, alternative, later}
 use Rattle.oer_module_names.specs.Standing.{IsAt}
 use Rattle.oer_module_syntax.specs.Tree.{Assignment, type_body}
@@ -61,10 +61,14 @@ pub record IsMeantBy (found : List Assignment) (ks known : List Known) (T : AsnT
   pub meant : IsMeant ks T m
   pub leads : LeadsTo found known t meant.says.known meant.tree
 
--- What is found is such a tree; or the way has too many steps.
+-- What is found is such a tree; or so many steps are too few, and then as many definitions stand before the tree.
+abbrev pub LeadsIn : ℕ → List Assignment → List Known → List Known → AsnType → Tree → Result Meaning Error → Type 0
+LeadsIn steps found ks known T t (Ok m) = IsMeantBy found ks known T t m
+LeadsIn steps found ks known T t (Err e) = (e.why ≡ circular) × (steps ≤ length known)
+
+-- The reader takes 255 steps; the first may be to the type behind a tag.
 abbrev pub LeadsToType : List Assignment → List Known → List Known → AsnType → Tree → Result Meaning Error → Type 0
-LeadsToType found ks known T t (Ok m) = IsMeantBy found ks known T t m
-LeadsToType found ks known T t (Err e) = e.why ≡ circular
+LeadsToType found ks known T t r = LeadsIn 254 found ks known T t r
 
 -- the tags of alternatives, in their order
 abbrev pub tags_of : Alternatives → List Tag

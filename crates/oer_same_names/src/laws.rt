@@ -14,7 +14,7 @@ pub fn names_are_found_anywhere()
 
 /// What is found for a tree that says a type of the notation: a tree that says this type and is neither a tag nor a Name. It is the
 /// tree itself, or that of a definition before it. On the way nothing is given but empty constraints. Nothing is found only where the
-/// way has more than 255 steps (`Circular`).
+/// way has more than 255 steps (`Circular`), which takes 254 definitions before the tree.
 pub fn types_are_meant()
     ensures { TypesAreMeant }
 {}

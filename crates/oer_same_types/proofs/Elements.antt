@@ -1,8 +1,10 @@
 -- What is gathered of elements that say components or alternatives, where the types in them are given as they say.
-use Rattle.std.proofs.Common.{◌≡◌, ◌∙◌, ℕ, suc, ◌-◌, ◌+◌, List, [], ◌∷◌, Bool, true, false, Option, Some, None, Ok, refl, sym, ap, subst, arith}
+use Rattle.std.proofs.Common.{◌≡◌, ◌∙◌, ◌⊎◌, ℕ, suc, ◌-◌, ◌+◌, List, [], ◌∷◌, Bool, true, false, Option, Some, None, Ok, inl, inr, refl, sym, ap, subst, arith}
 use Rattle.std.specs.Prelude.{if◌then◌else◌, slice_get}
 use Rattle.oer_model.specs.AsnType.{Additions, Alternatives, AsnType, Fields, addition, alternative, field, later, no_additions, no_alternatives, no_fields}
 use Rattle.oer_model.specs.AsnType as model
+use Rattle.oer_model.specs.WellFormed.{InAdditions, InAlternatives, InFields}
+use Rattle.oer_model.specs.Widths.{AdditionsHaveWidths, AlternativesHaveWidths, FieldsHaveWidths}
 use Rattle.oer_module_names.specs.declared.error.Place.{Place}
 use Rattle.oer_module_places.specs.Rising.{AllLie, Lies}
 use Rattle.oer_module_syntax.specs.Tree.{Assignment, Module, Tree, Element, Elements, element}
@@ -21,7 +23,9 @@ use Rattle.oer_same_names.specs.Meant.{tags_of}
 use Rattle.oer_same_trees.specs.Says.{MayBeOptional, Says, SaysAdditions, SaysComponents, SaysNeed, plain_addition, optional_addition, says_no_components, says_component, says_components_marker, says_none_added, says_added, SaysAlternatives, says_none_left, says_alternative, says_alternatives_marker, SaysLater, says_none_later, says_later, SaysTagged}
 use Rattle.oer_units.specs.declared.tagging.Tag.{Tag}
 use Rattle.oer_same_types.proofs.Clear.{IsClear, clear_of}
+use Rattle.oer_same_types.proofs.Ordinary.{AdditionWidths, OddAdditions, Ordinary, OrdinaryTree}
 use Rattle.oer_same_types.specs.Gathering.{with_additions, with_alternatives, with_fields, with_later}
+use Rattle.oer_same_types.specs.Ordinary.{AreStandard, IsOdd, IsTameNeed}
 use Rattle.oer_same_types.specs.Unsized.{unsized}
 
 abbrev pub Types : Type 0
@@ -53,54 +57,98 @@ first_apart found known at w t n es path c = clear_of (λ low high. AllLie low h
     (λ low high. Lies low high t) found known path c (λ low high l. l.0)
 
 -- each tree that says a type, and that has no place of the path in it, is given it
-abbrev pub TypesSay : List Assignment → List Known → Types → Type 0
-TypesSay found ks type = (known : List Known) (T : AsnType) (t : Tree) (path : List Place) (r : Room) → IsFront known ks → Says known T t
-    → IsApart found known t path → Gives (IsFor T) (type path (type_in 0 t) r)
+abbrev pub TypesSay : Bool → List Module → List Assignment → List Known → Types → Type 0
+TypesSay o ms found ks type = (known : List Known) (T : AsnType) (t : Tree) (path : List Place) (r : Room) → IsFront known ks → Says known T t
+    → IsApart found known t path → (o ≡ true → OrdinaryTree ms T t) → Gives o (IsFor T) (type path (type_in 0 t) r)
 
 -- the same of the types of alternatives, which may have a tag before them
-abbrev pub AlternativesSay : List Assignment → List Known → Types → Type 0
-AlternativesSay found ks type = (known : List Known) (is_tagged : Bool) (place : ℕ) (tag : Tag) (T : AsnType) (t : Tree) (path : List Place)
+abbrev pub AlternativesSay : Bool → List Module → List Assignment → List Known → Types → Type 0
+AlternativesSay o ms found ks type = (known : List Known) (is_tagged : Bool) (place : ℕ) (tag : Tag) (T : AsnType) (t : Tree) (path : List Place)
     (r : Room) → IsFront known ks → SaysTagged known is_tagged place tag T t → IsApart found known t path
-    → Gives (IsFor T) (type path (type_in 0 t) r)
+    → (o ≡ true → OrdinaryTree ms T t) → Gives o (IsFor T) (type path (type_in 0 t) r)
 
 -- each value after DEFAULT that says one is given it
-abbrev pub DefaultsSay : List Module → List Known → Type 0
-DefaultsSay ms ks = (known : List Known) (T : AsnType) (t : Tree) (need : model.Need) (n : Need) (r : Room) → IsFront known ks → Says known T t
-    → SaysNeed T need n → Gives (λ (x : model.Need × Room). x.0 ≡ need) (needed_at ms 0 t n r)
+abbrev pub DefaultsSay : Bool → List Module → List Known → Type 0
+DefaultsSay o ms ks = (known : List Known) (T : AsnType) (t : Tree) (need : model.Need) (n : Need) (r : Room) → IsFront known ks → Says known T t
+    → SaysNeed T need n → (o ≡ true → OrdinaryTree ms T t) → (o ≡ true → IsTameNeed n)
+    → Gives o (λ (x : model.Need × Room). x.0 ≡ need) (needed_at ms 0 t n r)
 
 -- where so is what makes components optional, by the marker
-needed_root : (ms : List Module) (ks : List Known) → DefaultsSay ms ks → (known : List Known) (T : AsnType) (t : Tree) (need : model.Need) (n : Need)
-    (marked : Bool) (at : ℕ) (r : Room) → IsFront known ks → Says known T t → SaysNeed T need n → marked ≡ false
-    → Gives (λ (x : model.Need × Room). x.0 ≡ need) (need_at ms marked 0 at t n r)
+needed_root : (o : Bool) (ms : List Module) (ks : List Known) → DefaultsSay o ms ks → (known : List Known) (T : AsnType) (t : Tree) (need : model.Need) (n : Need)
+    (marked : Bool) (at : ℕ) (r : Room) → IsFront known ks → Says known T t → SaysNeed T need n → marked ≡ false → (o ≡ true → OrdinaryTree ms T t) → (o ≡ true → IsTameNeed n)
+    → Gives o (λ (x : model.Need × Room). x.0 ≡ need) (need_at ms marked 0 at t n r)
 unfolding need_at
-needed_root ms ks defaults known T t need n marked at r front says needs root = choose _ marked _ _ (λ on. absurd (cc (on, root)))
-    (λ off. defaults known T t need n r front says needs)
+needed_root o ms ks defaults known T t need n marked at r front says needs root fits tame = choose _ marked _ _ (λ on. absurd (cc (on, root)))
+    (λ off. defaults known T t need n r front says needs fits tame)
 
-added_one : {n : Need} → MayBeOptional n → (at : ℕ) (r : Room) → Gives (λ (x : model.Need × Room). x.0 ≡ model.may) (added_at 0 at n r)
-added_one plain_addition at r = record { given = refl }
-added_one optional_addition at r = record { given = refl }
+added_one : (o : Bool) {n : Need} → MayBeOptional n → (at : ℕ) (r : Room) → Gives o (λ (x : model.Need × Room). x.0 ≡ model.may) (added_at 0 at n r)
+added_one o plain_addition at r = record { given = refl }
+added_one o optional_addition at r = record { given = refl }
 
-needed_added : (ms : List Module) (t : Tree) (n : Need) (marked : Bool) (at : ℕ) (r : Room) → MayBeOptional n → marked ≡ true
-    → Gives (λ (x : model.Need × Room). x.0 ≡ model.may) (need_at ms marked 0 at t n r)
+needed_added : (o : Bool) (ms : List Module) (t : Tree) (n : Need) (marked : Bool) (at : ℕ) (r : Room) → MayBeOptional n → marked ≡ true
+    → Gives o (λ (x : model.Need × Room). x.0 ≡ model.may) (need_at ms marked 0 at t n r)
 unfolding need_at
-needed_added ms t n marked at r opts behind_marker = choose _ marked _ _ (λ on. added_one opts at r) (λ off. absurd (cc (behind_marker, off)))
+needed_added o ms t n marked at r opts behind_marker = choose _ marked _ _ (λ on. added_one o opts at r) (λ off. absurd (cc (behind_marker, off)))
 
 -- an alternative has no need of its own: what it is makes no difference
-needed_none : (ms : List Module) (t : Tree) (marked : Bool) (at : ℕ) (r : Room) → Gives (λ (x : model.Need × Room). Unit {0}) (need_at ms marked 0 at t must r)
+needed_none : (o : Bool) (ms : List Module) (t : Tree) (marked : Bool) (at : ℕ) (r : Room) → Gives o (λ (x : model.Need × Room). Unit {0}) (need_at ms marked 0 at t must r)
 unfolding need_at
-needed_none ms t marked at r = choose _ marked _ _ (λ on. record { given = tt }) (λ off. record { given = tt })
+needed_none o ms t marked at r = choose _ marked _ _ (λ on. record { given = tt }) (λ off. record { given = tt })
 
 -- one marker may stand there
-marker_passes : (m at : ℕ) (b : Before) (r : Room) → b.marked ≡ false → Passes (marker_at m at b r)
-marker_passes m at b r root = choose _ b.marked _ _ (λ on. absurd (cc (on, root))) (λ off. record { given = tt })
+marker_passes : (o : Bool) (m at : ℕ) (b : Before) (r : Room) → b.marked ≡ false → Passes o (marker_at m at b r)
+marker_passes o m at b r root = choose _ b.marked _ _ (λ on. absurd (cc (on, root))) (λ off. record { given = tt })
 
 -- what is gathered behind the same with the same
 part_same : (o : Option Tag) (w : List ℕ) (n m : model.Need) (S U : AsnType) (g h : Gathered) → g ≡ h → n ≡ m → S ≡ U → with_part o w n S g ≡ with_part o w m U h
 part_same o w n m S U g h before need is =
     ap (with_part o w n S) before ∙ ap (λ k. with_part o w k S h) need ∙ ap (λ V. with_part o w m V h) is
 
-module _ (ms : List Module) (found : List Assignment) (ks : List Known) (type : Types) (types : TypesSay found ks type) (defaults : DefaultsSay ms ks)
-    (roots : Roots) where
+-- ---- what is ordinary in elements that are
+
+abbrev pub OrdinaryComponents : List Module → Fields → Option Additions → Elements → Type 0
+OrdinaryComponents ms fs more es = Ordinary (InFields IsOdd fs ⊎ OddAdditions more) (FieldsHaveWidths fs × AdditionWidths more) (AreStandard ms es)
+
+abbrev pub OrdinaryAdditions : List Module → Additions → Elements → Type 0
+OrdinaryAdditions ms more es = Ordinary (InAdditions IsOdd more) (AdditionsHaveWidths more) (AreStandard ms es)
+
+abbrev pub OrdinaryAlternatives : List Module → Alternatives → Elements → Type 0
+OrdinaryAlternatives ms more es = Ordinary (InAlternatives IsOdd more) (AlternativesHaveWidths more) (AreStandard ms es)
+
+module _ (ms : List Module) (at : ℕ) (w : List ℕ) (T : AsnType) (t : Tree) (n : Need) (es : Elements) where
+  first_component : (need : model.Need) (fs : Fields) (more : Option Additions) → OrdinaryComponents ms (field w need T fs) more (element (component at w t n) es)
+      → OrdinaryTree ms T t
+  first_component need fs more (odd, widths, standard) = ((λ x. odd (inl (inl x))), widths.0.0, standard.0.0)
+
+  later_components : (need : model.Need) (fs : Fields) (more : Option Additions) → OrdinaryComponents ms (field w need T fs) more (element (component at w t n) es)
+      → OrdinaryComponents ms fs more es
+  later_components need fs more (odd, widths, standard) = (rest, (widths.0.1, widths.1), standard.1) where
+    rest : InFields IsOdd fs ⊎ OddAdditions more → ⊥
+    rest (inl x) = odd (inl (inr x))
+    rest (inr x) = odd (inr x)
+
+  first_addition : (more : Additions) → OrdinaryAdditions ms (addition w T more) (element (component at w t n) es) → OrdinaryTree ms T t
+  first_addition more (odd, widths, standard) = ((λ x. odd (inl x)), widths.0, standard.0.0)
+
+  later_additions : (more : Additions) → OrdinaryAdditions ms (addition w T more) (element (component at w t n) es) → OrdinaryAdditions ms more es
+  later_additions more (odd, widths, standard) = ((λ x. odd (inr x)), widths.1, standard.1)
+
+  module _ (g : Tag) (more : Alternatives) where
+    first_alternative : OrdinaryAlternatives ms (alternative w g T more) (element (component at w t n) es) → OrdinaryTree ms T t
+    first_alternative (odd, widths, standard) = ((λ x. odd (inl x)), widths.1, standard.0.0)
+
+    later_alternatives : OrdinaryAlternatives ms (alternative w g T more) (element (component at w t n) es) → OrdinaryAlternatives ms more es
+    later_alternatives (odd, widths, standard) = ((λ x. odd (inr x)), widths.2, standard.1)
+
+    -- the same behind the marker
+    first_later : OrdinaryAlternatives ms (later w g T more) (element (component at w t n) es) → OrdinaryTree ms T t
+    first_later (odd, widths, standard) = ((λ x. odd (inl x)), widths.1, standard.0.0)
+
+    later_later : OrdinaryAlternatives ms (later w g T more) (element (component at w t n) es) → OrdinaryAlternatives ms more es
+    later_later (odd, widths, standard) = ((λ x. odd (inr x)), widths.2, standard.1)
+
+module _ (o : Bool) (ms : List Module) (found : List Assignment) (ks : List Known) (type : Types) (types : TypesSay o ms found ks type)
+    (defaults : DefaultsSay o ms ks) (roots : Roots) where
   -- ---- components of a SEQUENCE: they have no tags
 
   -- what is given of an element: whether the marker is among them, and what is gathered
@@ -112,48 +160,54 @@ module _ (ms : List Module) (found : List Assignment) (ks : List Known) (type : 
 
   component_given : {known : List Known} {T : AsnType} {t : Tree} {need : model.Need} {n : Need} → Says known T t → SaysNeed T need n → IsFront known ks
       → (w : List ℕ) (at : ℕ) (path : List Place) → IsApart found known t path → (b : Before) (g h : Gathered) (r : Room) → b.marked ≡ false → g ≡ h
-      → Gives (Gathers false (with_part None w need (unsized T) h)) (component_at ms type 0 [] path b at w t n g r)
-  component_given {known} {T} {t} {need} {n} says needs front w at path apart b g h r root same_before =
-      bind (IsFor T) _ _ _ (types known T t path _ front says apart) (λ x is.
-      bind (λ (y : model.Need × Room). y.0 ≡ need) _ _ _ (needed_root ms ks defaults known T t need n b.marked at x.1 front says needs root) (λ y same.
+      → (o ≡ true → OrdinaryTree ms T t) → (o ≡ true → IsTameNeed n)
+      → Gives o (Gathers false (with_part None w need (unsized T) h)) (component_at ms type 0 [] path b at w t n g r)
+  component_given {known} {T} {t} {need} {n} says needs front w at path apart b g h r root same_before fits tame =
+      bind (IsFor T) _ _ _ (types known T t path _ front says apart fits) (λ x is.
+      bind (λ (y : model.Need × Room). y.0 ≡ need) _ _ _ (needed_root o ms ks defaults known T t need n b.marked at x.1 front says needs root
+      fits tame) (λ y same.
       record { given = (root, part_same None w y.0 need x.0 (unsized T) g h same_before same is) }))
 
   addition_given : {known : List Known} {T : AsnType} {t : Tree} {n : Need} → Says known T t → MayBeOptional n → IsFront known ks
       → (w : List ℕ) (at : ℕ) (path : List Place) → IsApart found known t path → (b : Before) (g h : Gathered) (r : Room) → b.marked ≡ true → g ≡ h
-      → Gives (Gathers true (with_part None w model.may (unsized T) h)) (component_at ms type 0 [] path b at w t n g r)
-  addition_given {known} {T} {t} {n} says opts front w at path apart b g h r behind_marker same_before =
-      bind (IsFor T) _ _ _ (types known T t path _ front says apart) (λ x is.
-      bind (λ (y : model.Need × Room). y.0 ≡ model.may) _ _ _ (needed_added ms t n b.marked at x.1 opts behind_marker) (λ y same.
+      → (o ≡ true → OrdinaryTree ms T t)
+      → Gives o (Gathers true (with_part None w model.may (unsized T) h)) (component_at ms type 0 [] path b at w t n g r)
+  addition_given {known} {T} {t} {n} says opts front w at path apart b g h r behind_marker same_before fits =
+      bind (IsFor T) _ _ _ (types known T t path _ front says apart fits) (λ x is.
+      bind (λ (y : model.Need × Room). y.0 ≡ model.may) _ _ _ (needed_added o ms t n b.marked at x.1 opts behind_marker) (λ y same.
       record { given = (behind_marker, part_same None w y.0 model.may x.0 (unsized T) g h same_before same is) }))
 
   marker_given : (m at : ℕ) (b : Before) (g h : Gathered) (r : Room) → b.marked ≡ false → g ≡ h
-      → Gives (Gathers true (with_marker h)) (marker_at m at b r >>= λ s. Ok (after true true, with_marker g, s))
-  marker_given m at b g h r root same = bind _ _ (marker_at m at b r) _ (marker_passes m at b r root) (λ s u. record { given = (refl, ap with_marker same) })
+      → Gives o (Gathers true (with_marker h)) (marker_at m at b r >>= λ s. Ok (after true true, with_marker g, s))
+  marker_given m at b g h r root same = bind _ _ (marker_at m at b r) _ (marker_passes o m at b r root) (λ s u. record { given = (refl, ap with_marker same) })
 
   additions_given : {known : List Known} {more : Additions} {es : Elements} → SaysAdditions known more es → IsFront known ks
       → (path : List Place) → AreApart found known es path → (b : Before) (g h : Gathered) (r : Room) → b.marked ≡ true → g ≡ h
-      → Gives (Gathered_as (with_additions more h)) (elements_at ms type roots 0 [] path b es g r)
+      → (o ≡ true → OrdinaryAdditions ms more es) → Gives o (Gathered_as (with_additions more h)) (elements_at ms type roots 0 [] path b es g r)
   unfolding with_additions
-  additions_given says_none_added front path apart b g h r marked same = record { given = same }
-  additions_given {known} (says_added {at} {w} {T} {more} {t} {n} {es} is says opts rest) front path apart b g h r marked same =
+  additions_given says_none_added front path apart b g h r marked same fits = record { given = same }
+  additions_given {known} (says_added {at} {w} {T} {more} {t} {n} {es} is says opts rest) front path apart b g h r marked same fits =
       bind (Gathers true (with_part None w model.may (unsized T) h)) _ _ _
-      (addition_given says opts front w at path (first_apart found known at w t n es path apart) b g h r marked same) (λ x now.
+      (addition_given says opts front w at path (first_apart found known at w t n es path apart) b g h r marked same
+      (λ on. first_addition ms at w T t n es more (fits on))) (λ x now.
       additions_given rest front path (rest_apart found known (component at w t n) es path apart) (behind b x.0) x.1
-      (with_part None w model.may (unsized T) h) x.2 now.0 now.1)
+      (with_part None w model.may (unsized T) h) x.2 now.0 now.1 (λ on. later_additions ms at w T t n es more (fits on)))
 
   pub components_given : {known : List Known} {fs : Fields} {more : Option Additions} {es : Elements} → SaysComponents known fs more es → IsFront known ks
       → (path : List Place) → AreApart found known es path → (b : Before) (g h : Gathered) (r : Room) → b.marked ≡ false → g ≡ h
-      → Gives (Gathered_as (with_fields fs more h)) (elements_at ms type roots 0 [] path b es g r)
+      → (o ≡ true → OrdinaryComponents ms fs more es) → Gives o (Gathered_as (with_fields fs more h)) (elements_at ms type roots 0 [] path b es g r)
   unfolding with_fields
-  components_given says_no_components front path apart b g h r root same = record { given = same }
-  components_given {known} (says_component {at} {w} {T} {need} {fs} {more} {t} {n} {es} is says needs rest) front path apart b g h r root same =
+  components_given says_no_components front path apart b g h r root same fits = record { given = same }
+  components_given {known} (says_component {at} {w} {T} {need} {fs} {more} {t} {n} {es} is says needs rest) front path apart b g h r root same fits =
       bind (Gathers false (with_part None w need (unsized T) h)) _ _ _
-      (component_given says needs front w at path (first_apart found known at w t n es path apart) b g h r root same) (λ x now.
+      (component_given says needs front w at path (first_apart found known at w t n es path apart) b g h r root same
+      (λ on. first_component ms at w T t n es need fs more (fits on)) (λ on. (fits on).2.0.1)) (λ x now.
       components_given rest front path (rest_apart found known (component at w t n) es path apart) (behind b x.0) x.1
-      (with_part None w need (unsized T) h) x.2 now.0 now.1)
-  components_given {known} (says_components_marker {at} {more} {es} rest) front path apart b g h r root same =
+      (with_part None w need (unsized T) h) x.2 now.0 now.1 (λ on. later_components ms at w T t n es need fs more (fits on)))
+  components_given {known} (says_components_marker {at} {more} {es} rest) front path apart b g h r root same fits =
       bind (Gathers true (with_marker h)) _ _ _ (marker_given 0 at b g h r root same) (λ x now.
-      additions_given rest front path (rest_apart found known (marker at []) es path apart) (behind b x.0) x.1 (with_marker h) x.2 now.0 now.1)
+      additions_given rest front path (rest_apart found known (marker at []) es path apart) (behind b x.0) x.1 (with_marker h) x.2 now.0 now.1
+      (λ on. let f = fits on in ((λ x. f.0 (inr x)), f.1.1, f.2.1)))
 
 -- ---- alternatives of a CHOICE
 
@@ -183,7 +237,7 @@ needless : (t : Tag) (w : List ℕ) (n m : model.Need) (U : AsnType) (h : Gather
 unfolding with_part
 needless t w n m U h = refl
 
-module _ (ms : List Module) (found : List Assignment) (ks : List Known) (type : Types) (types : AlternativesSay found ks type) (roots : Roots)
+module _ (o : Bool) (ms : List Module) (found : List Assignment) (ks : List Known) (type : Types) (types : AlternativesSay o ms found ks type) (roots : Roots)
     (gs : List Tag) where
   abbrev Found : Bool → Gathered → After × Gathered × Room → Type 0
   Found marked h x = (x.0.marked ≡ marked) × (x.1 ≡ h)
@@ -193,11 +247,11 @@ module _ (ms : List Module) (found : List Assignment) (ks : List Known) (type : 
 
   alternative_given : {known : List Known} {is_tagged : Bool} {place : ℕ} {t : Tag} {T : AsnType} {tree : Tree} → SaysTagged known is_tagged place t T tree
       → IsFront known ks → (w : List ℕ) (at : ℕ) (path : List Place) → IsApart found known tree path → (b : Before) (g h : Gathered) (r : Room) (p : ℕ)
-      → Stands b p → slice_get gs p ≡ Some t → g ≡ h
-      → Gives (Found b.marked (with_part (Some t) w model.must (unsized T) h)) (component_at ms type 0 gs path b at w tree must g r)
-  alternative_given {known} {is_tagged} {place} {t} {T} {tree} says front w at path apart b g h r p stands tag same =
-      bind (IsFor T) _ _ _ (types known is_tagged place t T tree path _ front says apart) (λ x is.
-      bind _ _ (need_at ms b.marked 0 at tree must x.1) _ (needed_none ms tree b.marked at x.1) (λ y u.
+      → Stands b p → slice_get gs p ≡ Some t → g ≡ h → (o ≡ true → OrdinaryTree ms T tree)
+      → Gives o (Found b.marked (with_part (Some t) w model.must (unsized T) h)) (component_at ms type 0 gs path b at w tree must g r)
+  alternative_given {known} {is_tagged} {place} {t} {T} {tree} says front w at path apart b g h r p stands tag same fits =
+      bind (IsFor T) _ _ _ (types known is_tagged place t T tree path _ front says apart fits) (λ x is.
+      bind _ _ (need_at ms b.marked 0 at tree must x.1) _ (needed_none o ms tree b.marked at x.1) (λ y u.
       record {
         given = (
           refl,
@@ -210,17 +264,17 @@ module _ (ms : List Module) (found : List Assignment) (ks : List Known) (type : 
 
   later_given : {known : List Known} {is_tagged : Bool} {place : ℕ} {more : Alternatives} {es : Elements} → SaysLater known is_tagged place more es → IsFront known ks
       → (path : List Place) → AreApart found known es path → (b : Before) (g h : Gathered) (r : Room) (p : ℕ) → Stands b p
-      → AreTagsFrom gs p (tags_of more) → g ≡ h → Gives (All (with_later more h)) (elements_at ms type roots 0 gs path b es g r)
+      → AreTagsFrom gs p (tags_of more) → g ≡ h → (o ≡ true → OrdinaryAlternatives ms more es) → Gives o (All (with_later more h)) (elements_at ms type roots 0 gs path b es g r)
   unfolding with_later
-  later_given says_none_later front path apart b g h r p stands tags same = record { given = same }
-  later_given {known} (says_later {at} {w} {t} {T} {more} {tree} {es} is says rest) front path apart b g h r p stands tags same =
+  later_given says_none_later front path apart b g h r p stands tags same fits = record { given = same }
+  later_given {known} (says_later {at} {w} {t} {T} {more} {tree} {es} is says rest) front path apart b g h r p stands tags same fits =
       bind (Found b.marked (with_part (Some t) w model.must (unsized T) h)) _ _ _
       (alternative_given says front w at path (first_apart found known at w tree must es path apart) b g h r p stands
-      (tag_here gs (tags_of more) p t tags) same) (λ x now.
+      (tag_here gs (tags_of more) p t tags) same (λ on. first_later ms at w T tree must es t more (fits on))) (λ x now.
       later_given rest front path (rest_apart found known (component at w tree must) es path apart) (behind b x.0) x.1
       (with_part (Some t) w model.must (unsized T) h) x.2 (suc p)
       (subst (λ m. suc b.elements ≡ (if m then suc (suc p) else suc p)) (sym now.0) (next_by b.marked b.elements p stands))
-      (tags_next gs (tags_of more) p t tags) now.1)
+      (tags_next gs (tags_of more) p t tags) now.1 (λ on. later_later ms at w T tree must es t more (fits on)))
 
   -- behind the marker there are later alternatives alone
   marked_later : {known : List Known} {is_tagged : Bool} {place : ℕ} {more : Alternatives} {es : Elements} → SaysLater known is_tagged place more es → (h : Gathered)
@@ -234,27 +288,28 @@ module _ (ms : List Module) (found : List Assignment) (ks : List Known) (type : 
   Marks b h x = (b.marked ≡ false) × (x.0 ≡ after true true) × (x.1 ≡ with_marker h)
 
   marker_found : (m at : ℕ) (b : Before) (g h : Gathered) (r : Room) → b.marked ≡ false → g ≡ h
-      → Gives (Marks b h) (marker_at m at b r >>= λ s. Ok (after true true, with_marker g, s))
-  marker_found m at b g h r root same = bind _ _ (marker_at m at b r) _ (marker_passes m at b r root) (λ s u. record { given = (root, refl, ap with_marker same) })
+      → Gives o (Marks b h) (marker_at m at b r >>= λ s. Ok (after true true, with_marker g, s))
+  marker_found m at b g h r root same = bind _ _ (marker_at m at b r) _ (marker_passes o m at b r root) (λ s u. record { given = (root, refl, ap with_marker same) })
 
   pub alternatives_given : {known : List Known} {is_tagged : Bool} {place : ℕ} {more : Alternatives} {marked : Bool} {es : Elements}
       → SaysAlternatives known is_tagged place more marked es → IsFront known ks
       → (path : List Place) → AreApart found known es path → (b : Before) (g h : Gathered) (r : Room) (p : ℕ) → b.marked ≡ false → Stands b p
-      → AreTagsFrom gs p (tags_of more) → g ≡ h → Gives (All (with_alternatives marked more h)) (elements_at ms type roots 0 gs path b es g r)
+      → AreTagsFrom gs p (tags_of more) → g ≡ h → (o ≡ true → OrdinaryAlternatives ms more es)
+      → Gives o (All (with_alternatives marked more h)) (elements_at ms type roots 0 gs path b es g r)
   unfolding with_alternatives
-  alternatives_given says_none_left front path apart b g h r p root stands tags same = record { given = same }
-  alternatives_given {known} (says_alternative {at} {w} {t} {T} {more} {marker = m} {tree} {es} is says rest) front path apart b g h r p root stands tags same =
+  alternatives_given says_none_left front path apart b g h r p root stands tags same fits = record { given = same }
+  alternatives_given {known} (says_alternative {at} {w} {t} {T} {more} {marker = m} {tree} {es} is says rest) front path apart b g h r p root stands tags same fits =
       bind (Found b.marked (with_part (Some t) w model.must (unsized T) h)) _ _ _
       (alternative_given says front w at path (first_apart found known at w tree must es path apart) b g h r p stands
-      (tag_here gs (tags_of more) p t tags) same) (λ x now.
+      (tag_here gs (tags_of more) p t tags) same (λ on. first_alternative ms at w T tree must es t more (fits on))) (λ x now.
       alternatives_given rest front path (rest_apart found known (component at w tree must) es path apart) (behind b x.0) x.1
       (with_part (Some t) w model.must (unsized T) h) x.2 (suc p) (now.0 ∙ root)
       (subst (λ m. suc b.elements ≡ (if m then suc (suc p) else suc p)) (sym now.0) (next_by b.marked b.elements p stands))
-      (tags_next gs (tags_of more) p t tags) now.1)
-  alternatives_given {known} (says_alternatives_marker {at} {more} {es} rest) front path apart b g h r p root stands tags same =
+      (tags_next gs (tags_of more) p t tags) now.1 (λ on. later_alternatives ms at w T tree must es t more (fits on)))
+  alternatives_given {known} (says_alternatives_marker {at} {more} {es} rest) front path apart b g h r p root stands tags same fits =
       bind (Marks b h) _ _ _ (marker_found 0 at b g h r root same) (λ x now.
-      subst (λ f. Gives (All f) (elements_at ms type roots 0 gs path (behind b x.0) es x.1 x.2)) (marked_later rest h)
+      subst (λ f. Gives o (All f) (elements_at ms type roots 0 gs path (behind b x.0) es x.1 x.2)) (marked_later rest h)
       (later_given rest front path (rest_apart found known (marker at []) es path apart) (behind b x.0) x.1 (with_marker h) x.2 p
-      (ahead b x.0 p root stands now.1) tags now.2)) where
+      (ahead b x.0 p root stands now.1) tags now.2 (λ on. let f = fits on in (f.0, f.1, f.2.1)))) where
         ahead : (b : Before) (a : After) (p : ℕ) → b.marked ≡ false → Stands b p → a ≡ after true true → Stands (behind b a) p
         ahead b a p root stands is = rw is (ap suc (stands ∙ ap (λ m. if m then suc p else p) root))

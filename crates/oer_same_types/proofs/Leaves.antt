@@ -1,12 +1,14 @@
 -- A type that holds no other has in a module the bounds, sizes and items that it has in the notation.
-use Rattle.std.proofs.Common.{◌≡◌, ◌∙◌, ◌^◌, ℕ, ℤ, pos, List, [], ◌∷◌, Bool, true, false, not, ◌&&◌, Option, Some, None, Ok, Err, is_none, refl, sym, ap, subst, arith}
+use Rattle.std.proofs.Common.{◌≡◌, ◌∙◌, ◌^◌, ◌<◌, ℕ, ℤ, pos, List, [], ◌∷◌, Bool, true, false, not, ◌&&◌, Option, Some, None, Ok, Err, is_none, inl, inr, refl, sym, ap, subst, arith}
 use Rattle.std.specs.Prelude.{int_lt, nat_lt, option_and_then, option_map}
+use Rattle.std.proofs.lemmas.Bool.{lt-ltb}
 use Rattle.std.proofs.lemmas.Int.{ints}
 use Rattle.oer_lexer.specs.Token.{Token}
 use Rattle.oer_lexer.specs.declared.leaf.LeafWord.{LeafWord}
 use Rattle.oer_lexer.specs.declared.leaf.LeafWord.TheVariants as leaf_word
 use Rattle.oer_model.specs.AsnType.{AsnType, leaf, integer}
 use Rattle.oer_model.specs.LeafType.{LeafType}
+use Rattle.oer_model.specs.Widths.{HasSizeWidths}
 use Rattle.oer_model.specs.declared.size.Size.{Size}
 use Rattle.oer_module_bounds.specs.Sets.{Span}
 use Rattle.oer_module_leaves.specs.Leaves.{bits_by, counted_at, is_implied, leaf_at, plain_at, sizes_at}
@@ -27,32 +29,35 @@ use Rattle.oer_module_syntax.specs.declared.word.Builtin.TheVariants as bi
 use Rattle.oer_module_text.specs.Errors.{from_limits, limited_by, place_in, ◌>>=◌}
 use Rattle.oer_module_text.specs.Room.{Room}
 use Rattle.oer_module_values.specs.Types.{Given, Meaning, TypeIn, constraints, set}
-use Rattle.oer_notation.specs.Grammar.{AreBounds, IsBracketedSize, IsLeaf, nothing_behind, bounds_behind, size_behind}
+use Rattle.oer_notation.specs.Grammar.{AreBounds, IsBracketedSize, IsLeaf, nothing_behind, bounds_behind, items_behind, size_behind}
 use Rattle.oer_notation.specs.Reading.{Known}
 use Rattle.oer_same_bounds.specs.Bounds.{AreRejected, IsRange, ReadsRange, ReadsSize, any, ends, standing}
 use Rattle.oer_same_bounds.specs.Laws.{SameRange, SameSizes}
-use Rattle.oer_same_items.proofs.Telling.{Gives, bind, choose}
+use Rattle.oer_same_items.proofs.Telling.{Gives, bind, choose, unless}
 use Rattle.oer_same_items.specs.Laws.{SameEnumerated}
 use Rattle.oer_same_items.specs.Told.{IsLimit}
 use Rattle.oer_same_names.specs.Home.{IsBare}
 use Rattle.oer_same_names.specs.Meant.{IsBuilt}
 use Rattle.oer_same_trees.specs.Says.{Keeps, Says, builtin, constraints_in, items_in, says_leaf, says_name}
 use Rattle.oer_value_notation.specs.Leaves.{leaf_form}
+use Rattle.oer_same_types.proofs.Ordinary.{EndsFit, OrdinarySize, OrdinaryTree, integer_ends, size_ends}
 use Rattle.oer_same_types.proofs.Types.{LeavesSay}
 
 -- what is told of limits is told of the type
-rejected_limit : (low high : Option ℤ) (w : LimitedWhy) → AreRejected low high w → IsLimit (from_limits w)
-rejected_limit low high limits.too_large h = tt
-rejected_limit low high limits.empty h = tt
-rejected_limit low high w h = absurd h
+rejected_limit : (o : Bool) (low high : Option ℤ) (w : LimitedWhy) → AreRejected low high w → (o ≡ true → EndsFit low high) → IsLimit o (from_limits w)
+rejected_limit o low high limits.too_large h fit = unless o (λ on. let none = (fit on).0 in absurd (cc))
+rejected_limit o low high limits.empty h fit = unless o (λ on. let none = (fit on).1 in absurd (cc))
+rejected_limit o low high w h fit = absurd h
 
-range_told : (low high : Option ℤ) (r : LimitedRead Span) → ReadsRange low high r → Gives (λ s. s ≡ record { low = low; high = high }) (limited_by r)
-range_told low high (Ok s) h = record { given = h }
-range_told low high (Err e) h = record { given = rejected_limit low high e.why h }
+range_told : (o : Bool) (low high : Option ℤ) (r : LimitedRead Span) → ReadsRange low high r → (o ≡ true → EndsFit low high)
+    → Gives o (λ s. s ≡ record { low = low; high = high }) (limited_by r)
+range_told o low high (Ok s) h fit = record { given = h }
+range_told o low high (Err e) h fit = record { given = rejected_limit o low high e.why h fit }
 
-size_told : (size : Size) (r : LimitedRead Span) → ReadsSize size r → Gives (IsRange size) (limited_by r)
-size_told size (Ok s) h = record { given = h }
-size_told size (Err e) h = record { given = rejected_limit (Some (pos size.low)) (option_map pos size.high) e.why h }
+size_told : (o : Bool) (size : Size) (r : LimitedRead Span) → ReadsSize size r → (o ≡ true → OrdinarySize size) → Gives o (IsRange size) (limited_by r)
+size_told o size (Ok s) h fit = record { given = h }
+size_told o size (Err e) h fit =
+    record { given = rejected_limit o (Some (pos size.low)) (option_map pos size.high) e.why h (λ on. size_ends size (fit on)) }
 
 none_given : (gs : List Given) → IsBare gs → all_given_none gs ≡ true
 none_given [] h = refl
@@ -114,30 +119,41 @@ size_only (ends {low} {high = Some n}) y h =
     let upper = some_end (long (pos low)) (long (pos n)) y told in
     size_is low (Some n) y (is_long low y.low (sym parts.0)) (parts.1 ∙ high_is n (long (pos n)) refl upper.0 upper.1)
 
+-- where 64 bits hold its ends, the size is made of its range
+long_fits : (n : ℕ) → n < 2 ^ 64 → long (pos n) ≡ Some n
+long_fits n h = rw (lt-ltb n (2 ^ 64) h) refl
+
+size_there : {size : Size} {r : Span} → IsRange size r → HasSizeWidths size → size_of (sizes_within r) ≡ Some size
+size_there any h = refl
+size_there (ends {low} {high = None}) h = rw (low_is low, long_fits low h.0) refl
+size_there (ends {low} {high = Some n}) h = rw (low_is low, long_fits low h.0, long_fits n h.1) refl
+
 -- ---- what is read of sizes
 
--- the sizes make this size, or none
-abbrev Make : Size → Sizes → Type 0
-Make size s = (y : Size) → size_of s ≡ Some y → y ≡ size
+-- the sizes make this size, or none; and this, if it is ordinary
+abbrev Make : Bool → Size → Sizes → Type 0
+Make o size s = ((y : Size) → size_of s ≡ Some y → y ≡ size) × (o ≡ true → size_of s ≡ Some size)
 
-wide_told : (p : Place) (o : Option Size) → Gives (λ y. o ≡ Some y) (unless_wide p o)
-wide_told p None = record { given = tt }
-wide_told p (Some s) = record { given = refl }
+wide_told : (o : Bool) (p : Place) (n : Option Size) → (o ≡ true → (s : Size) × (n ≡ Some s)) → Gives o (λ y. n ≡ Some y) (unless_wide p n)
+wide_told o p None h = record { given = unless o (λ on. let e = (h on).1 in absurd (cc)) }
+wide_told o p (Some s) h = record { given = refl }
 
-module _ (ms : List Module) (size : Size) where
-  sizes_make : (p : Place) (m : Meaning) → ReadsSize size (size_range ms p m) → Gives (Make size) (sizes_at ms p m)
-  sizes_make p m reads = bind (IsRange size) (Make size) (limited_by (size_range ms p m)) _ (size_told size (size_range ms p m) reads) (λ s is. record { given = size_only is })
+module _ (o : Bool) (ms : List Module) (size : Size) (fits : o ≡ true → OrdinarySize size) where
+  sizes_make : (p : Place) (m : Meaning) → ReadsSize size (size_range ms p m) → Gives o (Make o size) (sizes_at ms p m)
+  sizes_make p m reads = bind (IsRange size) (Make o size) (limited_by (size_range ms p m)) _ (size_told o size (size_range ms p m) reads fits) (λ s is.
+      record { given = (size_only is, λ on. size_there is (fits on).1) })
 
-  counted_made : (c : Counted) (q : Place) (r : Room) (s : Sizes) → Make size s → Gives (λ (x : AsnType × Room). x.0 ≡ counted_type c size) (counted_at q c r s)
-  counted_made c q r s make = bind _ _ (size_at q s) _ (wide_told q (size_of s)) (λ y is. record { given = ap (counted_type c) (make y is) })
+  counted_made : (c : Counted) (q : Place) (r : Room) (s : Sizes) → Make o size s → Gives o (λ (x : AsnType × Room). x.0 ≡ counted_type c size) (counted_at q c r s)
+  counted_made c q r s make = bind _ _ (size_at q s) _ (wide_told o q (size_of s) (λ on. (size, make.1 on))) (λ y is.
+      record { given = ap (counted_type c) (make.0 y is) })
 
   counted_same : (c : Counted) (p : Place) (m : Meaning) (q : Place) (r : Room) → ReadsSize size (size_range ms p m)
-      → Gives (λ (x : AsnType × Room). x.0 ≡ counted_type c size) (sizes_at ms p m >>= counted_at q c r)
-  counted_same c p m q r reads = bind (Make size) _ (sizes_at ms p m) _ (sizes_make p m reads) (λ s make. counted_made c q r s make)
+      → Gives o (λ (x : AsnType × Room). x.0 ≡ counted_type c size) (sizes_at ms p m >>= counted_at q c r)
+  counted_same c p m q r reads = bind (Make o size) _ (sizes_at ms p m) _ (sizes_make p m reads) (λ s make. counted_made c q r s make)
 
   bits_same : (p : Place) (m : Meaning) (q : Place) (ts : List Spot) (r : Room) → none_left ts ≡ true → ReadsSize size (size_range ms p m)
-      → Gives (λ (x : AsnType × Room). x.0 ≡ counted_type Bits size) (sizes_at ms p m >>= bits_by ms q ts r)
-  bits_same p m q ts r none reads = bind (Make size) _ (sizes_at ms p m) _ (sizes_make p m reads) (λ s make.
+      → Gives o (λ (x : AsnType × Room). x.0 ≡ counted_type Bits size) (sizes_at ms p m >>= bits_by ms q ts r)
+  bits_same p m q ts r none reads = bind (Make o size) _ (sizes_at ms p m) _ (sizes_make p m reads) (λ s make.
       choose _ (not (none_left ts) && is_none (fixed s)) _ _ (λ named. absurd (unnamed (none_left ts) (is_none (fixed s)) none named))
       (λ plain. counted_made Bits q r s make)) where
         unnamed : (a b : Bool) → a ≡ true → (not a && b) ≡ true → ⊥
@@ -146,8 +162,11 @@ module _ (ms : List Module) (size : Size) where
 
 -- ---- each word
 
-module _ (same_range : SameRange) (same_sizes : SameSizes) (same_enumerated : SameEnumerated) (ms : List Module) (gs : List Given)
-    (bare : all_given_none gs ≡ true) (at : ℕ) (p q : Place) (r : Room) (unimplied : is_implied ms q.«module» ≡ false) where
+module _ (o : Bool) (same_range : SameRange) (same_sizes : SameSizes) (same_enumerated : SameEnumerated) (ms : List Module) (gs : List Given)
+    (bare : all_given_none gs ≡ true) (at : ℕ) (p : Place) (r : Room) (unimplied : is_implied ms 0 ≡ false) where
+  abbrev q : Place
+  q = place_in 0 at
+
   abbrev IsOf : LeafType → AsnType × Room → Type 0
   IsOf L x = x.0 ≡ leaf L
 
@@ -164,38 +183,53 @@ module _ (same_range : SameRange) (same_sizes : SameSizes) (same_enumerated : Sa
       subst (λ (items : List Spot). ReadsRange low high (integer_range ms p (standing 0 (plain at bi.Integer items cs) gs))) (sym (no_items items none))
       (same_range ms 0 at p gs low high ts cs bare is keeps)
 
+  abbrev Fits : LeafType → Tree → Type 0
+  Fits L t = o ≡ true → OrdinaryTree ms (leaf L) t
+
   word_same : (k : LeafWord) {L : LeafType} {ts : List Token} (items cs : List Spot) → IsLeaf (leaf_form k) L ts
-      → Keeps (items_in (leaf_form k) ts) items → Keeps (constraints_in (leaf_form k) ts) cs
-      → Gives (IsOf L) (plain_at ms p (standing 0 (plain at (builtin k) items cs) gs) q (builtin k) items r)
-  word_same leaf_word.Boolean items cs nothing_behind i c = record { given = refl }
-  word_same leaf_word.Null items cs nothing_behind i c = record { given = refl }
-  word_same leaf_word.ObjectIdentifier items cs nothing_behind i c = record { given = refl }
-  word_same leaf_word.Integer items cs (bounds_behind {low} {high} b) i c =
+      → Keeps (items_in (leaf_form k) ts) items → Keeps (constraints_in (leaf_form k) ts) cs → Fits L (plain at (builtin k) items cs)
+      → Gives o (IsOf L) (plain_at ms p (standing 0 (plain at (builtin k) items cs) gs) q (builtin k) items r)
+  word_same leaf_word.Boolean items cs nothing_behind i c fits = record { given = refl }
+  word_same leaf_word.Null items cs nothing_behind i c fits = record { given = refl }
+  word_same leaf_word.ObjectIdentifier items cs nothing_behind i c fits = record { given = refl }
+  word_same leaf_word.Integer items cs (bounds_behind {low} {high} b) i c fits =
       bind _ _ (limited_by (integer_range ms p (standing 0 (plain at bi.Integer items cs) gs))) _
-      (range_told low high (integer_range ms p (standing 0 (plain at bi.Integer items cs) gs)) (range_same items cs b i c))
-      (λ s e. record { given = ap (λ (s : Span). integer s.low s.high) e })
-  word_same leaf_word.Enumerated {L} {ts} items cs l i c = record { given = same_enumerated L ts items l i ms q r unimplied }
-  word_same leaf_word.BitString items cs (size_behind {size} s) i c =
-      bits_same ms size p _ q items r (ap none_left (no_items items i)) (has leaf_word.BitString items cs refl s i c)
-  word_same leaf_word.OctetString items cs (size_behind {size} s) i c = counted_same ms size Octets p _ q r (has leaf_word.OctetString items cs refl s i c)
-  word_same leaf_word.Ia5String items cs (size_behind {size} s) i c = counted_same ms size Ia5 p _ q r (has leaf_word.Ia5String items cs refl s i c)
-  word_same leaf_word.VisibleString items cs (size_behind {size} s) i c = counted_same ms size Visible p _ q r (has leaf_word.VisibleString items cs refl s i c)
-  word_same leaf_word.NumericString items cs (size_behind {size} s) i c = counted_same ms size Numeric p _ q r (has leaf_word.NumericString items cs refl s i c)
-  word_same leaf_word.PrintableString items cs (size_behind {size} s) i c = counted_same ms size Printable p _ q r (has leaf_word.PrintableString items cs refl s i c)
-  word_same leaf_word.Utf8String items cs (size_behind {size} s) i c = counted_same ms size Utf8 p _ q r (has leaf_word.Utf8String items cs refl s i c)
+      (range_told o low high (integer_range ms p (standing 0 (plain at bi.Integer items cs) gs)) (range_same items cs b i c)
+      (λ on. integer_ends low high (fits on).0)) (λ s e. record { given = ap (λ (s : Span). integer s.low s.high) e })
+  word_same leaf_word.Enumerated items cs (items_behind {marker} {items = is} a) i c fits = record {
+    given = same_enumerated o is marker _ items (items_behind a) i ms q (λ on. let f = fits on in record { written = f.2; widths = f.1 }) r unimplied;
+  }
+  word_same leaf_word.BitString items cs (size_behind {size} s) i c fits =
+      bits_same o ms size (λ on. ((λ x. (fits on).0 (inr (inl x))), (fits on).1)) p _ q items r (ap none_left (no_items items i))
+      (has leaf_word.BitString items cs refl s i c)
+  word_same leaf_word.OctetString items cs (size_behind {size} s) i c fits =
+      counted_same o ms size (λ on. ((λ x. (fits on).0 (inr (inl x))), (fits on).1)) Octets p _ q r (has leaf_word.OctetString items cs refl s i c)
+  word_same leaf_word.Ia5String items cs (size_behind {size} s) i c fits =
+      counted_same o ms size (λ on. ((λ x. (fits on).0 (inr (inl x))), (fits on).1)) Ia5 p _ q r (has leaf_word.Ia5String items cs refl s i c)
+  word_same leaf_word.VisibleString items cs (size_behind {size} s) i c fits =
+      counted_same o ms size (λ on. ((λ x. (fits on).0 (inr (inl x))), (fits on).1)) Visible p _ q r (has leaf_word.VisibleString items cs refl s i c)
+  word_same leaf_word.NumericString items cs (size_behind {size} s) i c fits =
+      counted_same o ms size (λ on. ((λ x. (fits on).0 (inr (inl x))), (fits on).1)) Numeric p _ q r (has leaf_word.NumericString items cs refl s i c)
+  word_same leaf_word.PrintableString items cs (size_behind {size} s) i c fits =
+      counted_same o ms size (λ on. ((λ x. (fits on).0 (inr (inl x))), (fits on).1)) Printable p _ q r (has leaf_word.PrintableString items cs refl s i c)
+  word_same leaf_word.Utf8String items cs (size_behind {size} s) i c fits =
+      counted_same o ms size (λ on. ((λ x. (fits on).0 (inr (inl x))), (fits on).1)) Utf8 p _ q r (has leaf_word.Utf8String items cs refl s i c)
 
 -- ---- each leaf
 
-module _ (same_range : SameRange) (same_sizes : SameSizes) (same_enumerated : SameEnumerated) (ms : List Module) (unimplied : is_implied ms 0 ≡ false) where
+module _ (o : Bool) (same_range : SameRange) (same_sizes : SameSizes) (same_enumerated : SameEnumerated) (ms : List Module)
+    (unimplied : is_implied ms 0 ≡ false) where
   leaf_said : {known : List Known} {L : LeafType} {t : Tree} → Says known (leaf L) t → IsBuilt t → (p : Place) (gs : List Given) (r : Room)
-      → all_given_none gs ≡ true → Gives (λ (x : AsnType × Room). x.0 ≡ leaf L) (leaf_at ms p (standing 0 t gs) r)
+      → all_given_none gs ≡ true → (o ≡ true → OrdinaryTree ms (leaf L) t)
+      → Gives o (λ (x : AsnType × Room). x.0 ≡ leaf L) (leaf_at ms p (standing 0 t gs) r)
   unfolding leaf_at
-  leaf_said (says_leaf {at} k {L} {ts} {items} {constraints} l i c) built p gs r bare =
+  leaf_said (says_leaf {at} k {L} {ts} {items} {constraints} l i c) built p gs r bare fits =
       bind (λ (x : AsnType × Room). x.0 ≡ leaf L) _ _ _
-      (word_same same_range same_sizes same_enumerated ms gs bare at p (place_in 0 at) r unimplied k items constraints l i c) (λ x is. record { given = is })
-  leaf_said (says_name n d) built p gs r bare = absurd built
+      (word_same o same_range same_sizes same_enumerated ms gs bare at p r unimplied k items constraints l i c fits) (λ x is. record { given = is })
+  leaf_said (says_name n d) built p gs r bare fits = absurd built
 
-  pub leaves_said : (ks : List Known) → LeavesSay ms ks
-  leaves_said ks known L t p m r front says built of bare =
+  pub leaves_said : (ks : List Known) → LeavesSay o ms ks
+  leaves_said ks known L t p m r front says built of bare fits =
       let is : standing 0 t m.given ≡ m = ap (λ (o : TypeIn). record { of = o; given = m.given }) (sym of) in
-      subst (λ (m : Meaning). Gives (λ (x : AsnType × Room). x.0 ≡ leaf L) (leaf_at ms p m r)) is (leaf_said says built p m.given r (none_given m.given bare))
+      subst (λ (m : Meaning). Gives o (λ (x : AsnType × Room). x.0 ≡ leaf L) (leaf_at ms p m r)) is
+      (leaf_said says built p m.given r (none_given m.given bare) fits)

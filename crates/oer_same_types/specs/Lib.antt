@@ -1,3 +1,4 @@
 pub mod Unsized
 pub mod Gathering
+pub mod Ordinary
 pub mod Laws
