@@ -54,16 +54,15 @@ SameAsParser = (text name : List ℕ) (ks : List Known) (w : List ℕ) (T : AsnT
 -- ---- ordinary types
 
 -- There are fewer than 254 definitions. In what is read of the text the items of each ENUMERATED are as X.680, 20 has them, so that those
--- behind the marker rise, and what stands after DEFAULT is tame (`oer_same_defaults`): no white space among bits, no control characters
--- in texts. The type has no range with an outermost number of 128 bits.
+-- behind the marker rise, and what stands after DEFAULT is tame (`oer_same_defaults`), as bits without white space and texts without
+-- control characters. The type has no range with an outermost number of 128 bits.
 pub record IsOrdinaryIn (text : List ℕ) (ks : List Known) (T : AsnType) : Type 0 where
   pub few : length ks < 254
   pub standard : (m : Module) → modules_of 64 (lexed text) ≡ Ok (m ∷ []) → AllStandard (m ∷ []) m.assignments
   pub no_last_end : ¬ Somewhere HasLastEnd T
 
--- Then the Name has the type that the parser gives it, unless the text of the type is too long: over 2^20 octets where a type in it or
--- an item begins.
+-- Then the Name has the type that the parser gives it, or is rejected as too long: for its text. How long that is isn't said here.
 abbrev pub OrdinaryAsParser : Type 0
-OrdinaryAsParser = (text name : List ℕ) (ks : List Known) (w : List ℕ) (T : AsnType) (n : ℕ) → IsModuleOf text name ks → is_qualified w ≡ false
-    → find ks w ≡ Some T → IsOrdinaryIn text ks T
+OrdinaryAsParser = (text name : List ℕ) (ks : List Known) (w : List ℕ) (T : AsnType) (n : ℕ) → IsModuleOf text name ks
+    → is_qualified w ≡ false → find ks w ≡ Some T → IsOrdinaryIn text ks T
     → SaysOf (λ why. why ≡ too_long) (unsized T) (schema_of_modules (text ∷ []) w n)

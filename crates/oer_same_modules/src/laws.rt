@@ -25,7 +25,8 @@ pub fn modules_give_the_types_of_the_notation()
     types_without_sizes_are_sound();
 }
 
-/// Where definitions are ordinary (`IsOrdinaryIn`), the only reason left is that the text of the type is too long.
+/// Where definitions are ordinary (`IsOrdinaryIn`), the only reason left is `TooLong`, for the text of the type. How long that is isn't
+/// said here.
 pub fn ordinary_types_are_given()
     ensures { OrdinaryAsParser }
 {
