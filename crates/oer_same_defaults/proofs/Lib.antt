@@ -1,5 +1,6 @@
-mod Tokens
-mod Leaves
+pub mod Tokens
+pub mod Leaves
 mod Settled
-mod Single
+pub mod Literals
+pub mod Single
 mod Same

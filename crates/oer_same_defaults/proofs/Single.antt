@@ -15,7 +15,7 @@ use Rattle.oer_module_names.specs.declared.error.Place.{Place}
 use Rattle.oer_module_syntax.specs.Tree.{Module}
 use Rattle.oer_module_terms.specs.Trees.{Value, amount, atom, bits, braces, digits, member, no_members, number, parts_from}
 use Rattle.oer_module_text.specs.Errors.{Read, ◌>>=◌}
-use Rattle.oer_module_text.specs.Room.{Room, put}
+use Rattle.oer_module_text.specs.Room.{Room, put, put_number}
 use Rattle.oer_module_values.specs.Digits.{IsWritten, whole_of}
 use Rattle.oer_module_values.specs.Errors as told
 use Rattle.oer_module_values.specs.Numbers.{count, fitting, governor, number_at, numeral, step}
@@ -103,11 +103,15 @@ unfolding number_at count numeral step
 digits_counted ms t items p negative w h =
     ap (λ r. told.◌>>=◌ r (λ g. count ms (record { place = p; governor = g; amount = number negative w }))) h
 
+pub number_is : (ms : List Module) (t : TypeIn) (items : List Spot) (p : Place) (negative : Bool) (w : List ℕ) (z : ℤ) (r : Room)
+    → governor ms t ≡ Ok (record { «module» = 0; enumerated = false; items = items }) → IsWritten negative w z → FitsSigned w128 z
+    → integer_at ms t p (Some (amount (number negative w))) r ≡ Ok (int z, put_number z r)
+number_is ms t items p negative w z r h a fits = rw (digits_counted ms t items p negative w h, whole_found negative w z a fits) refl
+
 pub finds_number : (o : Bool) (ms : List Module) (t : TypeIn) (items : List Spot) (p : Place) (negative : Bool) (w : List ℕ) (z : ℤ) (r : Room)
     → governor ms t ≡ Ok (record { «module» = 0; enumerated = false; items = items }) → IsWritten negative w z → FitsSigned w128 z
     → Finds o (integer_at ms t p (Some (amount (number negative w))) r) (int z)
-finds_number o ms t items p negative w z r h a fits =
-    rw (digits_counted ms t items p negative w h, whole_found negative w z a fits) (record { given = refl })
+finds_number o ms t items p negative w z r h a fits = rw (number_is ms t items p negative w z r h a fits) (record { given = refl })
 
 -- ---- arcs
 

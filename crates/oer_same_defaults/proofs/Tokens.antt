@@ -1,5 +1,5 @@
 -- Which value the reader of modules reads of the tokens of one in the notation.
-use Rattle.std.proofs.Common.{◌≡◌, ℕ, suc, ◌^◌, ◌<◌, List, [], ◌∷◌, ◌++◌, length, Bool, true, false, ◌==◌, Some, None, Ok, refl, sym, ap, subst, ◌∙◌, append_assoc, arith}
+use Rattle.std.proofs.Common.{◌≡◌, ℕ, suc, ◌+◌, ◌^◌, ◌<◌, ◌≤◌, List, [], ◌∷◌, ◌++◌, length, Bool, true, false, ◌==◌, Some, None, Ok, refl, sym, ap, subst, ◌∙◌, append_assoc, arith}
 use Rattle.std.specs.Prelude.{codes}
 use Rattle.std.specs.Char.{digit_value}
 use Rattle.std.specs.Str.Parse.{IsNumeral, without_leading_plus}
@@ -21,6 +21,7 @@ use Rattle.oer_module_terms.specs.declared.tree.Fixed.TheVariants as words
 use Rattle.oer_module_values.specs.Kept.{kept}
 use Rattle.oer_notation.specs.Grammar.{AreArcs, no_arcs, an_arc, IsId, IsNatural, a_natural}
 use Rattle.oer_notation.proofs.CompleteNumbers.{arc_reads}
+use Rattle.oer_same_defaults.specs.Short.{tokens_len}
 use Rattle.oer_same_tokens.specs.Same.{same_token, same_tokens}
 use Rattle.oer_same_trees.proofs.Placed.{Placed, none_placed, placed, closed, before, spot}
 use Rattle.oer_same_trees.proofs.Turns.{Runs, ran, run, all_run}
@@ -89,6 +90,17 @@ pub data SayArcs : List ℕ → List Value → Type 0 where
   say_arc : {n : ℕ} {arcs : List ℕ} {vs : List Value} (at : ℕ) (w : List ℕ) → arc_of w ≡ Some n → SayArcs arcs vs
       → SayArcs (n ∷ arcs) (atom at (amount (digits_of false w)) ∷ vs)
 
+-- the octets of digits, with a space for each
+abbrev pub words_len : List Value → ℕ
+words_len [] = 0
+words_len (atom at (amount (digits_of minus w)) ∷ vs) = suc (length w + words_len vs)
+words_len (v ∷ vs) = words_len vs
+
+-- a token behind others has a space
+behind_len : (ss : List Spot) (s : Spot) → suc (tokens_len ss) ≤ tokens_len (ss ++ s ∷ [])
+behind_len [] s = omega arith
+behind_len (t ∷ ss) s = let more = behind_len ss s in omega (arith, more)
+
 no_hyphen : (w : List ℕ) → IsNumeral 10 (without_leading_plus w) → starts_with hyphen w ≡ false
 no_hyphen [] n = refl
 no_hyphen (c ∷ cs) n = by (c == 45) refl
@@ -131,6 +143,7 @@ module _ (value : State → Read Value) (end by : ℕ) (numbers : (at : ℕ) (w 
     found : List Value
     runs : Runs Value end true member_ends (part_at value) tail found ss
     says : SayArcs arcs found
+    fits : words_len found ≤ tokens_len ss
 
   part_read : (at : ℕ) (w : List ℕ) (rest : List Spot) → part_at value (st (spot at (number w) ∷ rest)) ≡ Ok (atom at (amount (digits_of false w)), st rest)
   unfolding part_at
@@ -141,6 +154,7 @@ module _ (value : State → Read Value) (end by : ℕ) (numbers : (at : ℕ) (w 
     found = atom at (amount (digits_of false w)) ∷ more.found;
     runs = run (spot at (number w)) [] refl (part_read at w (ss ++ tail)) more.runs;
     says = say_arc at w e more.says;
+    fits = let rest = more.fits in omega (arith, rest);
   }
 
   arc_placed : {n : ℕ} {arcs : List ℕ} (w : List ℕ) → arc_of w ≡ Some n → (us : List Token) → ((ss : List Spot) → Placed us ss → ArcsRead arcs ss)
@@ -148,7 +162,7 @@ module _ (value : State → Read Value) (end by : ℕ) (numbers : (at : ℕ) (w 
   arc_placed w e us more _ (placed {ss} at p) = arc_more w e at ss (more ss p)
 
   arcs_read : {arcs : List ℕ} {ts : List notation.Token} → AreArcs arcs ts → (ss : List Spot) → Placed (same_tokens ts) ss → ArcsRead arcs ss
-  arcs_read no_arcs _ none_placed = record { found = []; runs = ran; says = say_none }
+  arcs_read no_arcs _ none_placed = record { found = []; runs = ran; says = say_none; fits = omega arith }
   arcs_read (an_arc {ts} i more) ss p =
       let a = arc_token i in
       arc_placed a.digits a.stands (same_tokens ts) (arcs_read more) ss (subst (λ l. Placed (l ++ same_tokens ts) ss) a.is p)
@@ -190,15 +204,18 @@ pub record ReadsArcs (arcs : List ℕ) (at : ℕ) (ss : List Spot) : Type 0 wher
   pub parts : List Value
   pub is : Reads (spot at (sign OpenBrace) ∷ ss) (braces at (member (parts_from parts) no_members))
   pub says : SayArcs arcs parts
+  pub fits : suc (words_len parts) ≤ tokens_len ss
 
 arcs_found : (arcs : List ℕ) (vs : List Value) → SayArcs arcs vs → 0 < length arcs → (at by : ℕ) (ss : List Spot)
-    → Runs Value at true member_ends (part_at (value_at 63)) (spot by (sign CloseBrace) ∷ []) vs ss → ReadsArcs arcs at (ss ++ spot by (sign CloseBrace) ∷ [])
+    → Runs Value at true member_ends (part_at (value_at 63)) (spot by (sign CloseBrace) ∷ []) vs ss → words_len vs ≤ tokens_len ss
+    → ReadsArcs arcs at (ss ++ spot by (sign CloseBrace) ∷ [])
 unfolding value_at
-arcs_found _ _ say_none some at by ss runs = absurd (omega arith)
-arcs_found _ _ (say_arc {vs} begin w e more) some at by ss runs = record {
+arcs_found _ _ say_none some at by ss runs fits = absurd (omega arith)
+arcs_found _ _ (say_arc {vs} begin w e more) some at by ss runs fits = record {
   parts = atom begin (amount (digits_of false w)) ∷ vs;
   is = braces_read (value_at 63) at by (numbers_at at) at (atom begin (amount (digits_of false w))) vs ss runs;
   says = say_arc begin w e more;
+  fits = let more = behind_len ss (spot by (sign CloseBrace)) in omega (arith, fits, more);
 }
 
 pub reads_arcs : (arcs : List ℕ) {ts : List notation.Token} → AreArcs arcs ts → 0 < length arcs → (at : ℕ) (ss : List Spot)
@@ -206,4 +223,4 @@ pub reads_arcs : (arcs : List ℕ) {ts : List notation.Token} → AreArcs arcs t
 reads_arcs arcs {ts} a some at ss p =
     let c = closed signs.CloseBrace ts ss p in
     let r = arcs_read (value_at 63) at c.at (numbers_at at) a c.inner c.holds in
-    subst (ReadsArcs arcs at) (sym c.is) (arcs_found arcs r.found r.says some at c.at c.inner r.runs)
+    subst (ReadsArcs arcs at) (sym c.is) (arcs_found arcs r.found r.says some at c.at c.inner r.runs r.fits)

@@ -1,2 +1,3 @@
 pub mod Tame
+pub mod Short
 pub mod Laws

@@ -19,3 +19,8 @@ pub choose : {A : Type 0} {R : Why → Type 0} (P : A → Type 0) (b : Bool) (p 
     → (b ≡ false → Gives R P q) → Gives R P (if b then p else q)
 choose P true p q h k = h refl
 choose P false p q h k = k refl
+
+-- less is told
+pub weaken : {A : Type 0} {R : Why → Type 0} (P Q : A → Type 0) (p : Read A) → Gives R P p → ((x : A) → P x → Q x) → Gives R Q p
+weaken P Q (Ok x) h f = record { given = f x h.given }
+weaken P Q (Err e) h f = record { given = h.given }

@@ -28,7 +28,7 @@ use Rattle.oer_modules.specs.Causes.{Cause, by_name, by_type}
 use Rattle.oer_modules.specs.Causes.{◌>>=◌ as ◌>>=ᶜ◌}
 use Rattle.oer_modules.specs.Words.{Text}
 use Rattle.oer_modules.specs.Nesting.{Typed, else_less, is_over, most, typed_by, usual}
-use Rattle.oer_modules.specs.Schemas.{name_place, placed_type, schema_by, schema_of_modules, sound_by, sound_in}
+use Rattle.oer_modules.specs.Schemas.{NoType, refused, rejected, name_place, placed_type, schema_by, schema_of_modules, sound_by, sound_in}
 use Rattle.oer_modules.specs.Texts.{Library, no_modules, read_each, with_modules, with_read, with_text}
 use Rattle.oer_modules.specs.Texts.{◌>>=◌ as ◌>>=ᵗ◌}
 use Rattle.oer_notation.specs.Grammar.{AreWellFormed, IsDefined, later_definition, this_definition}
@@ -39,6 +39,7 @@ use Rattle.oer_same_items.specs.Told.{IsLimit, Tells}
 use Rattle.oer_same_limits.proofs.Counted.{is_within}
 use Rattle.oer_same_limits.proofs.Telling.{Gives, bind, choose}
 use Rattle.oer_same_limits.specs.Laws.{TakesItsParts}
+use Rattle.oer_same_limits.specs.Short.{AllShort}
 use Rattle.oer_same_limits.specs.Takes.{IsOther, Takes}
 use Rattle.oer_same_names.proofs.Found.{assignments_home}
 use Rattle.oer_same_names.specs.Home.{IsFront, IsHome}
@@ -52,7 +53,7 @@ use Rattle.oer_same_types.specs.Laws.{SameType, UnsizedIsSound}
 use Rattle.oer_same_types.specs.Ordinary.{IsOrdinary}
 use Rattle.oer_same_types.specs.Unsized.{unsized}
 use Rattle.oer_same_modules.proofs.Odd.{nothing_odd, only_long}
-use Rattle.oer_same_modules.specs.Laws.{IsModuleOf, IsOrdinaryIn, IsParsersLimit, OrdinaryAsParser, SameAsParser, SaysOf}
+use Rattle.oer_same_modules.specs.Laws.{AreShortIn, IsModuleOf, IsOrdinaryIn, IsParsersLimit, OrdinaryAsParser, SameAsParser, SaysOf, ShortAsParser}
 
 -- ---- a type that stands in none
 
@@ -219,23 +220,24 @@ module _ (parsed : ParseAllSound) (reads : ReadsParsed) (found : NamesAreFoundAn
   home = home_of name ks read.0 read.2 read.3
 
   -- what two laws say of one type
-  both_told : (R : Why → Type 0) (o : Bool) (m : ℕ) (r : Room) (p : Read (AsnType × Room)) → ((why : Why) → IsLimit o why → IsOther why → R why)
-      → Tells o (λ (x : AsnType × Room). x.0 ≡ unsized T) p → Takes m r p → GivesType R T p
-  both_told R o m r (Ok x) both h k = record { given = h }
-  both_told R o m r (Err e) both h k = record { given = both e.why h k }
+  both_told : (R : Why → Type 0) (o short : Bool) (m : ℕ) (r : Room) (p : Read (AsnType × Room)) → ((why : Why) → IsLimit o why → IsOther short why → R why)
+      → Tells o (λ (x : AsnType × Room). x.0 ≡ unsized T) p → Takes short m r p → GivesType R T p
+  both_told R o short m r (Ok x) both h k = record { given = h }
+  both_told R o short m r (Err e) both h k = record { given = both e.why h k }
 
-  trees_give : (R : Why → Type 0) (o : Bool) → ((why : Why) → IsLimit o why → IsOther why → R why) → (o ≡ true → IsOrdinary (read.0 ∷ []) ks read.0.assignments T)
-      → TreesGive R (read.0 ∷ []) ks home T
-  trees_give R o both ordinary t d k once =
+  trees_give : (R : Why → Type 0) (o short : Bool) → ((why : Why) → IsLimit o why → IsOther short why → R why) → (o ≡ true → IsOrdinary (read.0 ∷ []) ks read.0.assignments T)
+      → (short ≡ true → AllShort read.0.assignments) → TreesGive R (read.0 ∷ []) ks home T
+  trees_give R o short both ordinary all t d k once =
       let rises : Rise 0 read.0.assignments = of_one (λ m. Rise 0 m.assignments) read.0 (rise 64 text (read.0 ∷ []) read.1) in
       let within = is_within T none in
-      both_told R o (type_nodes T) new (type_at (read.0 ∷ []) k 32 [] (type_in 0 t) new) both
+      both_told R o short (type_nodes T) new (type_at (read.0 ∷ []) k 32 [] (type_in 0 t) new) both
       (type_same o (read.0 ∷ []) ks d.known T t k 32 new home rises d.front d.there d.says once ordinary)
-      (parts (read.0 ∷ []) ks d.known T t k 32 new home rises d.front d.there d.says once within.levels within.parts (omega arith))
+      (parts short (read.0 ∷ []) ks d.known T t k 32 new home rises d.front d.there d.says once within.levels within.parts (omega arith)
+      (λ on. (all on, well_formed.widths, omega arith)))
 
   pub parser_same : SaysOf IsParsersLimit (unsized T) (schema_of_modules (text ∷ []) w n)
-  parser_same = module_same IsParsersLimit found text name ks w T n read (trees_give IsParsersLimit false (λ why limit other. (limit, other)) (λ on. absurd (cc)))
-      alone defined none
+  parser_same = module_same IsParsersLimit found text name ks w T n read
+      (trees_give IsParsersLimit false false (λ why limit other. (limit, other)) (λ on. absurd (cc)) (λ on. absurd (cc))) alone defined none
 
   ordinary_of : IsOrdinaryIn text ks T → IsOrdinary (read.0 ∷ []) ks read.0.assignments T
   ordinary_of h = record {
@@ -246,8 +248,19 @@ module _ (parsed : ParseAllSound) (reads : ReadsParsed) (found : NamesAreFoundAn
   }
 
   pub ordinary_same : IsOrdinaryIn text ks T → SaysOf (λ why. why ≡ too_long) (unsized T) (schema_of_modules (text ∷ []) w n)
-  ordinary_same h = module_same (λ why. why ≡ too_long) found text name ks w T n read (trees_give (λ why. why ≡ too_long) true only_long (λ on. ordinary_of h))
-      alone defined none
+  ordinary_same h = module_same (λ why. why ≡ too_long) found text name ks w T n read
+      (trees_give (λ why. why ≡ too_long) true false (λ why limit other. (only_long false why limit other).0) (λ on. ordinary_of h) (λ on. absurd (cc))) alone defined none
+
+  -- what isn't rejected for any reason
+  given : (p : Result AsnType NoType) → SaysOf (λ why. ⊥) (unsized T) p → p ≡ Ok (unsized T)
+  given (Ok S) h = ap (λ S. Ok S) h
+  given (Err (refused r)) h = absurd h
+  given (Err (rejected q why)) h = absurd h
+
+  pub short_same : IsOrdinaryIn text ks T → AreShortIn text → schema_of_modules (text ∷ []) w n ≡ Ok (unsized T)
+  short_same h all = given (schema_of_modules (text ∷ []) w n) (module_same (λ why. ⊥) found text name ks w T n read
+      (trees_give (λ why. ⊥) true true (λ why limit other. let long = (only_long true why limit other).1 in absurd (cc)) (λ on. ordinary_of h) (λ on. all read.0 read.1))
+      alone defined none)
 
 pub same_as_parser : ParseAllSound → ReadsParsed → NamesAreFoundAnywhere → PlacesRise → SameType → TakesItsParts → UnsizedIsSound → SameAsParser
 same_as_parser parsed reads found rise type_same parts sound text name ks w T n is alone defined =
@@ -256,3 +269,7 @@ same_as_parser parsed reads found rise type_same parts sound text name ks w T n 
 pub ordinary_as_parser : ParseAllSound → ReadsParsed → NamesAreFoundAnywhere → PlacesRise → SameType → TakesItsParts → UnsizedIsSound → OrdinaryAsParser
 ordinary_as_parser parsed reads found rise type_same parts sound text name ks w T n is alone defined h =
     ordinary_same parsed reads found rise type_same parts sound text name ks w T n is alone defined h
+
+pub short_as_parser : ParseAllSound → ReadsParsed → NamesAreFoundAnywhere → PlacesRise → SameType → TakesItsParts → UnsizedIsSound → ShortAsParser
+short_as_parser parsed reads found rise type_same parts sound text name ks w T n is alone defined h all =
+    short_same parsed reads found rise type_same parts sound text name ks w T n is alone defined h all

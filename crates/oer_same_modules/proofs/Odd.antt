@@ -1,5 +1,5 @@
 -- Nothing odd is in a type, if nothing of each kind is; and what is left of the reasons for ordinary types.
-use Rattle.std.proofs.Common.{◌≡◌, ◌⊎◌, true, inl, inr, refl}
+use Rattle.std.proofs.Common.{◌≡◌, ◌⊎◌, Bool, true, false, inl, inr, refl}
 use Rattle.oer_model.specs.AsnType.{Additions, Alternatives, AsnType, Fields, addition, alternative, choice, extensible_sequence}
 use Rattle.oer_model.specs.AsnType.{field, later, leaf, no_additions, no_alternatives, no_fields, sequence, sequence_of}
 use Rattle.oer_model.specs.WellFormed.{HasCrossedBounds, HasCrossedSize, InAdditions, InAlternatives, InFields, Somewhere}
@@ -11,20 +11,20 @@ use Rattle.oer_same_items.specs.Told.{IsLimit}
 use Rattle.oer_same_limits.specs.Takes.{IsOther}
 use Rattle.oer_same_types.specs.Ordinary.{HasLastEnd, IsOdd}
 
--- no other reason is left
-pub only_long : (why : Why) → IsLimit true why → IsOther why → why ≡ too_long
-only_long too_long h k = refl
-only_long too_deep h k = absurd k
-only_long too_many_parts h k = absurd k
-only_long tag_number h k = absurd k
-only_long too_wide h k = absurd (cc)
-only_long misnumbered h k = absurd (cc)
-only_long (not_taken Value) h k = absurd (cc)
-only_long (unlimited limits.too_large) h k = absurd (cc)
-only_long (unlimited limits.empty) h k = absurd (cc)
-only_long (unresolved values.circular) h k = absurd (cc)
-only_long (unresolved values.too_large) h k = absurd (cc)
-only_long why h k = absurd h
+-- no other reason is left, and of short definitions none
+pub only_long : (short : Bool) (why : Why) → IsLimit true why → IsOther short why → (why ≡ too_long) × (short ≡ false)
+only_long short too_long h k = (refl, k)
+only_long short too_deep h k = absurd k
+only_long short too_many_parts h k = absurd k
+only_long short tag_number h k = absurd k
+only_long short too_wide h k = absurd (cc)
+only_long short misnumbered h k = absurd (cc)
+only_long short (not_taken Value) h k = absurd (cc)
+only_long short (unlimited limits.too_large) h k = absurd (cc)
+only_long short (unlimited limits.empty) h k = absurd (cc)
+only_long short (unresolved values.circular) h k = absurd (cc)
+only_long short (unresolved values.too_large) h k = absurd (cc)
+only_long short why h k = absurd h
 
 -- what is one of two things is somewhere as one of them
 module _ (P Q : AsnType → Type 0) where

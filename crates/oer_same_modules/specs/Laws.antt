@@ -13,6 +13,7 @@ use Rattle.oer_modules.specs.Schemas.{NoType, refused, rejected, schema_of_modul
 use Rattle.oer_notation.specs.Parsing.{parse_all}
 use Rattle.oer_notation.specs.Reading.{Known, find}
 use Rattle.oer_same_items.specs.Told.{IsLimit}
+use Rattle.oer_same_limits.specs.Short.{AllShort}
 use Rattle.oer_same_limits.specs.Takes.{IsOther}
 use Rattle.oer_same_tokens.specs.Same.{has_odd_space}
 use Rattle.oer_same_trees.specs.Defining.{AreUnreserved, header}
@@ -43,7 +44,7 @@ SaysOf IsReason T (Err (rejected p why)) = ⊥
 -- A limit, but not of levels, parts, or bits of the number of a tag: the reader of modules takes as many as a type may have that our
 -- parser gives, since that is well-formed.
 abbrev pub IsParsersLimit : Why → Type 0
-IsParsersLimit why = IsLimit false why × IsOther why
+IsParsersLimit why = IsLimit false why × IsOther false why
 
 -- In such a module a Name has the type that the parser gives it, but for the sizes of lists, which types of modules leave out; or it is
 -- rejected for a limit. How deep types may nest makes no difference, since none contains itself.
@@ -61,8 +62,18 @@ pub record IsOrdinaryIn (text : List ℕ) (ks : List Known) (T : AsnType) : Type
   pub standard : (m : Module) → modules_of 64 (lexed text) ≡ Ok (m ∷ []) → AllStandard (m ∷ []) m.assignments
   pub no_last_end : ¬ Somewhere HasLastEnd T
 
--- Then the Name has the type that the parser gives it, or is rejected as too long: for its text. How long that is isn't said here.
+-- Then the Name has the type that the parser gives it, or is rejected as too long: for its text.
 abbrev pub OrdinaryAsParser : Type 0
 OrdinaryAsParser = (text name : List ℕ) (ks : List Known) (w : List ℕ) (T : AsnType) (n : ℕ) → IsModuleOf text name ks
     → is_qualified w ≡ false → find ks w ≡ Some T → IsOrdinaryIn text ks T
     → SaysOf (λ why. why ≡ too_long) (unsized T) (schema_of_modules (text ∷ []) w n)
+
+-- In what is read of the text names have at most 60 octets, and so have the tokens after DEFAULT, with a space for each.
+abbrev pub AreShortIn : List ℕ → Type 0
+AreShortIn text = (m : Module) → modules_of 64 (lexed text) ≡ Ok (m ∷ []) → AllShort m.assignments
+
+-- Then nothing is too long, and the Name has the type that the parser gives it.
+abbrev pub ShortAsParser : Type 0
+ShortAsParser = (text name : List ℕ) (ks : List Known) (w : List ℕ) (T : AsnType) (n : ℕ) → IsModuleOf text name ks
+    → is_qualified w ≡ false → find ks w ≡ Some T → IsOrdinaryIn text ks T → AreShortIn text
+    → schema_of_modules (text ∷ []) w n ≡ Ok (unsized T)

@@ -1,5 +1,5 @@
 //! Each function does nothing but cite other laws; its contract is the law.
-ghost use Rattle.oer_same_modules.specs.Laws.{OrdinaryAsParser, SameAsParser};
+ghost use Rattle.oer_same_modules.specs.Laws.{OrdinaryAsParser, SameAsParser, ShortAsParser};
 
 use oer_module_places::laws::places_rise;
 use oer_notation::laws::what_is_parsed_is_spelled;
@@ -25,10 +25,24 @@ pub fn modules_give_the_types_of_the_notation()
     types_without_sizes_are_sound();
 }
 
-/// Where definitions are ordinary (`IsOrdinaryIn`), the only reason left is `TooLong`, for the text of the type. How long that is isn't
-/// said here.
+/// Where definitions are ordinary (`IsOrdinaryIn`), the only reason left is `TooLong`, for the text of the type.
 pub fn ordinary_types_are_given()
     ensures { OrdinaryAsParser }
+{
+    what_is_parsed_is_spelled();
+    what_is_parsed_is_read();
+    names_are_found_anywhere();
+    places_rise();
+    trees_are_given_their_types();
+    types_take_their_parts();
+    types_without_sizes_are_sound();
+}
+
+/// Where they are short, too (`AreShortIn`), no reason is left: the Name has the type that the parser gives it. Short are names of at most
+/// 60 octets, and values after DEFAULT of as many, with a space for each token. Then at most 256 octets are written for each of the 4,096
+/// parts that a type may have.
+pub fn short_types_are_given()
+    ensures { ShortAsParser }
 {
     what_is_parsed_is_spelled();
     what_is_parsed_is_read();

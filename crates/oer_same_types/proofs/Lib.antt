@@ -1,10 +1,10 @@
 pub mod Clear
 pub mod Elements
 mod Gathering
-mod Ordinary
-mod Types
+pub mod Ordinary
+pub mod Types
 mod Defaults
-mod Leaves
+pub mod Leaves
 mod Same
 mod SoundFits
 pub mod Sound
