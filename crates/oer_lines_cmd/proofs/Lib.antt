@@ -9,6 +9,7 @@ pub mod Fronts
 pub mod Knowing
 pub mod Looping
 pub mod Messages
+pub mod NoLine
 pub mod OneStream
 pub mod Putting
 pub mod Splitting

@@ -111,10 +111,11 @@ fn are_other_ways(words: &[String]) -> bool
     ensures { result ≡ are_other_ways (map string_bytes words.now) }
 {
     for word in words {
-        if word.as_str() == "--" {
+        let word = word.as_str();
+        if word == "--" {
             return false;
         }
-        if is_other_way(word.as_str()) {
+        if is_other_way(word) {
             return true;
         }
     }
@@ -153,12 +154,10 @@ pub fn stream_asked<E: Write>(
     let Some((program, rest)) = words.split_first() else {
         return Ok(None);
     };
-    let times = times("--stream", rest);
-    if times == 0 {
-        return Ok(None);
-    }
-    if times > 1 {
-        return Err(tell(Misuse::Twice(Word::Stream), errors));
+    match times("--stream", rest) {
+        0 => return Ok(None),
+        1 => {}
+        _ => return Err(tell(Misuse::Twice(Word::Stream), errors)),
     }
     let Ok(kept) = others(alloc, "--stream", program.as_str(), rest) else {
         return Err(stop(NoStart::NoMemory, errors));
