@@ -10,6 +10,7 @@ pub mod Knowing
 pub mod Looping
 pub mod Messages
 pub mod NoLine
+pub mod Once
 pub mod OneStream
 pub mod Putting
 pub mod Splitting

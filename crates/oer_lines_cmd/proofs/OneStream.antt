@@ -47,7 +47,7 @@ are_messages T keeps limit (suc k) (x ∷ xs) few octs =
           → ((b rest : List ℕ) → 1 ≤ length b → x ∷ xs ≡ b ++ rest → Found T limit rest (first_pieces T limit k rest))
           → Found T limit (x ∷ xs) (and_next (x ∷ xs) (first_pieces T limit k) p)
       by (message b) is next =
-          let (m, rest, all) = message_is T keeps limit (x ∷ xs) b is in
+          let (m, (rest, all)) = message_is T keeps limit (x ∷ xs) b is in
           let (left, are, count) = next b rest m.some all in
           let behind : drop (length b) (x ∷ xs) ≡ rest = ap (drop (length b)) all ∙ drop-append_seam b rest in
           subst (λ l. Found T limit (x ∷ xs) (message b ∷ first_pieces T limit k l)) (sym behind) (
@@ -63,7 +63,7 @@ none_among T keeps limit [] octs none = refl
 none_among T keeps limit (x ∷ xs) octs none = by (first_piece T limit (x ∷ xs)) refl where
   by : (p : Piece) → first_piece T limit (x ∷ xs) ≡ p → messages_in (pieces T limit (x ∷ xs)) ≡ []
   by (message b) is =
-      let (m, rest, all) = message_is T keeps limit (x ∷ xs) b is in
+      let (m, (rest, all)) = message_is T keeps limit (x ∷ xs) b is in
       absurd (none b rest all (message_of T keeps limit b (front_octets b rest (subst IsOctets all octs)) m))
   by (rejected b) is = ap messages_in (split_rejected T keeps limit (x ∷ xs) b (omega arith) (sym is))
   by (long b) is = ap messages_in (split_long T keeps limit (x ∷ xs) b (omega arith) (sym is))
@@ -72,6 +72,6 @@ pub only_messages : (T : AsnType) → KeepsLimits T → (limit : ℕ) (bs : List
     → bs ≡ messages_in (pieces T limit xs)
 only_messages T keeps limit [] xs left octs (is, none) =
     sym (none_among T keeps limit xs octs (subst (BeginsWithNone T limit) (sym is) none))
-only_messages T keeps limit (b ∷ bs) xs left octs (m, rest, all, are) =
+only_messages T keeps limit (b ∷ bs) xs left octs (m, (rest, all, are)) =
     ap (λ l. b ∷ l) (only_messages T keeps limit bs rest left (rest_octets b rest (subst IsOctets all octs)) are)
     ∙ ap messages_in (sym (ap (pieces T limit) all ∙ split_message T keeps limit b (read_of T limit b m) rest))

@@ -2,14 +2,20 @@
 use Rattle.std.proofs.Common.{Result, ◌≡◌, ◌∙◌, ℕ, ◌≤◌, Bool, true, false, Option, None, Some, IfSome, Ok, List, [], ◌∷◌, ◌++◌, length, take, drop, refl, sym, ap, subst, arith, append_assoc, length-append}
 use Rattle.std.proofs.lemmas.List.{take-append-drop}
 use Rattle.std.specs.Io.KnownBytes.{Consumes, IsAtEnd, prepend_known}
+use Rattle.clap.specs.Words.{Text}
 use Rattle.oer_model.specs.AsnType.{AsnType}
 use Rattle.oer_model.specs.Constraints.{KeepsLimits}
-use Rattle.oer_lines_cmd.specs.Reading.{IsFirst, known, piece_of}
+use Rattle.oer_cmd.specs.Ending.{Streams}
+use Rattle.oer_cmd.specs.Expected.{Expected}
+use Rattle.oer_lines_cmd.specs.Answers.{Answered, answers_from, to_piece}
+use Rattle.oer_lines_cmd.specs.Reading.{IsFirst, TakesPiece, known, piece_of}
 use Rattle.oer_lines_cmd.specs.Stream.{Piece, first_piece, message, pieces}
+use Rattle.oer_lines_cmd.specs.declared.failure.Failure.{Failure}
 use Rattle.oer_lines_cmd.specs.declared.pieces.Piece.{Piece as RawPiece}
 use Rattle.oer_lines_cmd.specs.declared.pieces.Piece.TheVariants as raw
 use Rattle.oer_lines_cmd.proofs.Blocks.{takes_both}
-use Rattle.oer_lines_cmd.proofs.Looping.{Took}
+use Rattle.oer_lines_cmd.proofs.Fronts.{appends_nothing, keeps_same, no_fronts}
+use Rattle.oer_lines_cmd.proofs.Looping.{Took, streams}
 use Rattle.oer_lines_cmd.proofs.Chained.{message_is, split_long, split_message, split_rejected}
 
 truth : {A : Type 0} → false ≡ true → A
@@ -82,3 +88,44 @@ module _ (T : AsnType) (keeps : KeepsLimits T) (limit : ℕ) (told : Option (Lis
     at None left h end = tt
     at (Some xs) None h end = absurd h
     at (Some xs) (Some ys) h end = ap (λ (l : List ℕ). Some l) end
+
+-- ---- what the loop learns
+
+pub nothing_ahead : (a : List ℕ) (x : Option (List ℕ)) → a ≡ [] → x ≡ prepend_known a x
+nothing_ahead a x none = subst (λ l. x ≡ prepend_known l x) (sym none) (at x) where
+  at : (x : Option (List ℕ)) → x ≡ prepend_known [] x
+  at None = refl
+  at (Some xs) = refl
+
+pub took_some : (T : AsnType) → KeepsLimits T → (limit : ℕ) (told : Option (List ℕ)) (ahead : List ℕ) (left : Option (List ℕ)) (r : Option RawPiece) (p : RawPiece)
+    → r ≡ Some p → TakesPiece T limit told ahead left (Ok r)
+    → Took (pieces T limit) told (prepend_known (behind p ahead) left) (piece_of ahead p ∷ []) (is_end p)
+took_some T keeps limit told ahead left r p is h =
+    let (takes, first) = subst (λ x. TakesPiece T limit told ahead left (Ok x)) is h in
+    took_piece T keeps limit told ahead left takes p first
+
+pub took_end : (T : AsnType) → KeepsLimits T → (limit : ℕ) (told : Option (List ℕ)) (ahead : List ℕ) (left : Option (List ℕ)) (r : Option RawPiece)
+    → r ≡ None → TakesPiece T limit told ahead left (Ok r) → Took (pieces T limit) told (prepend_known ahead left) [] true
+took_end T keeps limit told ahead left r is h =
+    let (takes, none, end) = subst (λ x. TakesPiece T limit told ahead left (Ok x)) is h in
+    took_none T keeps limit told ahead left takes none end
+
+pub end_of : (p : RawPiece) → ((n : ℕ) → p ≡ raw.Message n → ⊥) → is_end p ≡ true
+end_of (raw.Message n) other = absurd (other n refl)
+end_of (raw.Rejected n) other = refl
+end_of (raw.Long n) other = refl
+
+pub not_end : (p : RawPiece) (n : ℕ) → p ≡ raw.Message n → is_end p ≡ false
+not_end p n is = ap is_end is
+
+pub passed : (p : RawPiece) (n : ℕ) (ahead now : List ℕ) → p ≡ raw.Message n → now ≡ drop n ahead → behind p ahead ≡ now
+passed p n ahead now is drops = ap (λ q. behind q ahead) is ∙ sym drops
+
+-- its answer
+pub told_piece : (ask : Piece → Expected Text) (n : ℕ) (given ahead : List ℕ) (p : RawPiece) (result : Result ℕ Failure) (s : Streams) → given ≡ ahead
+    → Answered (to_piece ask n (piece_of given p)) result s → Answered (answers_from (to_piece ask) n (piece_of ahead p ∷ [])) result s
+told_piece ask n given ahead p result s same h = subst (λ l. Answered (to_piece ask n (piece_of l p)) result s) same h
+
+-- no answer
+pub told_none : (ask : Piece → Expected Text) (n : ℕ) (o e : Option (List ℕ)) → Answered (answers_from (to_piece ask) n []) (Ok 0) (streams o o e e)
+told_none ask n o e = (refl, appends_nothing o o (keeps_same o), no_fronts e e (keeps_same e))
