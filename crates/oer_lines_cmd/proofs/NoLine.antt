@@ -150,9 +150,9 @@ module _ (T : AsnType) (keeps : KeepsLimits T) (defaults : DefaultsFit T) (b : L
   no_part steps y is = let f = bound (checked T b) (λ canonical. handed (find_part (Some T) b steps)) y is in no_verdict f.0 f.1
 
   no_limited : {A : Type 0} (limit : ℕ) (next : List ℕ → Expected A) (y : A) → (next b ≡ value y → ⊥) → (within_limit limit b >>= next) ≡ value y → ⊥
-  no_limited limit next y no is = by (leb (length b) limit) is where
+  no_limited limit next y never is = by (leb (length b) limit) is where
     by : (t : Bool) → ((cond t (value b) (stop (Longer limit))) >>= next) ≡ value y → ⊥
-    by true is = no is
+    by true is = never is
     by false is = let differ : stop (Longer limit) ≡ value y = is in cc
 
   no_answer : (task : LineTask) (limit : ℕ) (path : Expected (List Step)) (y : Text) → octets_answer task T limit path b ≡ value y → ⊥
@@ -165,9 +165,9 @@ module _ (T : AsnType) (keeps : KeepsLimits T) (defaults : DefaultsFit T) (b : L
   no_answer (Part text) limit (value steps) y is = no_limited limit (part_octets T steps) y (no_part steps y) is
 
   no_told : (limit : ℕ) (x : Expected Text) (y : Text) → (x ≡ value y → ⊥) → told_answer T limit b x ≡ value y → ⊥
-  no_told limit unknown y no is = no is
-  no_told limit (value z) y no is = no is
-  no_told limit (refusal r) y no is = let differ : told_answer T limit b (refusal r) ≡ value y = is in cc
+  no_told limit unknown y never is = never is
+  no_told limit (value z) y never is = never is
+  no_told limit (refusal r) y never is = let differ : told_answer T limit b (refusal r) ≡ value y = is in cc
 
   pub no_line : (nests : Bool) (task : LineTask) (limit : ℕ) (path : Expected (List Step)) (y : Text) → octets_told nests task T limit path b ≡ value y → ⊥
   no_line false task limit path y is = no_answer task limit path y is

@@ -9,7 +9,7 @@ use Rattle.oer_lines_cmd.specs.Stream.{Piece, and_next, first_piece, first_piece
 use Rattle.oer_lines_cmd.specs.StreamLaws.{AreMessages, BeginsWithNone, IsMessage, messages_in, more_answers}
 use Rattle.oer_lines_cmd.proofs.Chained.{IsMessage as IsRead, message_again, message_is, split_long, split_message, split_rejected}
 
-front_octets : (b rest : List ℕ) → IsOctets (b ++ rest) → IsOctets b
+pub front_octets : (b rest : List ℕ) → IsOctets (b ++ rest) → IsOctets b
 front_octets [] rest octs = tt
 front_octets (x ∷ b) rest octs = (octs.0, front_octets b rest octs.1)
 
@@ -21,7 +21,7 @@ rest_octets (x ∷ b) rest octs = rest_octets b rest octs.1
 read_of : (T : AsnType) (limit : ℕ) (b : List ℕ) → IsMessage T limit b → IsRead T limit b
 read_of T limit b m = record { value = m.0; spells = m.1.2; some = m.2; within = m.3 }
 
-message_of : (T : AsnType) → KeepsLimits T → (limit : ℕ) (b : List ℕ) → IsOctets b → IsRead T limit b → IsMessage T limit b
+pub message_of : (T : AsnType) → KeepsLimits T → (limit : ℕ) (b : List ℕ) → IsOctets b → IsRead T limit b → IsMessage T limit b
 message_of T keeps limit b octs m = (m.value, encodes_from T keeps m.value b octs m.spells, m.some, m.within)
 
 -- Where the first piece is no message, none begins the octets.

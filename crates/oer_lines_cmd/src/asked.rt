@@ -154,10 +154,12 @@ pub fn stream_asked<E: Write>(
     let Some((program, rest)) = words.split_first() else {
         return Ok(None);
     };
-    match times("--stream", rest) {
-        0 => return Ok(None),
-        1 => {}
-        _ => return Err(tell(Misuse::Twice(Word::Stream), errors)),
+    let count = times("--stream", rest);
+    if count == 0 {
+        return Ok(None);
+    }
+    if count > 1 {
+        return Err(tell(Misuse::Twice(Word::Stream), errors));
     }
     let Ok(kept) = others(alloc, "--stream", program.as_str(), rest) else {
         return Err(stop(NoStart::NoMemory, errors));
