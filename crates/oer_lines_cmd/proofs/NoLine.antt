@@ -195,6 +195,6 @@ none_has_line T keeps defaults nests task limit path xs octs few some none line 
       by_first false b r is = refuses b r is
 
       by : (p : Piece) → first_piece T limit xs ≡ p → IsRefused T xs (octets_of p) → piece_answer nests task T limit path p ≡ value line → ⊥
-      by (message b) is r = λ e. let (m, (rest, all)) = message_is T keeps limit xs b is in absurd (r.none m.value (message_of T keeps limit b r.octets m).1)
+      by (message b) is r = λ e. let m = message_is T keeps limit xs b is in none b m.1.0 m.1.1 (message_of T keeps limit b r.octets m.0)
       by (rejected b) is r = refuses b r
       by (long b) is r = by_first (reads_first nests task) b r
