@@ -81,7 +81,13 @@ fn piece_ahead<R: Read>(
     if octets.is_empty() {
         return Ok(None);
     }
-    find_piece(alloc, schema, limit, &mut Front::new(octets, input), octets.len())
+    find_piece(
+        alloc,
+        schema,
+        limit,
+        &mut Front::new(octets, input),
+        octets.len(),
+    )
 }
 
 // What stands at the front of the last octets, if there are any.
@@ -96,7 +102,13 @@ fn last_piece(
     if octets.is_empty() {
         return Ok(None);
     }
-    match find_piece(alloc, schema, limit, &mut Metered::new(octets), octets.len()) {
+    match find_piece(
+        alloc,
+        schema,
+        limit,
+        &mut Metered::new(octets),
+        octets.len(),
+    ) {
         Ok(Some(piece)) => Ok(Some(piece)),
         Ok(None) => Err(Failure::Input),
         Err(failure) => Err(failure),
