@@ -1,10 +1,10 @@
 -- What was read at the front of the input is its first piece.
-use Rattle.std.proofs.Common.{Result, ◌≡◌, ◌≢◌, ◌∙◌, ℕ, ◌+◌, ◌-◌, ◌≤◌, Bool, true, false, Option, None, Some, Ok, Err, IfSome, List, [], ◌∷◌, ◌++◌, length, take, refl, sym, ap, subst, arith, append_assoc, append-nil, length-append}
+use Rattle.std.proofs.Common.{◌≡◌, ◌≢◌, ◌∙◌, ℕ, ◌+◌, ◌-◌, ◌≤◌, Bool, false, Option, None, Some, Ok, Err, IfSome, List, [], ◌∷◌, ◌++◌, length, take, refl, sym, ap, subst, arith, append_assoc, append-nil}
 use Rattle.std.proofs.Math.Seq.{take-append_seam}
 use Rattle.std.proofs.lemmas.List.{take-append-le}
 use Rattle.std.specs.Io.KnownBytes.{Consumes, IsAtEnd, prepend_known}
 use Rattle.oer_units.specs.Reader.{Outcome, at, got, refused}
-use Rattle.oer_units.specs.Reads.{Exactly, Gives, Span, Took, place, renamed}
+use Rattle.oer_units.specs.Reads.{Span, place, renamed}
 use Rattle.oer_units.specs.declared.fault.ReadFault.{ReadFault}
 use Rattle.oer_units.specs.declared.fault.Why.{Why}
 use Rattle.oer_units.specs.declared.fault.Why.TheVariants.{Device, Limit, Memory}
@@ -12,8 +12,8 @@ use Rattle.oer_model.specs.AsnType.{AsnType}
 use Rattle.oer_model.specs.AsnValue.{AsnValue}
 use Rattle.oer_model.specs.Reading.{read_value}
 use Rattle.oer_decoder.specs.Front.{ReadsAndCounts}
-use Rattle.oer_lines_cmd.specs.Reading.{FindsLast, FindsPiece, IsFirst, ReadsMore, count_of, known, piece_of}
-use Rattle.oer_lines_cmd.specs.Stream.{Piece, by_front, by_outcome, by_reason, first_piece, long, message, rejected}
+use Rattle.oer_lines_cmd.specs.Reading.{FindsPiece, IsFirst, ReadsMore, count_of, known, piece_of}
+use Rattle.oer_lines_cmd.specs.Stream.{by_front, by_outcome, by_reason, first_piece, long, message, rejected}
 use Rattle.oer_lines_cmd.specs.declared.pieces.Piece.{Piece as RawPiece}
 use Rattle.oer_lines_cmd.specs.declared.pieces.Piece.TheVariants as raw
 use Rattle.oer_lines_cmd.proofs.Chained.{front_is}

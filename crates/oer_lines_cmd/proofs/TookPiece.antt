@@ -9,7 +9,7 @@ use Rattle.oer_cmd.specs.Ending.{Streams}
 use Rattle.oer_cmd.specs.Expected.{Expected}
 use Rattle.oer_lines_cmd.specs.Answers.{Answered, answers_from, to_piece}
 use Rattle.oer_lines_cmd.specs.Reading.{IsFirst, TakesPiece, known, piece_of}
-use Rattle.oer_lines_cmd.specs.Stream.{Piece, first_piece, message, pieces}
+use Rattle.oer_lines_cmd.specs.Stream.{Piece, pieces}
 use Rattle.oer_lines_cmd.specs.declared.failure.Failure.{Failure}
 use Rattle.oer_lines_cmd.specs.declared.pieces.Piece.{Piece as RawPiece}
 use Rattle.oer_lines_cmd.specs.declared.pieces.Piece.TheVariants as raw
