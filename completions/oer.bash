@@ -15,10 +15,10 @@ _oer() {
       [ "$COMP_CWORD" -gt 2 ] || COMPREPLY=($(compgen -W 'canon show check part make' -- "$word"))
       return
       ;;
-    show) options='--type --types --name --hex --in --lines --framed --ascii --limit --help' ;;
-    canon) options='--type --types --name --hex --in --lines --framed --limit --help' ;;
-    check) options='--type --types --name --canonical --hex --in --lines --framed --limit --help' ;;
-    part) options='--type --types --name --hex --in --lines --framed --path --limit --help' ;;
+    show) options='--type --types --name --hex --in --lines --framed --stream --ascii --limit --help' ;;
+    canon) options='--type --types --name --hex --in --lines --framed --stream --limit --help' ;;
+    check) options='--type --types --name --canonical --hex --in --lines --framed --stream --limit --help' ;;
+    part) options='--type --types --name --hex --in --lines --framed --stream --path --limit --help' ;;
     make) options='--type --types --name --json --limit --help' ;;
     example) options='--type --types --name --full --help' ;;
     *) return ;;
@@ -28,14 +28,17 @@ _oer() {
     = | --type | --types | --name | --hex | --in | --framed | --path | --json | --limit) return ;;
   esac
   [ "$word" != = ] || return
-  # Of --type and of --types with --name a line takes only one, and of --hex, --in, --lines and --framed. --canonical takes one message.
+  # Of --type and of --types with --name a line takes only one, and of --hex, --in, --lines, --framed and --stream, but for --in with
+  # --stream. --canonical takes one message.
   for ((at = 2; at < COMP_CWORD; at++)); do
     case ${COMP_WORDS[at]} in
       --type) given+='--type --types --name ' ;;
       --types | --name) given+="${COMP_WORDS[at]} --type " ;;
-      --hex | --in) given+='--hex --in --lines --framed ' ;;
-      --lines | --framed) given+='--canonical --hex --in --lines --framed ' ;;
-      --canonical) given+='--canonical --lines --framed ' ;;
+      --hex) given+='--hex --in --lines --framed --stream ' ;;
+      --in) given+='--hex --in --lines --framed ' ;;
+      --lines | --framed) given+='--canonical --hex --in --lines --framed --stream ' ;;
+      --stream) given+='--canonical --hex --lines --framed --stream ' ;;
+      --canonical) given+='--canonical --lines --framed --stream ' ;;
       --*) given+="${COMP_WORDS[at]%%=*} " ;;
     esac
   done

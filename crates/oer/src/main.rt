@@ -6,7 +6,7 @@ use oer_cmd::{NoStart, run, stop};
 use oer_ends_cmd::run_for;
 use oer_example_cmd::{asks_example, run_example, run_example_for};
 use oer_input_cmd::{Given, Program, input_given};
-use oer_lines_cmd::{Way, framed_asked, lines_asked, run_many, run_many_for};
+use oer_lines_cmd::{Way, framed_asked, lines_asked, run_many, run_many_for, stream_asked};
 use oer_module_cmd::type_given;
 use oer_module_options::Command;
 use oer_types_cmd::run_types;
@@ -128,6 +128,13 @@ fn answer<R: BufRead, W: Write, E: Write>(
 ) -> u8 {
     match canonical_asked(alloc, words, errors) {
         Ok(Some(words)) => return answer_canonical(alloc, words.as_slice(), input, output, errors),
+        Ok(None) => {}
+        Err(status) => return status,
+    }
+    match stream_asked(alloc, words, errors) {
+        Ok(Some(words)) => {
+            return answer_many(alloc, Way::Stream, words.as_slice(), input, output, errors);
+        }
         Ok(None) => {}
         Err(status) => return status,
     }

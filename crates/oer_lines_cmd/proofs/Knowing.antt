@@ -20,6 +20,7 @@ use Rattle.oer_cmd.specs.declared.value.Form.{Form}
 use Rattle.oer_cmd.specs.declared.value.Form.TheVariants as form
 use Rattle.oer_ends_cmd.specs.Telling.{told_answer}
 use Rattle.oer_lines_cmd.specs.Answering.{IsKnown}
+use Rattle.oer_lines_cmd.specs.Stream.{Piece, long, message, piece_answer, reads_first, rejected}
 use Rattle.oer_lines_cmd.specs.Tasks.{long_answer, octets_answer, octets_told, path_of}
 use Rattle.oer_lines_cmd.specs.declared.task.LineTask.{LineTask}
 use Rattle.oer_lines_cmd.specs.declared.task.LineTask.TheVariants.{Canon, Check, Part, Show, ShowAscii}
@@ -101,6 +102,16 @@ long_known ShowAscii limit path h = tt
 long_known Canon limit path h = tt
 long_known Check limit path h = tt
 long_known (Part text) limit path h = known_then path (λ steps. stop (Longer limit)) (path_known (path_of (Part text)) path h) (λ steps. tt)
+
+-- And so is that to a message behind another one.
+pub piece_known : (nests : Bool) (task : LineTask) (T : AsnType) (limit : ℕ) (path : Expected (List Step)) (p : Piece) → IsPathOf (path_of task) path
+    → IsKnown (piece_answer nests task T limit path p)
+piece_known nests task T limit path (message b) h = octets_known nests task T limit path b h
+piece_known nests task T limit path (rejected b) h = octets_known nests task T limit path b h
+piece_known nests task T limit path (long b) h = by (reads_first nests task) where
+  by : (t : Bool) → IsKnown (cond t (long_answer task limit path) (octets_told nests task T limit path b))
+  by true = long_known task limit path h
+  by false = octets_known nests task T limit path b h
 
 pub parsed_known : {A : Type 0} (r : Result A TextFault) → IsKnown (parsed r)
 parsed_known (Ok x) = tt

@@ -13,12 +13,13 @@ use Rattle.oer_lines_cmd.proofs.Fronts.{appends_both, appends_nothing, front_aft
 abbrev pub streams : Option (List ℕ) → Option (List ℕ) → Option (List ℕ) → Option (List ℕ) → Streams
 streams o o' e e' = record { output = o; output' = o'; errors = e; errors' = e' }
 
--- What stands on the input is taken: none or one of its items. last: whether nothing follows. items: all that octets are.
+-- What stands on the input is taken: none or one of its items. last: whether none follows, whatever the input has left. items: all that
+-- octets are.
 pub record Took {X : Type 0} (items : List ℕ → List X) (told told' : Option (List ℕ)) (xs : List X) (last : Bool) : Type 0 where
   pub octets : List ℕ
   pub takes : Consumes told told' octets
   pub goes_on : last ≡ false → (length xs ≡ 1) × ((more : List ℕ) → items (octets ++ more) ≡ xs ++ items more)
-  pub ends : last ≡ true → (items octets ≡ xs) × IfSome told (λ b. IsAtEnd told')
+  pub ends : last ≡ true → (left : List ℕ) × (items (octets ++ left) ≡ xs) × IfSome told (λ b. told' ≡ Some left)
 
 -- all octets, of which these were read
 all_octets : (a b : Option (List ℕ)) (read : List ℕ) → Consumes a b read → (more : List ℕ) × IfSome a (λ xs. xs ≡ read ++ more)
@@ -26,12 +27,23 @@ all_octets None b read h = ([], tt)
 all_octets (Some xs) None read h = absurd h
 all_octets (Some xs) (Some ys) read h = (ys, h)
 
--- none is left
-none_left : (a b c : Option (List ℕ)) (s t : List ℕ) → Consumes a b s → Consumes b c t → IfSome b (λ xs. IsAtEnd c) → IfSome a (λ xs. xs ≡ s ++ t)
-none_left None b c s t h k end = tt
-none_left (Some xs) None c s t h k end = absurd h
-none_left (Some xs) (Some ys) None s t h k end = absurd k
-none_left (Some xs) (Some ys) (Some zs) s t h k end = h ∙ ap (λ l. s ++ l) (k ∙ ap (λ l. t ++ l) end ∙ append-nil t)
+-- these are left
+all_left : (a b c : Option (List ℕ)) (s t left : List ℕ) → Consumes a b s → Consumes b c t → IfSome b (λ xs. c ≡ Some left)
+    → IfSome a (λ xs. xs ≡ s ++ (t ++ left))
+all_left None b c s t left h k end = tt
+all_left (Some xs) None c s t left h k end = absurd h
+all_left (Some xs) (Some ys) c s t left h k end =
+    let behind : ys ≡ t ++ left = subst (λ z. Consumes (Some ys) z t) end k in
+    h ∙ ap (λ l. s ++ l) behind
+
+-- Nothing is left behind what was taken, and this is all that stands there.
+pub at_the_end : {X : Type 0} (items : List ℕ → List X) (a b : Option (List ℕ)) (t : List ℕ) (xs : List X) → items t ≡ xs → Consumes a b t
+    → IfSome a (λ b'. IsAtEnd b) → (left : List ℕ) × (items (t ++ left) ≡ xs) × IfSome a (λ b'. b ≡ Some left)
+at_the_end items a b t xs is takes end = ([], ap items (append-nil t) ∙ is, none a b takes end) where
+  none : (a b : Option (List ℕ)) → Consumes a b t → IfSome a (λ b'. IsAtEnd b) → IfSome a (λ b'. b ≡ Some [])
+  none None b takes end = tt
+  none (Some ys) None takes end = absurd takes
+  none (Some ys) (Some zs) takes end = ap (λ (l : List ℕ). Some l) end
 
 -- some answers, and then others
 answered_both : (xs ys : List Numbered) (v w : ℕ) (o o' o'' e e' e'' : Option (List ℕ)) → Answered xs (Ok v) (streams o o' e e')
@@ -108,11 +120,12 @@ module _ {P X : Type 0} (items : List ℕ → List X) (to : P → ℕ → X → 
             ap items (append_assoc h.read q known.0) ∙ h.splits (q ++ known.0) ∙ ap (λ l. h.done ++ l) ((took.goes_on going).1 known.0),
           )
       taken true ended =
-          let q = took.octets in (
-            h.read ++ q,
+          let q = took.octets in
+          let end = took.ends ended in (
+            h.read ++ (q ++ end.0),
             [],
-            none_left told told' told'' h.read q h.takes took.takes (took.ends ended).1,
-            h.splits q ∙ ap (λ l. h.done ++ l) ((took.ends ended).0 ∙ sym (append-nil xs)),
+            all_left told told' told'' h.read q end.0 h.takes took.takes end.2,
+            h.splits (q ++ end.0) ∙ ap (λ l. h.done ++ l) (end.1 ∙ sym (append-nil xs)),
           )
 
       -- a front of what is said of some answers is one of what is said of more
@@ -157,9 +170,11 @@ module _ {P X : Type 0} (items : List ℕ → List X) (to : P → ℕ → X → 
 
         -- The last one.
         pub all_done : last ≡ true → Ran items to told (Ok (max v w)) (streams o o'' e e'')
-        all_done ended = (
-          h.read ++ took.octets,
-          none_left told told' told'' h.read took.octets h.takes took.takes (took.ends ended).1,
-          λ p. subst (λ l. Answered (answers_from (to p) 1 l) (Ok (max v w)) (streams o o'' e e''))
-              (sym (h.splits took.octets ∙ ap (λ l. h.done ++ l) (took.ends ended).0)) (both p),
-        )
+        all_done ended =
+            let q = took.octets in
+            let end = took.ends ended in (
+              h.read ++ (q ++ end.0),
+              all_left told told' told'' h.read q end.0 h.takes took.takes end.2,
+              λ p. subst (λ l. Answered (answers_from (to p) 1 l) (Ok (max v w)) (streams o o'' e e''))
+                  (sym (h.splits (q ++ end.0) ∙ ap (λ l. h.done ++ l) end.1)) (both p),
+            )

@@ -10,9 +10,10 @@ use Rattle.oer_cmd.specs.Expected.{Expected}
 use Rattle.oer_cmd.specs.Faults.{Reports, error_line, status_of}
 use Rattle.oer_cmd.specs.declared.fault.Fault.{Fault}
 use Rattle.oer_cmd.proofs.Endings.{moved}
-use Rattle.oer_lines_cmd.specs.Answers.{Answered, AnsweredAll, Numbered, answers, answers_from, error_lines, to_frame, to_line}
+use Rattle.oer_lines_cmd.specs.Answers.{Answered, AnsweredAll, Numbered, answers, answers_from, error_lines, to_frame, to_line, to_piece}
 use Rattle.oer_lines_cmd.specs.Ending.{EndsWith, Runs}
 use Rattle.oer_lines_cmd.specs.Frames.{Frame}
+use Rattle.oer_lines_cmd.specs.Stream.{Piece, piece_answer}
 use Rattle.oer_lines_cmd.specs.Tasks.{answer_told, long_answer, octets_told, path_of}
 use Rattle.oer_lines_cmd.specs.declared.failure.Failure.{Failure}
 use Rattle.oer_lines_cmd.specs.declared.task.LineTask.{LineTask}
@@ -31,12 +32,15 @@ Answering X = Expected (List Step) → ℕ → X → List Numbered
 abbrev pub by_path : {X : Type 0} → Answering X → (task : LineTask) → Path task → ℕ → X → List Numbered
 by_path to task p = to p.0
 
--- the same of lines, and of frames
+-- the same of lines, of frames, and of what stands right behind one another
 abbrev pub lines_told : Bool → LineTask → AsnType → ℕ → Answering Text
 lines_told nests task T limit path = to_line (answer_told nests task T limit path)
 
 abbrev pub frames_told : Bool → LineTask → AsnType → ℕ → Answering Frame
 frames_told nests task T limit path = to_frame (octets_told nests task T limit path) limit (long_answer task limit path)
+
+abbrev pub pieces_told : Bool → LineTask → AsnType → ℕ → Answering Piece
+pieces_told nests task T limit path = to_piece (piece_answer nests task T limit path)
 
 -- the octets of a run, and what was done with their messages, as the contract says it
 abbrev pub Given : {X : Type 0} → (List ℕ → List X) → Answering X → LineTask → Option (List ℕ) → Result ℕ Failure → Streams → Type 0

@@ -1,4 +1,4 @@
--- What is taken of the input at each turn: a line, or a frame.
+-- What is taken of the input at each turn: a line, a frame, or a message behind the one before it.
 use Rattle.std.proofs.Common.{Result, ◌≡◌, ◌∙◌, ℕ, ◌≤◌, Bool, true, false, Option, Ok, List, [], ◌∷◌, ◌++◌, length, leb, cond, refl, sym, ap, subst, arith, append_assoc, append-nil, le-leb}
 use Rattle.std.specs.Prelude.{not}
 use Rattle.std.proofs.lemmas.Bool.{lt-leb}
@@ -16,7 +16,7 @@ use Rattle.oer_lines_cmd.specs.declared.frames.Taken.{Taken}
 use Rattle.oer_lines_cmd.specs.declared.frames.Taken.TheVariants as taken
 use Rattle.oer_lines_cmd.specs.declared.way.Place.TheVariants.{Message}
 use Rattle.oer_lines_cmd.proofs.Framing.{split_cut, split_whole}
-use Rattle.oer_lines_cmd.proofs.Looping.{Took}
+use Rattle.oer_lines_cmd.proofs.Looping.{Took, at_the_end}
 use Rattle.oer_lines_cmd.proofs.Splitting.{split_ended, split_last}
 
 truth : {A : Type 0} → false ≡ true → A
@@ -38,7 +38,7 @@ took_line told told' line false (free, takes, end) = record {
   octets = line;
   takes = takes;
   goes_on = λ going. truth (sym going);
-  ends = λ ended. (split_last [] line free, end);
+  ends = λ ended. at_the_end lines told told' line (line ∷ []) (split_last [] line free) takes end;
 }
 
 -- its answer
@@ -68,7 +68,7 @@ pub took_frame : (n limit : ℕ) (told told' : Option (List ℕ)) (b : List ℕ)
     → TookFrame n limit told told' b t
 took_frame n limit told told' b taken.End some (takes, end) = record {
   items = [];
-  took = record { octets = []; takes = takes; goes_on = λ going. truth (sym going); ends = λ ended. (refl, end) };
+  took = record { octets = []; takes = takes; goes_on = λ going. truth (sym going); ends = λ ended. at_the_end (frames n) told told' [] [] refl takes end };
   answers = λ ask long k. refl;
 }
 took_frame n limit told told' b taken.Whole some (head, long, says, within, takes) = record {
@@ -100,7 +100,7 @@ took_frame n limit told told' b (taken.Cut there) some (xs, long, has, short, ta
     octets = xs;
     takes = takes;
     goes_on = λ going. truth (sym going);
-    ends = λ ended. (split_cut n xs some (omega (arith, has, long)) (omega (arith, short, long)), end);
+    ends = λ ended. at_the_end (frames n) told told' xs (cut (length xs) ∷ []) (split_cut n xs some (omega (arith, has, long)) (omega (arith, short, long))) takes end;
   };
   answers = λ ask other k. ap (λ m. to_frame ask limit other k (cut m)) (sym long);
 }

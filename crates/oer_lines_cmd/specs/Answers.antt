@@ -11,6 +11,7 @@ use Rattle.oer_cmd.specs.Expected.{Expected, Refusal, refusal, unknown, value}
 use Rattle.oer_cmd.specs.Faults.{AppendsFront}
 use Rattle.oer_lines_cmd.specs.Frames.{Frame, cut, frames, whole}
 use Rattle.oer_lines_cmd.specs.Lines.{is_message, lines}
+use Rattle.oer_lines_cmd.specs.Stream.{Piece, piece_answer, pieces}
 use Rattle.oer_lines_cmd.specs.Tasks.{answer_told, long_answer, octets_told}
 use Rattle.oer_lines_cmd.specs.declared.failure.Failure.{Failure}
 use Rattle.oer_lines_cmd.specs.declared.frames.Taken.{Taken}
@@ -20,7 +21,7 @@ use Rattle.oer_lines_cmd.specs.declared.task.LineTask.{LineTask}
 use Rattle.oer_lines_cmd.specs.declared.way.Place.{Place}
 use Rattle.oer_lines_cmd.specs.declared.way.Place.TheVariants.{Line, Message}
 use Rattle.oer_lines_cmd.specs.declared.way.Way.{Way}
-use Rattle.oer_lines_cmd.specs.declared.way.Way.TheVariants.{Framed, Lines}
+use Rattle.oer_lines_cmd.specs.declared.way.Way.TheVariants.{Framed, Lines, Stream}
 
 -- where a message stands, as the errors say it
 abbrev pub place_text : Place → Text
@@ -73,10 +74,19 @@ abbrev pub framed_answers : ℕ → Bool → LineTask → AsnType → ℕ → Ex
 framed_answers n nests task T limit path octets =
     answers_from (to_frame (octets_told nests task T limit path) limit (long_answer task limit path)) 1 (frames n octets)
 
+-- the answer to the message of this number
+abbrev pub to_piece : (Piece → Expected Text) → ℕ → Piece → List Numbered
+to_piece ask n p = record { place = Message n; answer = ask p } ∷ []
+
+-- the same, one right behind the other
+abbrev pub stream_answers : Bool → LineTask → AsnType → ℕ → Expected (List Step) → List ℕ → List Numbered
+stream_answers nests task T limit path octets = answers_from (to_piece (piece_answer nests task T limit path)) 1 (pieces T limit octets)
+
 -- the same, by the way in which they stand there
 abbrev pub answers : Way → Bool → LineTask → AsnType → ℕ → Expected (List Step) → List ℕ → List Numbered
 answers Lines nests task T limit path octets = line_answers nests task T limit path octets
 answers (Framed width) nests task T limit path octets = framed_answers (octets_of_width width) nests task T limit path octets
+answers Stream nests task T limit path octets = stream_answers nests task T limit path octets
 
 -- the line of a rejected message on the output
 abbrev pub rejected_text : Text → Text

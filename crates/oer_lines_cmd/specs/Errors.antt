@@ -1,23 +1,25 @@
--- What is said of `--lines` and `--framed` where they are rejected.
+-- What is said of `--lines`, `--framed` and `--stream` where they are rejected.
 use Rattle.std.specs.Prelude.{◌≡◌, ◌⊎◌, ℕ, List, [], ◌∷◌, ◌++◌, Option, Result, Ok, Err, codes}
 use Rattle.std.specs.Io.KnownBytes.{Keeps}
 use Rattle.clap.specs.Words.{Text}
 use Rattle.oer_cmd.specs.Faults.{AppendsFront, error_line}
 use Rattle.oer_cmd.specs.declared.fault.Fault.TheVariants.{Memory}
 use Rattle.oer_lines_cmd.specs.declared.misuse.Misuse.{Misuse}
-use Rattle.oer_lines_cmd.specs.declared.misuse.Misuse.TheVariants.{Both, Hex, NoValue, Size, Subcommand, Twice}
+use Rattle.oer_lines_cmd.specs.declared.misuse.Misuse.TheVariants.{Both, Hex, NoValue, Size, Subcommand, Twice, Ways}
 use Rattle.oer_lines_cmd.specs.declared.way.Word.{Word}
 use Rattle.oer_lines_cmd.specs.declared.way.Word.TheVariants as word
 
 abbrev pub word_text : Word → Text
 word_text word.Lines = codes "--lines"
 word_text word.Framed = codes "--framed"
+word_text word.Stream = codes "--stream"
 
 abbrev pub misuse_text : Misuse → Text
 misuse_text NoValue = codes "--framed needs a value"
 misuse_text (Twice w) = word_text w ++ codes " is given twice"
 misuse_text Size = codes "--framed takes 1, 2, 4 or 8"
 misuse_text Both = codes "one of --framed and --lines"
+misuse_text Ways = codes "one of --stream, --framed and --lines"
 misuse_text (Subcommand w) = word_text w ++ codes " needs canon, show, check or part"
 misuse_text (Hex w) = word_text w ++ codes " reads standard input, not --hex"
 

@@ -6,6 +6,9 @@ pub mod Errors
 pub mod Frames
 pub mod Laws
 pub mod Lines
+pub mod Reading
 pub mod Scan
+pub mod Stream
+pub mod StreamLaws
 pub mod Tasks
 pub mod Ways

@@ -20,8 +20,8 @@ use oer_types::Schema;
 use std::alloc::Global;
 use std::io::Write;
 
-// Why a message longer than the limit is rejected. The path is looked at first.
-fn long_fault<'a>(alloc: Global, asked: Asked<'a>) -> Fault<'a>
+/// Why a message longer than the limit is rejected. The path is looked at first.
+pub fn long_fault<'a>(alloc: Global, asked: Asked<'a>) -> Fault<'a>
     ensures { (path : Expected (List Step)) → IsPathOf (path_of asked.entry.task) path
         → Meets {X = String Global} string_bytes (long_answer asked.entry.task asked.entry.limit path) (Err result) }
 {

@@ -24,8 +24,11 @@ pub enum Taken {
     Cut(u128),
 }
 
-// Reads octets into the front of `room`, and again where that is interrupted. How many.
-fn read_some<R: Read>(input: &mut R, room: &mut [u8]) -> Result<usize, Failure>
+/// Reads octets into the front of `room`, and again where that is interrupted. How many.
+///
+/// # Errors
+/// Input, if the read failed; Memory, if an allocation did.
+pub fn read_some<R: Read>(input: &mut R, room: &mut [u8]) -> Result<usize, Failure>
     ensures room { length room.new ≡ length room.old }
     ensures most { IfOk result (λ n. n ≤ length room.new) }
     ensures octets { IfOk result (λ n. Consumes (R.remaining input.old) (R.remaining input.new) (take n room.new)) }

@@ -5,15 +5,18 @@ ghost use Rattle.oer_model.specs.Parts.{Step};
 ghost use Rattle.oer_types.specs.Schema.{the_type};
 ghost use Rattle.oer_cmd.specs.Answer.{IsPathOf};
 ghost use Rattle.oer_cmd.specs.Expected.{Expected};
-ghost use Rattle.oer_lines_cmd.specs.Answers.{AnsweredAll, answers, framed_answers, line_answers};
+ghost use Rattle.oer_lines_cmd.specs.Answers.{AnsweredAll, answers, framed_answers, line_answers, stream_answers};
 ghost use Rattle.oer_lines_cmd.specs.Ending.{Runs};
 ghost use Rattle.oer_lines_cmd.specs.Frames.{is_last};
 ghost use Rattle.oer_lines_cmd.specs.Tasks.{path_of};
 
+use crate::ahead::Ahead;
 use crate::failure::Failure;
 use crate::frame::answer_frame;
 use crate::frames::{Taken, take_frame};
 use crate::line::answer_line;
+use crate::piece::answer_piece;
+use crate::pieces::{Piece, take_piece};
 use crate::reading::take_line;
 use crate::task::Asked;
 use crate::way::Way;
@@ -97,6 +100,38 @@ fn answer_frames<R: Read, W: Write, E: Write>(
     Err(Failure::Input)
 }
 
+// Answers all messages of the input that stand right behind one another, each when its octets are there. The worst status.
+fn answer_stream<R: Read, W: Write, E: Write>(
+    alloc: Global,
+    schema: &Schema,
+    asked: Asked<'_>,
+    input: &mut R,
+    output: &mut W,
+    errors: &mut E,
+) -> Result<u8, Failure>
+    ensures exact { (octets : List ℕ) × IfSome (R.remaining input.old) (λ xs. xs ≡ octets)
+        × ((path : Expected (List Step)) → IsPathOf (path_of asked.entry.task) path
+        → AnsweredAll (stream_answers asked.entry.tells_nesting asked.entry.task (the_type schema.now) asked.entry.limit path octets) result
+        record { output = W.contents output.old; output' = W.contents output.new; errors = E.contents errors.old; errors' = E.contents errors.new }) }
+    ensures statuses { IfOk result (λ status. status ≤ 2) }
+{
+    let mut ahead = Ahead::new(alloc);
+    let mut worst = 0;
+    for number in 1..u64::MAX {
+        let Some(piece) = take_piece(alloc, schema, asked.limit, input, &mut ahead)? else {
+            return Ok(worst);
+        };
+        let octets = ahead.octets();
+        let status = answer_piece(alloc, schema, asked, number, piece, octets, output, errors)?;
+        worst = worse(worst, status);
+        let Piece::Message(count) = piece else {
+            return Ok(worst);
+        };
+        ahead.pass(count);
+    }
+    Err(Failure::Input)
+}
+
 // Answers all messages of the input, each before the next one is read. The worst status.
 fn answer_all<R: BufRead, W: Write, E: Write>(
     alloc: Global,
@@ -115,6 +150,7 @@ fn answer_all<R: BufRead, W: Write, E: Write>(
     match asked.way {
         Way::Lines => answer_lines(alloc, schema, asked, input, output, errors),
         Way::Framed(width) => answer_frames(alloc, schema, asked, width, input, output, errors),
+        Way::Stream => answer_stream(alloc, schema, asked, input, output, errors),
     }
 }
 

@@ -1,4 +1,4 @@
-//! Why `--lines` or `--framed` is rejected.
+//! Why `--lines`, `--framed` or `--stream` is rejected.
 ghost use Rattle.std.specs.Prelude.{◌≡◌};
 ghost use Rattle.oer_cmd.specs.Faults.{AppendsFront};
 ghost use Rattle.oer_lines_cmd.specs.Errors.{misuse_line};
@@ -7,7 +7,7 @@ use crate::way::Word;
 use oer_cmd::put_all;
 use std::io::Write;
 
-/// Why `--lines` or `--framed` is rejected.
+/// Why `--lines`, `--framed` or `--stream` is rejected.
 #[derive(Clone, Copy, Debug, PartialEq, Eq)]
 pub enum Misuse {
     /// `--framed` is the last word, and its value isn't there.
@@ -18,6 +18,8 @@ pub enum Misuse {
     Size,
     /// `--framed` beside `--lines`.
     Both,
+    /// `--stream` beside one of these.
+    Ways,
     /// The subcommand is none that takes it.
     Subcommand(Word),
     /// The octets are given by `--hex`.
@@ -33,12 +35,16 @@ impl Misuse {
             Misuse::NoValue => "oer: --framed needs a value\n",
             Misuse::Twice(Word::Lines) => "oer: --lines is given twice\n",
             Misuse::Twice(Word::Framed) => "oer: --framed is given twice\n",
+            Misuse::Twice(Word::Stream) => "oer: --stream is given twice\n",
             Misuse::Size => "oer: --framed takes 1, 2, 4 or 8\n",
             Misuse::Both => "oer: one of --framed and --lines\n",
+            Misuse::Ways => "oer: one of --stream, --framed and --lines\n",
             Misuse::Subcommand(Word::Lines) => "oer: --lines needs canon, show, check or part\n",
             Misuse::Subcommand(Word::Framed) => "oer: --framed needs canon, show, check or part\n",
+            Misuse::Subcommand(Word::Stream) => "oer: --stream needs canon, show, check or part\n",
             Misuse::Hex(Word::Lines) => "oer: --lines reads standard input, not --hex\n",
             Misuse::Hex(Word::Framed) => "oer: --framed reads standard input, not --hex\n",
+            Misuse::Hex(Word::Stream) => "oer: --stream reads standard input, not --hex\n",
         }
     }
 }

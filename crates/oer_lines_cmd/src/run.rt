@@ -1,4 +1,4 @@
-//! The command with `--lines` or `--framed`.
+//! The command with `--lines`, `--framed` or `--stream`.
 ghost use Rattle.std.specs.Prelude.{◌≡◌, ◌≤◌, false, map, string_bytes};
 ghost use Rattle.oer_types.specs.Schema.{the_type};
 ghost use Rattle.oer_cmd.specs.Answer.{expected_type};
@@ -25,10 +25,11 @@ fn tells_nesting(schema: &Schema) -> bool
     has_end(schema.shape())
 }
 
-/// Runs the command for many messages of this type: `words` are the arguments without `--lines` or `--framed` and its value, the program's
-/// name first; those on types count for nothing. The way says how the messages stand on the input: each line is one in hexadecimal digits,
-/// but for empty ones, and those that begin with `#`; or each is raw, behind its length. Where the type has an end, since it is written out
-/// to a nesting, octets that nest deeper are rejected as `Nesting`. Returns the status of the program.
+/// Runs the command for many messages of this type: `words` are the arguments without `--lines`, `--stream`, or `--framed` and its value,
+/// the program's name first; those on types count for nothing. The way says how the messages stand on the input: each line is one in
+/// hexadecimal digits, but for empty ones, and those that begin with `#`; or each is raw, behind its length, or right behind the one
+/// before it, up to where none begins. Where the type has an end, since it is written out to a nesting, octets that nest deeper are
+/// rejected as `Nesting`. Returns the status of the program.
 pub fn run_many_for<R: BufRead, W: Write, E: Write>(
     alloc: Global,
     way: Way,

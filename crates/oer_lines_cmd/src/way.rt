@@ -13,6 +13,8 @@ pub enum Word {
     Lines,
     /// `--framed`.
     Framed,
+    /// `--stream`.
+    Stream,
 }
 
 /// How the messages stand on the input.
@@ -22,6 +24,8 @@ pub enum Way {
     Lines,
     /// Each is raw, behind its length.
     Framed(Width),
+    /// Each is raw, right behind the one before it.
+    Stream,
 }
 
 impl Way {
@@ -32,6 +36,7 @@ impl Way {
         match self {
             Way::Lines => Word::Lines,
             Way::Framed(_) => Word::Framed,
+            Way::Stream => Word::Stream,
         }
     }
 }

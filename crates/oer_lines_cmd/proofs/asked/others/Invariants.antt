@@ -7,4 +7,4 @@ use Rattle.oer_lines_cmd.proofs.asked.others.Given as goal
 abbrev pub invariant-loop-word : goal.invariant-loop-word
 invariant-loop-word l =
     let rest = map string_bytes (drop l.word-index l.words) in
-    l.program ∷ others (map string_bytes l.words) ≡ words_of l.kept ++ (if l.is_option then others rest else rest)
+    l.program ∷ others l.flag (map string_bytes l.words) ≡ words_of l.kept ++ (if l.is_option then others l.flag rest else rest)

@@ -4,4 +4,4 @@ use Rattle.oer_lines_cmd.proofs.asked.times.Given as goal
 
 abbrev pub invariant-loop-word : goal.invariant-loop-word
 invariant-loop-word l =
-    (times (map string_bytes l.words) ≡ l.times + times (map string_bytes (drop l.word-index l.words))) × (l.times ≤ l.word-index)
+    (times l.flag (map string_bytes l.words) ≡ l.times + times l.flag (map string_bytes (drop l.word-index l.words))) × (l.times ≤ l.word-index)
