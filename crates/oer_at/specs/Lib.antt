@@ -1,0 +1,4 @@
+pub mod Names
+pub mod Hops
+pub mod Views
+pub mod Finding
