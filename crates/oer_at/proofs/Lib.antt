@@ -1,3 +1,4 @@
 mod Splitting
 mod Onward
 mod Going
+mod Calling

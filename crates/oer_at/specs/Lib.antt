@@ -2,3 +2,5 @@ pub mod Names
 pub mod Hops
 pub mod Views
 pub mod Finding
+pub mod Meaning
+pub mod Laws

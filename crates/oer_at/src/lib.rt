@@ -3,6 +3,7 @@
 
 mod enter;
 mod hop;
+pub mod laws;
 mod leading;
 mod names;
 mod number;
