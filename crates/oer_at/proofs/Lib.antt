@@ -2,3 +2,4 @@ mod Splitting
 mod Onward
 mod Going
 mod Calling
+mod Reaching

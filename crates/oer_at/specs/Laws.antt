@@ -1,5 +1,5 @@
 -- What holds of names.
-use Rattle.std.specs.Prelude.{◌≡◌, List, Option, Some, Ok, Err, ◌↔◌}
+use Rattle.std.specs.Prelude.{◌≡◌, ◌↔◌, ℕ, List, Some, Ok}
 use Rattle.oer_model.specs.AsnType.{AsnType}
 use Rattle.oer_model.specs.AsnValue.{AsnValue}
 use Rattle.oer_model.specs.Constraints.{KeepsLimits}
@@ -11,8 +11,6 @@ use Rattle.oer_at.specs.Finding.{find_at}
 use Rattle.oer_at.specs.Hops.{hops_of}
 use Rattle.oer_at.specs.Meaning.{Means, Reaches}
 use Rattle.oer_at.specs.declared.hop.Hop.{Hop}
-use Rattle.oer_at.specs.declared.hop.NameFault.{NameFault}
-use Rattle.std.specs.Prelude.{ℕ}
 
 -- The hops that are found are what the names mean.
 abbrev pub FindsMeaning : Type 0
@@ -25,5 +23,4 @@ MeansOneThing = (T : AsnType) → IsWellFormed T → (names : List (List ℕ)) (
 -- What is found in an encoding is what the hops reach there.
 abbrev pub FindsReached : Type 0
 FindsReached = (T : AsnType) → KeepsLimits T → DefaultsFit T → (v : AsnValue) (b : List ℕ) → Encodes T v b
-    → (names : List (List ℕ)) (hops : List Hop) (U : AsnType) (s : List ℕ) → Means T names hops U
-    → find_at (Some T) b hops ≡ found (Some U) s ↔ Reaches T b hops U s
+    → (hops : List Hop) (U : AsnType) (s : List ℕ) → find_at (Some T) b hops ≡ found (Some U) s ↔ Reaches T b hops U s

@@ -49,12 +49,12 @@ Means T names hops U = ⊥
 abbrev pub BeginsWith : Tag → List ℕ → Type 0
 BeginsWith t b = (u : Tag) × (p : List ℕ) × (c : List ℕ) × (same_tag t u ≡ true) × (b ≡ p ++ c) × IsTag u p
 
--- From the octets b, of type T, the hop leads to c, of type V: to an alternative if it is the one chosen.
-abbrev pub Hops : AsnType → List ℕ → Hop → AsnType → List ℕ → Type 0
-Hops T b (Part step) V c = LeadsTo T b (step_of step) (Some V) c
-Hops T b (Alternative t) V c = BeginsWith t b × LeadsTo T b to_chosen (Some V) c
+-- From the octets b, of type T, the hop leads to c, of type V where that is known: to an alternative if it is the one chosen.
+abbrev pub Hops : AsnType → List ℕ → Hop → Option AsnType → List ℕ → Type 0
+Hops T b (Part step) V c = LeadsTo T b (step_of step) V c
+Hops T b (Alternative t) V c = BeginsWith t b × LeadsTo T b to_chosen V c
 
 -- the same of hops, one after another
 abbrev pub Reaches : AsnType → List ℕ → List Hop → AsnType → List ℕ → Type 0
 Reaches T b [] U s = (U ≡ T) × (s ≡ b)
-Reaches T b (hop ∷ hops) U s = (V : AsnType) × (c : List ℕ) × Hops T b hop V c × Reaches V c hops U s
+Reaches T b (hop ∷ hops) U s = (V : AsnType) × (c : List ℕ) × Hops T b hop (Some V) c × Reaches V c hops U s
