@@ -18,24 +18,27 @@ _oer() {
     show) options='--type --types --name --hex --in --lines --framed --ascii --limit --help' ;;
     canon) options='--type --types --name --hex --in --lines --framed --limit --help' ;;
     check) options='--type --types --name --canonical --hex --in --lines --framed --limit --help' ;;
-    part) options='--type --types --name --hex --in --lines --framed --path --limit --help' ;;
+    part) options='--type --types --name --hex --in --lines --framed --path --at --limit --help' ;;
     make) options='--type --types --name --json --limit --help' ;;
     example) options='--type --types --name --full --help' ;;
     *) return ;;
   esac
   # An equals sign is a word of its own here.
   case $before in
-    = | --type | --types | --name | --hex | --in | --framed | --path | --json | --limit) return ;;
+    = | --type | --types | --name | --hex | --in | --framed | --path | --at | --json | --limit) return ;;
   esac
   [ "$word" != = ] || return
-  # Of --type and of --types with --name a line takes only one, and of --hex, --in, --lines and --framed. --canonical takes one message.
+  # Of --type and of --types with --name a line takes only one, of --hex, --in, --lines and --framed, and of --path and --at.
+  # --canonical and --at take one message.
   for ((at = 2; at < COMP_CWORD; at++)); do
     case ${COMP_WORDS[at]} in
       --type) given+='--type --types --name ' ;;
       --types | --name) given+="${COMP_WORDS[at]} --type " ;;
       --hex | --in) given+='--hex --in --lines --framed ' ;;
-      --lines | --framed) given+='--canonical --hex --in --lines --framed ' ;;
+      --lines | --framed) given+='--canonical --at --hex --in --lines --framed ' ;;
       --canonical) given+='--canonical --lines --framed ' ;;
+      --path) given+='--path --at ' ;;
+      --at) given+='--path --at --lines --framed ' ;;
       --*) given+="${COMP_WORDS[at]%%=*} " ;;
     esac
   done
