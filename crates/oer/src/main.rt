@@ -1,7 +1,7 @@
 //! The program `oer`: values and their octets at the command line.
 #![tactic(auto)]
 
-use oer_at_cmd::{at_asked, run_at, run_at_for};
+use oer_at_cmd::{Asked, at_asked, run_at, run_at_for};
 use oer_canonical_cmd::{canonical_asked, run_canonical, run_canonical_for};
 use oer_cmd::{NoStart, run, stop};
 use oer_ends_cmd::run_for;
@@ -100,12 +100,13 @@ fn answer_canonical<R: Read, W: Write, E: Write>(
 // Prints the part to which names lead in one message. The status.
 fn answer_at<R: Read, W: Write, E: Write>(
     alloc: Global,
-    names: &str,
-    words: &[String],
+    asked: &Asked,
     input: &mut R,
     output: &mut W,
     errors: &mut E,
 ) -> u8 {
+    let names = asked.names.as_str();
+    let words = asked.words.as_slice();
     match type_given(alloc, Command::Oer, words, input, errors) {
         Ok(Some(given)) => run_at_for(
             alloc,
@@ -157,10 +158,7 @@ fn answer<R: BufRead, W: Write, E: Write>(
         Err(status) => return status,
     }
     match at_asked(alloc, words, errors) {
-        Ok(Some(asked)) => {
-            let names = asked.names.as_str();
-            return answer_at(alloc, names, asked.words.as_slice(), input, output, errors);
-        }
+        Ok(Some(asked)) => return answer_at(alloc, &asked, input, output, errors),
         Ok(None) => {}
         Err(status) => return status,
     }

@@ -175,7 +175,8 @@ either : (a b : Option Lead) (lead : Lead) → or_else a b ≡ Some lead → (a 
 either None b lead h = inr h
 either (Some x) b lead h = inl h
 
-element_means : (T : AsnType) (name : List ℕ) (lead : Lead) → find_element T (element_of name) ≡ Some lead → (i : ℕ) × (lead.0 ≡ Part (step.Item i)) × ((name ≡ decimal i) × (i < 2 ^ 64) × (T ≡ lead.1))
+element_means : (T : AsnType) (name : List ℕ) (lead : Lead) → find_element T (element_of name) ≡ Some lead
+    → (i : ℕ) × (lead.0 ≡ Part (step.Item i)) × ((name ≡ decimal i) × (i < 2 ^ 64) × (T ≡ lead.1))
 element_means T name lead h = by (element_of name) refl h where
   by : (o : Option ℕ) → element_of name ≡ o → find_element T o ≡ Some lead → (i : ℕ) × (lead.0 ≡ Part (step.Item i)) × ((name ≡ decimal i) × (i < 2 ^ 64) × (T ≡ lead.1))
   by None e h = none_leads lead h

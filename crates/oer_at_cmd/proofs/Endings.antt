@@ -1,20 +1,35 @@
 -- How `part --at` ends, step by step.
-use Rattle.std.proofs.Common.{◌≡◌, ◌∙◌, ℕ, List, Bool, true, false, Option, Some, None, Result, Ok, Err, String, Global, inl, inr, refl, sym, ap, subst, arith}
-use Rattle.std.specs.Prelude.{if◌then◌else◌}
+use Rattle.std.proofs.Common.{◌≡◌, ◌∙◌, ℕ, List, Bool, true, false, Option, Some, None, Result, Ok, Err, String, Global, Vec, inl, inr, option_map, refl, sym, ap, subst, arith, ⊎_elim}
+use Rattle.std.specs.Prelude.{if◌then◌else◌, ◌⊎◌}
 use Rattle.std.specs.Io.KnownBytes.{Keeps}
 use Rattle.clap.specs.Words.{Text}
 use Rattle.oer_model.specs.AsnType.{AsnType}
-use Rattle.oer_options.specs.Words.{Texts}
+use Rattle.std.specs.Borrow.{Bor}
+use Rattle.oer_types.specs.Schema.{the_type}
+use Rattle.oer_types.specs.declared.schema.Schema.{Schema}
+use Rattle.oer_notation.specs.Parsing.{parse_all}
+use Rattle.oer_notation.specs.Reading.{find}
+use Rattle.oer_notation.specs.Views.{knowns}
+use Rattle.oer_notation.specs.declared.types.Types.{Types}
+use Rattle.oer_options.specs.Words.{Texts, texts_of}
+use Rattle.oer_options.specs.declared.options.Options.{Options}
 use Rattle.oer_cmd.proofs.Endings.{refused_end}
-use Rattle.oer_cmd.proofs.Meeting.{bytes, fails, stops}
-use Rattle.oer_cmd.specs.Answer.{expected_type, types_input}
+use Rattle.oer_cmd.proofs.Meeting.{bytes, fails, goes, stops}
+use Rattle.oer_cmd.specs.Answer.{expected_type, hex_octets, named_as, parsed, types_input}
 use Rattle.oer_cmd.specs.Ending.{Streams}
 use Rattle.oer_cmd.specs.Expected.{Expected, Meets, refusal, stop, unknown, value, ◌>>=◌}
-use Rattle.oer_cmd.specs.Faults.{Reports}
+use Rattle.oer_cmd.specs.Faults.{AppendsFront, Reports, error_line}
+use Rattle.oer_cmd.specs.Octets.{octets_of}
 use Rattle.oer_cmd.specs.Types.{reads_types}
 use Rattle.oer_cmd.specs.declared.fault.Fault.{Fault}
 use Rattle.oer_cmd.specs.declared.fault.Fault.TheVariants.{Memory}
-use Rattle.oer_at_cmd.specs.Answer.{At, at_answer, named_answer, texts_answer}
+use Rattle.oer_at_cmd.specs.Answer.{At, at_answer, at_input, expected_hops, named_answer, options_answer, or_misuse, or_no_name, texts_answer}
+use Rattle.oer_at_cmd.specs.Errors.{name_line}
+use Rattle.oer_at.specs.Hops.{hops_of}
+use Rattle.oer_at.specs.Names.{names_in}
+use Rattle.oer_at.specs.declared.hop.NameFault.{NameFault}
+use Rattle.oer_ends_cmd.specs.declared.telling.Origin.{Origin}
+use Rattle.oer_at_cmd.specs.Asking.{hex_of}
 use Rattle.oer_at_cmd.specs.Ending.{IsAnswered}
 use Rattle.oer_ends_cmd.specs.declared.telling.Origin.TheVariants.{Notation}
 
@@ -80,3 +95,37 @@ lacking a t told fault status s own is tells kept =
     own_texts a t told status s own
     (subst (λ (m : Expected AsnType). IsAnswered (m >>= at_answer Notation a told) status s) (sym is)
     (refused_end (stop fault) fault status s (λ small. refl) tells kept))
+
+-- the name has no definition
+pub named_lost : (a : At) (types name : Text) (told : Option (List ℕ)) (ts : Types) (fault : Fault) (status : ℕ) (s : Streams) → Meets knowns (parsed (parse_all types)) (Ok ts)
+    → Meets {X = Bor Schema} (λ x. the_type x.now) (named_as name (find (knowns ts) name)) (Err fault)
+    → Reports fault status s.errors s.errors' → Keeps s.output s.output'
+    → IsAnswered (named_answer a told (record { one = None; types = Some types; name = Some name })) status s
+named_lost a types name told ts fault status s h of tells kept =
+    refused_next {X = Bor Schema} (λ x. the_type x.now) (parsed (parse_all types) >>= λ ks. named_as name (find ks name)) (at_answer Notation a told) fault status s
+    (goes {Z = Bor Schema} knowns (λ x. the_type x.now) (parsed (parse_all types)) (λ ks. named_as name (find ks name)) ts (Err fault) h of) tells kept
+
+pub named_found : (a : At) (types name : Text) (told : Option (List ℕ)) (ts : Types) (schema : Bor Schema) (status : ℕ) (s : Streams) → Meets knowns (parsed (parse_all types)) (Ok ts)
+    → Meets (λ x. the_type x.now) (named_as name (find (knowns ts) name)) (Ok schema)
+    → IsAnswered (at_answer Notation a told (the_type schema.now)) status s
+    → IsAnswered (named_answer a told (record { one = None; types = Some types; name = Some name })) status s
+named_found a types name told ts schema status s h of k =
+    answered_next (λ x. the_type x.now) (parsed (parse_all types) >>= λ ks. named_as name (find ks name)) (at_answer Notation a told) schema status s
+    (goes knowns (λ x. the_type x.now) (parsed (parse_all types)) (λ ks. named_as name (find ks name)) ts (Ok schema) h of) k
+
+-- what is asked for is given to the option, or not
+pub asked_answer : (names : Text) (o : Options) (hex : Option Text) (told : Option (List ℕ)) (status : ℕ) (s : Streams) → Ok hex ≡ hex_of o.task
+    → IsAnswered (texts_answer (record { names = names; hex = hex; limit = o.limit }) told (texts_of o)) status s → IsAnswered (options_answer names o told) status s
+asked_answer names o hex told status s is h =
+    subst (λ r. IsAnswered (or_misuse r >>= λ x. texts_answer (record { names = names; hex = x; limit = o.limit }) told (texts_of o)) status s) is h
+
+-- a name leads nowhere
+pub name_lost : (origin : Origin) (a : At) (told : Option (List ℕ)) (T : AsnType) (spelt : Option (Vec ℕ Global)) (names : List Text) (fault : NameFault) (status : ℕ) (s : Streams)
+    → Meets (option_map octets_of) (hex_octets a.hex) (Ok spelt) → names ≡ names_in a.names → hops_of T names ≡ Err fault → Keeps s.output s.output'
+    → ((status ≡ 2) × AppendsFront s.errors s.errors' (name_line names fault)) ⊎ ((status ≡ 3) × AppendsFront s.errors s.errors' (error_line Memory))
+    → IsAnswered (at_answer origin a told T) status s
+name_lost origin a told T spelt names fault status s hex same lost kept tells =
+    answered_next (option_map octets_of) (hex_octets a.hex) (λ o. expected_hops T (names_in a.names) >>= λ hops. at_input origin T a.limit hops o told) spelt status s hex
+    (subst (λ (l : List Text). IsAnswered (expected_hops T l >>= λ hops. at_input origin T a.limit hops (option_map octets_of spelt) told) status s) same
+    (subst (λ r. IsAnswered (or_no_name names r >>= λ hops. at_input origin T a.limit hops (option_map octets_of spelt) told) status s) (sym lost)
+    (⊎_elim (λ (two, front). inl (two, kept, front)) (λ (three, front). inr (three, inl kept, (error_line Memory, inr (inr refl), front))) tells)))

@@ -1,5 +1,5 @@
 -- Texts, piece by piece.
-use Rattle.std.proofs.Common.{◌≡◌, ◌≢◌, ◌<◌, ◌+◌, ℕ, zero, suc, List, [], ◌∷◌, ◌++◌, length, take, drop, map, get_or, Bool, true, false, Option, Some, None, refl, sym, ap, ap₂, ◌∙◌, subst, arith}
+use Rattle.std.proofs.Common.{◌≡◌, ◌≢◌, ◌<◌, ◌+◌, ℕ, zero, suc, List, [], ◌∷◌, ◌++◌, length, take, drop, map, get_or, Bool, true, false, Option, Some, None, refl, sym, ap, ap₂, ◌∙◌, subst, arith, append_assoc}
 use Rattle.std.specs.Prelude.{MatchOption, codes}
 use Rattle.std.specs.Borrow.{Bor}
 use Rattle.std.specs.List.{flat_map, join_by}
@@ -9,7 +9,8 @@ use Rattle.std.proofs.Math.Seq.{take_at}
 use Rattle.std.proofs.Math.ListN.{take-append-drop}
 use Rattle.std.proofs.lemmas.Slice.Eq.{bytes_eq-Decides}
 use Rattle.clap.specs.Words.{Text}
-use Rattle.oer_at_cmd.specs.Errors.{place_of}
+use Rattle.oer_at.specs.declared.hop.Wanted.{Wanted}
+use Rattle.oer_at_cmd.specs.Errors.{place_of, subject_of}
 use Rattle.oer_at_cmd.specs.Scan.{behind, text_behind, value_behind}
 
 itself : (a : Text) → bytes_eq a a ≡ true
@@ -55,3 +56,15 @@ pub take_mapped : (i : ℕ) (xs : List (Bor Text)) → map text_behind (take i x
 take_mapped zero xs = refl
 take_mapped (suc i) [] = refl
 take_mapped (suc i) (x ∷ xs) = ap (λ (l : List Text). x.now ∷ l) (take_mapped i xs)
+
+-- ---- the line of a name
+
+pub lined : (S P U Q line : Text) → line ≡ codes "oer: at: no " ++ (S ++ (P ++ 10 ∷ [])) → S ≡ U → P ≡ Q → line ≡ codes "oer: " ++ ((codes "at: no " ++ (U ++ Q)) ++ 10 ∷ [])
+lined S P U Q line is same place =
+    is ∙ ap (λ (l : Text). codes "oer: at: no " ++ l) (ap₂ (λ (a b : Text). a ++ (b ++ 10 ∷ [])) same place ∙ sym (append_assoc U Q (10 ∷ [])))
+
+pub subject_at : (w : Wanted) (names : List (Bor Text)) (i : ℕ) (o : Bor Text) → i < length names → subject_of w (get_or names i o).now ≡ subject_of w (get_or (map text_behind names) i [])
+subject_at w names i o less = ap (subject_of w) (get_mapped names i o less)
+
+pub place_at : (names : List (Bor Text)) (i : ℕ) → place_of (map text_behind (take i names)) ≡ place_of (take i (map text_behind names))
+place_at names i = ap place_of (take_mapped i names)

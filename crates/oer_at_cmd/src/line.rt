@@ -1,8 +1,7 @@
 //! The line for octets, by names that are read.
 ghost use Rattle.std.specs.Prelude.{◌≡◌, ◌≢◌, None, option_map, string_bytes};
 ghost use Rattle.oer_types.specs.Schema.{the_type};
-ghost use Rattle.oer_cmd.specs.Answer.{limited_octets};
-ghost use Rattle.oer_cmd.specs.Expected.{Meets, ◌>>=◌};
+ghost use Rattle.oer_cmd.specs.Expected.{Meets};
 ghost use Rattle.oer_cmd.specs.Octets.{octets_of};
 ghost use Rattle.oer_at_cmd.specs.Answer.{at_input, at_octets};
 
