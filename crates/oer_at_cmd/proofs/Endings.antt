@@ -27,6 +27,7 @@ use Rattle.oer_at_cmd.specs.Answer.{At, at_answer, at_input, expected_hops, name
 use Rattle.oer_at_cmd.specs.Errors.{name_line}
 use Rattle.oer_at.specs.Hops.{hops_of}
 use Rattle.oer_at.specs.Names.{names_in}
+use Rattle.oer_at.specs.declared.hop.Hop.{Hop}
 use Rattle.oer_at.specs.declared.hop.NameFault.{NameFault}
 use Rattle.oer_ends_cmd.specs.declared.telling.Origin.{Origin}
 use Rattle.oer_at_cmd.specs.Asking.{hex_of}
@@ -120,12 +121,14 @@ asked_answer names o hex told status s is h =
     subst (λ r. IsAnswered (or_misuse r >>= λ x. texts_answer (record { names = names; hex = x; limit = o.limit }) told (texts_of o)) status s) is h
 
 -- a name leads nowhere
-pub name_lost : (origin : Origin) (a : At) (told : Option (List ℕ)) (T : AsnType) (spelt : Option (Vec ℕ Global)) (names : List Text) (fault : NameFault) (status : ℕ) (s : Streams)
-    → Meets (option_map octets_of) (hex_octets a.hex) (Ok spelt) → names ≡ names_in a.names → hops_of T names ≡ Err fault → Keeps s.output s.output'
+pub name_lost : (origin : Origin) (a : At) (told : Option (List ℕ)) (T : AsnType) (spelt : Option (Vec ℕ Global)) (names : List Text) (fault own : NameFault)
+    (status : ℕ) (s : Streams) → own ≡ fault
+    → Meets (option_map octets_of) (hex_octets a.hex) (Ok spelt) → names ≡ names_in a.names → hops_of T names ≡ Err own → Keeps s.output s.output'
     → ((status ≡ 2) × AppendsFront s.errors s.errors' (name_line names fault)) ⊎ ((status ≡ 3) × AppendsFront s.errors s.errors' (error_line Memory))
     → IsAnswered (at_answer origin a told T) status s
-name_lost origin a told T spelt names fault status s hex same lost kept tells =
+name_lost origin a told T spelt names fault own status s own_is hex same lost kept tells =
+    let err : NameFault → Result (List Hop) NameFault = λ f. Err f in
     answered_next (option_map octets_of) (hex_octets a.hex) (λ o. expected_hops T (names_in a.names) >>= λ hops. at_input origin T a.limit hops o told) spelt status s hex
     (subst (λ (l : List Text). IsAnswered (expected_hops T l >>= λ hops. at_input origin T a.limit hops (option_map octets_of spelt) told) status s) same
-    (subst (λ r. IsAnswered (or_no_name names r >>= λ hops. at_input origin T a.limit hops (option_map octets_of spelt) told) status s) (sym lost)
+    (subst (λ r. IsAnswered (or_no_name names r >>= λ hops. at_input origin T a.limit hops (option_map octets_of spelt) told) status s) (sym (lost ∙ ap err own_is))
     (⊎_elim (λ (two, front). inl (two, kept, front)) (λ (three, front). inr (three, inl kept, (error_line Memory, inr (inr refl), front))) tells)))

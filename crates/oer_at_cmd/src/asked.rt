@@ -52,12 +52,7 @@ fn kept_words(alloc: Global, program: &str, kept: &[&str]) -> Result<Vec<String>
 }
 
 // What is asked for by this value, where these words stay.
-fn asked_for(
-    alloc: Global,
-    names: &str,
-    program: &str,
-    kept: &[&str],
-) -> Result<Asked, AllocError>
+fn asked_for(alloc: Global, names: &str, program: &str, kept: &[&str]) -> Result<Asked, AllocError>
     ensures { IfOk result (λ asked. asked_of asked ≡ (names.now, program.now ∷ map text_behind kept.now)) }
 {
     Ok(Asked {

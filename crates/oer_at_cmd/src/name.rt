@@ -67,12 +67,7 @@ fn name_line(alloc: Global, names: &[&str], fault: NameFault) -> Result<String, 
 
 /// Writes which name leads nowhere, in one call, and returns the status: 2, or 3 if memory for the line is refused. A failure to write it is
 /// ignored.
-pub fn tell_name<E: Write>(
-    alloc: Global,
-    names: &[&str],
-    fault: NameFault,
-    errors: &mut E,
-) -> u8
+pub fn tell_name<E: Write>(alloc: Global, names: &[&str], fault: NameFault, errors: &mut E) -> u8
     requires { fault.before < length names.now }
     ensures { ((result ≡ 2) × AppendsFront (E.contents errors.old) (E.contents errors.new) (name_line (map text_behind names.now) fault))
         ⊎ ((result ≡ 3) × AppendsFront (E.contents errors.old) (E.contents errors.new) (error_line Fault.Memory)) }

@@ -14,7 +14,7 @@ returns-clause-exact g c =
     let T = the_type c.args.schema.now in
     let hops = c.args.hops.now in
     let lost = lost_by {X = String Global} bytes c.args.origin T c.args.limit c.as_slice-octets.result.now (at_octets T hops c.as_slice-octets.result.now) c.in-Err.fault c.told_by.result
-        c.told_by.ensures c.in-Err.ensures in
+    c.told_by.ensures c.in-Err.ensures in
     goes octets_of bytes (limited_octets c.args.limit (option_map octets_of c.args.spelt) (g.R.Read.remaining c.args.input.now))
     (λ b. told_by c.args.origin T c.args.limit b (at_octets T hops b)) c.in_ok-octets.octets (Err c.told_by.result) c.in_ok-octets.ensures.exact
     (subst (λ (l : List ℕ). Meets {X = String Global} bytes (told_by c.args.origin T c.args.limit l (at_octets T hops l)) (Err c.told_by.result)) c.as_slice-octets.ensures.value lost)
