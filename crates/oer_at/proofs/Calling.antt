@@ -144,7 +144,7 @@ field_means : (fs : Fields) (k : ℕ) (name : List ℕ) (lead : Lead) → find_f
 field_means no_fields k name lead h = none_leads lead h
 field_means (field n need T fs) k name lead h = ⊎_elim
     (λ same. (let is = same_lead (Part (step.Component k), T) lead (rw same at h) in
-      (0, ap (λ (l : Lead). l.0) (sym is) ∙ ap (λ (j : ℕ). Part (step.Component j)) (at_first k), named_type n name T lead same (ap (λ (l : Lead). l.1) is))))
+    (0, ap (λ (l : Lead). l.0) (sym is) ∙ ap (λ (j : ℕ). Part (step.Component j)) (at_first k), named_type n name T lead same (ap (λ (l : Lead). l.1) is))))
     (λ other. (let m = field_means fs (suc k) name lead (rw other at h) in (suc m.0, m.1 ∙ ap (λ (j : ℕ). Part (step.Component j)) (at_next k m.0), m.2)))
     (tested n name)
 
@@ -152,7 +152,7 @@ addition_means : (more : Additions) (k : ℕ) (name : List ℕ) (lead : Lead) �
 addition_means no_additions k name lead h = none_leads lead h
 addition_means (addition n T more) k name lead h = ⊎_elim
     (λ same. (let is = same_lead (Part (step.Addition k), T) lead (rw same at h) in
-      (0, ap (λ (l : Lead). l.0) (sym is) ∙ ap (λ (j : ℕ). Part (step.Addition j)) (at_first k), named_type n name T lead same (ap (λ (l : Lead). l.1) is))))
+    (0, ap (λ (l : Lead). l.0) (sym is) ∙ ap (λ (j : ℕ). Part (step.Addition j)) (at_first k), named_type n name T lead same (ap (λ (l : Lead). l.1) is))))
     (λ other. (let m = addition_means more (suc k) name lead (rw other at h) in (suc m.0, m.1 ∙ ap (λ (j : ℕ). Part (step.Addition j)) (at_next k m.0), m.2)))
     (tested n name)
 
@@ -194,9 +194,9 @@ called (sequence fs) name lead h =
     subst (λ (hop : Hop). IsCalled (sequence fs) name hop lead.1) (sym m.1) (from_zero (λ j. component_at fs j ≡ Some (name, lead.1)) m.0 m.2)
 called (extensible_sequence fs more) name lead h = ⊎_elim
     (λ f. (let m = field_means fs 0 name lead f in
-      subst (λ (hop : Hop). IsCalled (extensible_sequence fs more) name hop lead.1) (sym m.1) (from_zero (λ j. component_at fs j ≡ Some (name, lead.1)) m.0 m.2)))
+    subst (λ (hop : Hop). IsCalled (extensible_sequence fs more) name hop lead.1) (sym m.1) (from_zero (λ j. component_at fs j ≡ Some (name, lead.1)) m.0 m.2)))
     (λ f. (let m = addition_means more 0 name lead f in
-      subst (λ (hop : Hop). IsCalled (extensible_sequence fs more) name hop lead.1) (sym m.1) (from_zero (λ j. addition_at more j ≡ Some (name, lead.1)) m.0 m.2)))
+    subst (λ (hop : Hop). IsCalled (extensible_sequence fs more) name hop lead.1) (sym m.1) (from_zero (λ j. addition_at more j ≡ Some (name, lead.1)) m.0 m.2)))
     (either (find_field 0 fs name) (find_addition 0 more name) lead (wanted_some wanted.Component (or_else (find_field 0 fs name) (find_addition 0 more name)) lead h))
 called (sequence_of size T) name lead h =
     let m = element_means T name lead (wanted_some wanted.Element (find_element T (element_of name)) lead h) in

@@ -119,6 +119,6 @@ some_same T U e = cc
 pub finds_reached : FindsReached
 finds_reached T w d v b encoded hops U s = (
   λ e. (let (W, kind, more) = reached hops (Some T) b ((w, d), (v, encoded.2)) U s e in
-    subst (λ (X : AsnType). Reaches X b hops U s) (sym (some_same T W kind)) more),
+      subst (λ (X : AsnType). Reaches X b hops U s) (sym (some_same T W kind)) more),
   λ r. finds hops T b ((w, d), (v, encoded.2)) U s r,
 )

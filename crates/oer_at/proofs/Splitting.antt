@@ -61,15 +61,15 @@ pub goes_on : (text rest : List ℕ) (names : List (Bor (List ℕ))) (front more
     → Falls rest front.now more.now → names_in text ≡ map text_behind (names ++ front ∷ []) ++ names_in more.now
 goes_on text rest names front more inv falls =
     inv ∙ ap (λ (l : List (List ℕ)). map text_behind names ++ l) (names_of rest front.now more.now falls) ∙ sym (mapped names) where
-  mapped : (ns : List (Bor (List ℕ))) → map text_behind (ns ++ front ∷ []) ++ names_in more.now ≡ map text_behind ns ++ (front.now ∷ names_in more.now)
-  mapped [] = refl
-  mapped (n ∷ ns) = ap (λ (l : List (List ℕ)). n.now ∷ l) (mapped ns)
+      mapped : (ns : List (Bor (List ℕ))) → map text_behind (ns ++ front ∷ []) ++ names_in more.now ≡ map text_behind ns ++ (front.now ∷ names_in more.now)
+      mapped [] = refl
+      mapped (n ∷ ns) = ap (λ (l : List (List ℕ)). n.now ∷ l) (mapped ns)
 
 -- the last one
 pub ends : (text : List ℕ) (names : List (Bor (List ℕ))) (rest : Bor (List ℕ)) → names_in text ≡ map text_behind names ++ names_in rest.now
     → Lacks rest.now → map text_behind (names ++ rest ∷ []) ≡ names_in text
 ends text names rest inv lacks =
     mapped names ∙ ap (λ (l : List (List ℕ)). map text_behind names ++ l) (sym (one_name rest.now lacks)) ∙ sym inv where
-  mapped : (ns : List (Bor (List ℕ))) → map text_behind (ns ++ rest ∷ []) ≡ map text_behind ns ++ (rest.now ∷ [])
-  mapped [] = refl
-  mapped (n ∷ ns) = ap (λ (l : List (List ℕ)). n.now ∷ l) (mapped ns)
+      mapped : (ns : List (Bor (List ℕ))) → map text_behind (ns ++ rest ∷ []) ≡ map text_behind ns ++ (rest.now ∷ [])
+      mapped [] = refl
+      mapped (n ∷ ns) = ap (λ (l : List (List ℕ)). n.now ∷ l) (mapped ns)

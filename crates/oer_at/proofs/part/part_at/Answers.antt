@@ -11,6 +11,6 @@ loop-hop-preserved c =
     let l = c.loop-hop in
     let e = c.args.encoding.now in
     let after = next _ (Some (type_of_encoding e)) (octets_at_front e) l.path.items _ c.args.hops.now l.hop-index _ c.in_ok-step.step
-        c.loop-hop-test.true c.as_slice.ensures.value l.invariant c.in_ok-step.ensures in
+    c.loop-hop-test.true c.as_slice.ensures.value l.invariant c.in_ok-step.ensures in
     let pushed : c.push.new.self.items ≡ l.path.items ++ (c.in_ok-step.step ∷ []) = search rules in
     rw (pushed, add-one l.hop-index) after
