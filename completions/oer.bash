@@ -18,27 +18,29 @@ _oer() {
     show) options='--type --types --name --hex --in --lines --framed --stream --ascii --limit --help' ;;
     canon) options='--type --types --name --hex --in --lines --framed --stream --limit --help' ;;
     check) options='--type --types --name --canonical --hex --in --lines --framed --stream --limit --help' ;;
-    part) options='--type --types --name --hex --in --lines --framed --stream --path --limit --help' ;;
+    part) options='--type --types --name --hex --in --lines --framed --stream --path --at --limit --help' ;;
     make) options='--type --types --name --json --limit --help' ;;
     example) options='--type --types --name --full --help' ;;
     *) return ;;
   esac
   # An equals sign is a word of its own here.
   case $before in
-    = | --type | --types | --name | --hex | --in | --framed | --path | --json | --limit) return ;;
+    = | --type | --types | --name | --hex | --in | --framed | --path | --at | --json | --limit) return ;;
   esac
   [ "$word" != = ] || return
-  # Of --type and of --types with --name a line takes only one, and of --hex, --in, --lines, --framed and --stream, but for --in with
-  # --stream. --canonical takes one message.
+  # Of --type and of --types with --name a line takes only one, of --hex, --in, --lines, --framed and --stream, but for --in with
+  # --stream, and of --path and --at. --canonical and --at take one message.
   for ((at = 2; at < COMP_CWORD; at++)); do
     case ${COMP_WORDS[at]} in
       --type) given+='--type --types --name ' ;;
       --types | --name) given+="${COMP_WORDS[at]} --type " ;;
       --hex) given+='--hex --in --lines --framed --stream ' ;;
       --in) given+='--hex --in --lines --framed ' ;;
-      --lines | --framed) given+='--canonical --hex --in --lines --framed --stream ' ;;
-      --stream) given+='--canonical --hex --lines --framed --stream ' ;;
+      --lines | --framed) given+='--canonical --at --hex --in --lines --framed --stream ' ;;
+      --stream) given+='--canonical --at --hex --lines --framed --stream ' ;;
       --canonical) given+='--canonical --lines --framed --stream ' ;;
+      --path) given+='--path --at ' ;;
+      --at) given+='--path --at --lines --framed --stream ' ;;
       --*) given+="${COMP_WORDS[at]%%=*} " ;;
     esac
   done

@@ -1,6 +1,7 @@
 //! The program `oer`: values and their octets at the command line.
 #![tactic(auto)]
 
+use oer_at_cmd::{Asked, at_asked, run_at, run_at_for};
 use oer_canonical_cmd::{canonical_asked, run_canonical, run_canonical_for};
 use oer_cmd::{NoStart, run, stop};
 use oer_ends_cmd::run_for;
@@ -96,6 +97,31 @@ fn answer_canonical<R: Read, W: Write, E: Write>(
     }
 }
 
+// Prints the part to which names lead in one message. The status.
+fn answer_at<R: Read, W: Write, E: Write>(
+    alloc: Global,
+    asked: &Asked,
+    input: &mut R,
+    output: &mut W,
+    errors: &mut E,
+) -> u8 {
+    let names = asked.names.as_str();
+    let words = asked.words.as_slice();
+    match type_given(alloc, Command::Oer, words, input, errors) {
+        Ok(Some(given)) => run_at_for(
+            alloc,
+            &given.schema,
+            names,
+            given.words.as_slice(),
+            input,
+            output,
+            errors,
+        ),
+        Ok(None) => run_at(alloc, names, words, input, output, errors),
+        Err(status) => status,
+    }
+}
+
 // Prints a value of a type to begin with. The status.
 fn answer_example<R: Read, W: Write, E: Write>(
     alloc: Global,
@@ -128,6 +154,11 @@ fn answer<R: BufRead, W: Write, E: Write>(
 ) -> u8 {
     match canonical_asked(alloc, words, errors) {
         Ok(Some(words)) => return answer_canonical(alloc, words.as_slice(), input, output, errors),
+        Ok(None) => {}
+        Err(status) => return status,
+    }
+    match at_asked(alloc, words, errors) {
+        Ok(Some(asked)) => return answer_at(alloc, &asked, input, output, errors),
         Ok(None) => {}
         Err(status) => return status,
     }

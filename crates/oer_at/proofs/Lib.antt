@@ -1,0 +1,5 @@
+mod Splitting
+mod Onward
+mod Going
+mod Calling
+mod Reaching

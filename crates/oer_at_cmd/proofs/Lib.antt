@@ -1,0 +1,3 @@
+mod Words
+mod Lines
+mod Endings

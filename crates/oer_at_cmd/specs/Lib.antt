@@ -1,0 +1,5 @@
+pub mod Scan
+pub mod Asking
+pub mod Errors
+pub mod Answer
+pub mod Ending

@@ -1,0 +1,46 @@
+//! Why `--at` is rejected.
+ghost use Rattle.std.specs.Prelude.{◌≡◌};
+ghost use Rattle.oer_cmd.specs.Faults.{AppendsFront};
+ghost use Rattle.oer_at_cmd.specs.Errors.{misuse_line};
+
+use oer_cmd::put_all;
+use std::io::Write;
+
+/// Why `--at` is rejected.
+#[derive(Clone, Copy)]
+pub enum Misuse {
+    /// It is the last word, and its value isn't there.
+    NoValue,
+    /// It stands twice among the words.
+    Twice,
+    /// `--lines` or `--framed` is given, too.
+    Many,
+    /// The subcommand is another one than `part`.
+    Subcommand,
+    /// `--path` is given, too.
+    Path,
+}
+
+impl Misuse {
+    // The line on standard error, with its line feed.
+    fn line(self) -> &'static str
+        ensures { result.now ≡ misuse_line self }
+    {
+        match self {
+            Misuse::NoValue => "oer: --at needs a value\n",
+            Misuse::Twice => "oer: --at is given twice\n",
+            Misuse::Many => "oer: --at takes one message, without --lines and --framed\n",
+            Misuse::Subcommand => "oer: --at needs part\n",
+            Misuse::Path => "oer: one of --at and --path\n",
+        }
+    }
+}
+
+/// Writes why `--at` is rejected, in one call, and returns the status, which is 2. A failure to write the line is ignored.
+pub fn tell<E: Write>(misuse: Misuse, errors: &mut E) -> u8
+    ensures line { AppendsFront (E.contents errors.old) (E.contents errors.new) (misuse_line misuse) }
+    ensures status { result ≡ 2 }
+{
+    put_all(misuse.line().as_bytes(), errors);
+    2
+}
