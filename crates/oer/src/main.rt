@@ -144,6 +144,40 @@ fn answer_example<R: Read, W: Write, E: Write>(
     }
 }
 
+// How many messages stand on the input, and the words without the option that says so.
+#[derive(Drop)]
+struct Many {
+    way: Way,
+    words: Vec<String>,
+}
+
+// Which of these options stands among the words, if one does.
+fn many_asked<E: Write>(
+    alloc: Global,
+    words: &[String],
+    errors: &mut E,
+) -> Result<Option<Many>, u8> {
+    if let Some(words) = stream_asked(alloc, words, errors)? {
+        return Ok(Some(Many {
+            way: Way::Stream,
+            words,
+        }));
+    }
+    if let Some(framed) = framed_asked(alloc, words, errors)? {
+        return Ok(Some(Many {
+            way: Way::Framed(framed.width),
+            words: framed.words,
+        }));
+    }
+    match lines_asked(alloc, words, errors)? {
+        Some(words) => Ok(Some(Many {
+            way: Way::Lines,
+            words,
+        })),
+        None => Ok(None),
+    }
+}
+
 // Does what the arguments, without `--in`, ask for. The status.
 fn answer<R: BufRead, W: Write, E: Write>(
     alloc: Global,
@@ -162,24 +196,16 @@ fn answer<R: BufRead, W: Write, E: Write>(
         Ok(None) => {}
         Err(status) => return status,
     }
-    match stream_asked(alloc, words, errors) {
-        Ok(Some(words)) => {
-            return answer_many(alloc, Way::Stream, words.as_slice(), input, output, errors);
-        }
-        Ok(None) => {}
-        Err(status) => return status,
-    }
-    match framed_asked(alloc, words, errors) {
-        Ok(Some(framed)) => {
-            let way = Way::Framed(framed.width);
-            return answer_many(alloc, way, framed.words.as_slice(), input, output, errors);
-        }
-        Ok(None) => {}
-        Err(status) => return status,
-    }
-    match lines_asked(alloc, words, errors) {
-        Ok(Some(words)) => {
-            return answer_many(alloc, Way::Lines, words.as_slice(), input, output, errors);
+    match many_asked(alloc, words, errors) {
+        Ok(Some(many)) => {
+            return answer_many(
+                alloc,
+                many.way,
+                many.words.as_slice(),
+                input,
+                output,
+                errors,
+            );
         }
         Ok(None) => {}
         Err(status) => return status,

@@ -12,10 +12,13 @@ use Rattle.oer_lines_cmd.proofs.loop_over.answer_stream.Goals as goal
 pub loop-number-init : goal.loop-number-init
 loop-number-init g c = (
   omega arith,
-  subst (λ t. SoFar (pieces (the_type c.args.schema.now) c.args.asked.limit) (by_path (pieces_told c.args.asked.tells_nesting c.args.asked.task (the_type c.args.schema.now) c.args.asked.limit) c.args.asked.task) (g.R.Read.remaining c.args.input.now) t 1 0
+  subst (λ t. SoFar (pieces (the_type c.args.schema.now) c.args.asked.limit)
+      (by_path (pieces_told c.args.asked.tells_nesting c.args.asked.task (the_type c.args.schema.now) c.args.asked.limit) c.args.asked.task)
+      (g.R.Read.remaining c.args.input.now) t 1 0
       (streams (g.W.Write.contents c.args.output.now) (g.W.Write.contents c.args.output.now) (g.E.Write.contents c.args.errors.now) (g.E.Write.contents c.args.errors.now)))
       (nothing_ahead (ahead_of c.new-ahead.result) (g.R.Read.remaining c.args.input.now) c.new-ahead.ensures)
-      (at_start (pieces (the_type c.args.schema.now) c.args.asked.limit) (by_path (pieces_told c.args.asked.tells_nesting c.args.asked.task (the_type c.args.schema.now) c.args.asked.limit) c.args.asked.task)
+      (at_start (pieces (the_type c.args.schema.now) c.args.asked.limit)
+      (by_path (pieces_told c.args.asked.tells_nesting c.args.asked.task (the_type c.args.schema.now) c.args.asked.limit) c.args.asked.task)
       (g.R.Read.remaining c.args.input.now) (g.W.Write.contents c.args.output.now) (g.E.Write.contents c.args.errors.now)),
 )
 
@@ -33,9 +36,12 @@ returns-in_default-clause-exact g c = stops
     (g.W.Write.contents c.args.output.now) (g.W.Write.contents c.loop-number.output)
     (g.E.Write.contents c.args.errors.now) (g.E.Write.contents c.loop-number.errors) c.loop-number.invariant.1
     (prepend_known (ahead_of c.take_piece.new.ahead) (g.R.Read.remaining c.take_piece.new.input)) (g.W.Write.contents c.loop-number.output) (g.E.Write.contents c.loop-number.errors)
-    [] true (took_end (the_type c.args.schema.now) c.args.schema.now.well_formed.limits c.args.asked.limit (prepend_known (ahead_of c.loop-number.ahead) (g.R.Read.remaining c.loop-number.input)) (ahead_of c.take_piece.new.ahead) (g.R.Read.remaining c.take_piece.new.input) c.in_ok-piece.field-0 c.in_default.is c.in_ok-piece.ensures)
+    [] true (took_end (the_type c.args.schema.now) c.args.schema.now.well_formed.limits c.args.asked.limit
+    (prepend_known (ahead_of c.loop-number.ahead) (g.R.Read.remaining c.loop-number.input)) (ahead_of c.take_piece.new.ahead)
+    (g.R.Read.remaining c.take_piece.new.input) c.in_ok-piece.field-0 c.in_default.is c.in_ok-piece.ensures)
     0 c.loop-number.worst (omega arith)
-    (λ path of. told_none (piece_answer c.args.asked.tells_nesting c.args.asked.task (the_type c.args.schema.now) c.args.asked.limit path) c.loop-number.number (g.W.Write.contents c.loop-number.output) (g.E.Write.contents c.loop-number.errors))
+    (λ path of. told_none (piece_answer c.args.asked.tells_nesting c.args.asked.task (the_type c.args.schema.now) c.args.asked.limit path) c.loop-number.number
+    (g.W.Write.contents c.loop-number.output) (g.E.Write.contents c.loop-number.errors))
     refl
 
 pub returns-in_err-status-clause-exact : goal.returns-in_err-status-clause-exact
@@ -44,10 +50,16 @@ returns-in_err-status-clause-exact g c = answer_fails
     (g.R.Read.remaining c.args.input.now) (prepend_known (ahead_of c.loop-number.ahead) (g.R.Read.remaining c.loop-number.input)) c.loop-number.number c.loop-number.worst
     (g.W.Write.contents c.args.output.now) (g.W.Write.contents c.loop-number.output)
     (g.E.Write.contents c.args.errors.now) (g.E.Write.contents c.loop-number.errors) c.loop-number.invariant.1
-    (prepend_known (behind c.in-Some.piece (ahead_of c.take_piece.new.ahead)) (g.R.Read.remaining c.take_piece.new.input)) (g.W.Write.contents c.answer_piece.new.output) (g.E.Write.contents c.answer_piece.new.errors)
-    (piece_of (ahead_of c.take_piece.new.ahead) c.in-Some.piece ∷ []) (is_end c.in-Some.piece) (took_some (the_type c.args.schema.now) c.args.schema.now.well_formed.limits c.args.asked.limit (prepend_known (ahead_of c.loop-number.ahead) (g.R.Read.remaining c.loop-number.input)) (ahead_of c.take_piece.new.ahead) (g.R.Read.remaining c.take_piece.new.input) c.in_ok-piece.field-0 c.in-Some.piece c.in-Some.is c.in_ok-piece.ensures)
+    (prepend_known (behind c.in-Some.piece (ahead_of c.take_piece.new.ahead)) (g.R.Read.remaining c.take_piece.new.input)) (g.W.Write.contents c.answer_piece.new.output)
+    (g.E.Write.contents c.answer_piece.new.errors)
+    (piece_of (ahead_of c.take_piece.new.ahead) c.in-Some.piece ∷ []) (is_end c.in-Some.piece)
+    (took_some (the_type c.args.schema.now) c.args.schema.now.well_formed.limits c.args.asked.limit
+    (prepend_known (ahead_of c.loop-number.ahead) (g.R.Read.remaining c.loop-number.input)) (ahead_of c.take_piece.new.ahead)
+    (g.R.Read.remaining c.take_piece.new.input) c.in_ok-piece.field-0 c.in-Some.piece c.in-Some.is c.in_ok-piece.ensures)
     _ c.from_residual-in_err-status.result
-    (λ path of. told_piece (piece_answer c.args.asked.tells_nesting c.args.asked.task (the_type c.args.schema.now) c.args.asked.limit path) c.loop-number.number c.octets-octets.result.now (ahead_of c.take_piece.new.ahead) c.in-Some.piece (Err c.in_err-status.field-0.0)
+    (λ path of. told_piece
+    (piece_answer c.args.asked.tells_nesting c.args.asked.task (the_type c.args.schema.now) c.args.asked.limit path) c.loop-number.number c.octets-octets.result.now
+    (ahead_of c.take_piece.new.ahead) c.in-Some.piece (Err c.in_err-status.field-0.0)
     (streams (g.W.Write.contents c.loop-number.output) (g.W.Write.contents c.answer_piece.new.output) (g.E.Write.contents c.loop-number.errors) (g.E.Write.contents c.answer_piece.new.errors))
     c.octets-octets.ensures (c.in_err-status.ensures.exact path of))
     c.from_residual-in_err-status.ensures.1
@@ -59,10 +71,16 @@ returns-in_default-piece g c = record {
       (g.R.Read.remaining c.args.input.now) (prepend_known (ahead_of c.loop-number.ahead) (g.R.Read.remaining c.loop-number.input)) c.loop-number.number c.loop-number.worst
       (g.W.Write.contents c.args.output.now) (g.W.Write.contents c.loop-number.output)
       (g.E.Write.contents c.args.errors.now) (g.E.Write.contents c.loop-number.errors) c.loop-number.invariant.1
-      (prepend_known (behind c.in-Some.piece (ahead_of c.take_piece.new.ahead)) (g.R.Read.remaining c.take_piece.new.input)) (g.W.Write.contents c.answer_piece.new.output) (g.E.Write.contents c.answer_piece.new.errors)
-      (piece_of (ahead_of c.take_piece.new.ahead) c.in-Some.piece ∷ []) (is_end c.in-Some.piece) (took_some (the_type c.args.schema.now) c.args.schema.now.well_formed.limits c.args.asked.limit (prepend_known (ahead_of c.loop-number.ahead) (g.R.Read.remaining c.loop-number.input)) (ahead_of c.take_piece.new.ahead) (g.R.Read.remaining c.take_piece.new.input) c.in_ok-piece.field-0 c.in-Some.piece c.in-Some.is c.in_ok-piece.ensures)
+      (prepend_known (behind c.in-Some.piece (ahead_of c.take_piece.new.ahead)) (g.R.Read.remaining c.take_piece.new.input)) (g.W.Write.contents c.answer_piece.new.output)
+      (g.E.Write.contents c.answer_piece.new.errors)
+      (piece_of (ahead_of c.take_piece.new.ahead) c.in-Some.piece ∷ []) (is_end c.in-Some.piece)
+      (took_some (the_type c.args.schema.now) c.args.schema.now.well_formed.limits c.args.asked.limit
+      (prepend_known (ahead_of c.loop-number.ahead) (g.R.Read.remaining c.loop-number.input)) (ahead_of c.take_piece.new.ahead)
+      (g.R.Read.remaining c.take_piece.new.input) c.in_ok-piece.field-0 c.in-Some.piece c.in-Some.is c.in_ok-piece.ensures)
       c.in_ok-status.status c.worse-worst.result c.worse-worst.ensures
-      (λ path of. told_piece (piece_answer c.args.asked.tells_nesting c.args.asked.task (the_type c.args.schema.now) c.args.asked.limit path) c.loop-number.number c.octets-octets.result.now (ahead_of c.take_piece.new.ahead) c.in-Some.piece (Ok c.in_ok-status.status)
+      (λ path of. told_piece
+      (piece_answer c.args.asked.tells_nesting c.args.asked.task (the_type c.args.schema.now) c.args.asked.limit path) c.loop-number.number c.octets-octets.result.now
+      (ahead_of c.take_piece.new.ahead) c.in-Some.piece (Ok c.in_ok-status.status)
       (streams (g.W.Write.contents c.loop-number.output) (g.W.Write.contents c.answer_piece.new.output) (g.E.Write.contents c.loop-number.errors) (g.E.Write.contents c.answer_piece.new.errors))
       c.octets-octets.ensures (c.in_ok-status.ensures.exact path of))
       (end_of c.in-Some.piece c.in_default-piece.not-Message);
@@ -72,7 +90,9 @@ returns-in_default-piece g c = record {
 pub loop-number-preserved : goal.loop-number-preserved
 loop-number-preserved g c = (
   omega (arith, c.worse-worst.ensures, c.loop-number.invariant.0, c.in_ok-status.ensures.statuses),
-  subst (λ l. SoFar (pieces (the_type c.args.schema.now) c.args.asked.limit) (by_path (pieces_told c.args.asked.tells_nesting c.args.asked.task (the_type c.args.schema.now) c.args.asked.limit) c.args.asked.task) (g.R.Read.remaining c.args.input.now) (prepend_known l (g.R.Read.remaining c.take_piece.new.input)) (c.loop-number.number + 1) c.worse-worst.result
+  subst (λ l. SoFar (pieces (the_type c.args.schema.now) c.args.asked.limit)
+      (by_path (pieces_told c.args.asked.tells_nesting c.args.asked.task (the_type c.args.schema.now) c.args.asked.limit) c.args.asked.task) (g.R.Read.remaining c.args.input.now)
+      (prepend_known l (g.R.Read.remaining c.take_piece.new.input)) (c.loop-number.number + 1) c.worse-worst.result
       (streams (g.W.Write.contents c.args.output.now) (g.W.Write.contents c.answer_piece.new.output) (g.E.Write.contents c.args.errors.now) (g.E.Write.contents c.answer_piece.new.errors)))
       (passed c.in-Some.piece c.in-Message.count (ahead_of c.take_piece.new.ahead) (ahead_of c.pass.new.self) c.in-Message.is c.pass.ensures)
       (goes_on
@@ -80,10 +100,16 @@ loop-number-preserved g c = (
       (g.R.Read.remaining c.args.input.now) (prepend_known (ahead_of c.loop-number.ahead) (g.R.Read.remaining c.loop-number.input)) c.loop-number.number c.loop-number.worst
       (g.W.Write.contents c.args.output.now) (g.W.Write.contents c.loop-number.output)
       (g.E.Write.contents c.args.errors.now) (g.E.Write.contents c.loop-number.errors) c.loop-number.invariant.1
-      (prepend_known (behind c.in-Some.piece (ahead_of c.take_piece.new.ahead)) (g.R.Read.remaining c.take_piece.new.input)) (g.W.Write.contents c.answer_piece.new.output) (g.E.Write.contents c.answer_piece.new.errors)
-      (piece_of (ahead_of c.take_piece.new.ahead) c.in-Some.piece ∷ []) (is_end c.in-Some.piece) (took_some (the_type c.args.schema.now) c.args.schema.now.well_formed.limits c.args.asked.limit (prepend_known (ahead_of c.loop-number.ahead) (g.R.Read.remaining c.loop-number.input)) (ahead_of c.take_piece.new.ahead) (g.R.Read.remaining c.take_piece.new.input) c.in_ok-piece.field-0 c.in-Some.piece c.in-Some.is c.in_ok-piece.ensures)
+      (prepend_known (behind c.in-Some.piece (ahead_of c.take_piece.new.ahead)) (g.R.Read.remaining c.take_piece.new.input)) (g.W.Write.contents c.answer_piece.new.output)
+      (g.E.Write.contents c.answer_piece.new.errors)
+      (piece_of (ahead_of c.take_piece.new.ahead) c.in-Some.piece ∷ []) (is_end c.in-Some.piece)
+      (took_some (the_type c.args.schema.now) c.args.schema.now.well_formed.limits c.args.asked.limit
+      (prepend_known (ahead_of c.loop-number.ahead) (g.R.Read.remaining c.loop-number.input)) (ahead_of c.take_piece.new.ahead)
+      (g.R.Read.remaining c.take_piece.new.input) c.in_ok-piece.field-0 c.in-Some.piece c.in-Some.is c.in_ok-piece.ensures)
       c.in_ok-status.status c.worse-worst.result c.worse-worst.ensures
-      (λ path of. told_piece (piece_answer c.args.asked.tells_nesting c.args.asked.task (the_type c.args.schema.now) c.args.asked.limit path) c.loop-number.number c.octets-octets.result.now (ahead_of c.take_piece.new.ahead) c.in-Some.piece (Ok c.in_ok-status.status)
+      (λ path of. told_piece
+      (piece_answer c.args.asked.tells_nesting c.args.asked.task (the_type c.args.schema.now) c.args.asked.limit path) c.loop-number.number c.octets-octets.result.now
+      (ahead_of c.take_piece.new.ahead) c.in-Some.piece (Ok c.in_ok-status.status)
       (streams (g.W.Write.contents c.loop-number.output) (g.W.Write.contents c.answer_piece.new.output) (g.E.Write.contents c.loop-number.errors) (g.E.Write.contents c.answer_piece.new.errors))
       c.octets-octets.ensures (c.in_ok-status.ensures.exact path of))
       (not_end c.in-Some.piece c.in-Message.count c.in-Message.is)),
