@@ -52,6 +52,6 @@ complete -c oer -n '__fish_oer_takes canon show check part without hex lines fra
 complete -c oer -n '__fish_oer_takes check without canonical lines framed stream' -l canonical -d 'Another encoding is an error'
 complete -c oer -n '__fish_oer_takes show without ascii' -l ascii -d 'Escape characters that are not ASCII'
 complete -c oer -n '__fish_oer_takes part without path at' -x -l path -d 'The way to the part'
-complete -c oer -n '__fish_oer_takes part without path at lines framed' -x -l at -d 'The names that lead to the part'
+complete -c oer -n '__fish_oer_takes part without path at lines framed stream' -x -l at -d 'The names that lead to the part'
 complete -c oer -n '__fish_oer_takes make without json' -x -l json -d 'The JSON'
 complete -c oer -n '__fish_oer_takes example without full' -l full -d 'Also what may be absent'
