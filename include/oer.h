@@ -31,9 +31,9 @@
  *   overlap each other.
  * - Memory comes from malloc, realloc and free, which have to belong together. It may run out: then
  *   the status is OER_MEMORY, and what the call was given is as before. oer_check, oer_check_whole and
- *   oer_check_many take none. oer_canon and oer_to_json hold the value, which takes some 96 octets for each
- *   addition of a known type, there or not: with 4,000 of these, 4 KB may take 1.5 GB. A limit bounds the
- *   octets, and not this.
+ *   oer_check_many take none. oer_canon holds the canonical octets, a small multiple of those read.
+ *   oer_to_json holds the value, which takes some 96 octets for each addition of a known type, there or not:
+ *   with 4,000 of these, 4 KB may take 1.5 GB. A limit bounds the octets, and not this.
  * - A call takes at most 96 KB of stack, but oer_types_read_modules at most 640 KB. This is measured
  *   (docs/LIBRARY.md), and not proved.
  * - No call is made from a signal handler, or in the child of a fork of a process with threads.

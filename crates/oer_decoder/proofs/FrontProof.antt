@@ -42,7 +42,7 @@ means End T n t rest ex none = (none refl, λ v b c s e. ex v b c [] s.2 (sym e 
 means Limit T n t rest ex none = λ v b c s short. (λ e. ex v b [] c s.2 (append-nil b ∙ e) short, λ e. ex v b c [] s.2 (sym e ∙ sym (append-nil t)) short)
 means _ T n t rest ex none = λ v b c s. (λ e. ex v b [] c s.2 (append-nil b ∙ e) tt, λ e. ex v b c [] s.2 (sym e ∙ sym (append-nil t)) tt)
 
-octets_taken : (t : List ℕ) → AllByRecursion (λ x. x < 256) t → IsOctets t
+pub octets_taken : (t : List ℕ) → AllByRecursion (λ x. x < 256) t → IsOctets t
 octets_taken [] all = tt
 octets_taken (x ∷ t) all = (all.0, octets_taken t all.1)
 

@@ -14,3 +14,7 @@ pub mod FrontProof
 pub mod Rewritten
 pub mod Headlines
 pub mod Relayed
+pub mod Recoded
+pub mod Packed
+pub mod RecodedParts
+pub mod Rewrites

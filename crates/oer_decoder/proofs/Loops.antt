@@ -81,7 +81,7 @@ put_all_more (None ∷ os) o ps = ap (λ (p : Places). absent p) (put_all_more o
 put_all_more (Some v ∷ os) o ps = ap (λ (p : Places). present (value_of v) p) (put_all_more os o ps)
 
 -- the components from this one on
-fields_at : (fields : List Field) (i : ℕ) (f : Field) (bits : List Bool) (p : Place) → i < length fields → f ≡ get_or fields i f → bind (place_by (is_there (need_of f.need) bits) (read_value (type_of f.shape))) (λ o. bind (read_fields (fields_of (drop (i + 1) fields)) (bits_left (need_of f.need) bits)) (λ ps. give (put o ps))) p ≡ read_fields (fields_of (drop i fields)) bits p
+pub fields_at : (fields : List Field) (i : ℕ) (f : Field) (bits : List Bool) (p : Place) → i < length fields → f ≡ get_or fields i f → bind (place_by (is_there (need_of f.need) bits) (read_value (type_of f.shape))) (λ o. bind (read_fields (fields_of (drop (i + 1) fields)) (bits_left (need_of f.need) bits)) (λ ps. give (put o ps))) p ≡ read_fields (fields_of (drop i fields)) bits p
 fields_at fields i f bits p less is =
     let e : drop i fields ≡ f ∷ drop (i + 1) fields = drop-cons fields i f less ∙ ap (λ (x : Field). x ∷ drop (suc i) fields) (sym is) ∙ ap (λ (k : ℕ). f ∷ drop k fields) (sym (add-one i)) in
     field_is (string_bytes f.name) (need_of f.need) (type_of f.shape) (fields_of (drop (i + 1) fields)) bits p
@@ -116,7 +116,7 @@ fields_end fields i bits os s old whole le p =
 
 -- ---- additions
 
-adds_at : (adds : List Addition) (i : ℕ) (a : Addition) (bits : List Bool) (p : Place) → i < length adds → a ≡ get_or adds i a → bind (place_by (first_bit bits) (open_type (read_value (type_of a.shape)))) (λ o. bind (read_additions (additions_of (drop (i + 1) adds)) (later_bits bits)) (λ ps. give (put o ps))) p ≡ read_additions (additions_of (drop i adds)) bits p
+pub adds_at : (adds : List Addition) (i : ℕ) (a : Addition) (bits : List Bool) (p : Place) → i < length adds → a ≡ get_or adds i a → bind (place_by (first_bit bits) (open_type (read_value (type_of a.shape)))) (λ o. bind (read_additions (additions_of (drop (i + 1) adds)) (later_bits bits)) (λ ps. give (put o ps))) p ≡ read_additions (additions_of (drop i adds)) bits p
 adds_at adds i a bits p less is =
     let e : drop i adds ≡ a ∷ drop (i + 1) adds = drop-cons adds i a less ∙ ap (λ (x : Addition). x ∷ drop (suc i) adds) (sym is) ∙ ap (λ (k : ℕ). a ∷ drop k adds) (sym (add-one i)) in
     by_bit_is (first_bit bits) (open_type (read_value (type_of a.shape))) (read_additions (additions_of (drop (i + 1) adds)) (later_bits bits)) p

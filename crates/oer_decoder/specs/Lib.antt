@@ -10,3 +10,5 @@ pub mod MarksView
 pub mod Relaying
 pub mod Parts
 pub mod Stops
+pub mod Recoding
+pub mod Octets

@@ -1,8 +1,10 @@
 //! The preamble of a SEQUENCE.
-ghost use Rattle.std.specs.Prelude.{◌≡◌, ◌≤◌};
+ghost use Rattle.std.specs.Prelude.{◌≡◌, ◌≤◌, ◌<◌, ◌+◌, ◌∷◌, ◌++◌, [], Bool, IfErr, IfOk, List, take};
+ghost use Rattle.oer_units.specs.declared.fault.Why.TheVariants.{Memory};
 ghost use Rattle.oer_units.specs.Reads.{state};
 ghost use Rattle.oer_model.specs.Reading.{preamble as preamble_at};
-ghost use Rattle.oer_decoder.specs.MarksView.{bits_in};
+ghost use Rattle.oer_decoder.specs.MarksView.{IsFew, bits_in};
+ghost use Rattle.oer_decoder.specs.Recoding.{Grows};
 ghost use Rattle.oer_decoder.specs.Stops.{ReadsAs};
 
 use crate::bit_strings::{are_false_from, bits_of, bits_of_octet};
@@ -29,6 +31,88 @@ impl Marks {
             Marks::Many(bits) => bits,
         }
     }
+
+    /// None so far.
+    pub(crate) fn none() -> Self
+        ensures { bits_in result ≡ [] }
+    {
+        Marks::Few([false; 8], 0)
+    }
+
+    /// One more. The ninth takes memory.
+    pub(crate) fn push(&mut self, alloc: Global, bit: bool) -> Result<(), Stop>
+        ensures { Grows (bit ∷ []) (bits_in self.old) result (bits_in self.new) }
+    {
+        if let Marks::Many(bits) = self {
+            return one_more(bits, bit);
+        }
+        let grown = self.grown(alloc, bit)?;
+        *self = grown;
+        Ok(())
+    }
+
+    // Up to eight bits and one more.
+    fn grown(&self, alloc: Global, bit: bool) -> Result<Marks, Stop>
+        requires { IsFew self.now }
+        ensures value { IfOk result (λ marks. bits_in marks ≡ bits_in self.now ++ bit ∷ []) }
+        ensures memory { IfErr result (λ e. e.why ≡ Memory) }
+    {
+        match self {
+            Marks::Few(bits, count) if *count < 8 => Ok(Marks::Few(
+                with_bit(*bits, *count, bit),
+                *count + 1,
+            )),
+            Marks::Few(bits, _) => Ok(Marks::Many(many(alloc, bits, bit)?)),
+            Marks::Many(_) => unreachable!(),
+        }
+    }
+
+    /// Puts another bit in place of the first.
+    pub(crate) fn set_first(&mut self, bit: bool)
+        ensures { (x : Bool) (s : List Bool) → bits_in self.old ≡ x ∷ s → bits_in self.new ≡ bit ∷ s }
+    {
+        match self {
+            Marks::Few(bits, _) => bits[0] = bit,
+            Marks::Many(bits) => {
+                if let Some(first) = bits.first_mut() {
+                    *first = bit;
+                }
+            }
+        }
+    }
+}
+
+// The bits with this one at that index.
+fn with_bit(bits: [bool; 8], index: usize, bit: bool) -> [bool; 8]
+    requires { index < 8 }
+    ensures { take (index + 1) result ≡ take index bits ++ bit ∷ [] }
+{
+    let mut bits = bits;
+    bits[index] = bit;
+    bits
+}
+
+// Eight bits and one more.
+fn many(alloc: Global, bits: &[bool], bit: bool) -> Result<Vec<bool>, Stop>
+    ensures value { IfOk result (λ v. v.items ≡ bits.now ++ bit ∷ []) }
+    ensures memory { IfErr result (λ e. e.why ≡ Memory) }
+{
+    let mut all = Vec::new(alloc);
+    if all.extend_from_slice(bits).is_err() {
+        return Err(Stop { why: Why::Memory });
+    }
+    one_more(&mut all, bit)?;
+    Ok(all)
+}
+
+// One bit more.
+fn one_more(bits: &mut Vec<bool>, bit: bool) -> Result<(), Stop>
+    ensures { Grows (bit ∷ []) bits.old.items result bits.new.items }
+{
+    if bits.push(bit).is_err() {
+        return Err(Stop { why: Why::Memory });
+    }
+    Ok(())
 }
 
 /// The preamble of a SEQUENCE (X.696, 16.2): so many bits, and zeros to the octet's end. Up to
