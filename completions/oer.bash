@@ -21,19 +21,21 @@ _oer() {
     part) options='--type --types --name --hex --in --lines --framed --stream --path --at --limit --help' ;;
     make) options='--type --types --name --json --limit --help' ;;
     example) options='--type --types --name --full --help' ;;
+    compare) options='--type --types --name --with --with-types --help' ;;
     *) return ;;
   esac
   # An equals sign is a word of its own here.
   case $before in
-    = | --type | --types | --name | --hex | --in | --framed | --path | --at | --json | --limit) return ;;
+    = | --type | --types | --name | --hex | --in | --framed | --path | --at | --json | --limit | --with | --with-types) return ;;
   esac
   [ "$word" != = ] || return
   # Of --type and of --types with --name a line takes only one, of --hex, --in, --lines, --framed and --stream, but for --in with
   # --stream, and of --path and --at. --canonical and --at take one message.
   for ((at = 2; at < COMP_CWORD; at++)); do
     case ${COMP_WORDS[at]} in
-      --type) given+='--type --types --name ' ;;
+      --type) given+='--type --types --name --with-types ' ;;
       --types | --name) given+="${COMP_WORDS[at]} --type " ;;
+      --with-types) given+='--with-types --type ' ;;
       --hex) given+='--hex --in --lines --framed --stream ' ;;
       --in) given+='--hex --in --lines --framed ' ;;
       --lines | --framed) given+='--canonical --at --hex --in --lines --framed --stream ' ;;

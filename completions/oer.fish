@@ -39,7 +39,7 @@ complete -c oer -l help -d 'Print a help text'
 # Of --type and of --types with --name a line takes only one, of --hex, --in, --lines, --framed and --stream, but for --in with
 # --stream, and of --path and --at. --canonical and --at take one message.
 set -l all canon show check part make
-set -l typed $all example
+set -l typed $all example compare
 complete -c oer -n "__fish_oer_takes $typed without type types name" -x -l type -d 'The type of the value'
 complete -c oer -n "__fish_oer_takes $typed without type types" -x -l types -d 'Definitions, with --name; - reads standard input'
 complete -c oer -n "__fish_oer_takes $typed without type name" -x -l name -d 'The definition that is the type'
@@ -55,3 +55,5 @@ complete -c oer -n '__fish_oer_takes part without path at' -x -l path -d 'The wa
 complete -c oer -n '__fish_oer_takes part without path at lines framed stream' -x -l at -d 'The names that lead to the part'
 complete -c oer -n '__fish_oer_takes make without json' -x -l json -d 'The JSON'
 complete -c oer -n '__fish_oer_takes example without full' -l full -d 'Also what may be absent'
+complete -c oer -n '__fish_oer_takes compare without with' -x -l with -d 'The newer type, or its name'
+complete -c oer -n '__fish_oer_takes compare without with-types type' -x -l with-types -d 'Definitions of the newer type'

@@ -4,6 +4,7 @@
 use oer_at_cmd::{Asked, at_asked, run_at, run_at_for};
 use oer_canonical_cmd::{canonical_asked, run_canonical, run_canonical_for};
 use oer_cmd::{NoStart, run, stop};
+use oer_compare_cmd::run_compare;
 use oer_ends_cmd::run_for;
 use oer_example_cmd::{asks_example, run_example, run_example_for};
 use oer_input_cmd::{Given, Program, input_given};
@@ -211,6 +212,9 @@ fn answer<R: BufRead, W: Write, E: Write>(
         Err(status) => return status,
     }
     if let Some(status) = run_types(alloc, words, input, output, errors) {
+        return status;
+    }
+    if let Some(status) = run_compare(alloc, words, output, errors) {
         return status;
     }
     if asks_example(words) {

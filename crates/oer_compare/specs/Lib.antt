@@ -1,0 +1,4 @@
+pub mod Extends
+pub mod Difference
+pub mod Views
+pub mod Laws

@@ -1,0 +1,5 @@
+use Rattle.std.proofs.Common.{rules}
+use Rattle.oer_compare_cmd.proofs.asked.with_help.Goals as goal
+
+pub returns : goal.returns
+returns c = record { app = search rules; local = search rules }
