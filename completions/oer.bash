@@ -20,13 +20,13 @@ _oer() {
     check) options='--type --types --name --canonical --hex --in --lines --framed --stream --limit --help' ;;
     part) options='--type --types --name --hex --in --lines --framed --stream --path --at --limit --help' ;;
     make) options='--type --types --name --json --limit --help' ;;
-    example) options='--type --types --name --full --help' ;;
+    example) options='--type --types --name --full --random --help' ;;
     compare) options='--type --types --name --with --with-types --help' ;;
     *) return ;;
   esac
   # An equals sign is a word of its own here.
   case $before in
-    = | --type | --types | --name | --hex | --in | --framed | --path | --at | --json | --limit | --with | --with-types) return ;;
+    = | --type | --types | --name | --hex | --in | --framed | --path | --at | --json | --limit | --random | --with | --with-types) return ;;
   esac
   [ "$word" != = ] || return
   # Of --type and of --types with --name a line takes only one, of --hex, --in, --lines, --framed and --stream, but for --in with
@@ -41,6 +41,7 @@ _oer() {
       --lines | --framed) given+='--canonical --at --hex --in --lines --framed --stream ' ;;
       --stream) given+='--canonical --at --hex --lines --framed --stream ' ;;
       --canonical) given+='--canonical --lines --framed --stream ' ;;
+      --full | --random) given+='--full --random ' ;;
       --path) given+='--path --at ' ;;
       --at) given+='--path --at --lines --framed --stream ' ;;
       --*) given+="${COMP_WORDS[at]%%=*} " ;;

@@ -54,6 +54,7 @@ complete -c oer -n '__fish_oer_takes show without ascii' -l ascii -d 'Escape cha
 complete -c oer -n '__fish_oer_takes part without path at' -x -l path -d 'The way to the part'
 complete -c oer -n '__fish_oer_takes part without path at lines framed stream' -x -l at -d 'The names that lead to the part'
 complete -c oer -n '__fish_oer_takes make without json' -x -l json -d 'The JSON'
-complete -c oer -n '__fish_oer_takes example without full' -l full -d 'Also what may be absent'
+complete -c oer -n '__fish_oer_takes example without full random' -l full -d 'Also what may be absent'
+complete -c oer -n '__fish_oer_takes example without full random' -x -l random -d 'A value that is made up, by a seed'
 complete -c oer -n '__fish_oer_takes compare without with' -x -l with -d 'The newer type, or its name'
 complete -c oer -n '__fish_oer_takes compare without with-types type' -x -l with-types -d 'Definitions of the newer type'

@@ -1,3 +1,4 @@
+pub mod Wanted
 pub mod Line
 pub mod Words
 pub mod Ending

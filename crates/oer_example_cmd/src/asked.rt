@@ -1,9 +1,9 @@
 //! What the words of `oer example` ask for.
 ghost use Rattle.std.specs.Prelude.{◌≡◌, ◌≢◌, codes, false, true, IfErr, IfOk, Some, map, string_bytes};
-ghost use Rattle.clap.specs.Words.{HasKind, fault_of, found_of, kind_of, new_app, one_text, rule_of, takes};
+ghost use Rattle.clap.specs.Words.{HasKind, fault_of, first_value, found_of, kind_of, new_app, one_text, rule_of, takes};
 ghost use Rattle.clap.specs.declared.error.kind.ErrorKind.TheVariants.{OutOfMemory};
-ghost use Rattle.oer_options.specs.Words.{HasShape};
-ghost use Rattle.oer_example_cmd.specs.Words.{AreParts, Asks, app, example_app, full_rule};
+ghost use Rattle.oer_options.specs.Words.{HasShape, behind};
+ghost use Rattle.oer_example_cmd.specs.Words.{AreParts, Asks, IsSeed, app, example_app, full_rule, random_rule};
 
 use crate::help;
 use clap::{Arg, ArgAction, ArgMatches, Command, Error};
@@ -15,6 +15,8 @@ use std::alloc::{AllocError, Global};
 #[derive(Clone, Copy)]
 pub struct Asked<'a> {
     pub parts: Parts,
+    /// The seed of a value that is made up.
+    pub seed: Option<u64>,
     /// Those on the type. The others count for nothing.
     pub options: Options<'a>,
 }
@@ -28,6 +30,14 @@ fn full_option<'a>(alloc: Global) -> Arg<'a>
         .long("full")
         .action(ArgAction::SetTrue)
         .help(help::FULL)
+}
+
+/// The option that has the seed of a value that is made up.
+fn random_option<'a>(alloc: Global) -> Arg<'a>
+    ensures rule { rule_of result ≡ random_rule }
+    ensures local { result.global ≡ false }
+{
+    option(alloc, "random", "N", help::RANDOM).value_parser(clap::value_parser!(u64))
 }
 
 fn with_help<'a>(alloc: Global) -> Command<'a>
@@ -47,7 +57,8 @@ fn example_command<'a>(alloc: Global) -> Result<Command<'a>, AllocError>
         .arg(option(alloc, "type", "TYPE", TYPE))?
         .arg(option(alloc, "types", "TEXT", help::TYPES))?
         .arg(option(alloc, "name", "NAME", NAME))?
-        .arg(full_option(alloc))
+        .arg(full_option(alloc))?
+        .arg(random_option(alloc))
 }
 
 fn oer_command<'a>(alloc: Global) -> Command<'a>
@@ -83,6 +94,19 @@ fn parts_of(found: &ArgMatches<'_>) -> Parts
     }
 }
 
+/// The seed, if it is given.
+fn seed_of(found: &ArgMatches<'_>) -> Result<Option<u64>, AllocError>
+    ensures { IfOk result (λ seed. IsSeed (first_value (found_of found.now) (codes "random")) (one_text (found_of found.now) (codes "random")) seed) }
+{
+    if found.get_str("random").is_none() {
+        return Ok(None);
+    }
+    match found.get_one::<u64>("random") {
+        Some(seed) => Ok(Some(seed)),
+        None => Err(AllocError),
+    }
+}
+
 /// What the words ask for, or why `clap` rejects them. The first word is the name of the program, the
 /// second one `example`.
 pub(crate) fn parsed<'a>(alloc: Global, words: &'a [String]) -> Result<Asked<'a>, Error>
@@ -110,6 +134,7 @@ pub(crate) fn parsed<'a>(alloc: Global, words: &'a [String]) -> Result<Asked<'a>
     };
     Ok(Asked {
         parts: parts_of(found),
+        seed: seed_of(found)?,
         options,
     })
 }

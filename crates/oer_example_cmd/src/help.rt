@@ -1,8 +1,8 @@
 //! What help says of `oer example`. Its lines have 80 characters at most.
 
-pub const USAGE: &str = "oer example --type <TYPE> [--full]
-       oer example --types <TEXT> --name <NAME> [--full]
-       oer example --modules <TEXT> --name <NAME> [--full]";
+pub const USAGE: &str = "oer example --type <TYPE> [--full | --random <N>]
+       oer example --types <TEXT> --name <NAME> [--full | --random <N>]
+       oer example --modules <TEXT> --name <NAME> [--full | --random <N>]";
 
 pub const ABOUT: &str = "Print the JSON of a value of a type, to begin with";
 
@@ -11,6 +11,9 @@ pub const TYPES: &str = "Definitions in that notation, each \"Name ::= type\";
 
 pub const FULL: &str = "Also each component that may be absent, with its default
 if it has one, each addition, and an element of each list";
+
+pub const RANDOM: &str = "A value that is made up, for tests: for each number below
+2^64 another one, and always the same";
 
 pub const NOTES: &str =
     "The value is the smallest of the type: numbers as near to 0 as may be, strings
@@ -22,6 +25,8 @@ Examples:
   {\"a\":false}
   $ oer example --full --type \"SEQUENCE {a BOOLEAN, b INTEGER (1..9) OPTIONAL}\"
   {\"a\":false,\"b\":1}
+  $ oer example --random 0 --type \"SEQUENCE OF BOOLEAN\"
+  [true,false,true]
 
 Exit status:
   0  The JSON is on standard output.

@@ -5,7 +5,9 @@ mod asked;
 mod help;
 mod line;
 mod run;
+mod wanted;
 
 pub use asked::Asked;
-pub use line::example_line;
+pub use line::{example_line, random_line};
 pub use run::{asks_example, run_example, run_example_for};
+pub use wanted::Wanted;

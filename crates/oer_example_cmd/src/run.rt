@@ -3,14 +3,17 @@ ghost use Rattle.std.specs.Prelude.{◌≡◌, ◌≤◌, IfSome, None, false, i
 ghost use Rattle.std.specs.Io.KnownBytes.{Keeps};
 ghost use Rattle.oer_types.specs.Schema.{the_type};
 ghost use Rattle.oer_cmd.specs.Types.{reads_types, texts_at};
-ghost use Rattle.oer_example_cmd.specs.Ending.{Ends, EndsFor, EndsIn, example_answer, example_of, named_answer};
+ghost use Rattle.oer_cmd.specs.Ending.{refusal_line};
+ghost use Rattle.oer_cmd.specs.Faults.{AppendsFront};
+ghost use Rattle.oer_example_cmd.specs.Ending.{Ends, EndsFor, EndsIn, both_wanted, example_answer, example_of, named_answer};
 ghost use Rattle.oer_example_cmd.specs.Words.{asks_example as spec_asks};
 
 use crate::asked::parsed;
-use crate::line::example_line;
+use crate::line::wanted_line;
+use crate::wanted::{Wanted, wanted_of};
 use oer_cmd::type_text::{TypeText, definitions, named_type, one_type, type_text, types_on_input};
 use oer_cmd::{Fault, print_line, put_all, refused, report};
-use oer_skeleton::{Parts, SkeletonFault};
+use oer_skeleton::SkeletonFault;
 use oer_types::Schema;
 use std::alloc::Global;
 use std::io::{Read, Write};
@@ -19,15 +22,15 @@ use std::io::{Read, Write};
 fn print_example<W: Write, E: Write>(
     alloc: Global,
     schema: &Schema,
-    parts: Parts,
+    wanted: Wanted,
     output: &mut W,
     errors: &mut E,
 ) -> u8
-    ensures ends { EndsIn (example_of parts (the_type schema.now)) result
+    ensures ends { EndsIn (example_of wanted (the_type schema.now)) result
         (W.contents output.old) (W.contents output.new) (E.contents errors.old) (E.contents errors.new) }
     ensures most { result ≤ 3 }
 {
-    let line = match example_line(alloc, schema, parts) {
+    let line = match wanted_line(alloc, schema, wanted) {
         Ok(line) => line,
         Err(SkeletonFault::Memory) => return report(alloc, Fault::Memory, errors),
         Err(SkeletonFault::TooLong) => {
@@ -45,16 +48,16 @@ fn print_example<W: Write, E: Write>(
 fn run_one<W: Write, E: Write>(
     alloc: Global,
     text: &str,
-    parts: Parts,
+    wanted: Wanted,
     output: &mut W,
     errors: &mut E,
 ) -> u8
-    ensures ends { EndsIn (named_answer parts (texts_at (TypeText.One text.entry))) result
+    ensures ends { EndsIn (named_answer wanted (texts_at (TypeText.One text.entry))) result
         (W.contents output.old) (W.contents output.new) (E.contents errors.old) (E.contents errors.new) }
     ensures most { result ≤ 3 }
 {
     match one_type(alloc, text) {
-        Ok(schema) => print_example(alloc, &schema, parts, output, errors),
+        Ok(schema) => print_example(alloc, &schema, wanted, output, errors),
         Err(fault) => report(alloc, fault, errors),
     }
 }
@@ -64,11 +67,11 @@ fn run_named<W: Write, E: Write>(
     alloc: Global,
     types: &str,
     name: &str,
-    parts: Parts,
+    wanted: Wanted,
     output: &mut W,
     errors: &mut E,
 ) -> u8
-    ensures ends { EndsIn (named_answer parts (texts_at (TypeText.Named types.entry name.entry))) result
+    ensures ends { EndsIn (named_answer wanted (texts_at (TypeText.Named types.entry name.entry))) result
         (W.contents output.old) (W.contents output.new) (E.contents errors.old) (E.contents errors.new) }
     ensures most { result ≤ 3 }
 {
@@ -77,7 +80,7 @@ fn run_named<W: Write, E: Write>(
         Err(fault) => return report(alloc, fault, errors),
     };
     match named_type(&types, name) {
-        Ok(schema) => print_example(alloc, schema, parts, output, errors),
+        Ok(schema) => print_example(alloc, schema, wanted, output, errors),
         Err(fault) => report(alloc, fault, errors),
     }
 }
@@ -87,21 +90,21 @@ fn run_types<R: Read, W: Write, E: Write>(
     alloc: Global,
     types: &str,
     name: &str,
-    parts: Parts,
+    wanted: Wanted,
     input: &mut R,
     output: &mut W,
     errors: &mut E,
 ) -> u8
-    ensures ends { EndsIn (example_answer parts (texts_at (TypeText.Named types.entry name.entry)) (R.remaining input.old)) result
+    ensures ends { EndsIn (example_answer wanted (texts_at (TypeText.Named types.entry name.entry)) (R.remaining input.old)) result
         (W.contents output.old) (W.contents output.new) (E.contents errors.old) (E.contents errors.new) }
     ensures untouched { reads_types (texts_at (TypeText.Named types.entry name.entry)) ≡ false → input.new ≡ input.old }
     ensures most { result ≤ 3 }
 {
     if types != "-" {
-        return run_named(alloc, types, name, parts, output, errors);
+        return run_named(alloc, types, name, wanted, output, errors);
     }
     match types_on_input(alloc, Some(""), input) {
-        Ok(text) => run_named(alloc, text.as_str(), name, parts, output, errors),
+        Ok(text) => run_named(alloc, text.as_str(), name, wanted, output, errors),
         Err(fault) => report(alloc, fault, errors),
     }
 }
@@ -110,22 +113,31 @@ fn run_types<R: Read, W: Write, E: Write>(
 fn run_of<R: Read, W: Write, E: Write>(
     alloc: Global,
     text: TypeText<'_>,
-    parts: Parts,
+    wanted: Wanted,
     input: &mut R,
     output: &mut W,
     errors: &mut E,
 ) -> u8
-    ensures ends { EndsIn (example_answer parts (texts_at text.entry) (R.remaining input.old)) result
+    ensures ends { EndsIn (example_answer wanted (texts_at text.entry) (R.remaining input.old)) result
         (W.contents output.old) (W.contents output.new) (E.contents errors.old) (E.contents errors.new) }
     ensures untouched { reads_types (texts_at text.entry) ≡ false → input.new ≡ input.old }
     ensures most { result ≤ 3 }
 {
     match text {
-        TypeText::One(text) => run_one(alloc, text, parts, output, errors),
+        TypeText::One(text) => run_one(alloc, text, wanted, output, errors),
         TypeText::Named { types, name } => {
-            run_types(alloc, types, name, parts, input, output, errors)
+            run_types(alloc, types, name, wanted, input, output, errors)
         }
     }
+}
+
+// Says that a value with all parts isn't made up. The status.
+fn refuse_both<E: Write>(errors: &mut E) -> u8
+    ensures two { result ≡ 2 }
+    ensures said { AppendsFront (E.contents errors.old) (E.contents errors.new) (refusal_line both_wanted.text) }
+{
+    put_all(b"oer: one of --random and --full\n", errors);
+    2
 }
 
 // Does what the words say. The status.
@@ -144,8 +156,11 @@ fn run_words<R: Read, W: Write, E: Write>(
         Ok(asked) => asked,
         Err(error) => return refused(alloc, &error, output, errors),
     };
+    let Some(wanted) = wanted_of(asked.parts, asked.seed) else {
+        return refuse_both(errors);
+    };
     match type_text(asked.options) {
-        Ok(text) => run_of(alloc, text, asked.parts, input, output, errors),
+        Ok(text) => run_of(alloc, text, wanted, input, output, errors),
         Err(fault) => report(alloc, fault, errors),
     }
 }
@@ -163,9 +178,13 @@ pub fn run_example_for<W: Write, E: Write>(
         (W.contents output.old) (W.contents output.new) (E.contents errors.old) (E.contents errors.new) }
     ensures statuses { result ≤ 3 }
 {
-    match parsed(alloc, words) {
-        Ok(asked) => print_example(alloc, schema, asked.parts, output, errors),
-        Err(error) => refused(alloc, &error, output, errors),
+    let asked = match parsed(alloc, words) {
+        Ok(asked) => asked,
+        Err(error) => return refused(alloc, &error, output, errors),
+    };
+    match wanted_of(asked.parts, asked.seed) {
+        Some(wanted) => print_example(alloc, schema, wanted, output, errors),
+        None => refuse_both(errors),
     }
 }
 

@@ -165,10 +165,10 @@ by_taken parts more false f g = g
 
 -- ---- the faults that a skeleton needs to be absent
 
-data Bad : Type 0 where
+pub data Bad : Type 0 where
   no_items crossed_bounds crossed_size repeated_tag : Bad
 
-abbrev bad : Bad → AsnType → Type 0
+abbrev pub bad : Bad → AsnType → Type 0
 bad no_items = HasNoItems
 bad crossed_bounds = HasCrossedBounds
 bad crossed_size = HasCrossedSize
@@ -237,7 +237,7 @@ module _ (parts : Parts) where
         (type_fits T (λ q s. ok q (inl s)) d.0 w.1) k.0 any
         (λ some. legal_fits more some (λ q s. ok q (inr s)) k.1 d.1 w.2)
 
-sound : (T : AsnType) → IsWellFormed T → (q : Bad) → Somewhere (bad q) T → ⊥
+pub sound : (T : AsnType) → IsWellFormed T → (q : Bad) → Somewhere (bad q) T → ⊥
 sound T w no_items = w.faultless NoItems
 sound T w crossed_bounds = w.faultless BoundOrder
 sound T w crossed_size = w.faultless SizeOrder

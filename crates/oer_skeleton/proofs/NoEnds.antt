@@ -36,7 +36,7 @@ few : (parts : Parts) (s : Size) → elements parts false s ≡ s.low
 few Needed s = refl
 few All s = refl
 
-either : (a b : Bool) → (a || b) ≡ true → (b ≡ false → a ≡ true)
+pub either : (a b : Bool) → (a || b) ≡ true → (b ≡ false → a ≡ true)
 either true b h e = refl
 either false b h e = cc
 
@@ -77,7 +77,7 @@ taken_by false name u T more x rest f free some k =
     (t, h.1, h.2, other_tag (same_tag u t) (HasNoEnd T) (AlternativeHasNoEnd more t) h.1 (apart u t more free h.4) h.3, or_right (same_tag u t) (has_tag t more) h.4)
 
 -- a CHOICE with a legal alternative is no end
-no_end : (e : Bool) (more : Alternatives) → any_legal more ≡ true → IsEnd (choice e more) → ⊥
+pub no_end : (e : Bool) (more : Alternatives) → any_legal more ≡ true → IsEnd (choice e more) → ⊥
 no_end e more some (name, is) = let same : is_legal (choice e more) ≡ false = ap is_legal is in cc
 
 chosen_by : (P : Tag → AsnValue → Type 0) (any : Bool) (v : Bool → AsnValue) → any ≡ true → OfChosen P (v true) → OfChosen P (v any)

@@ -17,7 +17,7 @@ use Rattle.oer_skeleton.specs.declared.parts.Parts.TheVariants.{Needed, All}
 
 -- ---- numbers
 
-le_self : (z : ℤ) → int_le z z ≡ true
+pub le_self : (z : ℤ) → int_le z z ≡ true
 le_self (pos n) = le-leb n n (omega arith)
 le_self (negsuc n) = le-leb n n (omega arith)
 
@@ -27,7 +27,7 @@ less (pos m) (negsuc n) e = omega (arith, ints)
 less (negsuc m) (pos n) e = absurd (cc)
 less (negsuc m) (negsuc n) e = let k = leb-false n m e in omega (arith, ints)
 
-in_order : (low high : ℤ) → (high <ℤ low → ⊥) → int_le low high ≡ true
+pub in_order : (low high : ℤ) → (high <ℤ low → ⊥) → int_le low high ≡ true
 in_order low high not = by (int_le low high) refl
   where
     by : (b : Bool) → int_le low high ≡ b → int_le low high ≡ true
@@ -57,7 +57,7 @@ is_between (Some l) (Some h) free = clamped l h (in_order l h free) (int_le l (p
 zero_fits : FitsSigned w128 (pos 0)
 zero_fits = omega (arith, ints)
 
-either_fits : (b : Bool) (x y : ℤ) → FitsSigned w128 x → FitsSigned w128 y → FitsSigned w128 (if b then x else y)
+pub either_fits : (b : Bool) (x y : ℤ) → FitsSigned w128 x → FitsSigned w128 y → FitsSigned w128 (if b then x else y)
 either_fits true x y f g = f
 either_fits false x y f g = g
 
@@ -65,7 +65,7 @@ raised_fits : (low : Option ℤ) → HasBoundWidth low → FitsSigned w128 (rais
 raised_fits None w = zero_fits
 raised_fits (Some l) w = either_fits (int_le l (pos 0)) (pos 0) l zero_fits w
 
-lowered_fits : (high : Option ℤ) (z : ℤ) → HasBoundWidth high → FitsSigned w128 z → FitsSigned w128 (lowered high z)
+pub lowered_fits : (high : Option ℤ) (z : ℤ) → HasBoundWidth high → FitsSigned w128 z → FitsSigned w128 (lowered high z)
 lowered_fits None z w f = f
 lowered_fits (Some h) z w f = either_fits (int_le z h) z h f w
 
@@ -78,7 +78,7 @@ first_is_one x xs = ap (λ b. b || has_number xs x.number) (and_true (int_le x.n
 
 -- ---- sizes
 
-high_allows : (high : Option ℕ) (low : ℕ) → (IsBelow high low → ⊥) → at_most high low ≡ true
+pub high_allows : (high : Option ℕ) (low : ℕ) → (IsBelow high low → ⊥) → at_most high low ≡ true
 high_allows None low free = refl
 high_allows (Some h) low free = by (leb low h) refl
   where

@@ -15,7 +15,8 @@ fn raised(low: Option<i128>) -> i128
     }
 }
 
-fn lowered(high: Option<i128>, number: i128) -> i128
+/// The number, or the upper bound where that is below it.
+pub fn lowered(high: Option<i128>, number: i128) -> i128
     ensures { result ≡ spec_lowered high number }
 {
     match high {
@@ -25,7 +26,7 @@ fn lowered(high: Option<i128>, number: i128) -> i128
 }
 
 /// The number between the bounds that is nearest to 0.
-pub(crate) fn nearest(low: Option<i128>, high: Option<i128>) -> i128
+pub fn nearest(low: Option<i128>, high: Option<i128>) -> i128
     ensures { result ≡ spec_nearest low high }
 {
     lowered(high, raised(low))

@@ -26,7 +26,7 @@ fn is_end(tag: Tag) -> bool
 /// extension markers.
 #[cycle(legal)]
 #[tactic(auto, using(oer_values::proofs::Shapes::shapes))]
-pub(crate) fn is_legal(shape: &Shape) -> bool
+pub fn is_legal(shape: &Shape) -> bool
     ensures { result ≡ spec_is_legal (type_of shape.now) }
 {
     match shape {
@@ -49,8 +49,9 @@ fn are_legal(fields: &[Field]) -> bool
     true
 }
 
+/// Whether one of these alternatives before the extension marker is no end, and has such a value.
 #[cycle(legal)]
-pub(crate) fn any_legal(root: &[Alt]) -> bool
+pub fn any_legal(root: &[Alt]) -> bool
     ensures { result ≡ spec_any_legal (root_of root.now no_alternatives) }
 {
     for alt in root {
@@ -61,7 +62,9 @@ pub(crate) fn any_legal(root: &[Alt]) -> bool
     false
 }
 
-fn is_taken(any: bool, alt: &Alt) -> bool
+/// Whether a value may take the alternative: one that needs no end, or each where `any`, whether one
+/// before the extension marker needs none, is false.
+pub fn is_taken(any: bool, alt: &Alt) -> bool
     ensures { result ≡ spec_is_taken any alt.now.tag (spec_is_legal (type_of alt.now.shape)) }
 {
     !any || !is_end(alt.tag) && is_legal(&alt.shape)

@@ -11,6 +11,8 @@ mod value;
 mod weight;
 
 pub use fault::SkeletonFault;
+pub use leaf::{lowered, nearest};
+pub use legal::{any_legal, is_legal, is_taken};
 pub use parts::Parts;
 pub use value::{full, smallest, with_parts};
-pub use weight::MAX_WEIGHT;
+pub use weight::{MAX_WEIGHT, after};

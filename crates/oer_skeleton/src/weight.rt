@@ -15,7 +15,7 @@ use oer_values::{Addition, Field, Need, Shape, known_additions};
 pub const MAX_WEIGHT: u64 = 65_536;
 
 /// What is left of `left` parts after so many; none where they are more.
-fn after(count: u64, left: u64) -> Option<u64>
+pub fn after(count: u64, left: u64) -> Option<u64>
     ensures { Leaves result left count }
 {
     left.checked_sub(count)

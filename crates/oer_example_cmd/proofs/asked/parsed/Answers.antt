@@ -1,7 +1,7 @@
 use Rattle.std.proofs.Common.{◌≡◌, ◌∙◌, List, Some, map, string_bytes, ap, subst}
 use Rattle.clap.specs.Words.{HasKind, Text, fault_of, found_of, is_simple, is_simple_and_free, rows_of, subcommand_of, takes}
 use Rattle.oer_example_cmd.specs.Words.{app}
-use Rattle.oer_example_cmd.proofs.Asking.{given_is, met, parts_are, simple, simple_and_free}
+use Rattle.oer_example_cmd.proofs.Asking.{given_is, met, parts_are, seed_is, simple, simple_and_free}
 use Rattle.oer_example_cmd.proofs.asked.parsed.Goals as goal
 
 pub returns-clause-ok : goal.returns-clause-ok
@@ -16,6 +16,7 @@ returns-clause-ok c =
     ) = met words c.in-Ok.matches _ _ walked c.in-Some.ensures.name c.in-Some.ensures.rows in
     record {
       parts = parts_are words _ found.now _ is c.parts_of.ensures;
+      seed = seed_is words _ found.now _ is c.in_ok-seed_of.ensures;
       type_text = given_is words _ _ found.now _ is c.get_str.ensures;
       types = given_is words _ _ found.now _ is c.get_str-2.ensures;
       name = given_is words _ _ found.now _ is c.get_str-3.ensures;
