@@ -12,8 +12,8 @@ pub const TYPES: &str = "Definitions in that notation, each \"Name ::= type\";
 pub const FULL: &str = "Also each component that may be absent, with its default
 if it has one, each addition, and an element of each list";
 
-pub const RANDOM: &str = "A value that is made up, for tests: for each number below
-2^64 another one, and always the same";
+pub const RANDOM: &str = "A value that is made up, for tests: the same each time
+for a number below 2^64, for most another one";
 
 pub const NOTES: &str =
     "The value is the smallest of the type: numbers as near to 0 as may be, strings
