@@ -47,6 +47,7 @@ test_programs: bin/oer
 	@tools/test_lines bin
 	@tools/test_example bin
 	@tools/test_compare bin
+	@tools/test_explain bin
 	@tools/test_wireshark bin
 
 lib: lib/toolchain

@@ -15,11 +15,11 @@ _oer() {
       [ "$COMP_CWORD" -gt 2 ] || COMPREPLY=($(compgen -W 'canon show check part make' -- "$word"))
       return
       ;;
-    show) options='--type --types --name --hex --in --lines --framed --stream --ascii --limit --help' ;;
-    canon) options='--type --types --name --hex --in --lines --framed --stream --limit --help' ;;
-    check) options='--type --types --name --canonical --hex --in --lines --framed --stream --limit --help' ;;
-    part) options='--type --types --name --hex --in --lines --framed --stream --path --at --limit --help' ;;
-    make) options='--type --types --name --json --limit --help' ;;
+    show) options='--type --types --name --hex --in --lines --framed --stream --ascii --explain --limit --help' ;;
+    canon) options='--type --types --name --hex --in --lines --framed --stream --explain --limit --help' ;;
+    check) options='--type --types --name --canonical --hex --in --lines --framed --stream --explain --limit --help' ;;
+    part) options='--type --types --name --hex --in --lines --framed --stream --path --at --explain --limit --help' ;;
+    make) options='--type --types --name --json --explain --limit --help' ;;
     example) options='--type --types --name --full --random --help' ;;
     compare) options='--type --types --name --with --with-types --help' ;;
     *) return ;;
@@ -30,7 +30,7 @@ _oer() {
   esac
   [ "$word" != = ] || return
   # Of --type and of --types with --name a line takes only one, of --hex, --in, --lines, --framed and --stream, but for --in with
-  # --stream, and of --path and --at. --canonical and --at take one message.
+  # --stream, and of --path and --at. --canonical, --at and --explain take one message.
   for ((at = 2; at < COMP_CWORD; at++)); do
     case ${COMP_WORDS[at]} in
       --type) given+='--type --types --name --with-types ' ;;
@@ -38,9 +38,10 @@ _oer() {
       --with-types) given+='--with-types --type ' ;;
       --hex) given+='--hex --in --lines --framed --stream ' ;;
       --in) given+='--hex --in --lines --framed ' ;;
-      --lines | --framed) given+='--canonical --at --hex --in --lines --framed --stream ' ;;
-      --stream) given+='--canonical --at --hex --lines --framed --stream ' ;;
+      --lines | --framed) given+='--canonical --at --explain --hex --in --lines --framed --stream ' ;;
+      --stream) given+='--canonical --at --explain --hex --lines --framed --stream ' ;;
       --canonical) given+='--canonical --lines --framed --stream ' ;;
+      --explain) given+='--explain --lines --framed --stream ' ;;
       --full | --random) given+='--full --random ' ;;
       --path) given+='--path --at ' ;;
       --at) given+='--path --at --lines --framed --stream ' ;;

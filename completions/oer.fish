@@ -37,7 +37,7 @@ complete -c oer -n __fish_oer_begins -l version -d 'Print the version'
 complete -c oer -l help -d 'Print a help text'
 
 # Of --type and of --types with --name a line takes only one, of --hex, --in, --lines, --framed and --stream, but for --in with
-# --stream, and of --path and --at. --canonical and --at take one message.
+# --stream, and of --path and --at. --canonical, --at and --explain take one message.
 set -l all canon show check part make
 set -l typed $all example compare
 complete -c oer -n "__fish_oer_takes $typed without type types name" -x -l type -d 'The type of the value'
@@ -46,10 +46,11 @@ complete -c oer -n "__fish_oer_takes $typed without type name" -x -l name -d 'Th
 complete -c oer -n "__fish_oer_takes $all without limit" -x -l limit -d 'How many octets the value may take'
 complete -c oer -n '__fish_oer_takes canon show check part without hex in lines framed stream' -x -l hex -d 'The octets'
 complete -c oer -n '__fish_oer_takes canon show check part without hex in lines framed' -x -l in -d 'What standard input is: hex, raw or base64'
-complete -c oer -n '__fish_oer_takes canon show check part without hex in lines framed stream canonical at' -l lines -d 'Each line of the input is a message in digits'
-complete -c oer -n '__fish_oer_takes canon show check part without hex in lines framed stream canonical at' -x -l framed -d 'Each message is raw, behind its length in 1, 2, 4 or 8 octets'
-complete -c oer -n '__fish_oer_takes canon show check part without hex lines framed stream canonical at' -l stream -d 'Raw messages, one right behind the other'
+complete -c oer -n '__fish_oer_takes canon show check part without hex in lines framed stream canonical at explain' -l lines -d 'Each line of the input is a message in digits'
+complete -c oer -n '__fish_oer_takes canon show check part without hex in lines framed stream canonical at explain' -x -l framed -d 'Each message is raw, behind its length in 1, 2, 4 or 8 octets'
+complete -c oer -n '__fish_oer_takes canon show check part without hex lines framed stream canonical at explain' -l stream -d 'Raw messages, one right behind the other'
 complete -c oer -n '__fish_oer_takes check without canonical lines framed stream' -l canonical -d 'Another encoding is an error'
+complete -c oer -n "__fish_oer_takes $all without explain lines framed stream" -l explain -d 'Tell more of an error'
 complete -c oer -n '__fish_oer_takes show without ascii' -l ascii -d 'Escape characters that are not ASCII'
 complete -c oer -n '__fish_oer_takes part without path at' -x -l path -d 'The way to the part'
 complete -c oer -n '__fish_oer_takes part without path at lines framed stream' -x -l at -d 'The names that lead to the part'

@@ -2,6 +2,7 @@
 
 import hashlib
 import os
+import re
 import subprocess
 from dataclasses import dataclass
 from functools import cache
@@ -54,6 +55,7 @@ def files_of(crate, parts):
             yield from (f"{at}/{name}" for name in sorted(names))
 
 
+@cache
 def toolchain():
     """The line of the toolchain: its kit, and behind ` logic ` the name of its logic."""
     return subprocess.run(["rt", "version"], capture_output=True, text=True, check=True).stdout.strip()
@@ -69,7 +71,60 @@ def digests(crate, parts):
     return b"".join(found)
 
 
-def checksum(head, crate, known, more):
-    """A checksum of a line, of what the crate and all crates below are made from, and of more of the crate's own files."""
-    below = (digests(it, PARTS) for _, it in sorted(all_below(crate, known).items()))
-    return hashlib.sha256(b"".join((f"{head}\n".encode(), digests(crate, (*PARTS, *more)), *below))).hexdigest()
+# A function in the layout of rt fmt, from its first line to the brace that closes it.
+FUNCTION = re.compile(r"^(?P<indent> *)(?P<open>pub )?(?:pub\([^)]*\) )?(?:(?:unsafe|extern \"C\") )*fn [^\n]*\n.*?^(?P=indent)}\n", re.M | re.S)
+COMMENTS = {".rt": re.compile(r"^ *//.*\n", re.M), ".antt": re.compile(r"^ *--.*\n", re.M)}
+# A constant or a macro, which a blank line follows.
+CONSTANT = re.compile(r"^(?:pub )?(?:const|macro_rules!) (\w+)\b.*?[;}]\n(?=\n|\Z)", re.M | re.S)
+
+
+def without_body(function):
+    """The text of a function as the crates above see it: one that promises something without its body, and a free one that is
+    private not at all."""
+    if not function["indent"] and not function["open"]:
+        return ""
+    head, _, _ = function[0].partition(f"\n{function['indent']}{{\n")
+    return f"{head}\n" if " ensures " in head else function[0]
+
+
+def text_of(file):
+    with open(file, encoding="utf-8") as it:
+        return it.read()
+
+
+@cache
+def cited():
+    """The modules whose constants some contract, definition or proof names, as CRATE.specs.declared.MODULE."""
+    texts = (text_of(file) for crate in crates().values() for file in files_of(crate, PARTS))
+    lines = (line for text in texts if ".TheConstants" in text for line in text.split("\n"))
+    return {it for line in lines for it in re.findall(r"\b(\w+\.specs\.declared\.\w+)\.TheConstants", line)}
+
+
+def shown_constants(crate, file, text):
+    """The text of a file without the constants and macros of a module that is private, but for those that lib.rt names."""
+    lib = f"{crate.folder}/src/lib.rt"
+    root = text_of(lib) if os.path.exists(lib) else ""
+    name = os.path.basename(file).removesuffix(".rt")
+    is_private = re.search(rf"^mod {name};$", root, re.M) and "macro_export" not in text
+    if not is_private or f"{crate.name}.specs.declared.{name}" in cited():
+        return text
+    return CONSTANT.sub(lambda it: it[0] if re.search(rf"\b{it[1]}\b", root) else "", text)
+
+
+@cache
+def seen_of(crate):
+    """What the crates above see of a crate: its line of crates.txt, its definitions, and its types and the contracts of its
+    functions, but no body under a contract, no constant that is private, no proof and no comment."""
+    found = [f"{crate.name}: {' '.join(crate.below)}\n"]
+    for file in files_of(crate, ("specs", "src")):
+        comments = COMMENTS.get(os.path.splitext(file)[1])
+        text = comments.sub("", text_of(file)) if comments else text_of(file)
+        found.append(f"{file[len(TOP):]}\0{FUNCTION.sub(without_body, shown_constants(crate, file, text))}\0")
+    return hashlib.sha256("".join(found).encode()).digest()
+
+
+def checksum(head, crate, known, more, below=lambda it: digests(it, PARTS)):
+    """A checksum of a line, of what the crate is made from and of more of its own files, and of each crate below: of what it is
+    made from too, if nothing else is said."""
+    others = (below(it) for _, it in sorted(all_below(crate, known).items()))
+    return hashlib.sha256(b"".join((f"{head}\n".encode(), digests(crate, (*PARTS, *more)), *others))).hexdigest()

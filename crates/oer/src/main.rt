@@ -7,6 +7,7 @@ use oer_cmd::{NoStart, run, stop};
 use oer_compare_cmd::run_compare;
 use oer_ends_cmd::run_for;
 use oer_example_cmd::{asks_example, run_example, run_example_for};
+use oer_explain_cmd::{Command as Explained, explain_asked, run_explained, run_explained_for};
 use oer_input_cmd::{Given, Program, input_given};
 use oer_lines_cmd::{Way, framed_asked, lines_asked, run_many, run_many_for, stream_asked};
 use oer_module_cmd::type_given;
@@ -101,12 +102,12 @@ fn answer_canonical<R: Read, W: Write, E: Write>(
 // Prints the part to which names lead in one message. The status.
 fn answer_at<R: Read, W: Write, E: Write>(
     alloc: Global,
-    asked: &Asked,
+    asked: &Asked<'_>,
     input: &mut R,
     output: &mut W,
     errors: &mut E,
 ) -> u8 {
-    let names = asked.names.as_str();
+    let names = asked.names;
     let words = asked.words.as_slice();
     match type_given(alloc, Command::Oer, words, input, errors) {
         Ok(Some(given)) => run_at_for(
@@ -179,6 +180,77 @@ fn many_asked<E: Write>(
     }
 }
 
+// Runs the command by the type that the arguments give, and explains an error. The status.
+fn explain<R: BufRead, W: Write, E: Write>(
+    alloc: Global,
+    command: Explained<'_>,
+    words: &[String],
+    input: &mut R,
+    output: &mut W,
+    errors: &mut E,
+) -> u8 {
+    match type_given(alloc, Command::Oer, words, input, errors) {
+        Ok(Some(given)) => run_explained_for(
+            alloc,
+            command,
+            &given.schema,
+            given.words.as_slice(),
+            input,
+            output,
+            errors,
+        ),
+        Ok(None) => run_explained(alloc, command, words, input, output, errors),
+        Err(status) => status,
+    }
+}
+
+// Does what the arguments ask for with one message, or with JSON, and explains an error. The status.
+fn answer_explained<R: BufRead, W: Write, E: Write>(
+    alloc: Global,
+    words: &[String],
+    input: &mut R,
+    output: &mut W,
+    errors: &mut E,
+) -> u8 {
+    match canonical_asked(alloc, words, errors) {
+        Ok(Some(words)) => {
+            let words = words.as_slice();
+            return explain(alloc, Explained::Canonical, words, input, output, errors);
+        }
+        Ok(None) => {}
+        Err(status) => return status,
+    }
+    match at_asked(alloc, words, errors) {
+        Ok(Some(asked)) => {
+            let command = Explained::At(asked.names);
+            let words = asked.words.as_slice();
+            explain(alloc, command, words, input, output, errors)
+        }
+        Ok(None) => explain(alloc, Explained::Usual, words, input, output, errors),
+        Err(status) => status,
+    }
+}
+
+// Does what the arguments ask for without any of these options. The status.
+fn answer_rest<R: Read, W: Write, E: Write>(
+    alloc: Global,
+    words: &[String],
+    input: &mut R,
+    output: &mut W,
+    errors: &mut E,
+) -> u8 {
+    if let Some(status) = run_types(alloc, words, input, output, errors) {
+        return status;
+    }
+    if let Some(status) = run_compare(alloc, words, output, errors) {
+        return status;
+    }
+    if asks_example(words) {
+        return answer_example(alloc, words, input, output, errors);
+    }
+    answer_one(alloc, words, input, output, errors)
+}
+
 // Does what the arguments, without `--in`, ask for. The status.
 fn answer<R: BufRead, W: Write, E: Write>(
     alloc: Global,
@@ -187,6 +259,11 @@ fn answer<R: BufRead, W: Write, E: Write>(
     output: &mut W,
     errors: &mut E,
 ) -> u8 {
+    match explain_asked(alloc, words, errors) {
+        Ok(Some(words)) => return answer_explained(alloc, words.as_slice(), input, output, errors),
+        Ok(None) => {}
+        Err(status) => return status,
+    }
     match canonical_asked(alloc, words, errors) {
         Ok(Some(words)) => return answer_canonical(alloc, words.as_slice(), input, output, errors),
         Ok(None) => {}
@@ -211,16 +288,7 @@ fn answer<R: BufRead, W: Write, E: Write>(
         Ok(None) => {}
         Err(status) => return status,
     }
-    if let Some(status) = run_types(alloc, words, input, output, errors) {
-        return status;
-    }
-    if let Some(status) = run_compare(alloc, words, output, errors) {
-        return status;
-    }
-    if asks_example(words) {
-        return answer_example(alloc, words, input, output, errors);
-    }
-    answer_one(alloc, words, input, output, errors)
+    answer_rest(alloc, words, input, output, errors)
 }
 
 // Does what the arguments ask for. The status.

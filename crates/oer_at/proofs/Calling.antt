@@ -1,19 +1,19 @@
 -- What names mean, and what is found for them.
-use Rattle.std.proofs.Common.{◌≡◌, ◌≢◌, ◌⊎◌, inl, inr, ◌<◌, ◌≤◌, ◌^◌, ◌+◌, ℕ, zero, suc, List, [], ◌∷◌, ◌++◌, length, Bool, true, false, ◌||◌, ◌&&◌, Option, Some, None, Result, Ok, Err, eqb, refl, sym, ap, ap₂, ◌∙◌, subst, arith, get_or, append-nil, ltb-true, ⊎_elim}
+use Rattle.std.proofs.Common.{◌≡◌, ◌≢◌, ◌⊎◌, inl, inr, ◌<◌, ◌^◌, ◌+◌, ℕ, zero, suc, List, [], ◌∷◌, ◌++◌, length, Bool, true, false, ◌&&◌, Option, Some, None, Result, Ok, Err, refl, sym, ap, ap₂, ◌∙◌, subst, arith, get_or, append-nil, ltb-true, ⊎_elim}
 use Rattle.std.specs.Prelude.{nat_lt, if◌then◌else◌}
 use Rattle.std.specs.Fmt.{decimal}
 use Rattle.std.specs.Str.{bytes_eq, all_ascii_digits}
 use Rattle.std.specs.Str.Parse.{IsNumeral, digits_value, without_leading_plus}
 use Rattle.std.proofs.lemmas.Bool.{and_parts}
 use Rattle.std.proofs.lemmas.Bool.Decides.{nat_tests}
-use Rattle.std.proofs.lemmas.Fmt.{decimal_digit, decimal-digits_value, decimal_is_IsNumeral, first_decimal, decimal_nonempty}
+use Rattle.std.proofs.lemmas.Fmt.{decimal_digit, decimal-digits_value, decimal_is_IsNumeral, first_decimal}
 use Rattle.std.proofs.lemmas.Slice.Eq.{bytes_eq-Decides}
 use Rattle.std.proofs.lemmas.Str.Parse.{without_leading_plus_none}
 use Rattle.oer_literals.specs.Numbers.{is_numeral, size_of}
-use Rattle.oer_literals.proofs.Numerals.{size_ok, tells_numerals, true_numeral}
+use Rattle.oer_literals.proofs.Numerals.{size_ok, tells_numerals}
 use Rattle.oer_units.specs.declared.tagging.Tag.{Tag}
 use Rattle.oer_model.specs.AsnType.{Additions, Alternatives, AsnType, Fields, addition, alternative, choice, extensible_sequence, field, later, leaf, no_additions, no_alternatives, no_fields, sequence, sequence_of}
-use Rattle.oer_model.specs.WellFormed.{AnyOf, HasFault, InAdditions, InAlternatives, InFields, Repeats, Somewhere, addition_names, alternative_names, field_names, names}
+use Rattle.oer_model.specs.WellFormed.{AnyOf, InAdditions, InAlternatives, InFields, Repeats, Somewhere, addition_names, alternative_names, field_names, names}
 use Rattle.oer_parts.specs.declared.step.Step.TheVariants as step
 use Rattle.oer_at.specs.Hops.{Lead, before_hops, find_addition, find_alternative, find_element, find_field, hops_by, hops_from, named, or_else, or_wanted}
 use Rattle.oer_at.specs.Meaning.{HasAlternative, IsCalled, Means, addition_at, component_at}
@@ -137,7 +137,7 @@ named_type n name T lead same is = ap₂ some_named (is_same n name same) is
 one_named : (a b : Named) → Some a ≡ Some b → a ≡ b
 one_named a b h = cc
 
-both_named : (n name : List ℕ) (T U : AsnType) → some_named n T ≡ some_named name U → (n ≡ name) × (T ≡ U)
+pub both_named : (n name : List ℕ) (T U : AsnType) → some_named n T ≡ some_named name U → (n ≡ name) × (T ≡ U)
 both_named n name T U h = let same = one_named (n, T) (name, U) h in (ap (λ (x : Named). x.0) same, ap (λ (x : Named). x.1) same)
 
 field_means : (fs : Fields) (k : ℕ) (name : List ℕ) (lead : Lead) → find_field k fs name ≡ Some lead → FieldMeans fs k name lead
@@ -353,7 +353,7 @@ inside Q (sequence_of size T) name (Part (step.Item i)) V h s = inr (subst (Some
 inside Q (choice extensible more) name (Alternative t) V h s = inr (in_alternatives Q more name t V h s)
 inside Q _ name hop V h s = absurd h
 
-at_top : (Q : AsnType → Type 0) (T : AsnType) → Q T → Somewhere Q T
+pub at_top : (Q : AsnType → Type 0) (T : AsnType) → Q T → Somewhere Q T
 at_top Q (leaf kind) q = q
 at_top Q (sequence fs) q = inl q
 at_top Q (extensible_sequence fs more) q = inl q

@@ -1,20 +1,20 @@
 -- What hops find, one after another.
-use Rattle.std.proofs.Common.{◌≡◌, ◌<◌, ◌≤◌, ◌-◌, ℕ, zero, suc, Bool, true, false, List, [], ◌∷◌, ◌++◌, length, take, drop, map, get_or, Option, Some, None, Result, Ok, Err, refl, sym, ap, ◌∙◌, subst, arith, drop-cons, length-drop}
+use Rattle.std.proofs.Common.{◌≡◌, ◌<◌, ◌≤◌, ◌-◌, ℕ, zero, suc, true, false, List, [], ◌∷◌, ◌++◌, length, take, drop, map, get_or, Option, Some, None, Result, refl, sym, ap, ap₂, ◌∙◌, subst, arith, drop-cons, length-drop}
+use Rattle.std.proofs.lemmas.List.{take_all}
 use Rattle.oer_literals.proofs.Lists.{nothing_left}
 use Rattle.oer_units.specs.declared.tagging.Tag.{Tag}
-use Rattle.oer_units.specs.Reader.{at, got}
+use Rattle.oer_units.specs.Reader.{at}
 use Rattle.oer_model.specs.AsnType.{AsnType}
-use Rattle.oer_model.specs.Checking.{check_value}
 use Rattle.oer_model.specs.Parts.{Answer, absent_part, find_part, found, go_on, knows, lookup, no_such_step, nothing_at, parts_in, read_parts, to_chosen}
 use Rattle.oer_model.specs.Parts as plain
-use Rattle.oer_checker.specs.Check.{IsFound, most}
+use Rattle.oer_checker.specs.Check.{IsFound}
 use Rattle.oer_checker.specs.declared.verdict.Verdict.{Verdict}
 use Rattle.oer_parts.specs.Handing.{Agrees, AgreesWith, AnswersPart}
 use Rattle.oer_parts.specs.Walk.{path_of, step_of}
 use Rattle.oer_parts.specs.declared.fault.PartFault.{PartFault}
 use Rattle.oer_parts.specs.declared.step.Step.{Step}
-use Rattle.oer_parts.specs.declared.step.Step.TheVariants.{Chosen}
 use Rattle.oer_at.specs.Finding.{Fails, find_at, if_chosen, is_chosen, take_hop, take_step}
+use Rattle.oer_at.specs.Meaning.{step_behind}
 use Rattle.oer_at.specs.declared.hop.Hop.{Hop}
 use Rattle.oer_at.specs.declared.hop.Hop.TheVariants.{Alternative}
 use Rattle.oer_at.specs.declared.part.AtFault.{AtFault}
@@ -81,6 +81,21 @@ stops whole a hops i o fault less inv h =
 
 pub ends : (whole : Answer) (a : Answer) (hops : List Hop) (i : ℕ) → length hops ≤ i → whole ≡ go_on a (λ V c. find_at V c (drop i hops)) → a ≡ whole
 ends whole a hops i more inv = sym (inv ∙ ap (λ (l : List Hop). go_on a (λ V c. find_at V c l)) (nothing_left hops i more) ∙ go_no_further a)
+
+-- ---- the steps of hops
+
+mapped : (hops : List Hop) (i : ℕ) (o : Hop) → i < length hops → map step_behind (take (suc i) hops) ≡ map step_behind (take i hops) ++ step_behind (get_or hops i o) ∷ []
+mapped [] i o less = absurd (omega (arith, less))
+mapped (hop ∷ hops) zero o less = refl
+mapped (hop ∷ hops) (suc i) o less = ap (λ (l : List plain.Step). step_behind hop ∷ l) (mapped hops i o (omega (arith, less)))
+
+pub one_step_more : (hops : List Hop) (i : ℕ) (o : Hop) (path : List Step) (step : Step) → i < length hops → path_of path ≡ map step_behind (take i hops)
+    → step_of step ≡ step_behind (get_or hops i o) → path_of (path ++ step ∷ []) ≡ map step_behind (take (suc i) hops)
+one_step_more hops i o path step less inv same =
+    steps_more path step ∙ ap₂ (λ (l : List plain.Step) (s : plain.Step). l ++ s ∷ []) inv same ∙ sym (mapped hops i o less)
+
+pub all_steps : (hops : List Hop) (i : ℕ) (path : List Step) → length hops ≤ i → path_of path ≡ map step_behind (take i hops) → path_of path ≡ map step_behind hops
+all_steps hops i path more inv = inv ∙ ap (map step_behind) (take_all i hops more)
 
 -- ---- one hop
 

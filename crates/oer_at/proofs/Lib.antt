@@ -1,5 +1,6 @@
 mod Splitting
 mod Onward
 mod Going
-mod Calling
-mod Reaching
+pub mod Calling
+pub mod Reaching
+pub mod Typing

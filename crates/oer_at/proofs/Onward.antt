@@ -1,5 +1,5 @@
 -- The hops of names, one after another.
-use Rattle.std.proofs.Common.{◌≡◌, ◌≤◌, ◌<◌, ℕ, zero, suc, List, [], ◌∷◌, ◌++◌, length, drop, map, get_or, Result, Ok, Err, refl, sym, ap, ◌∙◌, append-nil, append_assoc, arith, drop-cons}
+use Rattle.std.proofs.Common.{◌≡◌, ◌≤◌, ◌<◌, ℕ, suc, List, [], ◌∷◌, ◌++◌, length, drop, map, get_or, Result, Ok, Err, refl, sym, ap, ◌∙◌, append-nil, append_assoc, drop-cons}
 use Rattle.std.specs.Borrow.{Bor}
 use Rattle.oer_literals.proofs.Lists.{nothing_left}
 use Rattle.oer_model.specs.AsnType.{AsnType}

@@ -1,14 +1,10 @@
 -- What hops find in an encoding, and what they reach there.
-use Rattle.std.proofs.Common.{◌≡◌, ◌+◌, ℕ, List, [], ◌∷◌, ◌++◌, length, Bool, true, false, Option, Some, None, refl, sym, ap, ap₂, ◌∙◌, subst, length-append}
+use Rattle.std.proofs.Common.{◌≡◌, ◌+◌, ℕ, List, [], ◌∷◌, length, Bool, true, false, Option, Some, None, refl, sym, ap, ap₂, ◌∙◌, subst, length-append}
 use Rattle.oer_units.specs.Reader.{Outcome, at, got, refused}
 use Rattle.oer_units.specs.Reading.{tag}
 use Rattle.oer_units.specs.declared.tagging.Tag.{Tag}
 use Rattle.oer_units.proofs.TagReaders.{tag_lawful}
 use Rattle.oer_model.specs.AsnType.{AsnType}
-use Rattle.oer_model.specs.AsnValue.{AsnValue}
-use Rattle.oer_model.specs.Constraints.{KeepsLimits}
-use Rattle.oer_model.specs.Encoding.{IsSpelling}
-use Rattle.oer_model.specs.Fits.{DefaultsFit}
 use Rattle.oer_model.specs.Parts.{Answer, LeadsTo, Step, absent_part, find_part, found, go_on, lookup, no_such_step, to_chosen}
 use Rattle.oer_model.specs.Parts as plain
 use Rattle.oer_model.proofs.paths.Finding.{Whole, found_is, one_split, same_found}
@@ -95,30 +91,24 @@ found_first (found V c) next U s e = (V, c, refl, e)
 found_first absent_part next U s e = absurd (cc)
 found_first no_such_step next U s e = absurd (cc)
 
-pub reached : (hops : List Hop) (V : Option AsnType) (b : List ℕ) → Whole V b → (U : AsnType) (s : List ℕ) → find_at V b hops ≡ found (Some U) s
-    → (T : AsnType) × (V ≡ Some T) × Reaches T b hops U s
-reached [] V b w U s e = let both = same_found V (Some U) b s e in (U, both.0, (refl, sym both.1))
+pub reached : (hops : List Hop) (V : Option AsnType) (b : List ℕ) → Whole V b → (U : Option AsnType) (s : List ℕ) → find_at V b hops ≡ found U s → Reaches V b hops U s
+reached [] V b w U s e = let both = same_found V U b s e in (sym both.0, sym both.1)
 reached (hop ∷ hops) None b w U s e =
-    let (V, c, first, rest) = found_first (take_hop hop None b) (λ V c. find_at V c hops) (Some U) s e in
+    let (V, c, first, rest) = found_first (take_hop hop None b) (λ V c. find_at V c hops) U s e in
     absurd (nowhere hop b V c first)
 reached (hop ∷ hops) (Some T) b w U s e =
-    let (V, c, first, rest) = found_first (take_hop hop (Some T) b) (λ V c. find_at V c hops) (Some U) s e in
+    let (V, c, first, rest) = found_first (take_hop hop (Some T) b) (λ V c. find_at V c hops) U s e in
     let l = hop_leads T b w hop V c first in
-    let (W, kind, more) = reached hops V c (hop_whole T b w hop V c l) U s rest in
-    (T, refl, (W, c, subst (λ (X : Option AsnType). Hops T b hop X c) kind l, more))
+    (V, c, l, reached hops V c (hop_whole T b w hop V c l) U s rest)
 
-pub finds : (hops : List Hop) (T : AsnType) (b : List ℕ) → Whole (Some T) b → (U : AsnType) (s : List ℕ) → Reaches T b hops U s → find_at (Some T) b hops ≡ found (Some U) s
-finds [] T b w U s (kind, same) = ap₂ (λ (X : AsnType) (l : List ℕ). found (Some X) l) (sym kind) (sym same)
-finds (hop ∷ hops) T b w U s (V, c, l, more) =
-    ap (λ a. go_on a (λ X d. find_at X d hops)) (leads_hop T b w hop (Some V) c l)
-    ∙ finds hops V c (hop_whole T b w hop (Some V) c l) U s more
-
-some_same : (T U : AsnType) → Some T ≡ Some U → T ≡ U
-some_same T U e = cc
+pub finds : (hops : List Hop) (V : Option AsnType) (b : List ℕ) → Whole V b → (U : Option AsnType) (s : List ℕ) → Reaches V b hops U s → find_at V b hops ≡ found U s
+finds [] V b w U s (kind, same) = ap₂ (λ (X : Option AsnType) (l : List ℕ). found X l) (sym kind) (sym same)
+finds (hop ∷ hops) None b w U s r = absurd r
+finds (hop ∷ hops) (Some T) b w U s (V, c, l, more) =
+    ap (λ a. go_on a (λ X d. find_at X d hops)) (leads_hop T b w hop V c l) ∙ finds hops V c (hop_whole T b w hop V c l) U s more
 
 pub finds_reached : FindsReached
 finds_reached T w d v b encoded hops U s = (
-  λ e. (let (W, kind, more) = reached hops (Some T) b ((w, d), (v, encoded.2)) U s e in
-      subst (λ (X : AsnType). Reaches X b hops U s) (sym (some_same T W kind)) more),
-  λ r. finds hops T b ((w, d), (v, encoded.2)) U s r,
+  λ e. reached hops (Some T) b ((w, d), (v, encoded.2)) U s e,
+  λ r. finds hops (Some T) b ((w, d), (v, encoded.2)) U s r,
 )

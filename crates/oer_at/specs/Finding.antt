@@ -1,6 +1,5 @@
 -- What hops find in an encoding.
 use Rattle.std.specs.Prelude.{◌≡◌, ℕ, List, [], ◌∷◌, length, take, Bool, true, false, Option, Result, Ok, Err, ⊤}
-use Rattle.std.specs.Borrow.{Bor}
 use Rattle.oer_units.specs.Reader.{Outcome, at, got, refused}
 use Rattle.oer_units.specs.Reading.{tag}
 use Rattle.oer_units.specs.declared.tagging.Tag.{Tag}
@@ -53,7 +52,7 @@ Fails answer Memory = ⊤
 Fails answer NoSuchStep = answer ≡ no_such_step
 Fails answer Absent = answer ≡ absent_part
 
--- the octets of that answer, or its fault
-abbrev pub Finds : Answer → Result (Bor (List ℕ)) AtFault → Type 0
-Finds answer (Ok s) = (U : Option AsnType) × (answer ≡ found U s.now)
-Finds answer (Err fault) = Fails answer fault
+-- What was found, seen by f, is that of the answer; or the fault is its.
+abbrev pub Finds : {A : Type 0} → (A → List ℕ) → Answer → Result A AtFault → Type 0
+Finds f answer (Ok x) = (U : Option AsnType) × (answer ≡ found U (f x))
+Finds f answer (Err fault) = Fails answer fault

@@ -1,5 +1,5 @@
 -- What holds of names.
-use Rattle.std.specs.Prelude.{◌≡◌, ◌↔◌, ℕ, List, Some, Ok}
+use Rattle.std.specs.Prelude.{◌≡◌, ◌↔◌, ℕ, List, Option, Some, Ok}
 use Rattle.oer_model.specs.AsnType.{AsnType}
 use Rattle.oer_model.specs.AsnValue.{AsnValue}
 use Rattle.oer_model.specs.Constraints.{KeepsLimits}
@@ -23,4 +23,9 @@ MeansOneThing = (T : AsnType) → IsWellFormed T → (names : List (List ℕ)) (
 -- What is found in an encoding is what the hops reach there.
 abbrev pub FindsReached : Type 0
 FindsReached = (T : AsnType) → KeepsLimits T → DefaultsFit T → (v : AsnValue) (b : List ℕ) → Encodes T v b
-    → (hops : List Hop) (U : AsnType) (s : List ℕ) → find_at (Some T) b hops ≡ found (Some U) s ↔ Reaches T b hops U s
+    → (hops : List Hop) (U : Option AsnType) (s : List ℕ) → find_at (Some T) b hops ≡ found U s ↔ Reaches (Some T) b hops U s
+
+-- What names reach in an encoding by a well-formed type is of the type that they mean.
+abbrev pub ReachesMeant : Type 0
+ReachesMeant = (T : AsnType) → IsWellFormed T → (names : List (List ℕ)) (hops : List Hop) (V : AsnType) → Means T names hops V
+    → (b : List ℕ) (U : Option AsnType) (s : List ℕ) → Reaches (Some T) b hops U s → U ≡ Some V

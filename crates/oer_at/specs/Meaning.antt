@@ -5,7 +5,7 @@ use Rattle.oer_units.specs.Spelling.{IsTag}
 use Rattle.oer_units.specs.declared.tagging.Tag.{Tag}
 use Rattle.oer_model.specs.AsnType.{Additions, Alternatives, AsnType, Fields, addition, alternative, choice, extensible_sequence, field, later, no_additions, no_alternatives, no_fields, sequence, sequence_of}
 use Rattle.oer_model.specs.Constraints.{same_tag}
-use Rattle.oer_model.specs.Parts.{LeadsTo, to_chosen}
+use Rattle.oer_model.specs.Parts.{LeadsTo, Step, to_chosen}
 use Rattle.oer_parts.specs.Walk.{step_of}
 use Rattle.oer_parts.specs.declared.step.Step.TheVariants.{Addition, Component, Item}
 use Rattle.oer_at.specs.declared.hop.Hop.{Hop}
@@ -54,7 +54,14 @@ abbrev pub Hops : AsnType → List ℕ → Hop → Option AsnType → List ℕ �
 Hops T b (Part step) V c = LeadsTo T b (step_of step) V c
 Hops T b (Alternative t) V c = BeginsWith t b × LeadsTo T b to_chosen V c
 
--- the same of hops, one after another
-abbrev pub Reaches : AsnType → List ℕ → List Hop → AsnType → List ℕ → Type 0
+-- From the octets b, of type T where that is known, the hops lead to s, of type U where that is known, one after another. From a part whose
+-- type isn't known none leads.
+abbrev pub Reaches : Option AsnType → List ℕ → List Hop → Option AsnType → List ℕ → Type 0
 Reaches T b [] U s = (U ≡ T) × (s ≡ b)
-Reaches T b (hop ∷ hops) U s = (V : AsnType) × (c : List ℕ) × Hops T b hop (Some V) c × Reaches V c hops U s
+Reaches None b (hop ∷ hops) U s = ⊥
+Reaches (Some T) b (hop ∷ hops) U s = (V : Option AsnType) × (c : List ℕ) × Hops T b hop V c × Reaches V c hops U s
+
+-- the step for which a hop stands
+abbrev pub step_behind : Hop → Step
+step_behind (Part step) = step_of step
+step_behind (Alternative t) = to_chosen

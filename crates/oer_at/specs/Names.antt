@@ -1,5 +1,5 @@
 -- The names of a text, and the numbers of elements.
-use Rattle.std.specs.Prelude.{ℕ, List, [], ◌∷◌, Bool, true, false, eqb, ◌||◌, Option, None, if◌then◌else◌}
+use Rattle.std.specs.Prelude.{ℕ, List, [], ◌∷◌, Bool, false, eqb, ◌||◌, Option, None, if◌then◌else◌}
 use Rattle.std.specs.Borrow.{Bor}
 use Rattle.oer_literals.specs.Numbers.{size_of}
 

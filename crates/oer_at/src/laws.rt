@@ -1,5 +1,5 @@
 //! What holds of names. Each function does nothing; its contract is the law.
-ghost use Rattle.oer_at.specs.Laws.{FindsMeaning, FindsReached, MeansOneThing};
+ghost use Rattle.oer_at.specs.Laws.{FindsMeaning, FindsReached, MeansOneThing, ReachesMeant};
 
 /// What is found for names is what they mean.
 pub fn names_are_found_as_they_mean()
@@ -14,4 +14,9 @@ pub fn names_mean_one_thing()
 /// What is found in an encoding is what the names reach there.
 pub fn parts_are_found_as_reached()
     ensures { FindsReached }
+{}
+
+/// What names reach in an encoding is of the type that they mean.
+pub fn parts_are_of_the_type_meant()
+    ensures { ReachesMeant }
 {}

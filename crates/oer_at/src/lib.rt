@@ -8,8 +8,10 @@ mod leading;
 mod names;
 mod number;
 mod part;
+mod range;
 
 pub use hop::{Hop, NameFault, Wanted};
 pub use leading::{HopsFault, hops};
 pub use names::names_in;
 pub use part::{AtFault, part_at};
+pub use range::range_at;

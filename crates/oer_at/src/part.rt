@@ -1,9 +1,10 @@
 //! The part of an encoding to which hops lead.
-ghost use Rattle.std.specs.Prelude.{◌≡◌, MatchResult, Some};
+ghost use Rattle.std.specs.Prelude.{◌≡◌, IfOk, MatchResult, Some, map};
 ghost use Rattle.oer_model.specs.Parts.{find_part, go_on};
 ghost use Rattle.oer_parts.specs.Encoding.{type_of_encoding};
 ghost use Rattle.oer_parts.specs.Walk.{path_of, step_of};
 ghost use Rattle.oer_at.specs.Finding.{Fails, Finds, find_at, is_chosen, octets_at_front, take_hop, take_step};
+ghost use Rattle.oer_at.specs.Meaning.{step_behind};
 
 use crate::hop::Hop;
 use oer_checker::readers::{Cursor, tag_at};
@@ -39,7 +40,7 @@ fn is_chosen(octets: &[u8], tag: Tag) -> bool
 
 // The part to which the steps lead.
 fn part_on<'a>(encoding: &Encoding<'_, 'a>, path: &[Step]) -> Result<&'a [u8], AtFault>
-    ensures { Finds (find_part (Some (type_of_encoding encoding.now)) (octets_at_front encoding.now) (path_of path.now)) result }
+    ensures { Finds (λ s. s.now) (find_part (Some (type_of_encoding encoding.now)) (octets_at_front encoding.now) (path_of path.now)) result }
 {
     match encoding.part(path) {
         Ok(octets) => Ok(octets),
@@ -51,10 +52,11 @@ fn part_on<'a>(encoding: &Encoding<'_, 'a>, path: &[Step]) -> Result<&'a [u8], A
 
 // The step that the hop stands for, behind those of a path.
 fn step_by(encoding: &Encoding<'_, '_>, path: &[Step], hop: Hop) -> Result<Step, AtFault>
-    ensures { MatchResult result
+    ensures found { MatchResult result
         (λ step. go_on (find_part (Some (type_of_encoding encoding.now)) (octets_at_front encoding.now) (path_of path.now)) (take_hop hop)
         ≡ go_on (find_part (Some (type_of_encoding encoding.now)) (octets_at_front encoding.now) (path_of path.now)) (take_step (step_of step)))
         (λ fault. Fails (go_on (find_part (Some (type_of_encoding encoding.now)) (octets_at_front encoding.now) (path_of path.now)) (take_hop hop)) fault) }
+    ensures step { IfOk result (λ step. step_of step ≡ step_behind hop) }
 {
     match hop {
         Hop::Part(step) => Ok(step),
@@ -69,14 +71,18 @@ fn step_by(encoding: &Encoding<'_, '_>, path: &[Step], hop: Hop) -> Result<Step,
     }
 }
 
-/// The part of an encoding to which the hops lead, as it stands in the octets: as `Encoding::part` hands it out. The first hop that leads
-/// nowhere decides the error.
-pub fn part_at<'a>(
+/// The steps to the part of an encoding to which the hops lead: to an alternative, if it is the one chosen, the step to that. Where the hops
+/// lead nowhere, the first that does so decides the error, or there are steps, on which `Encoding::part` fails with this error.
+pub(crate) fn steps_at(
     alloc: Global,
-    encoding: &Encoding<'_, 'a>,
+    encoding: &Encoding<'_, '_>,
     hops: &[Hop],
-) -> Result<&'a [u8], AtFault>
-    ensures { Finds (find_at (Some (type_of_encoding encoding.now)) (octets_at_front encoding.now) hops.now) result }
+) -> Result<Vec<Step>, AtFault>
+    ensures found { MatchResult result
+        (λ steps. find_part (Some (type_of_encoding encoding.now)) (octets_at_front encoding.now) (path_of steps.items)
+        ≡ find_at (Some (type_of_encoding encoding.now)) (octets_at_front encoding.now) hops.now)
+        (λ fault. Fails (find_at (Some (type_of_encoding encoding.now)) (octets_at_front encoding.now) hops.now) fault) }
+    ensures steps { IfOk result (λ steps. path_of steps.items ≡ map step_behind hops.now) }
 {
     let mut path = Vec::new(alloc);
     for hop in hops {
@@ -85,5 +91,18 @@ pub fn part_at<'a>(
             return Err(AtFault::Memory);
         }
     }
+    Ok(path)
+}
+
+/// The part of an encoding to which the hops lead, as it stands in the octets: as `Encoding::part` hands it out. The first hop that leads
+/// nowhere decides the error.
+pub fn part_at<'a>(
+    alloc: Global,
+    encoding: &Encoding<'_, 'a>,
+    hops: &[Hop],
+) -> Result<&'a [u8], AtFault>
+    ensures { Finds (λ s. s.now) (find_at (Some (type_of_encoding encoding.now)) (octets_at_front encoding.now) hops.now) result }
+{
+    let path = steps_at(alloc, encoding, hops)?;
     part_on(encoding, path.as_slice())
 }

@@ -1,4 +1,3 @@
-pub mod Scan
 pub mod Asking
 pub mod Errors
 pub mod Answer

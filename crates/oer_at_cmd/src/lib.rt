@@ -6,7 +6,6 @@ mod line;
 mod misuse;
 mod name;
 mod run;
-mod scan;
 
 pub use asked::{Asked, at_asked};
 pub use run::{run_at, run_at_for};

@@ -2,7 +2,7 @@
 ghost use Rattle.std.specs.Prelude.{◌≡◌, ◌<◌, ◌⊎◌, IfOk, length, map, string_bytes};
 ghost use Rattle.oer_cmd.specs.Faults.{AppendsFront, error_line};
 ghost use Rattle.oer_at_cmd.specs.Errors.{is_word, kind_of, name_line, place_of, subject_of};
-ghost use Rattle.oer_at_cmd.specs.Scan.{text_behind};
+ghost use Rattle.oer_words.specs.Scan.{text_behind};
 
 use oer_at::{NameFault, Wanted};
 use oer_cmd::{Fault, put_all};

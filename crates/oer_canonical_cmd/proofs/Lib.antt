@@ -1,3 +1,2 @@
 pub mod Strictly
 pub mod Lines
-mod Asking

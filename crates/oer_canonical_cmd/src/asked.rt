@@ -1,100 +1,51 @@
 //! Whether the words of a command line ask for canonical octets alone.
-ghost use Rattle.std.specs.Prelude.{List, ℕ, ◌≡◌, ◌∷◌, ◌≤◌, IfOk, length, map, option_map, string_bytes};
+ghost use Rattle.std.specs.Prelude.{◌≡◌, map, option_map, string_bytes};
+ghost use Rattle.oer_words.specs.Flag.{flag_of};
+ghost use Rattle.oer_words.specs.Words.{result_map, words_of};
 ghost use Rattle.oer_canonical_cmd.specs.Errors.{EndsAsked};
-ghost use Rattle.oer_canonical_cmd.specs.Scan.{are_many, asks_many, begins_with_check, canonical_asked, misuse_in, others, times, words_of};
+ghost use Rattle.oer_canonical_cmd.specs.Scan.{asked_by, asks_check, canonical_asked, misuse_in};
 
 use crate::misuse::{Misuse, tell};
 use oer_cmd::{NoStart, stop};
-use std::alloc::{AllocError, Global};
+use oer_words::{Flag, asks_many, without_flag};
+use std::alloc::Global;
 use std::io::Write;
 
-// How often a flag stands before a word `--`.
-fn times(flag: &str, words: &[String]) -> usize
-    ensures count { result ≡ times flag.now (map string_bytes words.now) }
-    ensures most { result ≤ length words.now }
+// Whether the subcommand is `check`.
+fn asks_check(words: &[String]) -> bool
+    ensures { result ≡ asks_check (map string_bytes words.now) }
 {
-    let mut times = 0;
-    for word in words {
-        if word.as_str() == "--" {
-            return times;
-        }
-        if word.as_str() == flag {
-            times += 1;
-        }
-    }
-    times
-}
-
-// The program's name, and the words without the flag.
-fn others(
-    alloc: Global,
-    flag: &str,
-    program: &str,
-    words: &[String],
-) -> Result<Vec<String>, AllocError>
-    ensures { IfOk result (λ kept. words_of kept ≡ program.now ∷ others flag.now (map string_bytes words.now)) }
-{
-    let mut kept = Vec::new(alloc);
-    kept.push(String::from_str(alloc, program)?)?;
-    let mut is_option = true;
-    for word in words {
-        let word = word.as_str();
-        if word == "--" {
-            is_option = false;
-        }
-        if !is_option || word != flag {
-            kept.push(String::from_str(alloc, word)?)?;
-        }
-    }
-    Ok(kept)
-}
-
-// Whether the word asks for many messages.
-fn asks_many(word: &str) -> bool
-    ensures { result ≡ asks_many word.now }
-{
-    word == "--lines" || word == "--framed" || word.as_bytes().starts_with(b"--framed=")
-}
-
-// Whether such a word stands before a word `--`.
-fn are_many(words: &[String]) -> bool
-    ensures { result ≡ are_many (map string_bytes words.now) }
-{
-    for word in words {
-        if word.as_str() == "--" {
-            return false;
-        }
-        if asks_many(word.as_str()) {
-            return true;
-        }
-    }
-    false
-}
-
-// Whether the first word is `check`.
-fn begins_with_check(words: &[String]) -> bool
-    ensures { result ≡ begins_with_check (map string_bytes words.now) }
-{
-    match words {
-        [word, ..] => word.as_str() == "check",
-        [] => false,
+    match words.get(1) {
+        Some(word) => word.as_str() == "check",
+        None => false,
     }
 }
 
-// Why `--canonical` is rejected, given once among words of which these stay, the program's name first.
+// Why `--canonical` is rejected, given once beside these words.
 fn misuse_in(words: &[String]) -> Option<Misuse>
-    ensures { (program : List ℕ) → (rest : List (List ℕ)) → map string_bytes words.now ≡ program ∷ rest → result ≡ misuse_in rest }
+    ensures { result ≡ misuse_in (map string_bytes words.now) }
 {
-    let Some((_, rest)) = words.split_first() else {
-        return None;
-    };
-    if !begins_with_check(rest) {
+    if !asks_check(words) {
         return Some(Misuse::Subcommand);
     }
-    if are_many(rest) {
+    if asks_many(words) {
         return Some(Misuse::Many);
     }
     None
+}
+
+// The words without the flag, by what became of it.
+fn asked_by(found: Flag) -> Result<Option<Vec<String>>, Misuse>
+    ensures { result_map (option_map words_of) result ≡ asked_by (flag_of found) }
+{
+    match found {
+        Flag::Missing => Ok(None),
+        Flag::Twice => Err(Misuse::Twice),
+        Flag::Once(words) => match misuse_in(&words) {
+            Some(misuse) => Err(misuse),
+            None => Ok(Some(words)),
+        },
+    }
 }
 
 /// The words without `--canonical`, the program's name first, where it stands among them before a word `--`; none where it doesn't.
@@ -110,21 +61,11 @@ pub fn canonical_asked<E: Write>(
     ensures { EndsAsked (option_map words_of) result (canonical_asked (map string_bytes words.now))
         (E.contents errors.old) (E.contents errors.new) }
 {
-    let Some((program, rest)) = words.split_first() else {
-        return Ok(None);
-    };
-    let times = times("--canonical", rest);
-    if times == 0 {
-        return Ok(None);
-    }
-    if times > 1 {
-        return Err(tell(Misuse::Twice, errors));
-    }
-    let Ok(kept) = others(alloc, "--canonical", program.as_str(), rest) else {
+    let Ok(found) = without_flag(alloc, "--canonical", words) else {
         return Err(stop(NoStart::NoMemory, errors));
     };
-    match misuse_in(&kept) {
-        Some(misuse) => Err(tell(misuse, errors)),
-        None => Ok(Some(kept)),
+    match asked_by(found) {
+        Ok(words) => Ok(words),
+        Err(misuse) => Err(tell(misuse, errors)),
     }
 }

@@ -2,18 +2,16 @@
 use Rattle.std.proofs.Common.{◌≡◌, ◌∙◌, ℕ, ◌+◌, ◌/◌, ◌<◌, ◌≤◌, ◌^◌, List, length, ap, sym, subst, arith, IsUtf8, length-append, Bool}
 use Rattle.std.proofs.lemmas.Bool.Decides.{nat_tests}
 use Rattle.std.proofs.lemmas.Fmt.{decimal_digit, decimal_step}
-use Rattle.std.proofs.lemmas.Str.{chars-IsAscii, encodes-chars, length-le-encodes}
-use Rattle.std.specs.Str.{IsAscii, chars}
-use Rattle.oer_dump_cmd.specs.Layout.{count_of, digits_of, value_shown}
+use Rattle.std.proofs.lemmas.Str.{encodes-chars, length-le-encodes}
+use Rattle.std.specs.Str.{chars}
+use Rattle.oer_dump_cmd.specs.Layout.{digits_of, value_shown}
+use Rattle.oer_places.specs.Parts.{count_of}
 
 pub digits_one : (n : ℕ) → n < 10 → digits_of n ≡ 1
 digits_one n h = ap length (decimal_digit n h)
 
 pub digits_more : (n : ℕ) → 10 ≤ n → n < 2 ^ 64 → digits_of n ≡ digits_of (n / 10) + 1
 digits_more n h l = ap length (decimal_step n h l) ∙ simp length-append
-
-pub ascii_count : (text : List ℕ) → IsAscii text → length text ≡ count_of text
-ascii_count text h = ap length (sym (chars-IsAscii text h))
 
 -- no more characters than octets
 pub count_least : (text : List ℕ) → IsUtf8 text → count_of text ≤ length text

@@ -5,7 +5,7 @@ use Rattle.std.specs.Result.{is_ok}
 use Rattle.clap.specs.Words.{Text}
 use Rattle.oer_dump_cmd.specs.Cells.{Cells}
 use Rattle.oer_dump_cmd.specs.Layout.{gap, left, line_text, names_shown, right, value_shown}
-use Rattle.oer_dump_cmd.specs.Visible.{visible}
+use Rattle.oer_places.specs.Visible.{visible}
 use Rattle.oer_dump_cmd.specs.declared.columns.Widths.{Widths}
 
 flat_line : (t0 a b p m k v n g : Text)

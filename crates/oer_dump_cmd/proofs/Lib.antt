@@ -7,9 +7,7 @@ pub mod Shown
 pub mod TypesRead
 pub mod ToldBy
 pub mod Ends
-mod Visibly
 pub mod Counted
 pub mod Measured
-mod Parts
 pub mod Spelt
 pub mod Celled

@@ -17,7 +17,7 @@ use Rattle.oer_dump_cmd.specs.declared.options.Form.TheVariants as form
 use Rattle.oer_model.specs.AsnType.{AsnType}
 use Rattle.oer_rows.specs.Listing.{rows_of}
 use Rattle.oer_entries.specs.Entries.{AreTakenFor}
-use Rattle.oer_dump_cmd.specs.Visible.{visible}
+use Rattle.oer_places.specs.Visible.{visible}
 use Rattle.oer_dump_cmd.specs.declared.outgoing.Outgoing.{Outgoing}
 
 appends_none : (a : Option (List ℕ)) → Appends a a []

@@ -17,7 +17,7 @@ use Rattle.oer_entries.specs.declared.entry.Entry.{Entry}
 use Rattle.oer_entries.specs.declared.entry.What.{What}
 use Rattle.oer_entries.specs.declared.entry.What.TheVariants as what
 use Rattle.oer_entries.specs.declared.frame.Name.{Name}
-use Rattle.oer_dump_cmd.specs.Visible.{visible}
+use Rattle.oer_places.specs.Visible.{visible}
 
 -- a tag in the notation
 abbrev pub class_text : Class → Text

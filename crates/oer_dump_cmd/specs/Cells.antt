@@ -15,7 +15,7 @@ use Rattle.oer_entries.specs.declared.entry.What.{What}
 use Rattle.oer_entries.specs.declared.entry.What.TheVariants as what
 use Rattle.oer_entries.specs.declared.frame.Name.{Name}
 use Rattle.oer_dump_cmd.specs.Array.{tag_text}
-use Rattle.oer_dump_cmd.specs.Visible.{visible}
+use Rattle.oer_places.specs.Visible.{visible}
 use Rattle.oer_dump_cmd.specs.declared.line.Line.{Line}
 
 -- the cells of a line

@@ -2,7 +2,6 @@
 -- names, kinds and notes are of ASCII, so of these the octets are counted.
 use Rattle.std.specs.Prelude.{◌≡◌, ℕ, zero, suc, ◌+◌, ◌-◌, ◌/◌, ◌%◌, ◌^◌, ◌==◌, List, [], ◌∷◌, ◌++◌, length, take, drop, map, max, min, replicate, Bool, cond, nat_lt, ◌&&◌, codes}
 use Rattle.std.specs.Fmt.{decimal}
-use Rattle.std.specs.Str.{chars, encode_utf8_all}
 use Rattle.clap.specs.Words.{Text}
 use Rattle.oer_model.specs.AsnType.{AsnType}
 use Rattle.oer_rows.specs.Listing.{rows_of}
@@ -10,14 +9,11 @@ use Rattle.oer_entries.specs.Entries.{AreOfRows}
 use Rattle.oer_entries.specs.declared.entry.Entry.{Entry}
 use Rattle.oer_entries.specs.declared.extents.Extents.{Extents}
 use Rattle.oer_dump_cmd.specs.Cells.{Cells, cells_of}
-use Rattle.oer_dump_cmd.specs.Visible.{visible}
+use Rattle.oer_places.specs.Parts.{count_of, first_of, last_of}
+use Rattle.oer_places.specs.Visible.{visible}
 use Rattle.oer_dump_cmd.specs.declared.columns.Widths.{Widths}
 
 -- ---- widths
-
--- how many characters a text has
-abbrev pub count_of : Text → ℕ
-count_of text = length (chars text)
 
 -- how many digits a number has
 abbrev pub digits_of : ℕ → ℕ
@@ -83,14 +79,6 @@ with_cells w c = record {
 }
 
 -- ---- what is cut
-
--- the first characters of a text, so many
-abbrev pub first_of : ℕ → Text → Text
-first_of n text = encode_utf8_all (take n (chars text))
-
--- the characters of a text without the first, so many
-abbrev pub last_of : ℕ → Text → Text
-last_of n text = encode_utf8_all (drop n (chars text))
 
 -- how many characters stand beside `+`, the number of what is left out, and `..`; it has as many digits as the number of all has
 abbrev pub beside_mark : ℕ → ℕ → ℕ

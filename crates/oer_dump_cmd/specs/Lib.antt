@@ -2,7 +2,6 @@ pub mod Words
 pub mod Array
 pub mod Cells
 pub mod Layout
-pub mod Visible
 pub mod Outgoing
 pub mod Printing
 pub mod Showing

@@ -9,7 +9,7 @@ use Rattle.oer_dump_cmd.specs.Array.{object_of, objects_text, separator}
 use Rattle.oer_dump_cmd.specs.Cells.{cells_of}
 use Rattle.oer_dump_cmd.specs.Layout.{line_text, lines_text}
 use Rattle.oer_dump_cmd.specs.Outgoing.{Grows}
-use Rattle.oer_dump_cmd.specs.Visible.{visible}
+use Rattle.oer_places.specs.Visible.{visible}
 use Rattle.oer_dump_cmd.specs.declared.columns.Widths.{Widths}
 use Rattle.oer_dump_cmd.specs.declared.outgoing.Outgoing.{Outgoing}
 

@@ -7,7 +7,7 @@ ghost use Rattle.serde_json.specs.Data.{boolean};
 ghost use Rattle.serde_json.specs.View.{view};
 ghost use Rattle.serde_json.specs.Written.{comma_if, compact_text};
 ghost use Rattle.oer_entries.specs.Names.{text_of};
-ghost use Rattle.oer_dump_cmd.specs.Visible.{visible};
+ghost use Rattle.oer_places.specs.Visible.{visible};
 ghost use Rattle.oer_types.specs.Schema.{the_type};
 ghost use Rattle.oer_dump_cmd.specs.Printing.{PrintsObject, PrintsObjects};
 ghost use Rattle.oer_dump_cmd.specs.Showing.{PrintsPage};
@@ -16,10 +16,10 @@ ghost use Rattle.oer_dump_cmd.specs.Array.{bit_data, bits_data, object_of, octet
 
 use crate::outgoing::{Outgoing, block_text, write_last};
 use crate::tag::tag_text;
-use crate::visible::push_visible;
 use oer_entries::{
     Entry, Name, NamedBit, Place, PlainJson, Stopped, TakeEntry, What, each_entry, name_text,
 };
+use oer_places::push_visible;
 use oer_types::Schema;
 use oer_units::Tag;
 use serde_json::Value as Json;

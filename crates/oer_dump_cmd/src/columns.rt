@@ -1,10 +1,11 @@
 //! How wide the columns are.
 ghost use Rattle.std.specs.Prelude.{◌≡◌};
 ghost use Rattle.oer_dump_cmd.specs.Cells.{cells_in};
-ghost use Rattle.oer_dump_cmd.specs.Layout.{count_of, digits_of, room, unbounded, with_cells, within};
+ghost use Rattle.oer_dump_cmd.specs.Layout.{digits_of, room, unbounded, with_cells, within};
 
 use crate::line::Line;
 use oer_entries::Extents;
+use oer_places::count_of;
 
 /// How many characters names and a value have at least, however narrow the line is.
 pub(crate) const LEAST: usize = 12;
@@ -23,16 +24,6 @@ pub(crate) struct Widths {
     /// Of the longest note.
     pub note: usize,
     pub value: usize,
-}
-
-/// How many characters a text has.
-pub(crate) fn count_of(text: &str) -> usize
-    ensures { result ≡ count_of text.now }
-{
-    if text.is_ascii() {
-        return text.len();
-    }
-    text.chars().count()
 }
 
 /// How many digits a number has.

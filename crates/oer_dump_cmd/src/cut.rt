@@ -1,8 +1,9 @@
 //! Texts for which a column has no room.
 ghost use Rattle.std.specs.Prelude.{◌≡◌, ◌++◌, IfOk, OnOk, string_bytes};
-ghost use Rattle.oer_dump_cmd.specs.Layout.{beside_mark, cut_names, cut_value, first_of, kept_of, last_of, left_out, names_left};
+ghost use Rattle.oer_dump_cmd.specs.Layout.{beside_mark, cut_names, cut_value, kept_of, left_out, names_left};
 
 use crate::columns::digits_of;
+use oer_places::{push_first, push_last};
 use std::alloc::{AllocError, Global};
 use std::fmt::Write as _;
 
@@ -11,26 +12,6 @@ fn beside_mark(room: usize, most: usize) -> usize
     ensures { result ≡ beside_mark room most }
 {
     room.saturating_sub(digits_of(most)).saturating_sub(3)
-}
-
-// Appends the first characters of a text, so many.
-fn push_first(text: &mut String, part: &str, count: usize) -> Result<(), AllocError>
-    ensures { OnOk result (string_bytes text.new ≡ string_bytes text.old ++ first_of count part.now) }
-{
-    for character in part.chars().take(count) {
-        text.push(character)?;
-    }
-    Ok(())
-}
-
-// Appends the characters of a text but for the first, so many.
-fn push_last(text: &mut String, part: &str, left: usize) -> Result<(), AllocError>
-    ensures { OnOk result (string_bytes text.new ≡ string_bytes text.old ++ last_of left part.now) }
-{
-    for character in part.chars().skip(left) {
-        text.push(character)?;
-    }
-    Ok(())
 }
 
 // How many characters of names are left out.

@@ -10,14 +10,14 @@ ghost use Rattle.oer_dump_cmd.specs.Layout.{AreWidths, gap, left, line_text, mos
 ghost use Rattle.oer_dump_cmd.specs.Printing.{PrintsLine, PrintsLines};
 ghost use Rattle.oer_dump_cmd.specs.Showing.{PrintsPage};
 ghost use Rattle.oer_dump_cmd.specs.declared.options.Form.TheVariants as form;
-ghost use Rattle.oer_dump_cmd.specs.Visible.{visible};
+ghost use Rattle.oer_places.specs.Visible.{visible};
 
-use crate::columns::{LEAST, Widths, count_of, digits_of};
+use crate::columns::{LEAST, Widths, digits_of};
 use crate::cut::{cut_names, cut_value};
 use crate::line::{Line, line_of};
 use crate::outgoing::{Outgoing, block_text, write_last};
-use crate::visible::push_visible;
 use oer_entries::{Entry, Place, Stopped, TakeEntry, each_entry, extents_of};
+use oer_places::{count_of, push_visible};
 use oer_types::Schema;
 use std::alloc::{AllocError, Global};
 use std::fmt::Write as _;

@@ -13,7 +13,6 @@ mod options;
 mod outgoing;
 mod program;
 mod tag;
-mod visible;
 mod width;
 
 pub use given::run_for;

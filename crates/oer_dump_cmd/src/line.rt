@@ -4,8 +4,8 @@ ghost use Rattle.oer_dump_cmd.specs.Cells.{are_digits, bit_text, bits_text, cano
 
 use crate::as_json::push_json;
 use crate::tag::tag_text;
-use crate::visible::visible_text;
 use oer_entries::{Entry, Name, NamedBit, What, name_text};
+use oer_places::visible_text;
 use oer_units::Tag;
 use std::alloc::{AllocError, Global};
 

@@ -1,16 +1,15 @@
 -- What `--in` asks for.
-use Rattle.std.specs.Prelude.{List, [], ◌∷◌, ◌||◌, Bool, true, false, not, Option, Some, None, Ok, Err, codes, if◌then◌else◌}
+use Rattle.std.specs.Prelude.{ℕ, List, Bool, true, not, Option, Some, None, Ok, Err, codes, if◌then◌else◌}
 use Rattle.std.specs.Str.{bytes_eq}
 use Rattle.oer_input.specs.declared.coding.Coding.{Coding}
 use Rattle.oer_input.specs.declared.coding.Coding.TheVariants as coding
+use Rattle.oer_words.specs.Setting.{Setting, missing, no_value, once, twice}
+use Rattle.oer_words.specs.Words.{Text, asks_octets, has_flag, has_option, words_of}
 use Rattle.oer_input_cmd.specs.Errors.{Read, ◌>>=◌}
-use Rattle.oer_input_cmd.specs.Scan.{Scan}
-use Rattle.oer_input_cmd.specs.Words.{Text}
+use Rattle.oer_input_cmd.specs.declared.asked.Asked.{Asked as RawAsked}
 use Rattle.oer_input_cmd.specs.declared.asked.Program.{Program}
 use Rattle.oer_input_cmd.specs.declared.asked.Program.TheVariants as program
 use Rattle.oer_input_cmd.specs.declared.error.Error.TheVariants as error
-use Rattle.oer_input_cmd.specs.declared.scan.Next.{Next}
-use Rattle.oer_input_cmd.specs.declared.scan.Next.TheVariants as expects
 
 abbrev pub coding_of : Text → Option Coding
 coding_of v =
@@ -19,36 +18,33 @@ coding_of v =
     else if bytes_eq v (codes "base64") then Some coding.Base64
     else None
 
--- a subcommand of `oer` that takes octets
-abbrev pub is_command : Text → Bool
-is_command w = bytes_eq w (codes "canon") || bytes_eq w (codes "show") || bytes_eq w (codes "check") || bytes_eq w (codes "part")
-
 abbrev pub takes_octets : Program → List Text → Bool
 takes_octets program.Dump ws = true
-takes_octets program.Oer [] = false
-takes_octets program.Oer (w ∷ ws) = is_command w
+takes_octets program.Oer ws = asks_octets ws
 
-abbrev pub with_coding : Program → Scan → Option Coding → Read Coding
-with_coding p s None = Err error.Coding
-with_coding p s (Some k) =
-    if not (takes_octets p s.kept) then Err error.Command
-    else if s.has_hex then Err error.Hex
-    else if s.has_lines then Err error.Lines
-    else if s.has_framed then Err error.Framed
+abbrev pub with_coding : Program → List Text → Option Coding → Read Coding
+with_coding p ws None = Err error.Coding
+with_coding p ws (Some k) =
+    if not (takes_octets p ws) then Err error.Command
+    else if has_option (codes "--hex") ws then Err error.Hex
+    else if has_flag (codes "--lines") ws then Err error.Lines
+    else if has_option (codes "--framed") ws then Err error.Framed
     else Ok k
 
-abbrev pub coding_in : Program → Scan → Text → Read Coding
-coding_in p s v = with_coding p s (coding_of v)
+-- how the octets are written, by this value of `--in` beside these words
+abbrev pub coding_in : Program → List Text → Text → Read Coding
+coding_in p ws v = with_coding p ws (coding_of v)
 
-abbrev pub by_values : Program → Scan → List Text → Read (Option Coding)
-by_values p s [] = Ok None
-by_values p s (v ∷ []) = coding_in p s v >>= λ k. Ok (Some k)
-by_values p s (v ∷ w ∷ vs) = Err error.Twice
+-- how the octets are written, and the words that stay, the program's name first
+abbrev pub Asked : Type 0
+Asked = Coding × List Text
 
-abbrev pub by_next : Next → Program → Scan → Read (Option Coding)
-by_next expects.Value p s = Err error.NoValue
-by_next _ p s = by_values p s s.values
+abbrev pub asked_of : RawAsked → Asked
+asked_of a = (a.coding, words_of a.words)
 
--- how the octets are written, where `--in` is among the words
-unfoldable pub asked : Program → Scan → Read (Option Coding)
-asked p s = by_next s.next p s
+-- what is asked for, by what became of `--in`
+abbrev pub asked_by : Program → Setting → Read (Option Asked)
+asked_by p missing = Ok None
+asked_by p no_value = Err error.NoValue
+asked_by p twice = Err error.Twice
+asked_by p (once v ws) = coding_in p ws v >>= λ k. Ok (Some (k, ws))

@@ -2,5 +2,3 @@ pub mod Asked
 pub mod Errors
 pub mod Given
 pub mod Input
-pub mod Scan
-pub mod Words

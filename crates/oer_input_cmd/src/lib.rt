@@ -6,8 +6,6 @@ mod asked;
 mod error;
 mod given;
 mod input;
-mod scan;
-mod words;
 
 pub use asked::Program;
 pub use given::{Given, input_given};

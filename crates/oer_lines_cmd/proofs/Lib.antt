@@ -10,7 +10,6 @@ pub mod Knowing
 pub mod Looping
 pub mod Messages
 pub mod NoLine
-pub mod Once
 pub mod OneStream
 pub mod Putting
 pub mod Splitting

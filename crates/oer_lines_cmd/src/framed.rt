@@ -1,16 +1,16 @@
 //! Whether the words of a command line ask for messages behind their lengths.
-ghost use Rattle.std.specs.Prelude.{◌≡◌, ◌∷◌, IfOk, map, option_map, string_bytes};
-ghost use Rattle.oer_lines_cmd.specs.Asking.{by_width, framed_asked, framed_of, scan_of, text_behind, width_asked, width_of};
+ghost use Rattle.std.specs.Prelude.{◌≡◌, map, option_map, string_bytes};
+ghost use Rattle.oer_words.specs.Setting.{setting_of};
+ghost use Rattle.oer_words.specs.Words.{result_map};
+ghost use Rattle.oer_lines_cmd.specs.Asking.{by_width, framed_asked, framed_by, framed_of, width_of};
 ghost use Rattle.oer_lines_cmd.specs.Errors.{EndsAsked};
-ghost use Rattle.oer_lines_cmd.specs.Scan.{begins_with_task, words_of};
 
-use crate::asked::takes_many;
 use crate::misuse::{Misuse, tell};
-use crate::scan::{Next, Scan, scanned};
 use crate::way::Word;
 use oer_cmd::{NoStart, stop};
 use oer_units::Width;
-use std::alloc::{AllocError, Global};
+use oer_words::{Setting, asks_octets, has_flag, without_option};
+use std::alloc::Global;
 use std::io::Write;
 
 /// What `--framed` asks for.
@@ -23,80 +23,53 @@ pub struct Framed {
 }
 
 // How many octets a length has, by the value of `--framed`.
-fn width_of(value: &[u8]) -> Option<Width>
+fn width_of(value: &str) -> Option<Width>
     ensures { result ≡ width_of value.now }
 {
-    if value == b"1".as_slice() {
+    if value == "1" {
         return Some(Width::One);
     }
-    if value == b"2".as_slice() {
+    if value == "2" {
         return Some(Width::Two);
     }
-    if value == b"4".as_slice() {
+    if value == "4" {
         return Some(Width::Four);
     }
-    if value == b"8".as_slice() {
+    if value == "8" {
         return Some(Width::Eight);
     }
     None
 }
 
-// Whether the first word is a subcommand that takes `--framed`.
-fn begins_with_task(kept: &[&str]) -> bool
-    ensures { result ≡ begins_with_task (map text_behind kept.now) }
-{
-    match kept.first() {
-        Some(word) => takes_many(word),
-        None => false,
-    }
-}
-
-// How many octets a length has, where this is the value of `--framed`.
-fn width_by(scan: &Scan<'_>, value: &[u8]) -> Result<Width, Misuse>
-    ensures { result ≡ by_width (scan_of scan.now) (width_of value.now) }
+// How many octets a length has, by this value of `--framed` beside these words.
+fn width_by(words: &[String], value: &str) -> Result<Width, Misuse>
+    ensures { result ≡ by_width (map string_bytes words.now) (width_of value.now) }
 {
     let Some(width) = width_of(value) else {
         return Err(Misuse::Size);
     };
-    if scan.has_lines {
+    if has_flag(words, "--lines") {
         return Err(Misuse::Both);
     }
-    if !begins_with_task(&scan.kept) {
+    if !asks_octets(words) {
         return Err(Misuse::Subcommand(Word::Framed));
     }
     Ok(width)
 }
 
-// How many octets a length has, where `--framed` is among the words.
-#[tactic(auto, unfolding(crate::specs::Asking::width_asked))]
-fn width_asked(scan: &Scan<'_>) -> Result<Option<Width>, Misuse>
-    ensures { result ≡ width_asked (scan_of scan.now) }
+// What `--framed` asks for, by what became of it.
+fn framed_by(found: Setting<'_>) -> Result<Option<Framed>, Misuse>
+    ensures { result_map (option_map framed_of) result ≡ framed_by (setting_of found.entry) }
 {
-    if let Next::Value = scan.next {
-        return Err(Misuse::NoValue);
-    }
-    if scan.values.len() > 1 {
-        return Err(Misuse::Twice(Word::Framed));
-    }
-    match scan.values.first() {
-        None => Ok(None),
-        Some(value) => match width_by(scan, value) {
-            Ok(width) => Ok(Some(width)),
+    match found {
+        Setting::Missing => Ok(None),
+        Setting::NoValue => Err(Misuse::NoValue),
+        Setting::Twice => Err(Misuse::Twice(Word::Framed)),
+        Setting::Once { value, words } => match width_by(&words, value) {
+            Ok(width) => Ok(Some(Framed { width, words })),
             Err(misuse) => Err(misuse),
         },
     }
-}
-
-// The program's name, and the words that stay.
-fn kept_words(alloc: Global, program: &str, kept: &[&str]) -> Result<Vec<String>, AllocError>
-    ensures { IfOk result (λ words. words_of words ≡ program.now ∷ map text_behind kept.now) }
-{
-    let mut words = Vec::new(alloc);
-    words.push(String::from_str(alloc, program)?)?;
-    for word in kept {
-        words.push(String::from_str(alloc, word)?)?;
-    }
-    Ok(words)
 }
 
 /// What `--framed` asks for, where it stands among the words before a word `--`; none where it doesn't.
@@ -113,19 +86,11 @@ pub fn framed_asked<E: Write>(
     ensures { EndsAsked (option_map framed_of) result (framed_asked (map string_bytes words.now))
         (E.contents errors.old) (E.contents errors.new) }
 {
-    let Some((program, rest)) = words.split_first() else {
-        return Ok(None);
-    };
-    let Ok(scan) = scanned(alloc, rest) else {
+    let Ok(found) = without_option(alloc, "--framed", words) else {
         return Err(stop(NoStart::NoMemory, errors));
     };
-    let width = match width_asked(&scan) {
-        Ok(Some(width)) => width,
-        Ok(None) => return Ok(None),
-        Err(misuse) => return Err(tell(misuse, errors)),
-    };
-    match kept_words(alloc, program.as_str(), &scan.kept) {
-        Ok(words) => Ok(Some(Framed { width, words })),
-        Err(_) => Err(stop(NoStart::NoMemory, errors)),
+    match framed_by(found) {
+        Ok(framed) => Ok(framed),
+        Err(misuse) => Err(tell(misuse, errors)),
     }
 }

@@ -19,7 +19,6 @@ mod pieces;
 mod reading;
 mod rejection;
 mod run;
-mod scan;
 mod task;
 mod way;
 

@@ -62,6 +62,10 @@ macro_rules! octets_help {
   --in <CODING>  The octets are in digits (hex) or in base64, and not raw
   --lines        Each line is a message in digits, and has a line of output
   --framed <N>   Each message is raw, behind its length in N octets
+  --stream       Each message is raw, right behind the one before it
+
+Option on errors:
+  --explain      Show behind an error where it is, and what may help
 
 ",
             $notes
@@ -77,6 +81,11 @@ value. Its type is given by --type, or by --types with --name. The program opens
 no files: --types=\"$(cat FILE)\" hands it the text of one, and so does --types=-
 from standard input, if --hex or --json is given. An argument to an option that
 begins with - is given with =, as in --json=-5.
+
+More commands, each with a --help of its own:
+  types    List the types that modules define, or print one in the notation
+  example  Print JSON of a type to begin with
+  compare  Say whether a newer type only adds to an older one
 
 Examples:
   $ oer canon --type \"SEQUENCE OF BOOLEAN\" --hex 0200020107
@@ -138,7 +147,10 @@ Examples:
 pub const MAKE: Help = help!(
     usage!("make"),
     "Print the canonical octets of the value that JSON stands for",
-    "The octets are printed in lower hexadecimal digits. \"oer make\" accepts what
+    "Option on errors:
+  --explain  Show behind an error where it is, and what may help
+
+The octets are printed in lower hexadecimal digits. \"oer make\" accepts what
 \"oer show\" prints, and more: docs/JSON.md says what.
 
 Examples:
@@ -152,13 +164,16 @@ Examples:
 pub const PART: Help = octets_help!(
     usage!("part"),
     "Print the octets of a part of a value",
-    "The part is printed as it stands in the octets, in lower hexadecimal digits. A
+    "Option of part:
+  --at <NAMES>  The way to the part by names, as list.1.b, in place of --path
+
+The part is printed as it stands in the octets, in lower hexadecimal digits. A
 path is one step or more, joined by \".\". Its steps, counted from 0, are:
   c0, c1, ..  a component of the root of a SEQUENCE
   a0, a1, ..  an addition after the extension marker of a SEQUENCE
   i0, i1, ..  an element of a SEQUENCE OF
   v           the alternative chosen of a CHOICE
-Without --path all of the octets are printed.
+Without --path and --at all of the octets are printed.
 
 Examples:
   $ oer part --type \"SEQUENCE OF BOOLEAN\" --path i1 --hex 0200020107

@@ -1,10 +1,9 @@
-use Rattle.std.proofs.Common.{◌∙◌, ◌++◌, ◌≡◌, ◌∷◌, [], Err, Ok, add-one, ap, map, rules, subst, sym}
-use Rattle.oer_types.specs.Schema.{the_type}
+use Rattle.std.proofs.Common.{◌∙◌, ◌++◌, ◌≡◌, ◌∷◌, [], add-one, ap, map, rules, sym}
 use Rattle.oer_values.specs.ShapeView.{type_of}
-use Rattle.oer_at.specs.Hops.{hops_from, hops_of, result_map}
+use Rattle.oer_at.specs.Hops.{hops_from, result_map}
 use Rattle.oer_at.specs.Names.{text_behind}
 use Rattle.oer_at.specs.Views.{entered}
-use Rattle.oer_at.proofs.Onward.{behind, behind_none, ends, next, rest_of, stops}
+use Rattle.oer_at.proofs.Onward.{behind_none, ends, next, stops}
 use Rattle.oer_at.proofs.leading.hops.Goals as goal
 
 pub loop-before-init : goal.loop-before-init

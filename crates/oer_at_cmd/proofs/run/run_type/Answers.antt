@@ -4,7 +4,7 @@ use Rattle.oer_cmd.proofs.Endings.{keeps_same}
 use Rattle.oer_cmd.specs.Ending.{Streams}
 use Rattle.oer_at.specs.Hops.{hops_of}
 use Rattle.oer_at_cmd.specs.Answer.{at_of}
-use Rattle.oer_at_cmd.specs.Scan.{text_behind}
+use Rattle.oer_words.specs.Scan.{text_behind}
 use Rattle.oer_at_cmd.proofs.Endings.{name_lost}
 use Rattle.oer_at_cmd.proofs.run.run_type.Goals as goal
 

@@ -1,7 +1,7 @@
 use Rattle.std.proofs.Common.{◌∙◌, [], ◌∷◌, ◌++◌, ap, string_bytes}
 use Rattle.std.proofs.lemmas.Result.{on_ok_weaker}
 use Rattle.oer_dump_cmd.specs.Layout.{line_text}
-use Rattle.oer_dump_cmd.specs.Visible.{visible}
+use Rattle.oer_places.specs.Visible.{visible}
 use Rattle.oer_dump_cmd.proofs.layout.push_entry.Goals as goal
 
 pub returns : goal.returns

@@ -1,5 +1,5 @@
 use Rattle.std.proofs.Common.{◌≤◌, ◌∙◌, ◌++◌, arith, ap, sym, string_bytes}
-use Rattle.oer_dump_cmd.specs.Layout.{count_of}
+use Rattle.oer_places.specs.Parts.{count_of}
 use Rattle.oer_dump_cmd.proofs.Counted.{count_least, value_uncut}
 use Rattle.oer_dump_cmd.proofs.Laid.{pushed}
 use Rattle.oer_dump_cmd.proofs.layout.push_value.Goals as goal

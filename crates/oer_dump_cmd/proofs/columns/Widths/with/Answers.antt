@@ -1,6 +1,6 @@
 use Rattle.std.proofs.Common.{◌≡◌, ◌+◌, ◌≤◌, length, arith, ap, string_bytes}
 use Rattle.std.proofs.lemmas.Str.{IsUtf8-string_bytes}
-use Rattle.oer_dump_cmd.specs.Layout.{count_of}
+use Rattle.oer_places.specs.Parts.{count_of}
 use Rattle.oer_dump_cmd.proofs.Counted.{count_least}
 use Rattle.oer_dump_cmd.proofs.columns.Widths.with.Goals as goal
 

@@ -1,7 +1,0 @@
-use Rattle.std.proofs.Common.{◌≡◌, ◌∷◌, map, take}
-use Rattle.oer_at_cmd.specs.Asking.{words_of}
-use Rattle.oer_at_cmd.specs.Scan.{text_behind}
-use Rattle.oer_at_cmd.proofs.asked.kept_words.Given as goal
-
-abbrev pub invariant-loop-word : goal.invariant-loop-word
-invariant-loop-word l = words_of l.words ≡ l.program ∷ map text_behind (take l.word-index l.kept)

@@ -1,0 +1,5 @@
+pub mod Scan
+pub mod Errors
+pub mod Adding
+pub mod Ending
+pub mod Looking

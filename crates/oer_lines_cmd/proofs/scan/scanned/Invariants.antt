@@ -1,6 +1,0 @@
-use Rattle.std.proofs.Common.{◌≡◌, map, drop, string_bytes}
-use Rattle.oer_lines_cmd.specs.Asking.{scan_of, scanned, scanned_from}
-use Rattle.oer_lines_cmd.proofs.scan.scanned.Given as goal
-
-abbrev pub invariant-loop-word : goal.invariant-loop-word
-invariant-loop-word l = scanned (map string_bytes l.words) ≡ scanned_from (scan_of l.scan) (map string_bytes (drop l.word-index l.words))

@@ -1,0 +1,4 @@
+mod Visibly
+mod Characters
+mod Standing
+mod Told

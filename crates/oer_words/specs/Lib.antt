@@ -1,0 +1,4 @@
+pub mod Words
+pub mod Flag
+pub mod Scan
+pub mod Setting
