@@ -151,7 +151,7 @@ part_answered T well limit bound None text b line (all, few, (path, is, leads)) 
 
 text_there : (T : AsnType) → IsWellFormed T → (line text : Text) → Makes T line text → make_text T text ≡ value line
 text_there T well line text (utf8, (j, is, (v, of, (c, canonical, same)))) =
-    utf8_read T text utf8 ∙ ap (λ o. json_read o >>= λ j. json_taken (taken T j) >>= λ v. in_digits (canonical_octets T v)) is
+    ap (λ o. o >>= λ j. json_taken (taken T j) >>= λ v. in_digits (canonical_octets T v)) (utf8_read text utf8 ∙ ap json_read is)
     ∙ ap (λ r. json_taken r >>= λ v. in_digits (canonical_octets T v)) (taken_complete T well j v of)
     ∙ same_line (encode_lower (canonical_octets T v)) line (same ∙ ap encode_lower (canon_computed T v c canonical))
 

@@ -30,10 +30,6 @@ use Rattle.oer_cmd.proofs.Meeting.{bytes, goes, stops}
 
 -- ---- the type, and then the task
 
-pub for_task : (task same : Task) (T : AsnType) (limit : ℕ) (told : Option (List ℕ)) (result : Result (String Global) Fault) → task ≡ same
-    → ((path : Expected (List Step)) → IsPathOf (path_text same) path → Meets bytes (task_answer same T limit path told) result) → (path : Expected (List Step)) → IsPathOf (path_text task) path → Meets bytes (task_answer task T limit path told) result
-for_task task same T limit told result is h = subst (λ t. (path : Expected (List Step)) → IsPathOf (path_text t) path → Meets bytes (task_answer t T limit path told) result) (sym is) h
-
 pub for_texts : (texts same : Texts) (task : Task) (limit : ℕ) (told : Option (List ℕ)) (result : Result (String Global) Fault) → same ≡ texts
     → ((path : Expected (List Step)) → IsPathOf (path_text task) path → Meets bytes (given_answer same task limit path told) result)
     → (path : Expected (List Step)) → IsPathOf (path_text task) path → Meets bytes (given_answer texts task limit path told) result
@@ -44,38 +40,6 @@ pub line_for : (texts same : Texts) (task : Task) (limit : ℕ) (told : Option (
     → same ≡ texts → IfOk result (λ line. IsLineGiven same task limit told (string_bytes line))
     → IfOk result (λ line. IsLineGiven texts task limit told (string_bytes line))
 line_for texts same task limit told result is h = subst (λ t. IfOk result (λ line. IsLineGiven t task limit told (string_bytes line))) is h
-
-pub keeps_task : {A : Type 0} (task same : Task) → task ≡ same → (source_text same ≢ None → A) → source_text task ≢ None → A
-keeps_task task same is h some = h (λ none. some (ap source_text is ∙ none))
-
-pub one_unread : (text : Bor Text) (task : Task) (limit : ℕ) (path : Expected (List Step)) (told : Option (List ℕ)) (fault : Fault) → Meets {X = Schema} the_type (parsed (parse text.now)) (Err fault)
-    → Meets bytes (parsed (parse text.now) >>= λ T. task_answer task T limit path told) (Err fault)
-one_unread text task limit path told fault h = stops {X = Schema} the_type bytes (parsed (parse text.now)) (λ T. task_answer task T limit path told) fault h
-
-pub one_read : (text : Bor Text) (task : Task) (limit : ℕ) (path : Expected (List Step)) (told : Option (List ℕ)) (schema : Schema) (result : Result (String Global) Fault) → Meets the_type (parsed (parse text.now)) (Ok schema)
-    → Meets bytes (task_answer task (the_type schema) limit path told) result → Meets bytes (parsed (parse text.now) >>= λ T. task_answer task T limit path told) result
-one_read text task limit path told schema result h made = goes the_type bytes (parsed (parse text.now)) (λ T. task_answer task T limit path told) schema result h made
-
-pub named_unread : (types name : Bor Text) (task : Task) (limit : ℕ) (path : Expected (List Step)) (told : Option (List ℕ)) (fault : Fault) → Meets {X = Types} knowns (parsed (parse_all types.now)) (Err fault)
-    → Meets bytes (parsed (parse_all types.now) >>= (λ ks. named_as name.now (find ks name.now)) >>= λ T. task_answer task T limit path told) (Err fault)
-named_unread types name task limit path told fault h =
-    stops {X = Schema} the_type bytes (parsed (parse_all types.now) >>= λ ks. named_as name.now (find ks name.now)) (λ T. task_answer task T limit path told) fault
-    (stops {X = Types} the_type_knowns the_type (parsed (parse_all types.now)) (λ ks. named_as name.now (find ks name.now)) fault h) where
-      the_type_knowns : Types → List Known
-      the_type_knowns ts = knowns ts
-
-pub named_unknown : (types name : Bor Text) (task : Task) (limit : ℕ) (path : Expected (List Step)) (told : Option (List ℕ)) (ts : Types) (fault : Fault) → Meets knowns (parsed (parse_all types.now)) (Ok ts)
-    → Meets {X = Bor Schema} (λ s. the_type s.now) (named_as name.now (find (knowns ts) name.now)) (Err fault) → Meets bytes (parsed (parse_all types.now) >>= (λ ks. named_as name.now (find ks name.now)) >>= λ T. task_answer task T limit path told) (Err fault)
-named_unknown types name task limit path told ts fault h of =
-    stops {X = Bor Schema} (λ s. the_type s.now) bytes (parsed (parse_all types.now) >>= λ ks. named_as name.now (find ks name.now)) (λ T. task_answer task T limit path told) fault
-    (goes {Z = Bor Schema} knowns (λ s. the_type s.now) (parsed (parse_all types.now)) (λ ks. named_as name.now (find ks name.now)) ts (Err fault) h of)
-
-pub named_read : (types name : Bor Text) (task : Task) (limit : ℕ) (path : Expected (List Step)) (told : Option (List ℕ)) (ts : Types) (schema : Bor Schema) (result : Result (String Global) Fault) → Meets knowns (parsed (parse_all types.now)) (Ok ts)
-    → Meets (λ s. the_type s.now) (named_as name.now (find (knowns ts) name.now)) (Ok schema) → Meets bytes (task_answer task (the_type schema.now) limit path told) result
-    → Meets bytes (parsed (parse_all types.now) >>= (λ ks. named_as name.now (find ks name.now)) >>= λ T. task_answer task T limit path told) result
-named_read types name task limit path told ts schema result h of made =
-    goes (λ s. the_type s.now) bytes (parsed (parse_all types.now) >>= λ ks. named_as name.now (find ks name.now)) (λ T. task_answer task T limit path told) schema result
-    (goes knowns (λ s. the_type s.now) (parsed (parse_all types.now)) (λ ks. named_as name.now (find ks name.now)) ts (Ok schema) h of) made
 
 -- ---- the texts of a type
 

@@ -154,23 +154,3 @@ of_all (Some digits) None told b P spells all p = absurd spells
 of_all None (Some c) told b P spells all p = absurd spells
 of_all None None None b P spells all p = tt
 of_all None None (Some xs) b P spells all p = subst P (sym all) p
-
--- the same of a text
-pub of_text : (told : Option (List ℕ)) (b : List ℕ) (P : List ℕ → Type 0) → AreAll None told b → P b → OfText None told P
-of_text None b P all p = tt
-of_text (Some xs) b P all p = subst P (sym all) p
-
-nothing : (xs : List ℕ) → length xs ≡ 0 → xs ≡ []
-nothing [] e = refl
-nothing (x ∷ xs) e = absurd (omega (arith, e))
-
--- an encoding at the front of b is all of it, where there is no other
-pub same_front : (T : AsnType) (b c rest : List ℕ) → IsNoFront T b → b ≡ c ++ rest → IsEncoding T c → c ≡ b
-same_front T b c rest all e enc =
-    let size : length c ≡ length b = all enc.0 c rest e enc.1 in
-    let none : length rest ≡ 0 = let both = ap length e ∙ length-append c rest in omega (arith, size, both) in
-    sym (append-nil c) ∙ ap (λ (l : List ℕ). c ++ l) (sym (nothing rest none)) ∙ sym e
-
--- a part of the encoding at the front of b is one of b, where that encoding is all of it
-pub part_of_all : (T : AsnType) (path : List Step) (b s line : List ℕ) → IsNoFront T b → Begins T b (λ c. (U : Option AsnType) × Within (Some T) c path U s) → line ≡ encode_lower s → IsPart T path line b
-part_of_all T path b s line all h is = (h.4.0, s, subst (λ (l : List ℕ). Within (Some T) l path h.4.0 s) (same_front T b h.0 h.1 all h.2 h.3) h.4.1, is)

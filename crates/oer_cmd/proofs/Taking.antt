@@ -1,5 +1,5 @@
 -- How much of the input is taken, step by step.
-use Rattle.std.proofs.Common.{Result, ◌≡◌, ◌∙◌, ℕ, suc, false, ◌+◌, ◌-◌, ◌<◌, ◌≤◌, List, [], ◌∷◌, ◌++◌, length, Option, Some, None, Ok, Err, refl, sym, ap, subst, arith, append_assoc}
+use Rattle.std.proofs.Common.{Result, ◌≡◌, ◌∙◌, ℕ, suc, ◌+◌, ◌-◌, ◌<◌, ◌≤◌, List, [], ◌∷◌, ◌++◌, length, Option, Some, None, Ok, Err, refl, sym, ap, subst, arith, append_assoc}
 use Rattle.std.proofs.Common.{length-append}
 use Rattle.std.proofs.Math.Nat.{min-eq_left, min-le_left, min-le_right}
 use Rattle.std.proofs.KnownBytes.{Consumes-trans}
@@ -7,7 +7,7 @@ use Rattle.std.specs.Prelude.{min}
 use Rattle.std.specs.Io.KnownBytes.{Consumes, IsAtEnd}
 use Rattle.oer_units.specs.Reader.{Outcome, at, got, refused}
 use Rattle.oer_units.specs.Reading.{octet}
-use Rattle.oer_units.specs.Reads.{ReadsFront, Span, place, renamed}
+use Rattle.oer_units.specs.Reads.{ReadsFront}
 use Rattle.oer_units.specs.declared.fault.ReadFault.{ReadFault}
 use Rattle.oer_units.specs.declared.fault.Why.TheVariants.{End}
 use Rattle.oer_writer.specs.declared.fault.WriteFault.TheVariants as write
@@ -50,9 +50,9 @@ abbrev left_by : Outcome ℕ → List ℕ
 left_by (got x q) = q.input
 left_by (refused why rest) = rest
 
-one_less : (xs ys : List ℕ) (x : ℕ) (b : Span) → renamed false (octet (at xs 1)) ≡ got x (place ys b) → length xs ≡ suc (length ys)
-one_less [] ys x b e = let no : refused End [] ≡ got x (place ys b) = ap (renamed false) (sym none_there) ∙ e in absurd cc
-one_less (z ∷ zs) ys x b e = let is : zs ≡ ys = ap left_by (ap (renamed false) (sym (one_read z zs)) ∙ e) in ap (λ (l : List ℕ). suc (length l)) is
+one_less : (xs ys : List ℕ) (x n : ℕ) → octet (at xs 1) ≡ got x (at ys n) → length xs ≡ suc (length ys)
+one_less [] ys x n e = let no : refused End [] ≡ got x (at ys n) = sym none_there ∙ e in absurd (cc)
+one_less (z ∷ zs) ys x n e = let is : zs ≡ ys = ap left_by (sym (one_read z zs) ∙ e) in ap (λ (l : List ℕ). suc (length l)) is
 
 one_of : (n : ℕ) → min 1 (suc n) ≡ 1
 one_of n = min-eq_left (omega arith)
@@ -63,7 +63,7 @@ one_taken failed failed' status None known' x h = tt
 one_taken failed failed' status (Some xs) None x h = absurd h.reads.exact
 one_taken failed failed' status (Some xs) (Some ys) x h =
     let took = h.reads.took in
-    let more : length xs ≡ suc (length ys) = one_less xs ys x h.bound h.reads.exact in
+    let more : length xs ≡ suc (length ys) = one_less xs ys x (h.bound.end - h.bound.taken) (exactly_got octet 1 failed failed' xs ys x h) in
     let one : length took.0 ≡ 1 = omega (arith, ap length took.1, length-append took.0 ys, more) in
     (took.0, took.1, (omega (arith, one), λ small. one ∙ sym (ap (min 1) more ∙ one_of (length ys))))
 
@@ -79,7 +79,7 @@ none_taken failed failed' status (Some xs) (Some ys) e end h =
       (
         omega (arith, took.3, h.within),
         λ small.
-            let none : xs ≡ [] = none_left failed failed' (Some xs) (Some ys) e (end small) h in
+            let none : xs ≡ [] = none_left failed failed' (Some xs) (Some ys) e xs (end small) h refl in
             let size : length took.0 ≡ 0 = omega (arith, ap length took.1, ap length none, length-append took.0 ys) in
             size ∙ sym (ap (λ (l : List ℕ). min 1 (length l)) none),
       ),
@@ -162,32 +162,11 @@ counted_refused T limit failed failed' known known' e fault is h = value_refused
 
 -- ---- all that there is
 
-at_end : (b rest : List ℕ) (t : List ℕ) → b ≡ t ++ rest → rest ≡ [] → length b ≡ length t
-at_end b rest t split none = omega (arith, ap length split, length-append t rest, ap length none)
-
--- It came to the end.
-pub all_gathered : (limit : ℕ) (told known told' : Option (List ℕ)) (front rest : List ℕ) (P : Type 0) → Consumes told known front → Consumes known told' rest → IsAtEnd told' → length rest ≤ 0
-    → length front ≤ limit
-    → GivesFront told told' (λ b n. (n ≤ limit + 4096) × (P → IsGathered limit b n))
-all_gathered limit None known told' front rest P h more end none few = tt
-all_gathered limit (Some b) None told' front rest P h more end none few = absurd h
-all_gathered limit (Some b) (Some c) None front rest P h more end none few = absurd more
-all_gathered limit (Some b) (Some c) (Some d) front rest P h more end none few =
-    let both : b ≡ (front ++ rest) ++ d = Consumes-trans (Some b) (Some c) (Some d) front rest h more in
-    let size : length (front ++ rest) ≡ length front + length rest = length-append front rest in
-    let all : length b ≡ length (front ++ rest) = at_end b d (front ++ rest) both end in
-    (front ++ rest, both, (omega (arith, size, none, few), λ p. subst (λ n. min (length b) (limit + 1) ≤ n) all (min-le_left (length b) (limit + 1))))
-
 -- There is more than the limit.
 pub more_gathered : (limit : ℕ) (told told' : Option (List ℕ)) (front : List ℕ) (P : Type 0) → Consumes told told' front → limit < length front → length front ≤ limit + 4096
     → GivesFront told told' (λ b n. (n ≤ limit + 4096) × (P → IsGathered limit b n))
 more_gathered limit told told' t P h many few =
     front_taken told told' t (λ b n. (n ≤ limit + 4096) × (P → IsGathered limit b n)) h (λ b rest is is'. (few, λ p. let m = min-le_right (length b) (limit + 1) in omega (arith, m, many)))
-
--- The source failed, or memory ran out.
-pub some_gathered : (limit : ℕ) (told told' : Option (List ℕ)) (t : List ℕ) (P : Type 0) → Consumes told told' t → length t ≤ limit + 4096 → (P → ⊥)
-    → GivesFront told told' (λ b n. (n ≤ limit + 4096) × (P → IsGathered limit b n))
-some_gathered limit told told' t P h few none = front_taken told told' t (λ b n. (n ≤ limit + 4096) × (P → IsGathered limit b n)) h (λ b rest is is'. (few, λ p. absurd (none p)))
 
 -- what was gathered, by the status of the answer
 pub gave : (limit status : ℕ) (told told' : Option (List ℕ)) (P : Type 0) → (status ≤ 2 → P) → GivesFront told told' (λ b n. (n ≤ limit + 4096) × (P → IsGathered limit b n)) → GivesAll limit status told told'

@@ -23,17 +23,15 @@ use Rattle.oer_cmd.specs.Types.{SpelledBy, reads_types}
 use Rattle.oer_cmd.specs.declared.fault.Fault.{Fault}
 use Rattle.oer_cmd.specs.declared.fault.Fault.TheVariants.{Longer, NoSource, «Type»}
 use Rattle.oer_cmd.proofs.Choices.{failing, passing}
-use Rattle.oer_cmd.proofs.Meeting.{bytes, goes, refusing, stops}
+use Rattle.oer_cmd.proofs.Meeting.{bytes, goes, stops}
 
 -- ---- the text
 
 -- It is UTF-8.
-pub text_made : (octets : Vec ℕ Global) (text : String Global) → string_bytes text ≡ octets.items
-    → Meets bytes (types_text octets.items) (Ok text)
-text_made octets text same = subst (λ (l : List ℕ). Meets bytes (types_text l) (Ok text)) same
-    (subst (λ b. Meets bytes (if b then value (string_bytes text)
-    else stop («Type» (record { at = utf8_valid_len (string_bytes text); why = Token }))) (Ok text))
-    (sym (is_utf8-from_IsUtf8 (string_bytes text) (IsUtf8-string_bytes text))) refl)
+pub text_made : (octets : List ℕ) (text : String Global) → string_bytes text ≡ octets → types_text octets ≡ value (string_bytes text)
+text_made octets text same = subst (λ (l : List ℕ). types_text l ≡ value (string_bytes text)) same
+    (ap (λ (b : Bool). if b then value (string_bytes text) else stop («Type» (record { at = utf8_valid_len (string_bytes text); why = Token })))
+    (is_utf8-from_IsUtf8 (string_bytes text) (IsUtf8-string_bytes text)))
 
 no_text : (b : Bool) → (b ≡ true → ⊥) → b ≡ false
 no_text true none = absurd (none refl)
@@ -41,38 +39,13 @@ no_text false none = refl
 
 -- It is not.
 pub text_refused : (octets : List ℕ) (n : ℕ) → n ≡ utf8_valid_len octets → (IsUtf8 octets → ⊥)
-    → Meets {X = String Global} bytes (types_text octets) (Err («Type» (record { at = n; why = Token })))
-text_refused octets n place none = refusing bytes (types_text octets) («Type» (record { at = n; why = Token })) (λ small.
+    → types_text octets ≡ stop («Type» (record { at = n; why = Token }))
+text_refused octets n place none =
     ap (λ (b : Bool). if b then value octets else stop («Type» (record { at = utf8_valid_len octets; why = Token })))
     (no_text (is_utf8 octets) (λ is. none (IsUtf8-from_is_utf8 octets is)))
-    ∙ ap (λ (k : ℕ). stop («Type» (record { at = k; why = Token }))) (sym place))
+    ∙ ap (λ (k : ℕ). stop («Type» (record { at = k; why = Token }))) (sym place)
 
 -- ---- the input
-
-pub none_behind : (source : Option (Bor Text)) → is_none source ≡ true → behind source ≡ None
-none_behind None is = refl
-none_behind (Some t) is = absurd (cc)
-
-pub some_behind : (source : Option (Bor Text)) → is_none source ≡ false → behind source ≢ None
-some_behind None is = absurd (cc)
-some_behind (Some t) is = λ none. let no : Some t.now ≡ None = none in cc
-
-pub no_source : (source : Option (Bor Text)) (told : Option (List ℕ)) → is_none source ≡ true
-    → Meets {X = String Global} bytes (types_input (behind source) told) (Err NoSource)
-no_source None told is = λ small. refl
-no_source (Some t) told is = absurd (cc)
-
-pub input_made : (source : Option (Bor Text)) (told : Option (List ℕ)) (octets : Vec ℕ Global) (result : Result (String Global) Fault)
-    → is_none source ≡ false → Meets octets_of (limited_octets most None told) (Ok octets) → Meets bytes (types_text octets.items) result
-    → Meets bytes (types_input (behind source) told) result
-input_made None told octets result is h made = absurd (cc)
-input_made (Some t) told octets result is h made = goes octets_of bytes (limited_octets most None told) types_text octets result h made
-
-pub input_lost : (source : Option (Bor Text)) (told : Option (List ℕ)) (fault : Fault) → is_none source ≡ false
-    → Meets {X = Vec ℕ Global} octets_of (limited_octets most None told) (Err fault)
-    → Meets {X = String Global} bytes (types_input (behind source) told) (Err fault)
-input_lost None told fault is h = absurd (cc)
-input_lost (Some t) told fault is h = stops {X = Vec ℕ Global} octets_of bytes (limited_octets most None told) types_text fault h
 
 -- A text was read: there are octets or JSON, and it is what the input had left.
 pub was_read : (source : Option Text) (told : Option (List ℕ)) (text : String Global) → Meets bytes (types_input source told) (Ok text)
@@ -107,7 +80,7 @@ no_octet utf8 = true≢false (sym (is_utf8-from_IsUtf8 (255 ∷ []) utf8) ∙ lo
 
 -- ---- a task whose octets or JSON are given
 
-line_by : (k : Kind) (source path : Option Text) (told told' : Option (List ℕ)) (T : AsnType) (limit : ℕ) (line : Text) → source ≢ None
+pub line_by : (k : Kind) (source path : Option Text) (told told' : Option (List ℕ)) (T : AsnType) (limit : ℕ) (line : Text) → source ≢ None
     → IsLineBy k source path told T limit line → IsLineBy k source path told' T limit line
 line_by k None path told told' T limit line some h = absurd (some refl)
 line_by show (Some t) path told told' T limit line some h = h
@@ -166,6 +139,12 @@ read_line types name body text task limit told mid line mark same read h =
 
 -- ---- what is expected of them
 
+-- ---- texts that are not read
+
+-- ---- what is taken
+
+-- ---- what is expected of them
+
 pub read_answer : (types name body : Text) (text : String Global) (task : Task) (limit : ℕ) (path : Expected (List Step))
     (told mid : Option (List ℕ)) (result : Result (String Global) Fault) → bytes_eq types (codes "-") ≡ true → body ≡ string_bytes text
     → Meets bytes (types_input (source_text task) told) (Ok text) → Meets bytes (answer_of (among body name) task limit path mid) result
@@ -196,18 +175,6 @@ lost_answer types name task limit path told fault mark lost =
     (λ texts. answer_of texts task limit path told) fault
     (stops bytes (λ (s : String Global). among (string_bytes s) name) (types_input (source_text task) told)
     (λ text. value (among text name)) fault lost))
-
--- ---- texts that are not read
-
-pub own_line : (t : Texts) (task : Task) (limit : ℕ) (told : Option (List ℕ)) (line : Text) → reads_types t ≡ false
-    → IsLineFor (SpelledBy t) task limit told line → IsLineGiven t task limit told line
-own_line t task limit told line own h = record {
-  type = h.type;
-  spelled = failing (reads_types t)
-      ((source_text task ≢ None) × IfSome told (λ b. (length b ≤ most) × IsUtf8 b × SpelledBy (record t { types = Some b }) h.type))
-      (SpelledBy t h.type) own h.spelled;
-  line_is = h.line_is;
-}
 
 -- ---- what is taken
 
