@@ -1,5 +1,5 @@
 -- Where the input is asked, what it gives then, and where it is untouched.
-use Rattle.std.proofs.Common.{◌≡◌, ◌∙◌, ℕ, ◌+◌, ◌≤◌, List, [], Option, Some, None, Vec, Global, option_map, refl, sym, ap, subst}
+use Rattle.std.proofs.Common.{◌≡◌, ℕ, ◌+◌, ◌≤◌, List, [], Option, Some, None, refl, subst}
 use Rattle.clap.specs.Words.{Text}
 use Rattle.oer_model.specs.AsnType.{AsnType}
 use Rattle.oer_model.specs.Parts.{Step}
@@ -9,7 +9,6 @@ use Rattle.oer_options.specs.declared.options.Task.{Task}
 use Rattle.oer_cmd.specs.Answer.{HasNoPath, HasPath, IsPathOf, expected_type}
 use Rattle.oer_cmd.specs.Expected.{Expected, refusal, stop, unknown, value}
 use Rattle.oer_cmd.specs.Faults.{status_of}
-use Rattle.oer_cmd.specs.Octets.{octets_of}
 use Rattle.oer_cmd.specs.Taking.{GivesIfAsked, GivesTask, GivesTypes, IsGathered, IsValue, TakesBy, TakesFor}
 use Rattle.oer_cmd.specs.Types.{reads_types}
 use Rattle.oer_checker.specs.Check.{most}
@@ -47,9 +46,6 @@ pub lost : (type : Expected AsnType) (source : Option Text) (path : Expected (Li
 lost (value T) None (value p) untouched k limit told fault same none =
     task_untaken k T limit (status_of fault) told (λ small. let no = none small in cc)
 lost type source path untouched k limit told fault same none = same
-
-pub is_in_hand : (spelt : Option (Vec ℕ Global)) (octets : Vec ℕ Global) → spelt ≡ Some octets → option_map octets_of spelt ≡ None → ⊥
-is_in_hand spelt octets is none = let no : Some octets.items ≡ None = ap (option_map octets_of) (sym is) ∙ none in cc
 
 -- ---- what a task takes
 

@@ -1,7 +1,6 @@
 -- How the program ends, from what its steps answer.
 use Rattle.std.proofs.Common.{Result, ◌≡◌, ◌≢◌, ◌∙◌, ℕ, ◌≤◌, List, [], ◌∷◌, ◌++◌, true, false, Option, Some, None, Ok, Err, String, Global, refl, sym, ap, subst, arith, string_bytes, ◌⊎◌, inl, inr}
 use Rattle.std.specs.Prelude.{Bool, IfOk, if◌then◌else◌}
-use Rattle.std.specs.Borrow.{Bor}
 use Rattle.std.specs.Io.KnownBytes.{Appends, Keeps}
 use Rattle.clap.specs.Words.{HasKind, IsAmong, Kinds, Text, fault_of, kind_of, takes}
 use Rattle.clap.specs.declared.error.Error.{Error}
@@ -9,24 +8,18 @@ use Rattle.clap.specs.declared.error.kind.ErrorKind.{ErrorKind}
 use Rattle.clap.specs.declared.error.kind.ErrorKind.TheVariants.{DisplayHelp, DisplayVersion, OutOfMemory}
 use Rattle.oer_model.specs.AsnType.{AsnType}
 use Rattle.oer_model.specs.Parts.{Step}
-use Rattle.oer_types.specs.Schema.{the_type}
-use Rattle.oer_types.specs.declared.schema.Schema.{Schema}
-use Rattle.oer_notation.specs.Parsing.{parse, parse_all}
-use Rattle.oer_notation.specs.Reading.{Known, find}
-use Rattle.oer_notation.specs.Views.{knowns}
-use Rattle.oer_notation.specs.declared.types.Types.{Types}
 use Rattle.oer_options.specs.Words.{Asks, Texts, oer, path_text, source_text, texts_of}
 use Rattle.oer_options.specs.declared.options.Options.{Options}
 use Rattle.oer_options.specs.declared.options.Task.{Task}
-use Rattle.oer_cmd.specs.Answer.{IsPathOf, answer_of, expected_answer, expected_type, given_answer, named_as, parsed, task_answer, types_input}
+use Rattle.oer_cmd.specs.Answer.{IsPathOf, answer_of, expected_answer, expected_type, given_answer, task_answer, types_input}
 use Rattle.oer_cmd.specs.Ending.{Delivers, Breaks, Does, DoesFor, HoldsFront, IsMachineLine, IsNotTaken, IsUnstarted, MayPrint, Streams, refusal_line}
 use Rattle.oer_cmd.specs.Expected.{Expected, Meets, refusal, stop, unknown, value, ◌>>=◌}
 use Rattle.oer_cmd.specs.Faults.{AppendsFront, Printed, Reports, error_line, status_of}
 use Rattle.oer_cmd.specs.Run.{IsLineGiven}
 use Rattle.oer_cmd.specs.Types.{reads_types}
 use Rattle.oer_cmd.specs.declared.fault.Fault.{Fault}
-use Rattle.oer_cmd.specs.declared.fault.Fault.TheVariants.{Input, Memory, Output, «Type»}
-use Rattle.oer_cmd.proofs.Meeting.{bytes, goes, stops}
+use Rattle.oer_cmd.specs.declared.fault.Fault.TheVariants.{Input, Memory, Output}
+use Rattle.oer_cmd.proofs.Meeting.{bytes}
 
 -- ---- the type, and then the task
 

@@ -1,9 +1,9 @@
 -- What the tasks answer is what is expected.
-use Rattle.std.proofs.Common.{Result, ◌≡◌, ◌≢◌, ◌∙◌, ℕ, ◌+◌, ◌-◌, ◌<◌, ◌≤◌, Bool, true, false, List, [], ◌∷◌, ◌++◌, length, take, drop, Option, Some, None, Ok, Err, Vec, Global, refl, sym, ap, subst, arith, length-append}
+use Rattle.std.proofs.Common.{Result, ◌≡◌, ◌∙◌, ℕ, ◌+◌, ◌-◌, ◌<◌, ◌≤◌, Bool, true, false, List, [], ◌∷◌, ◌++◌, length, take, drop, Option, Some, None, Ok, Err, refl, sym, ap, subst, arith, length-append}
 use Rattle.std.proofs.Math.Seq.{drop-length, take-length}
 use Rattle.std.proofs.lemmas.Str.{IsUtf8-from_is_utf8, is_utf8-from_IsUtf8}
 use Rattle.std.proofs.lemmas.Bool.{le-leb, lt-leb}
-use Rattle.std.specs.Prelude.{IfSome, if◌then◌else◌}
+use Rattle.std.specs.Prelude.{if◌then◌else◌}
 use Rattle.std.specs.Str.{IsUtf8, is_utf8}
 use Rattle.std.specs.Borrow.{Bor}
 use Rattle.clap.specs.Words.{Text}
@@ -13,11 +13,9 @@ use Rattle.oer_units.specs.Reader.{Outcome, Place, Reader, at, got, refused}
 use Rattle.oer_units.specs.Reads.{ReadsFront, seen}
 use Rattle.oer_writer.specs.declared.fault.WriteFault.TheVariants as write
 use Rattle.oer_model.specs.AsnType.{AsnType}
-use Rattle.oer_model.specs.AsnValue.{AsnValue}
 use Rattle.oer_model.specs.Canonical.{canonical_octets}
 use Rattle.oer_model.specs.Checking.{check_value}
 use Rattle.oer_model.specs.Parts.{Step, find_part}
-use Rattle.oer_model.specs.Reading.{read_value}
 use Rattle.oer_checker.specs.Check.{Answers, Tells, most}
 use Rattle.oer_parts.specs.Handing.{Agrees, AgreesWith, AnswersPart}
 use Rattle.oer_parts.specs.Path.{OnePath}

@@ -1,5 +1,5 @@
 -- The octet after a value.
-use Rattle.std.proofs.Common.{◌≡◌, ◌≢◌, ◌∙◌, ℕ, suc, ◌-◌, ◌≤◌, leb, arith, Bool, true, refl, List, [], ◌∷◌, length, Option, Some, None, Ok, Err, sym, ap}
+use Rattle.std.proofs.Common.{◌≡◌, ◌≢◌, ◌∙◌, ℕ, suc, ◌-◌, leb, arith, Bool, true, refl, List, [], ◌∷◌, length, Option, Some, None, Ok, Err, sym, ap}
 use Rattle.std.proofs.lemmas.Bool.{le-leb}
 use Rattle.std.specs.Prelude.{get_or}
 use Rattle.oer_units.specs.Reading.{octet}

@@ -1,17 +1,14 @@
 -- From the line of a task to that of the words.
-use Rattle.std.proofs.Common.{◌≡◌, ◌∙◌, ℕ, List, [], ◌∷◌, ◌++◌, length, Option, Some, None, refl, sym, ap, subst, arith, length-append, append-nil}
+use Rattle.std.proofs.Common.{◌≡◌, ◌∙◌, ℕ, List, Option, Some, None, refl, sym, ap, subst}
 use Rattle.std.specs.Str.Parse.{digits_value, without_leading_plus}
 use Rattle.std.specs.Prelude.{codes, eqb, get_or, if◌then◌else◌}
 use Rattle.clap.specs.Words.{Text}
-use Rattle.hex.specs.Hex.{encode_lower}
 use Rattle.oer_model.specs.AsnType.{AsnType}
-use Rattle.oer_model.specs.Parts.{Step, Within}
-use Rattle.oer_parts.specs.Handing.{Begins}
 use Rattle.oer_options.specs.Words.{Asks, HasFlags, IsTask, Kind, NumberOf, asked, canon, check, given, given_number, kind, make, name_of, part, path_among, show, show_ascii, source_option, source_text, texts_in, texts_of}
 use Rattle.oer_options.specs.declared.options.Options.{Options}
 use Rattle.oer_options.specs.declared.options.Task.{Task}
 use Rattle.oer_cmd.specs.Octets.{AreAll, AreSpelt}
-use Rattle.oer_cmd.specs.Run.{IsLineGiven, IsLineAsked, IsLineAskedFor, IsEncoding, IsLine, IsLineBy, IsLineOf, IsNoFront, IsPart, MayBe, NoLine, NoLineAsked, NoLineAskedFor, NoLineOf, OfOctets, OfText}
+use Rattle.oer_cmd.specs.Run.{IsLineGiven, IsLineAsked, IsLineAskedFor, IsLine, IsLineBy, IsLineOf, MayBe, NoLine, NoLineAsked, NoLineAskedFor, NoLineOf, OfOctets}
 use Rattle.oer_cmd.specs.Types.{SpelledWith}
 
 line_by_words : (words : List Text) (task : Task) (told : Option (List ℕ)) (T : AsnType) (limit : ℕ) (line : Text)

@@ -1,5 +1,5 @@
 -- How answers that are expected are put together.
-use Rattle.std.proofs.Common.{Result, ◌≡◌, ◌≢◌, ◌∙◌, ℕ, ◌+◌, ◌-◌, ◌≤◌, false, List, [], ◌∷◌, ◌++◌, append-nil, length, Option, Some, None, Ok, Err, refl, sym, ap, subst, arith, length-append, String, Global, string_bytes}
+use Rattle.std.proofs.Common.{Result, ◌≡◌, ◌≢◌, ◌∙◌, ℕ, ◌-◌, ◌≤◌, false, List, [], ◌∷◌, ◌++◌, append-nil, length, Option, Some, None, Ok, Err, refl, sym, ap, subst, arith, length-append, String, Global, string_bytes}
 use Rattle.std.specs.Prelude.{IfOk, IfSome, IsErrAnd}
 use Rattle.clap.specs.Words.{Text}
 use Rattle.std.specs.Io.KnownBytes.{Consumes}

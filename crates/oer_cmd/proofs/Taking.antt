@@ -1,10 +1,9 @@
 -- How much of the input is taken, step by step.
 use Rattle.std.proofs.Common.{Result, ◌≡◌, ◌∙◌, ℕ, suc, ◌+◌, ◌-◌, ◌<◌, ◌≤◌, List, [], ◌∷◌, ◌++◌, length, Option, Some, None, Ok, Err, refl, sym, ap, subst, arith, append_assoc}
 use Rattle.std.proofs.Common.{length-append}
-use Rattle.std.proofs.Math.Nat.{min-eq_left, min-le_left, min-le_right}
-use Rattle.std.proofs.KnownBytes.{Consumes-trans}
+use Rattle.std.proofs.Math.Nat.{min-eq_left, min-le_right}
 use Rattle.std.specs.Prelude.{min}
-use Rattle.std.specs.Io.KnownBytes.{Consumes, IsAtEnd}
+use Rattle.std.specs.Io.KnownBytes.{Consumes}
 use Rattle.oer_units.specs.Reader.{Outcome, at, got, refused}
 use Rattle.oer_units.specs.Reading.{octet}
 use Rattle.oer_units.specs.Reads.{ReadsFront}

@@ -1,9 +1,8 @@
 -- The text of definitions that is read from the input, and what is made of it.
-use Rattle.std.proofs.Common.{Result, ◌≡◌, ◌≢◌, ◌∙◌, ℕ, ◌≤◌, List, [], ◌∷◌, length, true, false, Bool, Option, Some, None, Ok, Err, String, Vec, Global, refl, sym, ap, subst, string_bytes, true≢false}
+use Rattle.std.proofs.Common.{Result, ◌≡◌, ◌≢◌, ◌∙◌, ℕ, ◌≤◌, List, [], ◌∷◌, length, true, false, Bool, Option, Some, None, Ok, Err, String, Global, refl, sym, ap, subst, string_bytes, true≢false}
 use Rattle.std.proofs.lemmas.Bool.{le-leb, leb-true}
 use Rattle.std.proofs.lemmas.Str.{IsUtf8-string_bytes, is_utf8-from_IsUtf8, IsUtf8-from_is_utf8}
-use Rattle.std.specs.Prelude.{IfSome, is_none, leb, codes, if◌then◌else◌}
-use Rattle.std.specs.Borrow.{Bor}
+use Rattle.std.specs.Prelude.{IfSome, leb, codes, if◌then◌else◌}
 use Rattle.std.specs.Str.{IsUtf8, bytes_eq, chars, is_utf8}
 use Rattle.std.specs.Str.Lossy.{utf8_valid_len}
 use Rattle.clap.specs.Words.{Text}
@@ -11,18 +10,17 @@ use Rattle.oer_checker.specs.Check.{most}
 use Rattle.oer_model.specs.AsnType.{AsnType}
 use Rattle.oer_model.specs.Parts.{Step}
 use Rattle.oer_value_notation.specs.declared.fault.TextWhy.TheVariants.{Token}
-use Rattle.oer_options.specs.Words.{Kind, Texts, behind, kind, path_text, show, source_text}
+use Rattle.oer_options.specs.Words.{Kind, Texts, kind, path_text, show, source_text}
 use Rattle.oer_options.specs.declared.options.Task.{Task}
 use Rattle.oer_options.specs.declared.options.Task.TheVariants.{Canon, Check, Make, Part, Show, ShowAscii}
 use Rattle.oer_cmd.specs.Answer.{answer_of, check_octets, digits_octets, expected_type, given_answer, limited_octets, part_octets, task_answer, types_input, types_text}
 use Rattle.oer_cmd.specs.Expected.{Expected, Meets, refusal, stop, unknown, value, ◌>>=◌}
-use Rattle.oer_cmd.specs.Octets.{octets_of}
 use Rattle.oer_cmd.specs.Run.{IsLineBy, IsLineFor, IsLineGiven}
 use Rattle.oer_cmd.specs.Taking.{GivesAll, GivesTypes}
-use Rattle.oer_cmd.specs.Types.{SpelledBy, reads_types}
+use Rattle.oer_cmd.specs.Types.{SpelledBy}
 use Rattle.oer_cmd.specs.declared.fault.Fault.{Fault}
-use Rattle.oer_cmd.specs.declared.fault.Fault.TheVariants.{Longer, NoSource, «Type»}
-use Rattle.oer_cmd.proofs.Choices.{failing, passing}
+use Rattle.oer_cmd.specs.declared.fault.Fault.TheVariants.{Longer, «Type»}
+use Rattle.oer_cmd.proofs.Choices.{passing}
 use Rattle.oer_cmd.proofs.Meeting.{bytes, goes, stops}
 
 -- ---- the text

@@ -1,4 +1,4 @@
-use Rattle.std.proofs.Common.{◌∙◌, ap, sym, List, Some, Vec, ℕ, Global}
+use Rattle.std.proofs.Common.{◌∙◌, ap, sym, List, Some, ℕ}
 use Rattle.oer_types.specs.Schema.{the_type}
 use Rattle.oer_units.specs.Stream.{inner_of}
 use Rattle.oer_cmd.specs.Expected.{value, ◌>>=◌}

@@ -1,5 +1,4 @@
 use Rattle.std.proofs.Common.{◌∙◌, ◌++◌, ap, sym, List, ℕ}
-use Rattle.oer_units.specs.Stream.{inner_of}
 use Rattle.oer_model.specs.Canonical.{canonical_octets}
 use Rattle.oer_types.specs.Schema.{the_type}
 use Rattle.oer_values.specs.ValueView.{value_of}

@@ -1,6 +1,5 @@
 use Rattle.std.proofs.Common.{◌≡◌, ◌<◌, List, Option, Some, None, Err, ℕ, Vec, Global, arith, length, subst, sym}
 use Rattle.std.specs.Prelude.{IfSome, ⊤}
-use Rattle.oer_cmd.specs.Answer.{within_limit}
 use Rattle.oer_cmd.specs.Gathering.{TellsAll}
 use Rattle.oer_cmd.proofs.Exact.{within_stop, within_value}
 use Rattle.oer_cmd.proofs.Taking.{gave}

@@ -1,4 +1,4 @@
-use Rattle.std.proofs.Common.{◌≡◌, Bool, ℕ, List, Ok, string_bytes, subst}
+use Rattle.std.proofs.Common.{◌≡◌, ℕ, List, Ok, string_bytes, subst}
 use Rattle.oer_units.specs.Octets.{IsOctets}
 use Rattle.oer_model.specs.AsnType.{AsnType}
 use Rattle.oer_types.specs.Schema.{the_type}

@@ -6,7 +6,7 @@ use Rattle.oer_cmd.specs.declared.fault.Fault.TheVariants.{Path}
 use Rattle.std.proofs.Common.{◌+◌, List, ap, refl}
 use Rattle.oer_cmd.proofs.Meeting.{left}
 use Rattle.oer_cmd.proofs.Taking.{untaken}
-use Rattle.oer_cmd.proofs.Telling.{none_there, path_there}
+use Rattle.oer_cmd.proofs.Answered.{none_there, path_there}
 use Rattle.oer_cmd.proofs.part.part_of_input.Goals as goal
 
 pub returns-in_err-path-clause-takes : goal.returns-in_err-path-clause-takes

@@ -3,7 +3,7 @@ use Rattle.oer_options.specs.Words.{behind, path_text, source_text}
 use Rattle.oer_types.specs.Schema.{the_type}
 use Rattle.oer_cmd.proofs.Asking.{asked, unasked}
 use Rattle.oer_cmd.proofs.Meeting.{meets, named}
-use Rattle.oer_cmd.proofs.Telling.{line_given, line_read, read_meets, some_given}
+use Rattle.oer_cmd.proofs.Answered.{line_given, line_read, read_meets, some_given}
 use Rattle.oer_cmd.proofs.TypesInput.{task_kept}
 use Rattle.oer_cmd.proofs.program.line_of.Goals as goal
 
@@ -33,6 +33,3 @@ pub returns-in-None-clause-takes : goal.returns-in-None-clause-takes
 returns-in-None-clause-takes g c = λ path of.
     asked (the_type c.args.schema.now) (source_text c.args.options.task) (path_text c.args.options.task) path _ _ (sym c.source.ensures ∙ ap behind c.in-None.is)
     c.line_read.ensures.takes (λ lacks. (c.line_read.ensures.pathless lacks).0) of
-
-pub returns-in-None-clause-untouched : goal.returns-in-None-clause-untouched
-returns-in-None-clause-untouched g c = λ some. absurd (some (sym c.source.ensures ∙ ap behind c.in-None.is))

@@ -1,7 +1,5 @@
-use Rattle.std.proofs.Common.{Some, string_bytes, subst, sym}
-use Rattle.oer_options.specs.Words.{behind, path_text}
 use Rattle.oer_types.specs.Schema.{the_type}
-use Rattle.oer_cmd.proofs.Telling.{part_line}
+use Rattle.oer_cmd.proofs.Answered.{part_line}
 use Rattle.oer_cmd.proofs.task.line_read.Goals as goal
 
 pub returns-in-Part-clause-exact : goal.returns-in-Part-clause-exact
