@@ -1,5 +1,5 @@
 -- How much of the input is taken, step by step.
-use Rattle.std.proofs.Common.{Result, ◌≡◌, ◌∙◌, ℕ, suc, ◌+◌, ◌-◌, ◌<◌, ◌≤◌, List, [], ◌∷◌, ◌++◌, length, Option, Some, None, Ok, Err, refl, sym, ap, subst, arith, append_assoc}
+use Rattle.std.proofs.Common.{Result, Vec, Global, ◌≡◌, ◌∙◌, ℕ, suc, ◌+◌, ◌-◌, ◌<◌, ◌≤◌, List, [], ◌∷◌, ◌++◌, length, Option, Some, None, Ok, Err, refl, sym, ap, subst, arith, append_assoc}
 use Rattle.std.proofs.Common.{length-append}
 use Rattle.std.proofs.Math.Nat.{min-eq_left, min-le_right}
 use Rattle.std.specs.Prelude.{min}
@@ -18,6 +18,8 @@ use Rattle.oer_decoder.specs.Rewriting.{ReadsAndWrites}
 use Rattle.oer_decoder.specs.declared.fault.RewriteFault.{RewriteFault}
 use Rattle.oer_decoder.specs.declared.fault.RewriteFault.TheVariants as rewrite
 use Rattle.oer_cmd.specs.Faults.{IsOfRead, IsOfRewrite, status_of}
+use Rattle.oer_cmd.specs.Gathering.{TellsAll}
+use Rattle.oer_cmd.specs.declared.gathering.GatherFault.{GatherFault}
 use Rattle.oer_cmd.specs.Taking.{Amounts, GivesAll, GivesFront, GivesValue, IsGathered, IsNext, taken_by}
 use Rattle.oer_cmd.specs.declared.fault.Fault.{Fault}
 use Rattle.oer_cmd.proofs.Exact.{front_of}
@@ -168,7 +170,8 @@ more_gathered limit told told' t P h many few =
     front_taken told told' t (λ b n. (n ≤ limit + 4096) × (P → IsGathered limit b n)) h (λ b rest is is'. (few, λ p. let m = min-le_right (length b) (limit + 1) in omega (arith, m, many)))
 
 -- what was gathered, by the status of the answer
-pub gave : (limit status : ℕ) (told told' : Option (List ℕ)) (P : Type 0) → (status ≤ 2 → P) → GivesFront told told' (λ b n. (n ≤ limit + 4096) × (P → IsGathered limit b n)) → GivesAll limit status told told'
-gave limit status None told' P small h = tt
-gave limit status (Some b) None P small h = h
-gave limit status (Some b) (Some rest) P small (t, is, (few, all)) = (t, is, (few, λ s. all (small s)))
+pub gave : (limit status : ℕ) (told told' : Option (List ℕ)) (result : Result (Vec ℕ Global) GatherFault) → (status ≤ 2 → TellsAll result)
+    → GivesFront told told' (λ b n. (n ≤ limit + 4096) × (TellsAll result → IsGathered limit b n)) → GivesAll limit status told told'
+gave limit status None told' result small h = tt
+gave limit status (Some b) None result small h = h
+gave limit status (Some b) (Some rest) result small (t, is, (few, all)) = (t, is, (few, λ s. all (small s)))

@@ -24,6 +24,7 @@ fn octet_at_front<R: Source>(reader: &mut R) -> Result<u8, ReadFault>
     octet(&mut w)
 }
 
+#[tactic(auto, using(crate::proofs::Meeting::ended_more, crate::proofs::Front::octet_left, crate::proofs::Front::none_left, crate::proofs::Taking::one_taken, crate::proofs::Taking::none_taken))]
 /// That the reader has no octet left after a value that took so many. Refused as `Follows`, or as
 /// `Input` where the reader fails.
 pub fn check_end<'a, R: Source>(reader: &mut R, taken: u64) -> Result<(), Fault<'a>>

@@ -58,6 +58,7 @@ fn verdict_line<'a>(alloc: Global, is_canonical: bool, octets: &[u8]) -> Result<
     }
 }
 
+#[tactic(auto, using(crate::proofs::Meeting::anyway))]
 // The line of `check` for the octets.
 fn check_octets<'a>(alloc: Global, schema: &Schema, octets: &[u8]) -> Result<String, Fault<'a>>
     ensures exact { Says string_bytes (check_octets (the_type schema.now) octets.now) result }
@@ -81,6 +82,7 @@ pub fn check_digits<'a>(
     check_octets(alloc, schema, octets.as_slice())
 }
 
+#[tactic(auto, using(crate::proofs::Meeting::limited_said))]
 /// The line of `check` for the octets that the input has left.
 pub fn check_input<'a, R: Read>(
     alloc: Global,

@@ -22,6 +22,7 @@ use serde_json::Value as Json;
 use std::alloc::Global;
 use std::io::Read;
 
+#[tactic(auto, using(crate::proofs::Exact::utf8_read))]
 // The JSON of a text; fails with `NotJson`, or with `Memory`.
 fn json_of<'a>(alloc: Global, text: &str) -> Result<Json, Fault<'a>>
     ensures { Says view (json_in text.now) result }
@@ -89,6 +90,7 @@ pub fn made_of_text<'a>(
     text_line(alloc, schema, text)
 }
 
+#[tactic(auto, using(crate::proofs::Meeting::limited_said, crate::proofs::Taking::later, crate::proofs::Exact::text_broken))]
 /// The line of `make` for the text that the input has left.
 pub fn made_of_input<'a, R: Read>(
     alloc: Global,

@@ -76,6 +76,7 @@ pub fn in_digits<'a>(alloc: Global, octets: &[u8]) -> Result<String, Fault<'a>>
     }
 }
 
+#[tactic(auto, using(crate::proofs::Taking::gave))]
 /// All that the input has left, within the limit. Refused as `Longer`, as `Input` or as `Memory`.
 pub fn gathered<'a, R: Read>(alloc: Global, input: &mut R, limit: u64) -> Result<Vec<u8>, Fault<'a>>
     ensures exact { (b : List ℕ) → R.remaining input.old ≡ Some b → Says octets_of (within_limit limit b) result }

@@ -18,6 +18,7 @@ use oer_types::Schema;
 use std::alloc::Global;
 use std::io::Read;
 
+#[tactic(auto, using(crate::proofs::Exact::path_none))]
 // The path of `--path`; fails with `Path`, or with `Memory`.
 fn path_of<'a>(alloc: Global, text: Option<&str>) -> Result<Vec<Step>, Fault<'a>>
     ensures exact { (path : Expected (List PlainStep)) → IsPathOf (behind text.entry) path → Says (λ v. steps_of v.items) path result }

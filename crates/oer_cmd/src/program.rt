@@ -26,6 +26,7 @@ use oer_units::Metered;
 use std::alloc::{AllocError, Global};
 use std::io::{Read, Write};
 
+#[tactic(auto, using(crate::proofs::Asking::unasked, crate::proofs::Answered::line_read))]
 /// The line of the task for values of the type, from the octets or the JSON of the options, else from the input. The error says why
 /// there is none.
 pub fn line_of<'a, R: Read>(
@@ -50,7 +51,7 @@ pub fn line_of<'a, R: Read>(
     }
 }
 
-#[tactic(auto, using(crate::proofs::Asking::lost))]
+#[tactic(auto, using(crate::proofs::Asking::lost, crate::proofs::Meeting::stops))]
 // The line for the type that the text spells.
 fn line_of_one<'a, R: Read>(
     alloc: Global,

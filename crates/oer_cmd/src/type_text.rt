@@ -58,6 +58,7 @@ pub fn type_text(options: Options<'_>) -> Result<TypeText<'_>, Fault<'_>>
     Ok(TypeText::Named { types, name })
 }
 
+#[tactic(auto, using(crate::proofs::Naming::only_type))]
 /// The one well-formed type that the text spells; fails with `Type`, or with `Memory`.
 pub fn one_type(alloc: Global, text: &str) -> Result<Schema, Fault<'_>>
     ensures exact { Meets the_type (parsed (parse text.now)) result }
@@ -73,6 +74,7 @@ pub fn one_type(alloc: Global, text: &str) -> Result<Schema, Fault<'_>>
     }
 }
 
+#[tactic(auto, using(crate::proofs::Naming::only_definitions))]
 /// The definitions of well-formed types that the text spells; fails with `Type`, or with `Memory`.
 pub fn definitions<'a>(alloc: Global, text: &str) -> Result<Types, Fault<'a>>
     ensures exact { Meets knowns (parsed (parse_all text.now)) result }
@@ -88,6 +90,7 @@ pub fn definitions<'a>(alloc: Global, text: &str) -> Result<Types, Fault<'a>>
     }
 }
 
+#[tactic(auto, using(crate::proofs::TypesInput::text_refused))]
 // The text that the octets are. Where they aren't UTF-8, no token begins after their longest front that is.
 fn text_of<'a>(octets: Vec<u8>) -> Result<String, Fault<'a>>
     ensures { Says string_bytes (types_text octets.items) result }

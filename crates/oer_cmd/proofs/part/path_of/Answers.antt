@@ -2,7 +2,7 @@ use Rattle.std.proofs.Common.{ap, subst, sym}
 use Rattle.oer_options.specs.Words.{behind}
 use Rattle.oer_parts.specs.Walk.{path_of as steps_of}
 use Rattle.oer_cmd.specs.Run.{IsPath}
-use Rattle.oer_cmd.proofs.Exact.{no_path, path_is, path_none}
+use Rattle.oer_cmd.proofs.Exact.{no_path, path_is}
 use Rattle.oer_cmd.proofs.part.path_of.Goals as goal
 
 pub returns-in-Ok-clause-exact : goal.returns-in-Ok-clause-exact
@@ -11,7 +11,3 @@ returns-in-Ok-clause-exact c = path_is (behind c.args.text) (steps_of c.in-Ok.pa
 
 pub returns-in_default-clause-exact : goal.returns-in_default-clause-exact
 returns-in_default-clause-exact c = λ path of. no_path c.args.text (steps_of c.new.result.items) c.in_default.not-Some (ap steps_of c.new.ensures.items) path of
-
-pub returns-in-Err-Form-clause-exact : goal.returns-in-Err-Form-clause-exact
-returns-in-Err-Form-clause-exact c = λ path of small. path_none (behind c.args.text) path
-    (λ p h. c.in-Err-Form.ensures.form c.in-Err-Form.field-0-is p (subst (λ t. IsPath (behind t) p) c.in-Some.is h)) of

@@ -1,7 +1,7 @@
 use Rattle.std.proofs.Common.{◌∙◌, ap, sym}
 use Rattle.oer_options.specs.Words.{texts_of}
 use Rattle.oer_cmd.specs.Types.{texts_at}
-use Rattle.oer_cmd.proofs.Endings.{for_texts, lacking}
+use Rattle.oer_cmd.proofs.Endings.{for_texts}
 use Rattle.std.proofs.Common.{refl}
 use Rattle.oer_options.specs.Words.{kind, source_text}
 use Rattle.oer_cmd.specs.Answer.{expected_type}
@@ -11,10 +11,6 @@ use Rattle.oer_cmd.proofs.Choices.{failing}
 use Rattle.oer_cmd.proofs.Endings.{line_for}
 use Rattle.oer_cmd.proofs.Meeting.{left}
 use Rattle.oer_cmd.proofs.program.answer.Goals as goal
-
-pub returns-in_err-text-clause-exact : goal.returns-in_err-text-clause-exact
-returns-in_err-text-clause-exact g c =
-    rw (left c.from_residual.result _ c.from_residual.ensures.1) (λ path of. lacking c.args.options path _ _ c.in_err-text.ensures.unread c.in_err-text.ensures.lacking)
 
 pub returns-in-One-clause-exact : goal.returns-in-One-clause-exact
 returns-in-One-clause-exact g c = for_texts (texts_of c.args.options) _ c.args.options.task c.args.options.limit _ c.line_of_one.result (ap texts_at (sym c.in-One.is) ∙ c.in_ok-text.ensures.named) c.line_of_one.ensures.exact
