@@ -64,7 +64,8 @@ use Rattle.oer_cmd.specs.declared.fault.Fault.TheVariants.{Longer, Path}
 -- ==== A line that is answered is the line of the task.
 
 -- What was answered was made of a value.
-made_of : {A B : Type 0} (m : Expected A) (next : A → Expected B) (y : B) → (m >>= next) ≡ value y → (x : A) × (m ≡ value x) × (next x ≡ value y)
+made_of : {A B : Type 0} (m : Expected A) (next : A → Expected B) (y : B) → (m >>= next) ≡ value y
+    → (x : A) × (m ≡ value x) × (next x ≡ value y)
 made_of unknown next y h = absurd (cc)
 made_of (refusal r) next y h = absurd (cc)
 made_of (value x) next y h = (x, refl, h)
@@ -107,7 +108,8 @@ value_is T wf limit b v octets h =
     (subst (λ (l : List ℕ). Encodes T v l) all right.3, subst (λ (l : List ℕ). length l ≤ limit) all right.2)
 
 -- A line of fewer than 2^64 octets has the canonical octets of a value.
-canonical_is : (T : AsnType) → KeepsLimits T → (v : AsnValue) (line : Text) → Fits T v → length line < 2 ^ 64 → line ≡ encode_lower (canonical_octets T v)
+canonical_is : (T : AsnType) → KeepsLimits T → (v : AsnValue) (line : Text) → Fits T v → length line < 2 ^ 64
+    → line ≡ encode_lower (canonical_octets T v)
     → IsCanonical T v (canonical_octets T v)
 canonical_is T wf v line fits short is =
     canon_given T wf v fits (omega (arith, short, ap length is, length-encode_with lower_digits (canonical_octets T v)))
@@ -197,12 +199,14 @@ check_is T well limit bound line b octets few h =
     let k = checked_is T well b m.0 octets (omega (arith, few, bound)) m.1 in
     ((k.0, k.1), few, (m.0, (let e = m.2 in cc), k.2))
 
-handed_is : (a : Answer) (line : Text) → handed a ≡ value line → (U : Option AsnType) × (s : List ℕ) × (a ≡ found U s) × (line ≡ encode_lower s)
+handed_is : (a : Answer) (line : Text) → handed a ≡ value line
+    → (U : Option AsnType) × (s : List ℕ) × (a ≡ found U s) × (line ≡ encode_lower s)
 handed_is (found U s) line h = (U, s, refl, cc)
 handed_is no_such_step line h = absurd (cc)
 handed_is absent_part line h = absurd (cc)
 
-part_is : (T : AsnType) → IsWellFormed T → (limit : ℕ) → limit ≤ most → (text : Option Text) (path : List Step) → IsPath text path → (line : Text)
+part_is : (T : AsnType) → IsWellFormed T → (limit : ℕ) → limit ≤ most → (text : Option Text) (path : List Step) → IsPath text path
+    → (line : Text)
     (b : List ℕ) → IsOctets b → length b ≤ limit → part_octets T path b ≡ value line → IsPartLine T limit text line b
 part_is T well limit bound text path spelled line b octets few h =
     let m = made_of (checked T b) (λ c. handed (find_part (Some T) b path)) line h in
@@ -283,7 +287,8 @@ pub none_there : (text : Option Text) → HasNoPath text → IsPathOf text (stop
 none_there (Some text) lacks = (refl, lacks)
 none_there None lacks = absurd lacks
 
-unknown_line : (k : Kind) (source path : Option Text) (T : AsnType) (limit : ℕ) (line : Text) → source ≡ None → IsLineBy k source path None T limit line
+unknown_line : (k : Kind) (source path : Option Text) (T : AsnType) (limit : ℕ) (line : Text) → source ≡ None
+    → IsLineBy k source path None T limit line
 unknown_line show None path T limit line none = tt
 unknown_line _ None path T limit line none = tt
 unknown_line k (Some s) path T limit line none = absurd (cc)
@@ -478,7 +483,8 @@ task_answered T well (Make json) limit bound b line h = ([], refl, make_answered
 task_answered T well (Part hex text) limit bound b line h = part_answered T well limit bound (behind hex) (behind text) b line h
 
 -- Octets of the input that have a line are within the limit.
-line_within : (k : Kind) (path : Option Text) (b : List ℕ) (T : AsnType) (limit : ℕ) (line : Text) → IsLineBy k None path (Some b) T limit line
+line_within : (k : Kind) (path : Option Text) (b : List ℕ) (T : AsnType) (limit : ℕ) (line : Text)
+    → IsLineBy k None path (Some b) T limit line
     → length b ≤ limit
 line_within show path b T limit line h = h.1.2
 line_within show_ascii path b T limit line h = h.1.1.2
@@ -492,7 +498,8 @@ beyond : (limit : ℕ) → (b : List ℕ) × (length b ≡ suc limit)
 beyond zero = (0 ∷ [], refl)
 beyond (suc n) = let b = beyond n in (0 ∷ b.0, ap suc b.1)
 
-not_beyond : (task : Task) (T : AsnType) (limit : ℕ) (line : Text) → source_text task ≡ None → IsLineOf task (Some ((beyond limit).0)) T limit line → ⊥
+not_beyond : (task : Task) (T : AsnType) (limit : ℕ) (line : Text) → source_text task ≡ None
+    → IsLineOf task (Some ((beyond limit).0)) T limit line → ⊥
 not_beyond task T limit line none h =
     let b = beyond limit in
     let few = line_within (kind task) (path_text task) b.0 T limit line (subst (λ s. IsLineBy (kind task) s (path_text task) (Some b.0) T limit line) none h) in
@@ -514,7 +521,8 @@ type_there alone all None (Some text) (Some name) T (ks, (spells, wells), is) = 
 type_there alone all one types name T h = absurd h
 
 -- the answer for the type that the texts name
-typed_answer : ParseComplete → ParseAllComplete → (t : Texts) (T : AsnType) (task : Task) (limit : ℕ) → limit ≤ most → (b : List ℕ) (line : Text)
+typed_answer : ParseComplete → ParseAllComplete → (t : Texts) (T : AsnType) (task : Task) (limit : ℕ) → limit ≤ most
+    → (b : List ℕ) (line : Text)
     → SpelledBy t T → IsLineOf task (Some b) T limit line → IsAnswer (path_text task) (λ path. answer_of t task limit path (Some b)) line
 typed_answer alone all t T task limit bound b line named h =
     let is = type_there alone all t.one t.types t.name T named in
@@ -539,7 +547,8 @@ spelled_there : (t : Texts) (source : Option Text) (b : List ℕ) (T : AsnType) 
 spelled_there t source b T mark h = passed (reads_types t)
     ((source ≢ None) × ((length b ≤ most) × IsUtf8 b × SpelledBy (record t { types = Some b }) T)) (SpelledBy t T) mark h
 
-spelled_own : (t : Texts) (source : Option Text) (b : List ℕ) (T : AsnType) → reads_types t ≡ false → SpelledWith t source (Some b) T → SpelledBy t T
+spelled_own : (t : Texts) (source : Option Text) (b : List ℕ) (T : AsnType) → reads_types t ≡ false → SpelledWith t source (Some b) T
+    → SpelledBy t T
 spelled_own t source b T own h = failed (reads_types t)
     ((source ≢ None) × ((length b ≤ most) × IsUtf8 b × SpelledBy (record t { types = Some b }) T)) (SpelledBy t T) own h
 

@@ -17,7 +17,8 @@ use Rattle.oer_cmd.proofs.Taking.{later, untaken}
 use Rattle.oer_cmd.proofs.Choices.{either}
 
 -- A task on what the input has: by the path that its text spells, if there is a text.
-pub asked : (T : AsnType) (source text : Option Text) (path : Expected (List Step)) (untouched : Type 0) (gives : AsnType → Type 0) → source ≡ None
+pub asked : (T : AsnType) (source text : Option Text) (path : Expected (List Step)) (untouched : Type 0) (gives : AsnType → Type 0)
+    → source ≡ None
     → (HasPath text → gives T) → (HasNoPath text → untouched) → IsPathOf text path → GivesIfAsked (value T) source path untouched gives
 asked T None (Some text) (value p) untouched gives none there other of = there (p, of)
 asked T None None (value p) untouched gives none there other of = there tt
@@ -33,7 +34,8 @@ unasked T (Some t) text path untouched gives some same = same
 unasked T None text path untouched gives some same = absurd (cc)
 
 -- nothing, where the machine failed
-pub task_untaken : (k : Kind) (T : AsnType) (limit status : ℕ) (told : Option (List ℕ)) → (status ≤ 2 → ⊥) → GivesTask k T limit status told told
+pub task_untaken : (k : Kind) (T : AsnType) (limit status : ℕ) (told : Option (List ℕ)) → (status ≤ 2 → ⊥)
+    → GivesTask k T limit status told told
 task_untaken show T limit status told high = untaken (limit + 1) status (IsValue T limit) told high
 task_untaken show_ascii T limit status told high = untaken (limit + 1) status (IsValue T limit) told high
 task_untaken canon T limit status told high = untaken (limit + 1) status (IsValue T limit) told high
@@ -50,7 +52,8 @@ lost type source path untouched k limit told fault same none = same
 -- ---- what a task takes
 
 -- what is left unsaid at a later status
-pub task_later : (k : Kind) (T : AsnType) (limit status status' : ℕ) (told told' : Option (List ℕ)) → (status' ≤ 2 → status ≤ 2) → GivesTask k T limit status told told' → GivesTask k T limit status' told told'
+pub task_later : (k : Kind) (T : AsnType) (limit status status' : ℕ) (told told' : Option (List ℕ)) → (status' ≤ 2 → status ≤ 2)
+    → GivesTask k T limit status told told' → GivesTask k T limit status' told told'
 task_later show T limit status status' told told' less h = later (limit + 1) status status' (IsValue T limit) told told' less h
 task_later show_ascii T limit status status' told told' less h = later (limit + 1) status status' (IsValue T limit) told told' less h
 task_later canon T limit status status' told told' less h = later (limit + 1) status status' (IsValue T limit) told told' less h
@@ -66,7 +69,8 @@ types_later : (source : Option Text) (untouched : Type 0) (status status' : ℕ)
 types_later None untouched status status' told told' less h = h
 types_later (Some text) untouched status status' told told' less h = later (most + 4096) status status' (IsGathered most) told told' less h
 
-pub for_later : (o : Options) (untouched : Type 0) (status status' : ℕ) (told told' : Option (List ℕ)) → (status' ≤ 2 → status ≤ 2) → TakesFor o untouched status told told' → TakesFor o untouched status' told told'
+pub for_later : (o : Options) (untouched : Type 0) (status status' : ℕ) (told told' : Option (List ℕ)) → (status' ≤ 2 → status ≤ 2)
+    → TakesFor o untouched status told told' → TakesFor o untouched status' told told'
 for_later o untouched status status' told told' less h = either (reads_types (texts_of o))
     (types_later (source_text o.task) untouched status status' told told' less)
     (λ own path of. asked_later (expected_type (texts_of o)) (source_text o.task) path untouched
@@ -76,7 +80,8 @@ for_later o untouched status status' told told' less h = either (reads_types (te
 -- ---- the type
 
 -- The same of a type that is given.
-pub given_later : (T : AsnType) (o : Options) (untouched : Type 0) (status status' : ℕ) (told told' : Option (List ℕ)) → (status' ≤ 2 → status ≤ 2)
+pub given_later : (T : AsnType) (o : Options) (untouched : Type 0) (status status' : ℕ) (told told' : Option (List ℕ))
+    → (status' ≤ 2 → status ≤ 2)
     → ((path : Expected (List Step)) → IsPathOf (path_text o.task) path
     → GivesIfAsked (value T) (source_text o.task) path untouched (λ U. GivesTask (kind o.task) U o.limit status told told'))
     → (path : Expected (List Step)) → IsPathOf (path_text o.task) path

@@ -49,7 +49,8 @@ canonical_read T limit failed failed' m n count count' known known' old new b (O
 canonical_read T limit failed failed' m n count count' known known' old new b (Err e, front, (clash, kept, still)) written none is = absurd (cc)
 
 pub canonical_stops : (T : AsnType) (limit failed failed' count count' : ℕ) (known known' old new : Option (List ℕ)) (e : RewriteFault) (fault : Fault) (b : List ℕ)
-    → IsOfRewrite e fault → ReadsAndWrites T limit known failed known' failed' old count (Err e) new count' → known ≡ Some b → status_of fault ≤ 2
+    → IsOfRewrite e fault → ReadsAndWrites T limit known failed known' failed' old count (Err e) new count' → known ≡ Some b
+    → status_of fault ≤ 2
     → canonical_of T limit b ≡ stop fault
 canonical_stops T limit failed failed' count count' known known' old new (rewrite.Read e) fault b told (Ok v, front, follows) is small = absurd follows
 canonical_stops T limit failed failed' count count' known known' old new (rewrite.Read e) fault b told (Err f, front, (one, kept, still)) is small =
@@ -78,7 +79,8 @@ pub checked_all : (T : AsnType) (b : List ℕ) (verdict : Verdict) → Answers T
 checked_all T b verdict h all = ap (whole b) h
     ∙ ap (λ (l : List ℕ). ended (length b - length l) verdict.canonical l) (ap (λ (n : ℕ). drop n b) all ∙ drop-length b)
 
-pub checked_more : (T : AsnType) (b : List ℕ) (verdict : Verdict) → Answers T b (Ok verdict) → Tells T b (Ok verdict) → (verdict.octets ≡ length b → ⊥)
+pub checked_more : (T : AsnType) (b : List ℕ) (verdict : Verdict) → Answers T b (Ok verdict) → Tells T b (Ok verdict)
+    → (verdict.octets ≡ length b → ⊥)
     → checked T b ≡ stop (Follows verdict.octets)
 checked_more T b verdict h (c, rest, is, count, encodes, canonical) some =
     let left : drop verdict.octets b ≡ rest = ap (λ (n : ℕ). drop n b) count ∙ ap (drop (length c)) is ∙ dropped c rest in
@@ -126,7 +128,8 @@ part_found f T b path canonical s h answers =
     ap (λ o. o >>= λ c. handed (find_part (Some T) b path)) h ∙ ap handed (agrees f T b path canonical (Ok s) h answers).1
 
 -- the path of a text is the one that was read, or there is none
-pub path_is : (text : Option Text) (p : List Step) → OnePath → IsPath text p → (path : Expected (List Step)) → IsPathOf text path → path ≡ value p
+pub path_is : (text : Option Text) (p : List Step) → OnePath → IsPath text p → (path : Expected (List Step)) → IsPathOf text path
+    → path ≡ value p
 path_is (Some text) p one is (value q) of = ap (λ (l : List Step). value l) (one text q p of is)
 path_is None p one is (value q) of = ap (λ (l : List Step). value l) (of ∙ sym is)
 path_is text p one is (refusal r) of = absurd (of.1 p is)
@@ -139,7 +142,8 @@ no_path None p other none (refusal r) of = absurd (of.1 [] refl)
 no_path None p other none unknown of = absurd of
 no_path (Some t) p other none path of = absurd (other t refl)
 
-pub path_none : (text : Option Text) (path : Expected (List Step)) → ((p : List Step) → IsPath text p → ⊥) → IsPathOf text path → path ≡ stop Path
+pub path_none : (text : Option Text) (path : Expected (List Step)) → ((p : List Step) → IsPath text p → ⊥) → IsPathOf text path
+    → path ≡ stop Path
 path_none text (value q) none of = absurd (none q of)
 path_none text (refusal r) none of = of.0
 path_none text unknown none of = absurd of

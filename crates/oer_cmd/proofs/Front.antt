@@ -21,7 +21,8 @@ unfolding octet bind group give
 none_there = refl
 
 -- An octet that was read was left.
-pub octet_left : (failed failed' : ℕ) (known known' : Option (List ℕ)) (x : ℕ) (b : List ℕ) → ReadsFront octet 1 known failed (Ok x) known' failed'
+pub octet_left : (failed failed' : ℕ) (known known' : Option (List ℕ)) (x : ℕ) (b : List ℕ)
+    → ReadsFront octet 1 known failed (Ok x) known' failed'
     → known ≡ Some b → b ≢ []
 octet_left failed failed' None known' x b h is = absurd (cc)
 octet_left failed failed' (Some xs) None x b h is = absurd h.reads.exact

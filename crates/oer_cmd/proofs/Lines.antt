@@ -57,7 +57,8 @@ one_flag make make flag e f g = refl
 one_flag part part flag e f g = refl
 one_flag _ _ flag e f g = absurd (cc)
 
-one_kind : (o : Option Text) (flag : Text → Option Text) (j k : Kind) → o ≡ Some (name_of j) → o ≡ Some (name_of k) → HasFlags j flag → HasFlags k flag → j ≡ k
+one_kind : (o : Option Text) (flag : Text → Option Text) (j k : Kind) → o ≡ Some (name_of j) → o ≡ Some (name_of k) → HasFlags j flag
+    → HasFlags k flag → j ≡ k
 one_kind o flag j k p q f g = one_flag j k flag (sym (named_is j) ∙ ap named (sym p ∙ q) ∙ named_is k) f g
 
 -- and back
@@ -145,7 +146,8 @@ none_answers_for T words o known told asks none same = λ line h. none line
     (λ b may. answers_options_for T words o (Some b) line asks (h b (subst (λ k. MayBe k b) same may)))
 
 -- what holds of all the octets holds of those that the words give
-pub of_all : (hex : Option Text) (spelt told : Option (List ℕ)) (b : List ℕ) (P : List ℕ → Type 0) → AreSpelt hex spelt → AreAll spelt told b → P b → OfOctets hex told P
+pub of_all : (hex : Option Text) (spelt told : Option (List ℕ)) (b : List ℕ) (P : List ℕ → Type 0) → AreSpelt hex spelt
+    → AreAll spelt told b → P b → OfOctets hex told P
 of_all (Some digits) (Some c) told b P spells all p = (c, spells, subst P all p)
 of_all (Some digits) None told b P spells all p = absurd spells
 of_all None (Some c) told b P spells all p = absurd spells

@@ -62,7 +62,8 @@ pub named : {X Y : Type 0} (view : X → Y) (m n : Expected Y) (result : Result 
 named view m n (Ok x) same h = same ∙ h
 named view m n (Err fault) same h = λ small. same ∙ h small
 
-pub named_of : {X Y : Type 0} (view : X → Y) (b : List ℕ) (m n : Expected Y) (result : Result X Fault) → m ≡ n → SaysOf view b n result → Says view m result
+pub named_of : {X Y : Type 0} (view : X → Y) (b : List ℕ) (m n : Expected Y) (result : Result X Fault) → m ≡ n → SaysOf view b n result
+    → Says view m result
 named_of view b m n (Ok x) same h = same ∙ h.1
 named_of view b m n (Err fault) same h = λ small. same ∙ h small
 
@@ -108,7 +109,8 @@ pub ended_more : {A : Type 0} (m n : ℕ) (x : A) (rest : List ℕ) → rest ≢
 ended_more m n x [] some same = absurd (some refl)
 ended_more m n x (y ∷ rest) some same = ap (λ (k : ℕ). stop (Follows k)) same
 
-ended_next : {A B : Type 0} (n : ℕ) (x : A) (next : A → Expected B) (rest : List ℕ) → (ended n x rest >>= next) ≡ (end_at n rest >>= λ u. next x)
+ended_next : {A B : Type 0} (n : ℕ) (x : A) (next : A → Expected B) (rest : List ℕ)
+    → (ended n x rest >>= next) ≡ (end_at n rest >>= λ u. next x)
 ended_next n x next [] = refl
 ended_next n x next (y ∷ rest) = refl
 

@@ -27,21 +27,24 @@ use Rattle.oer_cmd.proofs.Front.{none_left, none_there, one_read}
 use Rattle.oer_cmd.proofs.Meeting.{exactly_got, exactly_refused, is_read, three}
 
 -- a front that was taken, and what holds of its length
-pub front_taken : (told told' : Option (List ℕ)) (t : List ℕ) (P : List ℕ → ℕ → Type 0) → Consumes told told' t → ((b rest : List ℕ) → told ≡ Some b → told' ≡ Some rest → P b (length t))
+pub front_taken : (told told' : Option (List ℕ)) (t : List ℕ) (P : List ℕ → ℕ → Type 0) → Consumes told told' t
+    → ((b rest : List ℕ) → told ≡ Some b → told' ≡ Some rest → P b (length t))
     → GivesFront told told' P
 front_taken None told' t P takes h = tt
 front_taken (Some b) None t P takes h = absurd takes
 front_taken (Some b) (Some rest) t P takes h = (t, takes, h b rest refl refl)
 
 -- what is left unsaid at a later status
-pub later : (most status status' : ℕ) (P : List ℕ → ℕ → Type 0) (told told' : Option (List ℕ)) → (status' ≤ 2 → status ≤ 2) → GivesFront told told' (Amounts most status P)
+pub later : (most status status' : ℕ) (P : List ℕ → ℕ → Type 0) (told told' : Option (List ℕ)) → (status' ≤ 2 → status ≤ 2)
+    → GivesFront told told' (Amounts most status P)
     → GivesFront told told' (Amounts most status' P)
 later most status status' P None told' less h = tt
 later most status status' P (Some b) None less h = h
 later most status status' P (Some b) (Some rest) less (t, is, (few, exact)) = (t, is, (few, λ small. exact (less small)))
 
 -- nothing, where the machine failed
-pub untaken : (most status : ℕ) (P : List ℕ → ℕ → Type 0) (told : Option (List ℕ)) → (status ≤ 2 → ⊥) → GivesFront told told (Amounts most status P)
+pub untaken : (most status : ℕ) (P : List ℕ → ℕ → Type 0) (told : Option (List ℕ)) → (status ≤ 2 → ⊥)
+    → GivesFront told told (Amounts most status P)
 untaken most status P None high = tt
 untaken most status P (Some b) high = ([], refl, (omega arith, λ small. absurd (high small)))
 
@@ -59,7 +62,8 @@ one_of : (n : ℕ) → min 1 (suc n) ≡ 1
 one_of n = min-eq_left (omega arith)
 
 -- an octet was there
-pub one_taken : (failed failed' status : ℕ) (known known' : Option (List ℕ)) (x : ℕ) → ReadsFront octet 1 known failed (Ok x) known' failed' → GivesFront known known' (Amounts 1 status IsNext)
+pub one_taken : (failed failed' status : ℕ) (known known' : Option (List ℕ)) (x : ℕ)
+    → ReadsFront octet 1 known failed (Ok x) known' failed' → GivesFront known known' (Amounts 1 status IsNext)
 one_taken failed failed' status None known' x h = tt
 one_taken failed failed' status (Some xs) None x h = absurd h.reads.exact
 one_taken failed failed' status (Some xs) (Some ys) x h =
@@ -69,7 +73,8 @@ one_taken failed failed' status (Some xs) (Some ys) x h =
     (took.0, took.1, (omega (arith, one), λ small. one ∙ sym (ap (min 1) more ∙ one_of (length ys))))
 
 -- none was there, or the input failed
-pub none_taken : (failed failed' status : ℕ) (known known' : Option (List ℕ)) (e : ReadFault) → (status ≤ 2 → e.why ≡ End) → ReadsFront octet 1 known failed (Err e) known' failed'
+pub none_taken : (failed failed' status : ℕ) (known known' : Option (List ℕ)) (e : ReadFault) → (status ≤ 2 → e.why ≡ End)
+    → ReadsFront octet 1 known failed (Err e) known' failed'
     → GivesFront known known' (Amounts 1 status IsNext)
 none_taken failed failed' status None known' e end h = tt
 none_taken failed failed' status (Some xs) None e end h = absurd h.reads.exact
@@ -90,7 +95,8 @@ none_taken failed failed' status (Some xs) (Some ys) e end h =
 
 -- It was read, and the octet after it was looked for.
 pub value_taken : (T : AsnType) (limit failed failed' status : ℕ) (known known' known'' : Option (List ℕ)) (v : AsnValue)
-    → ReadsFront (read_value T) limit known failed (Ok v) known' failed' → GivesFront known' known'' (Amounts 1 status IsNext) → GivesValue T limit status known known''
+    → ReadsFront (read_value T) limit known failed (Ok v) known' failed' → GivesFront known' known'' (Amounts 1 status IsNext)
+    → GivesValue T limit status known known''
 value_taken T limit failed failed' status None known' known'' v h end = tt
 value_taken T limit failed failed' status (Some xs) None known'' v h end = absurd h.reads.exact
 value_taken T limit failed failed' status (Some xs) (Some ys) None v h end = absurd end
@@ -111,7 +117,8 @@ value_taken T limit failed failed' status (Some xs) (Some ys) (Some zs) v h (u, 
 
 -- It was refused.
 pub value_refused : (T : AsnType) (limit failed failed' : ℕ) (known known' : Option (List ℕ)) (e : ReadFault) (fault : Fault)
-    → IsOfRead e fault → ReadsFront (read_value T) limit known failed (Err e) known' failed' → GivesValue T limit (status_of fault) known known'
+    → IsOfRead e fault → ReadsFront (read_value T) limit known failed (Err e) known' failed'
+    → GivesValue T limit (status_of fault) known known'
 value_refused T limit failed failed' None known' e fault is h = tt
 value_refused T limit failed failed' (Some xs) None e fault is h = absurd h.reads.exact
 value_refused T limit failed failed' (Some xs) (Some ys) e fault is h =
@@ -137,12 +144,14 @@ value_lost T limit failed failed' status (Some xs) (Some ys) result h high =
     (took.0, took.1, (omega (arith, took.3, h.within), λ small. absurd (high small)))
 
 pub rewritten_taken : (T : AsnType) (limit failed failed' m n count count' status : ℕ) (known known' known'' old new : Option (List ℕ))
-    → ReadsAndWrites T limit known failed known' failed' old count (Ok (m, n)) new count' → GivesFront known' known'' (Amounts 1 status IsNext) → GivesValue T limit status known known''
+    → ReadsAndWrites T limit known failed known' failed' old count (Ok (m, n)) new count'
+    → GivesFront known' known'' (Amounts 1 status IsNext) → GivesValue T limit status known known''
 rewritten_taken T limit failed failed' m n count count' status known known' known'' old new (Ok v, front, follows) end = value_taken T limit failed failed' status known known' known'' v front end
 rewritten_taken T limit failed failed' m n count count' status known known' known'' old new (Err e, front, (clash, kept, still)) end = absurd (cc)
 
 pub rewritten_refused : (T : AsnType) (limit failed failed' count count' : ℕ) (known known' old new : Option (List ℕ)) (e : RewriteFault) (fault : Fault)
-    → IsOfRewrite e fault → ReadsAndWrites T limit known failed known' failed' old count (Err e) new count' → GivesValue T limit (status_of fault) known known'
+    → IsOfRewrite e fault → ReadsAndWrites T limit known failed known' failed' old count (Err e) new count'
+    → GivesValue T limit (status_of fault) known known'
 rewritten_refused T limit failed failed' count count' known known' old new (rewrite.Read e) fault is (Ok v, front, follows) = absurd follows
 rewritten_refused T limit failed failed' count count' known known' old new (rewrite.Read e) fault is (Err f, front, (one, kept, still)) =
     let other : f ≡ e = cc in
@@ -153,18 +162,21 @@ rewritten_refused T limit failed failed' count count' known known' old new (rewr
     value_lost T limit failed failed' (status_of fault) known known' h.0 h.1 (three fault _ is refl)
 
 pub counted_taken : (T : AsnType) (limit failed failed' n status : ℕ) (known known' known'' : Option (List ℕ)) (v : AsnValue)
-    → ReadsAndCounts (read_value T) limit known failed (Ok (v, n)) known' failed' → GivesFront known' known'' (Amounts 1 status IsNext) → GivesValue T limit status known known''
+    → ReadsAndCounts (read_value T) limit known failed (Ok (v, n)) known' failed' → GivesFront known' known'' (Amounts 1 status IsNext)
+    → GivesValue T limit status known known''
 counted_taken T limit failed failed' n status known known' known'' v h end =
     value_taken T limit failed failed' status known known' known'' v (front_of (read_value T) limit failed failed' known known' (Ok (v, n)) h) end
 
 pub counted_refused : (T : AsnType) (limit failed failed' : ℕ) (known known' : Option (List ℕ)) (e : ReadFault) (fault : Fault)
-    → IsOfRead e fault → ReadsAndCounts (read_value T) limit known failed (Err e) known' failed' → GivesValue T limit (status_of fault) known known'
+    → IsOfRead e fault → ReadsAndCounts (read_value T) limit known failed (Err e) known' failed'
+    → GivesValue T limit (status_of fault) known known'
 counted_refused T limit failed failed' known known' e fault is h = value_refused T limit failed failed' known known' e fault is (front_of (read_value T) limit failed failed' known known' (Err e) h)
 
 -- ---- all that there is
 
 -- There is more than the limit.
-pub more_gathered : (limit : ℕ) (told told' : Option (List ℕ)) (front : List ℕ) (P : Type 0) → Consumes told told' front → limit < length front → length front ≤ limit + 4096
+pub more_gathered : (limit : ℕ) (told told' : Option (List ℕ)) (front : List ℕ) (P : Type 0) → Consumes told told' front
+    → limit < length front → length front ≤ limit + 4096
     → GivesFront told told' (λ b n. (n ≤ limit + 4096) × (P → IsGathered limit b n))
 more_gathered limit told told' t P h many few =
     front_taken told told' t (λ b n. (n ≤ limit + 4096) × (P → IsGathered limit b n)) h (λ b rest is is'. (few, λ p. let m = min-le_right (length b) (limit + 1) in omega (arith, m, many)))

@@ -90,7 +90,8 @@ in_hand unknown f g h = refl
 in_hand (refusal r) f g h = refl
 in_hand (value b) f g h = h b
 
-pub task_kept : (task : Task) (T : AsnType) (limit : ℕ) (path : Expected (List Step)) (told told' : Option (List ℕ)) → source_text task ≢ None
+pub task_kept : (task : Task) (T : AsnType) (limit : ℕ) (path : Expected (List Step)) (told told' : Option (List ℕ))
+    → source_text task ≢ None
     → task_answer task T limit path told ≡ task_answer task T limit path told'
 task_kept (Show (Some h)) T limit path told told' some = refl
 task_kept (ShowAscii (Some h)) T limit path told told' some = refl
@@ -108,7 +109,8 @@ after unknown f g h = refl
 after (refusal r) f g h = refl
 after (value x) f g h = h x
 
-pub answer_kept : (t : Texts) (task : Task) (limit : ℕ) (path : Expected (List Step)) (told told' : Option (List ℕ)) → source_text task ≢ None
+pub answer_kept : (t : Texts) (task : Task) (limit : ℕ) (path : Expected (List Step)) (told told' : Option (List ℕ))
+    → source_text task ≢ None
     → answer_of t task limit path told ≡ answer_of t task limit path told'
 answer_kept t task limit path told told' some = after (expected_type t) (λ T. task_answer task T limit path told)
     (λ T. task_answer task T limit path told') (λ T. task_kept task T limit path told told' some)

@@ -11,7 +11,8 @@ use Rattle.oer_cmd.proofs.Meeting.{anyway, named}
 use Rattle.oer_cmd.proofs.part.digits_of_part.Goals as goal
 
 -- what holds of the encoding's type and octets holds of those that were given
-of_given : (P : AsnType → List ℕ → Type 0) (found : Encoding) (T : AsnType) (octets : List ℕ) → type_of_encoding found ≡ T → octets_in found ≡ octets
+of_given : (P : AsnType → List ℕ → Type 0) (found : Encoding) (T : AsnType) (octets : List ℕ) → type_of_encoding found ≡ T
+    → octets_in found ≡ octets
     → P (type_of_encoding found) (octets_in found) → P T octets
 of_given P found T octets kind same h =
     subst (λ (xs : List ℕ). P T xs) same (subst (λ (U : AsnType). P U (octets_in found)) kind h)
