@@ -37,7 +37,7 @@ Meets view (value y) (Err fault) = status_of fault ≤ 2 → ⊥
 Meets view (refusal r) (Ok x) = ⊥
 Meets view (refusal r) (Err fault) = status_of fault ≤ 2 → refusal_of fault ≡ r
 
--- A function answers just that, where it is known, its value seen by view; or memory ran out, or a device failed.
+-- A function answers just that, its value seen by view; or memory ran out, or a device failed. So what is expected is known.
 abbrev pub Says : {X Y : Type 0} → (X → Y) → Expected Y → Result X Fault → Type 0
 Says view expected (Ok x) = expected ≡ value (view x)
 Says view expected (Err fault) = status_of fault ≤ 2 → expected ≡ stop fault
