@@ -1,7 +1,6 @@
 -- How the program ends, from what its steps answer.
 use Rattle.std.proofs.Common.{Result, ◌≡◌, ◌≢◌, ◌∙◌, ℕ, ◌≤◌, List, [], ◌∷◌, ◌++◌, true, false, Option, Some, None, Ok, Err, String, Global, refl, sym, ap, subst, arith, string_bytes, ◌⊎◌, inl, inr}
 use Rattle.std.specs.Prelude.{Bool, IfOk, if◌then◌else◌}
-use Rattle.std.specs.Borrow.{Bor}
 use Rattle.std.specs.Io.KnownBytes.{Appends, Keeps}
 use Rattle.clap.specs.Words.{HasKind, IsAmong, Kinds, Text, fault_of, kind_of, takes}
 use Rattle.clap.specs.declared.error.Error.{Error}
@@ -9,32 +8,23 @@ use Rattle.clap.specs.declared.error.kind.ErrorKind.{ErrorKind}
 use Rattle.clap.specs.declared.error.kind.ErrorKind.TheVariants.{DisplayHelp, DisplayVersion, OutOfMemory}
 use Rattle.oer_model.specs.AsnType.{AsnType}
 use Rattle.oer_model.specs.Parts.{Step}
-use Rattle.oer_types.specs.Schema.{the_type}
-use Rattle.oer_types.specs.declared.schema.Schema.{Schema}
-use Rattle.oer_notation.specs.Parsing.{parse, parse_all}
-use Rattle.oer_notation.specs.Reading.{Known, find}
-use Rattle.oer_notation.specs.Views.{knowns}
-use Rattle.oer_notation.specs.declared.types.Types.{Types}
 use Rattle.oer_options.specs.Words.{Asks, Texts, oer, path_text, source_text, texts_of}
 use Rattle.oer_options.specs.declared.options.Options.{Options}
 use Rattle.oer_options.specs.declared.options.Task.{Task}
-use Rattle.oer_cmd.specs.Answer.{IsPathOf, answer_of, expected_answer, expected_type, given_answer, named_as, parsed, task_answer, types_input}
+use Rattle.oer_cmd.specs.Answer.{IsPathOf, answer_of, expected_answer, expected_type, given_answer, task_answer, types_input}
 use Rattle.oer_cmd.specs.Ending.{Delivers, Breaks, Does, DoesFor, HoldsFront, IsMachineLine, IsNotTaken, IsUnstarted, MayPrint, Streams, refusal_line}
 use Rattle.oer_cmd.specs.Expected.{Expected, Meets, refusal, stop, unknown, value, ◌>>=◌}
 use Rattle.oer_cmd.specs.Faults.{AppendsFront, Printed, Reports, error_line, status_of}
 use Rattle.oer_cmd.specs.Run.{IsLineGiven}
 use Rattle.oer_cmd.specs.Types.{reads_types}
 use Rattle.oer_cmd.specs.declared.fault.Fault.{Fault}
-use Rattle.oer_cmd.specs.declared.fault.Fault.TheVariants.{Input, Memory, Output, «Type»}
-use Rattle.oer_cmd.proofs.Meeting.{bytes, goes, stops}
+use Rattle.oer_cmd.specs.declared.fault.Fault.TheVariants.{Input, Memory, Output}
+use Rattle.oer_cmd.proofs.Meeting.{bytes}
 
 -- ---- the type, and then the task
 
-pub for_task : (task same : Task) (T : AsnType) (limit : ℕ) (told : Option (List ℕ)) (result : Result (String Global) Fault) → task ≡ same
-    → ((path : Expected (List Step)) → IsPathOf (path_text same) path → Meets bytes (task_answer same T limit path told) result) → (path : Expected (List Step)) → IsPathOf (path_text task) path → Meets bytes (task_answer task T limit path told) result
-for_task task same T limit told result is h = subst (λ t. (path : Expected (List Step)) → IsPathOf (path_text t) path → Meets bytes (task_answer t T limit path told) result) (sym is) h
-
-pub for_texts : (texts same : Texts) (task : Task) (limit : ℕ) (told : Option (List ℕ)) (result : Result (String Global) Fault) → same ≡ texts
+pub for_texts : (texts same : Texts) (task : Task) (limit : ℕ) (told : Option (List ℕ)) (result : Result (String Global) Fault)
+    → same ≡ texts
     → ((path : Expected (List Step)) → IsPathOf (path_text task) path → Meets bytes (given_answer same task limit path told) result)
     → (path : Expected (List Step)) → IsPathOf (path_text task) path → Meets bytes (given_answer texts task limit path told) result
 for_texts texts same task limit told result is h = subst
@@ -44,38 +34,6 @@ pub line_for : (texts same : Texts) (task : Task) (limit : ℕ) (told : Option (
     → same ≡ texts → IfOk result (λ line. IsLineGiven same task limit told (string_bytes line))
     → IfOk result (λ line. IsLineGiven texts task limit told (string_bytes line))
 line_for texts same task limit told result is h = subst (λ t. IfOk result (λ line. IsLineGiven t task limit told (string_bytes line))) is h
-
-pub keeps_task : {A : Type 0} (task same : Task) → task ≡ same → (source_text same ≢ None → A) → source_text task ≢ None → A
-keeps_task task same is h some = h (λ none. some (ap source_text is ∙ none))
-
-pub one_unread : (text : Bor Text) (task : Task) (limit : ℕ) (path : Expected (List Step)) (told : Option (List ℕ)) (fault : Fault) → Meets {X = Schema} the_type (parsed (parse text.now)) (Err fault)
-    → Meets bytes (parsed (parse text.now) >>= λ T. task_answer task T limit path told) (Err fault)
-one_unread text task limit path told fault h = stops {X = Schema} the_type bytes (parsed (parse text.now)) (λ T. task_answer task T limit path told) fault h
-
-pub one_read : (text : Bor Text) (task : Task) (limit : ℕ) (path : Expected (List Step)) (told : Option (List ℕ)) (schema : Schema) (result : Result (String Global) Fault) → Meets the_type (parsed (parse text.now)) (Ok schema)
-    → Meets bytes (task_answer task (the_type schema) limit path told) result → Meets bytes (parsed (parse text.now) >>= λ T. task_answer task T limit path told) result
-one_read text task limit path told schema result h made = goes the_type bytes (parsed (parse text.now)) (λ T. task_answer task T limit path told) schema result h made
-
-pub named_unread : (types name : Bor Text) (task : Task) (limit : ℕ) (path : Expected (List Step)) (told : Option (List ℕ)) (fault : Fault) → Meets {X = Types} knowns (parsed (parse_all types.now)) (Err fault)
-    → Meets bytes (parsed (parse_all types.now) >>= (λ ks. named_as name.now (find ks name.now)) >>= λ T. task_answer task T limit path told) (Err fault)
-named_unread types name task limit path told fault h =
-    stops {X = Schema} the_type bytes (parsed (parse_all types.now) >>= λ ks. named_as name.now (find ks name.now)) (λ T. task_answer task T limit path told) fault
-    (stops {X = Types} the_type_knowns the_type (parsed (parse_all types.now)) (λ ks. named_as name.now (find ks name.now)) fault h) where
-      the_type_knowns : Types → List Known
-      the_type_knowns ts = knowns ts
-
-pub named_unknown : (types name : Bor Text) (task : Task) (limit : ℕ) (path : Expected (List Step)) (told : Option (List ℕ)) (ts : Types) (fault : Fault) → Meets knowns (parsed (parse_all types.now)) (Ok ts)
-    → Meets {X = Bor Schema} (λ s. the_type s.now) (named_as name.now (find (knowns ts) name.now)) (Err fault) → Meets bytes (parsed (parse_all types.now) >>= (λ ks. named_as name.now (find ks name.now)) >>= λ T. task_answer task T limit path told) (Err fault)
-named_unknown types name task limit path told ts fault h of =
-    stops {X = Bor Schema} (λ s. the_type s.now) bytes (parsed (parse_all types.now) >>= λ ks. named_as name.now (find ks name.now)) (λ T. task_answer task T limit path told) fault
-    (goes {Z = Bor Schema} knowns (λ s. the_type s.now) (parsed (parse_all types.now)) (λ ks. named_as name.now (find ks name.now)) ts (Err fault) h of)
-
-pub named_read : (types name : Bor Text) (task : Task) (limit : ℕ) (path : Expected (List Step)) (told : Option (List ℕ)) (ts : Types) (schema : Bor Schema) (result : Result (String Global) Fault) → Meets knowns (parsed (parse_all types.now)) (Ok ts)
-    → Meets (λ s. the_type s.now) (named_as name.now (find (knowns ts) name.now)) (Ok schema) → Meets bytes (task_answer task (the_type schema.now) limit path told) result
-    → Meets bytes (parsed (parse_all types.now) >>= (λ ks. named_as name.now (find ks name.now)) >>= λ T. task_answer task T limit path told) result
-named_read types name task limit path told ts schema result h of made =
-    goes (λ s. the_type s.now) bytes (parsed (parse_all types.now) >>= λ ks. named_as name.now (find ks name.now)) (λ T. task_answer task T limit path told) schema result
-    (goes knowns (λ s. the_type s.now) (parsed (parse_all types.now)) (λ ks. named_as name.now (find ks name.now)) ts (Ok schema) h of) made
 
 -- ---- the texts of a type
 
@@ -106,7 +64,9 @@ pub moved : (line own : Text) → line ≡ own → IsMachineLine own → IsMachi
 moved line own is h = subst IsMachineLine (sym is) h
 
 -- The fault is told, and the output is as it was.
-pub refused_end : (expected : Expected Text) (fault : Fault) (status : ℕ) (s : Streams) → Meets {X = String Global} bytes expected (Err fault) → Reports fault status s.errors s.errors' → Keeps s.output s.output' → Delivers expected status s ⊎ Breaks expected status s
+pub refused_end : (expected : Expected Text) (fault : Fault) (status : ℕ) (s : Streams)
+    → Meets {X = String Global} bytes expected (Err fault) → Reports fault status s.errors s.errors' → Keeps s.output s.output'
+    → Delivers expected status s ⊎ Breaks expected status s
 refused_end expected fault status s meets (line, inr (three, is), front) kept = inr (three, inl kept, (line, inr (inr is), front))
 refused_end expected fault status s meets (line, inl (same, is), front) kept = by expected meets (by_status fault) where
   by : (expected : Expected Text) → Meets {X = String Global} bytes expected (Err fault) → (status_of fault ≤ 2) ⊎ ((status_of fault ≡ 3) × IsMachineLine (error_line fault)) → Delivers expected status s ⊎ Breaks expected status s
@@ -116,7 +76,8 @@ refused_end expected fault status s meets (line, inl (same, is), front) kept = b
   by (refusal r) meets (inl small) = inl (same ∙ ap (λ x. x.status) (meets small), kept, subst (λ l. AppendsFront s.errors s.errors' l) (is ∙ ap (λ x. refusal_line x.text) (meets small)) front)
 
 -- The line is printed.
-pub printed_end : (expected : Expected Text) (line : String Global) (s : Streams) → Meets bytes expected (Ok line) → Appends s.output s.output' (string_bytes line ++ 10 ∷ []) → Keeps s.errors s.errors' → Delivers expected 0 s ⊎ Breaks expected 0 s
+pub printed_end : (expected : Expected Text) (line : String Global) (s : Streams) → Meets bytes expected (Ok line)
+    → Appends s.output s.output' (string_bytes line ++ 10 ∷ []) → Keeps s.errors s.errors' → Delivers expected 0 s ⊎ Breaks expected 0 s
 printed_end unknown line s meets appends kept = inl tt
 printed_end (value y) line s meets appends kept = inl (refl, subst (λ (l : List ℕ). Appends s.output s.output' (l ++ 10 ∷ [])) meets appends, kept)
 printed_end (refusal r) line s meets appends kept = absurd meets
@@ -126,13 +87,17 @@ prints unknown line meets = tt
 prints (value y) line meets = sym meets
 prints (refusal r) line meets = meets
 
-fronts : (expected : Expected Text) (line : String Global) (fault : Fault) (s : Streams) → Meets bytes expected (Ok line) → Printed (string_bytes line) s.output s.output' (Err fault) → HoldsFront expected s × (status_of fault ≡ 3) × IsMachineLine (error_line fault)
+fronts : (expected : Expected Text) (line : String Global) (fault : Fault) (s : Streams) → Meets bytes expected (Ok line)
+    → Printed (string_bytes line) s.output s.output' (Err fault)
+    → HoldsFront expected s × (status_of fault ≡ 3) × IsMachineLine (error_line fault)
 fronts expected line Output s meets printed = (inr (string_bytes line, prints expected line meets, printed), refl, inr (inl refl))
 fronts expected line Memory s meets printed = (inl printed, refl, inr (inr refl))
 fronts expected line fault s meets printed = absurd printed
 
 -- The output failed, or memory ran out before it.
-pub broken_end : (expected : Expected Text) (line : String Global) (fault : Fault) (status : ℕ) (s : Streams) → Meets bytes expected (Ok line) → Printed (string_bytes line) s.output s.output' (Err fault) → Reports fault status s.errors s.errors'
+pub broken_end : (expected : Expected Text) (line : String Global) (fault : Fault) (status : ℕ) (s : Streams)
+    → Meets bytes expected (Ok line) → Printed (string_bytes line) s.output s.output' (Err fault)
+    → Reports fault status s.errors s.errors'
     → Delivers expected status s ⊎ Breaks expected status s
 broken_end expected line fault status s meets printed (told, inl (same, is), front) = let f = fronts expected line fault s meets printed in inr (same ∙ f.1, f.0, (told, moved told (error_line fault) is f.2, front))
 broken_end expected line fault status s meets printed (told, inr (three, is), front) = let f = fronts expected line fault s meets printed in inr (three, f.0, (told, inr (inr is), front))
@@ -143,18 +108,24 @@ unread_end status old new (line, inl (same, is), front) = subst (λ l. AppendsFr
 unread_end status old new (line, inr (three, is), front) = subst (λ l. AppendsFront old new l) is front
 
 -- The line of a machine that fails is told.
-told_machine : (fault : Fault) (old new : Option (List ℕ)) → IsMachineLine (error_line fault) → Reports fault 3 old new → (line : Text) × IsMachineLine line × AppendsFront old new line
+told_machine : (fault : Fault) (old new : Option (List ℕ)) → IsMachineLine (error_line fault) → Reports fault 3 old new
+    → (line : Text) × IsMachineLine line × AppendsFront old new line
 told_machine fault old new own (line, inl (same, is), front) = (line, moved line (error_line fault) is own, front)
 told_machine fault old new own (line, inr (three, is), front) = (line, inr (inr is), front)
 
-among_help : (kinds : Kinds) (kind : ErrorKind) → IsAmong kind kinds → (kind ≡ DisplayHelp) ⊎ (kind ≡ DisplayVersion) → IsAmong DisplayHelp kinds ⊎ IsAmong DisplayVersion kinds
+among_help : (kinds : Kinds) (kind : ErrorKind) → IsAmong kind kinds → (kind ≡ DisplayHelp) ⊎ (kind ≡ DisplayVersion)
+    → IsAmong DisplayHelp kinds ⊎ IsAmong DisplayVersion kinds
 among_help kinds kind among (inl is) = inl (subst (λ k. IsAmong k kinds) is among)
 among_help kinds kind among (inr is) = inr (subst (λ k. IsAmong k kinds) is among)
 
 -- Words that are not taken.
-pub not_taken : (words : List Text) (untouched : Type 0) (e : Error) (status : ℕ) (s : Streams) → IsAmong (kind_of e) (fault_of oer words) → (takes oer words ≡ true → kind_of e ≡ OutOfMemory) → (kind_of e ≡ OutOfMemory → status ≡ 3) → (kind_of e ≡ OutOfMemory → Keeps s.output s.output')
-    → (status ≡ 0 → (kind_of e ≡ DisplayHelp) ⊎ (kind_of e ≡ DisplayVersion)) → (status ≡ 0 → Keeps s.errors s.errors') → (1 ≤ status → status ≤ 2 → status ≡ 2) → (1 ≤ status → status ≤ 2 → Keeps s.output s.output')
-    → (status ≡ 3 → Reports Memory 3 s.errors s.errors' ⊎ Reports Output 3 s.errors s.errors') → untouched → IsNotTaken words untouched status s
+pub not_taken : (words : List Text) (untouched : Type 0) (e : Error) (status : ℕ) (s : Streams)
+    → IsAmong (kind_of e) (fault_of oer words) → (takes oer words ≡ true → kind_of e ≡ OutOfMemory)
+    → (kind_of e ≡ OutOfMemory → status ≡ 3) → (kind_of e ≡ OutOfMemory → Keeps s.output s.output')
+    → (status ≡ 0 → (kind_of e ≡ DisplayHelp) ⊎ (kind_of e ≡ DisplayVersion)) → (status ≡ 0 → Keeps s.errors s.errors')
+    → (1 ≤ status → status ≤ 2 → status ≡ 2) → (1 ≤ status → status ≤ 2 → Keeps s.output s.output')
+    → (status ≡ 3 → Reports Memory 3 s.errors s.errors' ⊎ Reports Output 3 s.errors s.errors') → untouched
+    → IsNotTaken words untouched status s
 not_taken words untouched e status s among passes memory kept shows alone two quiet failed same = record {
   refused = λ small taken. (let three = memory (passes taken) in omega (arith, small, three));
   help = λ none. (among_help (fault_of oer words) (kind_of e) among (shows none), alone none);
@@ -172,7 +143,8 @@ pub does : (words : List Text) (told : Option (List ℕ)) (untouched : Type 0) (
     → (source_text o.task ≢ None → reads_types (texts_of o) ≡ false → untouched) → Does words told untouched status s
 does words told untouched status s o asks answers keeps = record { options = o; asks = asks; answers = answers; keeps = keeps }
 
-pub does_for : (T : AsnType) (words : List Text) (told : Option (List ℕ)) (untouched : Type 0) (status : ℕ) (s : Streams) (o : Options) → Asks words o
+pub does_for : (T : AsnType) (words : List Text) (told : Option (List ℕ)) (untouched : Type 0) (status : ℕ) (s : Streams) (o : Options)
+    → Asks words o
     → ((path : Expected (List Step)) → IsPathOf (path_text o.task) path
     → Delivers (task_answer o.task T o.limit path told) status s ⊎ Breaks (task_answer o.task T o.limit path told) status s)
     → (source_text o.task ≢ None → untouched) → DoesFor T words told untouched status s
@@ -183,9 +155,14 @@ keeps_same None = tt
 keeps_same (Some xs) = refl
 
 -- What `clap` says of the words.
-pub words_end : {D : Type 0} (words : List Text) (untouched : Type 0) (e : Error) (status : ℕ) (s : Streams) → HasKind (fault_of oer words) e → (takes oer words ≡ true → kind_of e ≡ OutOfMemory)
-    → (kind_of e ≡ OutOfMemory → status ≡ 3) → (status ≡ 0 → (kind_of e ≡ DisplayHelp) ⊎ (kind_of e ≡ DisplayVersion)) → (status ≡ 0 → Keeps s.errors s.errors') → (1 ≤ status → status ≤ 2 → status ≡ 2)
-    → (1 ≤ status → status ≤ 2 → Keeps s.output s.output') → (status ≡ 3 → Reports Memory 3 s.errors s.errors' ⊎ Reports Output 3 s.errors s.errors') → (kind_of e ≡ OutOfMemory → Keeps s.output s.output')
-    → (kind_of e ≡ OutOfMemory → Reports Memory 3 s.errors s.errors') → untouched → IsUnstarted untouched status s ⊎ D ⊎ IsNotTaken words untouched status s
+pub words_end : {D : Type 0} (words : List Text) (untouched : Type 0) (e : Error) (status : ℕ) (s : Streams)
+    → HasKind (fault_of oer words) e → (takes oer words ≡ true → kind_of e ≡ OutOfMemory)
+    → (kind_of e ≡ OutOfMemory → status ≡ 3) → (status ≡ 0 → (kind_of e ≡ DisplayHelp) ⊎ (kind_of e ≡ DisplayVersion))
+    → (status ≡ 0 → Keeps s.errors s.errors') → (1 ≤ status → status ≤ 2 → status ≡ 2)
+    → (1 ≤ status → status ≤ 2 → Keeps s.output s.output')
+    → (status ≡ 3 → Reports Memory 3 s.errors s.errors' ⊎ Reports Output 3 s.errors s.errors')
+    → (kind_of e ≡ OutOfMemory → Keeps s.output s.output')
+    → (kind_of e ≡ OutOfMemory → Reports Memory 3 s.errors s.errors') → untouched
+    → IsUnstarted untouched status s ⊎ D ⊎ IsNotTaken words untouched status s
 words_end words untouched e status s (inl kind) passes memory shows alone two quiet failed kept line same = inl (memory kind, same, kept kind, unread_end 3 s.errors s.errors' (line kind))
 words_end words untouched e status s (inr among) passes memory shows alone two quiet failed kept line same = inr (inr (not_taken words untouched e status s among passes memory kept shows alone two quiet failed same))

@@ -1,17 +1,14 @@
 -- From the line of a task to that of the words.
-use Rattle.std.proofs.Common.{◌≡◌, ◌∙◌, ℕ, List, [], ◌∷◌, ◌++◌, length, Option, Some, None, refl, sym, ap, subst, arith, length-append, append-nil}
+use Rattle.std.proofs.Common.{◌≡◌, ◌∙◌, ℕ, List, Option, Some, None, refl, sym, ap, subst}
 use Rattle.std.specs.Str.Parse.{digits_value, without_leading_plus}
 use Rattle.std.specs.Prelude.{codes, eqb, get_or, if◌then◌else◌}
 use Rattle.clap.specs.Words.{Text}
-use Rattle.hex.specs.Hex.{encode_lower}
 use Rattle.oer_model.specs.AsnType.{AsnType}
-use Rattle.oer_model.specs.Parts.{Step, Within}
-use Rattle.oer_parts.specs.Handing.{Begins}
 use Rattle.oer_options.specs.Words.{Asks, HasFlags, IsTask, Kind, NumberOf, asked, canon, check, given, given_number, kind, make, name_of, part, path_among, show, show_ascii, source_option, source_text, texts_in, texts_of}
 use Rattle.oer_options.specs.declared.options.Options.{Options}
 use Rattle.oer_options.specs.declared.options.Task.{Task}
 use Rattle.oer_cmd.specs.Octets.{AreAll, AreSpelt}
-use Rattle.oer_cmd.specs.Run.{IsLineGiven, IsLineAsked, IsLineAskedFor, IsEncoding, IsLine, IsLineBy, IsLineOf, IsNoFront, IsPart, MayBe, NoLine, NoLineAsked, NoLineAskedFor, NoLineOf, OfOctets, OfText}
+use Rattle.oer_cmd.specs.Run.{IsLineGiven, IsLineAsked, IsLineAskedFor, IsLine, IsLineBy, IsLineOf, MayBe, NoLine, NoLineAsked, NoLineAskedFor, NoLineOf, OfOctets}
 use Rattle.oer_cmd.specs.Types.{SpelledWith}
 
 line_by_words : (words : List Text) (task : Task) (told : Option (List ℕ)) (T : AsnType) (limit : ℕ) (line : Text)
@@ -60,7 +57,8 @@ one_flag make make flag e f g = refl
 one_flag part part flag e f g = refl
 one_flag _ _ flag e f g = absurd (cc)
 
-one_kind : (o : Option Text) (flag : Text → Option Text) (j k : Kind) → o ≡ Some (name_of j) → o ≡ Some (name_of k) → HasFlags j flag → HasFlags k flag → j ≡ k
+one_kind : (o : Option Text) (flag : Text → Option Text) (j k : Kind) → o ≡ Some (name_of j) → o ≡ Some (name_of k) → HasFlags j flag
+    → HasFlags k flag → j ≡ k
 one_kind o flag j k p q f g = one_flag j k flag (sym (named_is j) ∙ ap named (sym p ∙ q) ∙ named_is k) f g
 
 -- and back
@@ -148,29 +146,10 @@ none_answers_for T words o known told asks none same = λ line h. none line
     (λ b may. answers_options_for T words o (Some b) line asks (h b (subst (λ k. MayBe k b) same may)))
 
 -- what holds of all the octets holds of those that the words give
-pub of_all : (hex : Option Text) (spelt told : Option (List ℕ)) (b : List ℕ) (P : List ℕ → Type 0) → AreSpelt hex spelt → AreAll spelt told b → P b → OfOctets hex told P
+pub of_all : (hex : Option Text) (spelt told : Option (List ℕ)) (b : List ℕ) (P : List ℕ → Type 0) → AreSpelt hex spelt
+    → AreAll spelt told b → P b → OfOctets hex told P
 of_all (Some digits) (Some c) told b P spells all p = (c, spells, subst P all p)
 of_all (Some digits) None told b P spells all p = absurd spells
 of_all None (Some c) told b P spells all p = absurd spells
 of_all None None None b P spells all p = tt
 of_all None None (Some xs) b P spells all p = subst P (sym all) p
-
--- the same of a text
-pub of_text : (told : Option (List ℕ)) (b : List ℕ) (P : List ℕ → Type 0) → AreAll None told b → P b → OfText None told P
-of_text None b P all p = tt
-of_text (Some xs) b P all p = subst P (sym all) p
-
-nothing : (xs : List ℕ) → length xs ≡ 0 → xs ≡ []
-nothing [] e = refl
-nothing (x ∷ xs) e = absurd (omega (arith, e))
-
--- an encoding at the front of b is all of it, where there is no other
-pub same_front : (T : AsnType) (b c rest : List ℕ) → IsNoFront T b → b ≡ c ++ rest → IsEncoding T c → c ≡ b
-same_front T b c rest all e enc =
-    let size : length c ≡ length b = all enc.0 c rest e enc.1 in
-    let none : length rest ≡ 0 = let both = ap length e ∙ length-append c rest in omega (arith, size, both) in
-    sym (append-nil c) ∙ ap (λ (l : List ℕ). c ++ l) (sym (nothing rest none)) ∙ sym e
-
--- a part of the encoding at the front of b is one of b, where that encoding is all of it
-pub part_of_all : (T : AsnType) (path : List Step) (b s line : List ℕ) → IsNoFront T b → Begins T b (λ c. (U : Option AsnType) × Within (Some T) c path U s) → line ≡ encode_lower s → IsPart T path line b
-part_of_all T path b s line all h is = (h.4.0, s, subst (λ (l : List ℕ). Within (Some T) l path h.4.0 s) (same_front T b h.0 h.1 all h.2 h.3) h.4.1, is)

@@ -1,14 +1,18 @@
 -- How answers that are expected are put together.
-use Rattle.std.proofs.Common.{Result, ◌≡◌, ◌≢◌, ◌∙◌, ℕ, ◌+◌, ◌-◌, ◌≤◌, false, List, [], ◌∷◌, length, Option, Some, None, Ok, Err, refl, sym, ap, subst, arith, length-append, String, Global, string_bytes}
-use Rattle.std.specs.Prelude.{IsErrAnd}
+use Rattle.std.proofs.Common.{Result, ◌≡◌, ◌≢◌, ◌∙◌, ℕ, ◌-◌, ◌≤◌, false, List, [], ◌∷◌, ◌++◌, append-nil, length, Option, Some, None, Ok, Err, refl, sym, ap, subst, arith, length-append, String, Global, string_bytes}
+use Rattle.std.specs.Prelude.{IfOk, IfSome, IsErrAnd}
+use Rattle.clap.specs.Words.{Text}
 use Rattle.std.specs.Io.KnownBytes.{Consumes}
 use Rattle.oer_units.specs.declared.fault.ReadFault.{ReadFault}
 use Rattle.oer_units.specs.declared.fault.Why.TheVariants as why
+use Rattle.oer_units.specs.Octets.{IsOctets}
 use Rattle.oer_units.specs.Reader.{Outcome, Reader, at, got, refused}
 use Rattle.oer_units.specs.Reads.{ReadsFront, renamed}
-use Rattle.oer_cmd.specs.Answer.{ended, input_octets, whole}
-use Rattle.oer_cmd.specs.Canon.{HasMore, IsEmpty}
-use Rattle.oer_cmd.specs.Expected.{Expected, Meets, refusal, stop, unknown, value, ◌>>=◌}
+use Rattle.oer_model.specs.AsnType.{AsnType}
+use Rattle.oer_model.specs.AsnValue.{AsnValue}
+use Rattle.oer_model.specs.Reading.{read_value}
+use Rattle.oer_cmd.specs.Answer.{end_at, ended, limited, value_read, whole, within_limit}
+use Rattle.oer_cmd.specs.Expected.{Expected, Meets, Says, SaysOf, refusal, stop, unknown, value, ◌>>=◌}
 use Rattle.oer_cmd.specs.Faults.{IsOfRead, status_of}
 use Rattle.oer_cmd.specs.declared.fault.Fault.{Fault}
 use Rattle.oer_cmd.specs.declared.fault.Fault.TheVariants.{Follows, Input, Memory, Read}
@@ -21,9 +25,6 @@ bytes line = string_bytes line
 pub three : (fault x : Fault) → fault ≡ x → status_of x ≡ 3 → status_of fault ≤ 2 → ⊥
 three fault x e s small = omega (arith, ap status_of e, s, small)
 
-pub not_memory : (fault : Fault) → status_of fault ≤ 2 → fault ≢ Memory
-not_memory fault small e = three fault Memory e refl small
-
 -- what a `?` answers
 pub left : {X : Type 0} (r : Result X Fault) (fault : Fault) → IsErrAnd r (λ e. e ≡ fault) → r ≡ Err fault
 left (Ok x) fault h = absurd h
@@ -35,27 +36,52 @@ fails view unknown fault high = tt
 fails view (value y) fault high = high
 fails view (refusal r) fault high = λ small. absurd (high small)
 
--- A fault of the words or the octets is the one that is expected.
-pub refusing : {X Y : Type 0} (view : X → Y) (m : Expected Y) (fault : Fault) → (status_of fault ≤ 2 → m ≡ stop fault) → Meets view m (Err fault)
-refusing view unknown fault h = tt
-refusing view (value y) fault h = λ small. let no = h small in cc
-refusing view (refusal r) fault h = λ small. let e = h small in cc
-
 -- Where a step is refused, what goes on from it is.
-pub stops : {X Y Z W : Type 0} (view : X → Y) (view' : Z → W) (m : Expected Y) (next : Y → Expected W) (fault : Fault) → Meets view m (Err fault) → Meets view' (m >>= next) (Err fault)
+pub stops : {X Y Z W : Type 0} (view : X → Y) (view' : Z → W) (m : Expected Y) (next : Y → Expected W) (fault : Fault)
+    → Meets view m (Err fault) → Meets view' (m >>= next) (Err fault)
 stops view view' unknown next fault h = tt
 stops view view' (value y) next fault h = fails view' (next y) fault h
 stops view view' (refusal r) next fault h = h
 
 -- Where it is made, what goes on is next.
-pub goes : {X Y Z W : Type 0} (view : X → Y) (view' : Z → W) (m : Expected Y) (next : Y → Expected W) (x : X) (result : Result Z Fault) → Meets view m (Ok x) → Meets view' (next (view x)) result → Meets view' (m >>= next) result
+pub goes : {X Y Z W : Type 0} (view : X → Y) (view' : Z → W) (m : Expected Y) (next : Y → Expected W) (x : X) (result : Result Z Fault)
+    → Meets view m (Ok x) → Meets view' (next (view x)) result → Meets view' (m >>= next) result
 goes view view' unknown next x result h k = tt
 goes view view' (value y) next x result h k = subst (λ z. Meets view' (next z) result) h k
 goes view view' (refusal r) next x result h k = absurd h
 
--- what is expected, by another name
-pub same : {X Y : Type 0} (view : X → Y) (m n : Expected Y) (result : Result X Fault) → m ≡ n → Meets view m result → Meets view n result
-same view m n result e h = subst (λ o. Meets view o result) e h
+pub meets : {X Y : Type 0} (view : X → Y) (m : Expected Y) (result : Result X Fault) → Says view m result → Meets view m result
+meets view unknown result h = tt
+meets view (value y) (Ok x) h = cc
+meets view (value y) (Err fault) h = λ small. let no = h small in cc
+meets view (refusal r) (Ok x) h = absurd (cc)
+meets view (refusal r) (Err fault) h = λ small. let same = h small in cc
+
+-- what is said of an answer that is expected, by another name
+pub named : {X Y : Type 0} (view : X → Y) (m n : Expected Y) (result : Result X Fault) → m ≡ n → Says view n result → Says view m result
+named view m n (Ok x) same h = same ∙ h
+named view m n (Err fault) same h = λ small. same ∙ h small
+
+pub named_of : {X Y : Type 0} (view : X → Y) (b : List ℕ) (m n : Expected Y) (result : Result X Fault) → m ≡ n → SaysOf view b n result
+    → Says view m result
+named_of view b m n (Ok x) same h = same ∙ h.1
+named_of view b m n (Err fault) same h = λ small. same ∙ h small
+
+-- what holds anyway
+pub anyway : {X : Type 0} (P : Type 0) (result : Result X Fault) → P → IfOk result (λ x. P)
+anyway P (Ok x) p = p
+anyway P (Err fault) p = tt
+
+-- All that there is was gathered, and the same octets are looked at as a slice.
+pub limited_said : {X : Type 0} (view : X → Text) (limit : ℕ) (next : List ℕ → Expected Text) (told : Option (List ℕ)) (b octets slice : List ℕ)
+    (result : Result X Fault) → IfSome told (λ xs. xs ≡ octets) → told ≡ Some b → slice ≡ octets → within_limit limit b ≡ value octets
+    → IfOk result (λ x. IsOctets slice) → Says view (next slice) result → SaysOf view b (limited limit next b) result
+limited_said view limit next None b octets slice result all is same few are h = absurd (cc)
+limited_said view limit next (Some xs) b octets slice (Ok x) all is same few are h =
+    let whole : slice ≡ b = (let first : xs ≡ b = cc in same ∙ sym all ∙ first) in
+    (subst IsOctets whole are, ap (λ o. o >>= next) few ∙ ap next (sym same) ∙ h)
+limited_said view limit next (Some xs) b octets slice (Err fault) all is same few are h = λ small.
+    ap (λ o. o >>= next) few ∙ ap next (sym same) ∙ h small
 
 -- ---- reading
 
@@ -69,88 +95,69 @@ less_none n = omega arith
 -- what the plain reader makes of the octets, from what the code's reader answers
 pub exactly_got : {A : Type 0} (r : Reader A) (limit failed failed' : ℕ) (xs ys : List ℕ) (x : A)
     → (h : ReadsFront r limit (Some xs) failed (Ok x) (Some ys) failed') → r (at xs limit) ≡ got x (at ys (h.bound.end - h.bound.taken))
-exactly_got r limit failed failed' xs ys x h = ap (λ (n : ℕ). r (at xs n)) (sym (less_none limit)) ∙ sym (plain (r (at xs (limit - 0)))) ∙ h.reads.exact
+exactly_got r limit failed failed' xs ys x h =
+    ap (λ (n : ℕ). r (at xs n)) (sym (less_none limit)) ∙ sym (plain (r (at xs (limit - 0)))) ∙ h.reads.exact
 
 pub exactly_refused : {A : Type 0} (r : Reader A) (limit failed failed' : ℕ) (xs ys : List ℕ) (e : ReadFault)
-    → ReadsFront r limit (Some xs) failed (Err e) (Some ys) failed' → e.why ≢ why.Device → e.why ≢ why.Memory → r (at xs limit) ≡ refused e.why ys
-exactly_refused r limit failed failed' xs ys e h device memory = ap (λ (n : ℕ). r (at xs n)) (sym (less_none limit)) ∙ sym (plain (r (at xs (limit - 0)))) ∙ h.reads.exact device memory
+    → ReadsFront r limit (Some xs) failed (Err e) (Some ys) failed' → e.why ≢ why.Device → e.why ≢ why.Memory
+    → r (at xs limit) ≡ refused e.why ys
+exactly_refused r limit failed failed' xs ys e h device memory =
+    ap (λ (n : ℕ). r (at xs n)) (sym (less_none limit)) ∙ sym (plain (r (at xs (limit - 0)))) ∙ h.reads.exact device memory
 
--- nothing follows
-pub read_whole : {A : Type 0} (r : Reader A) (limit failed failed' : ℕ) (xs ys : List ℕ) (x : A) → ReadsFront r limit (Some xs) failed (Ok x) (Some ys) failed' → ys ≡ [] → whole xs (r (at xs limit)) ≡ value x
-read_whole r limit failed failed' xs [] x h none = ap (whole xs) (exactly_got r limit failed failed' xs [] x h)
-read_whole r limit failed failed' xs (y ∷ ys) x h none = let no : (y ∷ ys) ≡ [] = none in cc
+-- Octets follow.
+pub ended_more : {A : Type 0} (m n : ℕ) (x : A) (rest : List ℕ) → rest ≢ [] → m ≡ n → ended m x rest ≡ stop (Follows n)
+ended_more m n x [] some same = absurd (some refl)
+ended_more m n x (y ∷ rest) some same = ap (λ (k : ℕ). stop (Follows k)) same
 
-more : {A : Type 0} (m n : ℕ) (x : A) (ys : List ℕ) → ys ≢ [] → m ≡ n → ended m x ys ≡ stop (Follows n)
-more m n x [] some same = absurd (some refl)
-more m n x (y ∷ ys) some same = ap (λ (k : ℕ). stop (Follows k)) same
+ended_next : {A B : Type 0} (n : ℕ) (x : A) (next : A → Expected B) (rest : List ℕ)
+    → (ended n x rest >>= next) ≡ (end_at n rest >>= λ u. next x)
+ended_next n x next [] = refl
+ended_next n x next (y ∷ rest) = refl
 
--- octets follow
-pub read_more : {A : Type 0} (r : Reader A) (limit failed failed' n : ℕ) (xs ys : List ℕ) (x : A) → ReadsFront r limit (Some xs) failed (Ok x) (Some ys) failed' → ys ≢ [] → length xs ≡ n + length ys → whole xs (r (at xs limit)) ≡ stop (Follows n)
-read_more r limit failed failed' n xs ys x h some count =
-    ap (whole xs) (exactly_got r limit failed failed' xs ys x h) ∙ more (length xs - length ys) n x ys some (omega (arith, count))
-
--- The octets are refused.
-pub read_none : {A : Type 0} (r : Reader A) (limit failed failed' : ℕ) (xs ys : List ℕ) (e : ReadFault) → ReadsFront r limit (Some xs) failed (Err e) (Some ys) failed' → e.why ≢ why.Device → e.why ≢ why.Memory → whole xs (r (at xs limit)) ≡ stop (Read e)
-read_none r limit failed failed' xs ys e h device memory =
-    let took = h.reads.took in
-    let taken : length xs - length ys ≡ e.taken = omega (arith, ap length took.1, length-append took.0 ys, took.3, h.reads.fault) in
-    ap (whole xs) (exactly_refused r limit failed failed' xs ys e h device memory)
-    ∙ ap (λ (n : ℕ). stop (Read (record { taken = n; why = e.why }))) taken
+-- A value was read. What is made of it stands where nothing follows the octets that it took.
+pub value_ends : {B : Type 0} (T : AsnType) (limit failed failed' n : ℕ) (known known' : Option (List ℕ)) (v : AsnValue) (t b : List ℕ)
+    (next : AsnValue → Expected B) → ReadsFront (read_value T) limit known failed (Ok v) known' failed' → Consumes known known' t
+    → n ≡ length t → known ≡ Some b
+    → (rest : List ℕ) × (known' ≡ Some rest) × ((value_read T limit b >>= next) ≡ (end_at n rest >>= λ u. next v))
+value_ends T limit failed failed' n None known' v t b next h takes count is = absurd (cc)
+value_ends T limit failed failed' n (Some xs) None v t b next h takes count is = absurd takes
+value_ends T limit failed failed' n (Some xs) (Some ys) v t b next h takes count is =
+    let same : xs ≡ b = cc in
+    let size : length xs - length ys ≡ n = omega (arith, ap length takes, length-append t ys, count) in
+    let all : (value_read T limit xs >>= next) ≡ (end_at n ys >>= λ u. next v) =
+    ap (λ o. whole xs o >>= next) (exactly_got (read_value T) limit failed failed' xs ys v h)
+    ∙ ap (λ (k : ℕ). ended k v ys >>= next) size ∙ ended_next n v next ys in
+    (ys, refl, subst (λ (l : List ℕ). (value_read T limit l >>= next) ≡ (end_at n ys >>= λ u. next v)) same all)
 
 -- a refusal of the reader is told as such
-pub is_read : (e : ReadFault) (fault : Fault) → IsOfRead e fault → status_of fault ≤ 2 → (e.why ≢ why.Device) × (e.why ≢ why.Memory) × (fault ≡ Read e)
+pub is_read : (e : ReadFault) (fault : Fault) → IsOfRead e fault → status_of fault ≤ 2
+    → (e.why ≢ why.Device) × (e.why ≢ why.Memory) × (fault ≡ Read e)
 is_read e fault is small =
-    let device : e.why ≢ why.Device = λ d. high Input (is.input d) refl in
-    let memory : e.why ≢ why.Memory = λ m. high Memory (is.memory m) refl in
-    (device, memory, is.other device memory) where
-      high : (x : Fault) → fault ≡ x → status_of x ≡ 3 → ⊥
-      high x same three = let e = ap status_of same in omega (arith, e, three, small)
+    let device : e.why ≢ why.Device = λ d. three fault Input (is.input d) refl small in
+    let memory : e.why ≢ why.Memory = λ m. three fault Memory (is.memory m) refl small in
+    (device, memory, is.other device memory)
 
--- Reading is refused.
-pub unread : {X Y A : Type 0} (view : X → Y) (r : Reader A) (next : A → Expected Y) (limit failed failed' : ℕ) (known known' : Option (List ℕ)) (e : ReadFault) (fault : Fault)
-    → IsOfRead e fault → ReadsFront r limit known failed (Err e) known' failed' → Meets view (input_octets known >>= λ b. whole b (r (at b limit)) >>= next) (Err fault)
-unread view r next limit failed failed' None known' e fault is h = tt
-unread view r next limit failed failed' (Some xs) None e fault is h = absurd h.reads.exact
-unread view r next limit failed failed' (Some xs) (Some ys) e fault is h = refusing view (whole xs (r (at xs limit)) >>= next) fault (λ small.
-    let told = is_read e fault is small in
-    ap (λ o. o >>= next) (read_none r limit failed failed' xs ys e h told.0 told.1) ∙ ap stop (sym told.2))
+-- It was refused.
+pub value_stops : {B : Type 0} (T : AsnType) (limit failed failed' : ℕ) (known known' : Option (List ℕ)) (e : ReadFault) (fault : Fault) (b : List ℕ)
+    (next : AsnValue → Expected B) → IsOfRead e fault → ReadsFront (read_value T) limit known failed (Err e) known' failed' → known ≡ Some b
+    → status_of fault ≤ 2 → (value_read T limit b >>= next) ≡ stop fault
+value_stops T limit failed failed' None known' e fault b next told h is small = absurd (cc)
+value_stops T limit failed failed' (Some xs) None e fault b next told h is small = absurd h.reads.exact
+value_stops T limit failed failed' (Some xs) (Some ys) e fault b next told h is small =
+    let same : xs ≡ b = cc in
+    let took = h.reads.took in
+    let why = is_read e fault told small in
+    let taken : length xs - length ys ≡ e.taken = omega (arith, ap length took.1, length-append took.0 ys, took.3, h.reads.fault) in
+    subst (λ (l : List ℕ). (value_read T limit l >>= next) ≡ stop fault) same
+    (ap (λ o. whole xs o >>= next) (exactly_refused (read_value T) limit failed failed' xs ys e h why.0 why.1)
+    ∙ ap (λ (n : ℕ). stop (Read (record { taken = n; why = e.why }))) taken ∙ ap stop (sym why.2))
 
--- Octets follow what was read.
-pub followed : {X Y A : Type 0} (view : X → Y) (r : Reader A) (next : A → Expected Y) (limit failed failed' n : ℕ) (known known' : Option (List ℕ)) (x : A) (t : List ℕ) (fault : Fault)
-    → ReadsFront r limit known failed (Ok x) known' failed' → Consumes known known' t → n ≡ length t → (status_of fault ≤ 2 → HasMore known') → (status_of fault ≤ 2 → fault ≡ Follows n)
-    → Meets view (input_octets known >>= λ b. whole b (r (at b limit)) >>= next) (Err fault)
-followed view r next limit failed failed' n None known' x t fault h takes count some is = tt
-followed view r next limit failed failed' n (Some xs) None x t fault h takes count some is = absurd takes
-followed view r next limit failed failed' n (Some xs) (Some ys) x t fault h takes count some is = refusing view (whole xs (r (at xs limit)) >>= next) fault (λ small.
-    let size : length xs ≡ n + length ys = omega (arith, ap length takes, length-append t ys, count) in
-    ap (λ o. o >>= next) (read_more r limit failed failed' n xs ys x h (some small) size) ∙ ap stop (sym (is small)))
-
--- All was read, and next is made of it.
-pub wholly : {X Y A : Type 0} (view : X → Y) (r : Reader A) (next : A → Expected Y) (limit failed failed' : ℕ) (known known' : Option (List ℕ)) (x : A) (made : X)
-    → ReadsFront r limit known failed (Ok x) known' failed' → IsEmpty known' → next x ≡ value (view made) → Meets view (input_octets known >>= λ b. whole b (r (at b limit)) >>= next) (Ok made)
-wholly view r next limit failed failed' None known' x made h end is = tt
-wholly view r next limit failed failed' (Some xs) None x made h end is = absurd h.reads.exact
-wholly view r next limit failed failed' (Some xs) (Some ys) x made h end is =
-    let all : (whole xs (r (at xs limit)) >>= next) ≡ value (view made) = ap (λ o. o >>= next) (read_whole r limit failed failed' xs ys x h end) ∙ is in
-    subst (λ o. Meets view o (Ok made)) (sym all) refl
-
--- what is seen of an answer, and the answer itself
-pub seen_as : {X Y : Type 0} (view : X → Y) (o : Expected Y) (x : X) → Meets (λ (y : Y). y) o (Ok (view x)) → Meets view o (Ok x)
-seen_as view unknown x h = tt
-seen_as view (value y) x h = h
-seen_as view (refusal r) x h = h
-
-pub seen_in : {X Y : Type 0} (view : X → Y) (o : Expected Y) (x : X) → Meets view o (Ok x) → Meets (λ (y : Y). y) o (Ok (view x))
-seen_in view unknown x h = tt
-seen_in view (value y) x h = h
-seen_in view (refusal r) x h = h
-
-pub missed_as : {X Y : Type 0} (view : X → Y) (o : Expected Y) (fault : Fault) → Meets {X = Y} (λ (y : Y). y) o (Err fault) → Meets {X = X} view o (Err fault)
-missed_as view unknown fault h = tt
-missed_as view (value y) fault h = h
-missed_as view (refusal r) fault h = h
-
-pub missed_in : {X Y : Type 0} (view : X → Y) (o : Expected Y) (fault : Fault) → Meets {X = X} view o (Err fault) → Meets {X = Y} (λ (y : Y). y) o (Err fault)
-missed_in view unknown fault h = tt
-missed_in view (value y) fault h = h
-missed_in view (refusal r) fault h = h
+-- What was taken is all that there was, where nothing follows it.
+pub octets_taken : (known known' : Option (List ℕ)) (t b rest : List ℕ) (n : ℕ) → Consumes known known' t → IsOctets t → known ≡ Some b
+    → known' ≡ Some rest → end_at n rest ≡ value tt → IsOctets b
+octets_taken None known' t b rest n takes octets is left end = absurd (cc)
+octets_taken (Some xs) None t b rest n takes octets is left end = absurd takes
+octets_taken (Some xs) (Some ys) t b [] n takes octets is left end =
+    let all : t ≡ b = sym (append-nil t) ∙ ap (λ (l : List ℕ). t ++ l) (let e : ys ≡ [] = cc in sym e) ∙ sym takes ∙ (let e : xs ≡ b = cc in e) in
+    subst IsOctets all octets
+octets_taken (Some xs) (Some ys) t b (y ∷ rest) n takes octets is left end = absurd (cc)

@@ -1,14 +1,10 @@
 -- The line in ASCII, which has nothing else.
-use Rattle.std.proofs.Common.{◌≡◌, ◌<◌, ◌+◌, ◌/◌, ◌%◌, ℕ, Bool, true, false, List, [], ◌∷◌, ◌++◌, Option, Some, None, arith, refl, sym, subst, ap, ◌∙◌}
+use Rattle.std.proofs.Common.{◌≡◌, ◌<◌, ◌+◌, ◌/◌, ◌%◌, ℕ, Bool, true, false, List, [], ◌∷◌, ◌++◌, arith, refl, sym, subst, ap, ◌∙◌}
 use Rattle.std.proofs.Math.Nat.{mod-lt}
 use Rattle.std.proofs.lemmas.Bool.{ltb-true}
 use Rattle.std.specs.Prelude.{cond, ltb, nat_lt, if◌then◌else◌}
 use Rattle.std.specs.Char.Escape.{encode_utf16, hex_digit_at}
-use Rattle.std.specs.Prelude.{IfSome}
-use Rattle.clap.specs.Words.{Text}
-use Rattle.oer_model.specs.AsnType.{AsnType}
-use Rattle.oer_cmd.specs.Ascii.{IsPlain, ascii_char, ascii_chars, ascii_text, unit_escape, unit_escapes}
-use Rattle.oer_cmd.specs.Run.{IsAsciiLine, IsShowLine}
+use Rattle.oer_cmd.specs.Ascii.{IsPlain, ascii_char, ascii_chars, unit_escape, unit_escapes}
 
 joined : (xs ys : List ℕ) → IsPlain xs → IsPlain ys → IsPlain (xs ++ ys)
 joined [] ys h k = k
@@ -38,8 +34,3 @@ chars_plain (c ∷ cs) = joined (ascii_char c) (ascii_chars cs) (char_by (ltb c 
 
 pub plain : (none line text : List ℕ) → none ≡ [] → line ≡ none ++ ascii_chars text → IsPlain line
 plain none line text empty is = subst IsPlain (sym (is ∙ ap (λ (l : List ℕ). l ++ ascii_chars text) empty)) (chars_plain text)
-
--- the line in ASCII
-pub in_ascii_of : (T : AsnType) (limit : ℕ) (told : Option (List ℕ)) (text line : Text) → IfSome told (IsShowLine T limit text) → line ≡ ascii_text text → IfSome told (IsAsciiLine T limit line)
-in_ascii_of T limit None text line h is = tt
-in_ascii_of T limit (Some b) text line h is = (text, h, is)

@@ -1,9 +1,8 @@
 -- The text of definitions that is read from the input, and what is made of it.
-use Rattle.std.proofs.Common.{Result, ◌≡◌, ◌≢◌, ◌∙◌, ℕ, ◌≤◌, List, [], ◌∷◌, length, true, false, Bool, Option, Some, None, Ok, Err, String, Vec, Global, refl, sym, ap, subst, string_bytes, true≢false}
+use Rattle.std.proofs.Common.{Result, ◌≡◌, ◌≢◌, ◌∙◌, ℕ, ◌≤◌, List, [], ◌∷◌, length, true, false, Bool, Option, Some, None, Ok, Err, String, Global, refl, sym, ap, subst, string_bytes, true≢false}
 use Rattle.std.proofs.lemmas.Bool.{le-leb, leb-true}
 use Rattle.std.proofs.lemmas.Str.{IsUtf8-string_bytes, is_utf8-from_IsUtf8, IsUtf8-from_is_utf8}
-use Rattle.std.specs.Prelude.{IfSome, is_none, leb, codes, if◌then◌else◌}
-use Rattle.std.specs.Borrow.{Bor}
+use Rattle.std.specs.Prelude.{IfSome, leb, codes, if◌then◌else◌}
 use Rattle.std.specs.Str.{IsUtf8, bytes_eq, chars, is_utf8}
 use Rattle.std.specs.Str.Lossy.{utf8_valid_len}
 use Rattle.clap.specs.Words.{Text}
@@ -11,29 +10,26 @@ use Rattle.oer_checker.specs.Check.{most}
 use Rattle.oer_model.specs.AsnType.{AsnType}
 use Rattle.oer_model.specs.Parts.{Step}
 use Rattle.oer_value_notation.specs.declared.fault.TextWhy.TheVariants.{Token}
-use Rattle.oer_options.specs.Words.{Kind, Texts, behind, kind, path_text, show, source_text}
+use Rattle.oer_options.specs.Words.{Kind, Texts, kind, path_text, show, source_text}
 use Rattle.oer_options.specs.declared.options.Task.{Task}
 use Rattle.oer_options.specs.declared.options.Task.TheVariants.{Canon, Check, Make, Part, Show, ShowAscii}
 use Rattle.oer_cmd.specs.Answer.{answer_of, check_octets, digits_octets, expected_type, given_answer, limited_octets, part_octets, task_answer, types_input, types_text}
 use Rattle.oer_cmd.specs.Expected.{Expected, Meets, refusal, stop, unknown, value, ◌>>=◌}
-use Rattle.oer_cmd.specs.Octets.{octets_of}
 use Rattle.oer_cmd.specs.Run.{IsLineBy, IsLineFor, IsLineGiven}
 use Rattle.oer_cmd.specs.Taking.{GivesAll, GivesTypes}
-use Rattle.oer_cmd.specs.Types.{SpelledBy, reads_types}
+use Rattle.oer_cmd.specs.Types.{SpelledBy}
 use Rattle.oer_cmd.specs.declared.fault.Fault.{Fault}
-use Rattle.oer_cmd.specs.declared.fault.Fault.TheVariants.{Longer, NoSource, «Type»}
-use Rattle.oer_cmd.proofs.Choices.{failing, passing}
-use Rattle.oer_cmd.proofs.Meeting.{bytes, goes, refusing, stops}
+use Rattle.oer_cmd.specs.declared.fault.Fault.TheVariants.{Longer, «Type»}
+use Rattle.oer_cmd.proofs.Choices.{passing}
+use Rattle.oer_cmd.proofs.Meeting.{bytes, goes, stops}
 
 -- ---- the text
 
 -- It is UTF-8.
-pub text_made : (octets : Vec ℕ Global) (text : String Global) → string_bytes text ≡ octets.items
-    → Meets bytes (types_text octets.items) (Ok text)
-text_made octets text same = subst (λ (l : List ℕ). Meets bytes (types_text l) (Ok text)) same
-    (subst (λ b. Meets bytes (if b then value (string_bytes text)
-    else stop («Type» (record { at = utf8_valid_len (string_bytes text); why = Token }))) (Ok text))
-    (sym (is_utf8-from_IsUtf8 (string_bytes text) (IsUtf8-string_bytes text))) refl)
+pub text_made : (octets : List ℕ) (text : String Global) → string_bytes text ≡ octets → types_text octets ≡ value (string_bytes text)
+text_made octets text same = subst (λ (l : List ℕ). types_text l ≡ value (string_bytes text)) same
+    (ap (λ (b : Bool). if b then value (string_bytes text) else stop («Type» (record { at = utf8_valid_len (string_bytes text); why = Token })))
+    (is_utf8-from_IsUtf8 (string_bytes text) (IsUtf8-string_bytes text)))
 
 no_text : (b : Bool) → (b ≡ true → ⊥) → b ≡ false
 no_text true none = absurd (none refl)
@@ -41,38 +37,13 @@ no_text false none = refl
 
 -- It is not.
 pub text_refused : (octets : List ℕ) (n : ℕ) → n ≡ utf8_valid_len octets → (IsUtf8 octets → ⊥)
-    → Meets {X = String Global} bytes (types_text octets) (Err («Type» (record { at = n; why = Token })))
-text_refused octets n place none = refusing bytes (types_text octets) («Type» (record { at = n; why = Token })) (λ small.
+    → types_text octets ≡ stop («Type» (record { at = n; why = Token }))
+text_refused octets n place none =
     ap (λ (b : Bool). if b then value octets else stop («Type» (record { at = utf8_valid_len octets; why = Token })))
     (no_text (is_utf8 octets) (λ is. none (IsUtf8-from_is_utf8 octets is)))
-    ∙ ap (λ (k : ℕ). stop («Type» (record { at = k; why = Token }))) (sym place))
+    ∙ ap (λ (k : ℕ). stop («Type» (record { at = k; why = Token }))) (sym place)
 
 -- ---- the input
-
-pub none_behind : (source : Option (Bor Text)) → is_none source ≡ true → behind source ≡ None
-none_behind None is = refl
-none_behind (Some t) is = absurd (cc)
-
-pub some_behind : (source : Option (Bor Text)) → is_none source ≡ false → behind source ≢ None
-some_behind None is = absurd (cc)
-some_behind (Some t) is = λ none. let no : Some t.now ≡ None = none in cc
-
-pub no_source : (source : Option (Bor Text)) (told : Option (List ℕ)) → is_none source ≡ true
-    → Meets {X = String Global} bytes (types_input (behind source) told) (Err NoSource)
-no_source None told is = λ small. refl
-no_source (Some t) told is = absurd (cc)
-
-pub input_made : (source : Option (Bor Text)) (told : Option (List ℕ)) (octets : Vec ℕ Global) (result : Result (String Global) Fault)
-    → is_none source ≡ false → Meets octets_of (limited_octets most None told) (Ok octets) → Meets bytes (types_text octets.items) result
-    → Meets bytes (types_input (behind source) told) result
-input_made None told octets result is h made = absurd (cc)
-input_made (Some t) told octets result is h made = goes octets_of bytes (limited_octets most None told) types_text octets result h made
-
-pub input_lost : (source : Option (Bor Text)) (told : Option (List ℕ)) (fault : Fault) → is_none source ≡ false
-    → Meets {X = Vec ℕ Global} octets_of (limited_octets most None told) (Err fault)
-    → Meets {X = String Global} bytes (types_input (behind source) told) (Err fault)
-input_lost None told fault is h = absurd (cc)
-input_lost (Some t) told fault is h = stops {X = Vec ℕ Global} octets_of bytes (limited_octets most None told) types_text fault h
 
 -- A text was read: there are octets or JSON, and it is what the input had left.
 pub was_read : (source : Option Text) (told : Option (List ℕ)) (text : String Global) → Meets bytes (types_input source told) (Ok text)
@@ -107,7 +78,7 @@ no_octet utf8 = true≢false (sym (is_utf8-from_IsUtf8 (255 ∷ []) utf8) ∙ lo
 
 -- ---- a task whose octets or JSON are given
 
-line_by : (k : Kind) (source path : Option Text) (told told' : Option (List ℕ)) (T : AsnType) (limit : ℕ) (line : Text) → source ≢ None
+pub line_by : (k : Kind) (source path : Option Text) (told told' : Option (List ℕ)) (T : AsnType) (limit : ℕ) (line : Text) → source ≢ None
     → IsLineBy k source path told T limit line → IsLineBy k source path told' T limit line
 line_by k None path told told' T limit line some h = absurd (some refl)
 line_by show (Some t) path told told' T limit line some h = h
@@ -119,7 +90,8 @@ in_hand unknown f g h = refl
 in_hand (refusal r) f g h = refl
 in_hand (value b) f g h = h b
 
-pub task_kept : (task : Task) (T : AsnType) (limit : ℕ) (path : Expected (List Step)) (told told' : Option (List ℕ)) → source_text task ≢ None
+pub task_kept : (task : Task) (T : AsnType) (limit : ℕ) (path : Expected (List Step)) (told told' : Option (List ℕ))
+    → source_text task ≢ None
     → task_answer task T limit path told ≡ task_answer task T limit path told'
 task_kept (Show (Some h)) T limit path told told' some = refl
 task_kept (ShowAscii (Some h)) T limit path told told' some = refl
@@ -137,7 +109,8 @@ after unknown f g h = refl
 after (refusal r) f g h = refl
 after (value x) f g h = h x
 
-pub answer_kept : (t : Texts) (task : Task) (limit : ℕ) (path : Expected (List Step)) (told told' : Option (List ℕ)) → source_text task ≢ None
+pub answer_kept : (t : Texts) (task : Task) (limit : ℕ) (path : Expected (List Step)) (told told' : Option (List ℕ))
+    → source_text task ≢ None
     → answer_of t task limit path told ≡ answer_of t task limit path told'
 answer_kept t task limit path told told' some = after (expected_type t) (λ T. task_answer task T limit path told)
     (λ T. task_answer task T limit path told') (λ T. task_kept task T limit path told told' some)
@@ -163,6 +136,12 @@ read_line types name body text task limit told mid line mark same read h =
           → IfSome told (λ b. (length b ≤ most) × IsUtf8 b × SpelledBy (among b name) h.type)
       by None was = tt
       by (Some b) was = (was.0, was.1, subst (λ (l : List ℕ). SpelledBy (among l name) h.type) (same ∙ was.2) h.spelled)
+
+-- ---- what is expected of them
+
+-- ---- texts that are not read
+
+-- ---- what is taken
 
 -- ---- what is expected of them
 
@@ -196,18 +175,6 @@ lost_answer types name task limit path told fault mark lost =
     (λ texts. answer_of texts task limit path told) fault
     (stops bytes (λ (s : String Global). among (string_bytes s) name) (types_input (source_text task) told)
     (λ text. value (among text name)) fault lost))
-
--- ---- texts that are not read
-
-pub own_line : (t : Texts) (task : Task) (limit : ℕ) (told : Option (List ℕ)) (line : Text) → reads_types t ≡ false
-    → IsLineFor (SpelledBy t) task limit told line → IsLineGiven t task limit told line
-own_line t task limit told line own h = record {
-  type = h.type;
-  spelled = failing (reads_types t)
-      ((source_text task ≢ None) × IfSome told (λ b. (length b ≤ most) × IsUtf8 b × SpelledBy (record t { types = Some b }) h.type))
-      (SpelledBy t h.type) own h.spelled;
-  line_is = h.line_is;
-}
 
 -- ---- what is taken
 

@@ -1,5 +1,5 @@
 -- The answer of the program as plain functions say it: a line, or a status and a text.
-use Rattle.std.specs.Prelude.{◌≡◌, ℕ, ◌-◌, List, [], ◌∷◌, ◌++◌, length, leb, Bool, Option, Some, None, Result, Ok, Err, codes, if◌then◌else◌}
+use Rattle.std.specs.Prelude.{◌≡◌, ⊤, ℕ, ◌-◌, List, [], ◌∷◌, ◌++◌, length, leb, Bool, Option, Some, None, Result, Ok, Err, codes, if◌then◌else◌}
 use Rattle.std.specs.Str.{is_utf8}
 use Rattle.std.specs.Str.Lossy.{utf8_valid_len}
 use Rattle.hex.specs.Hex.{decode_of, encode_lower}
@@ -17,6 +17,7 @@ use Rattle.oer_model.specs.Parts as part
 use Rattle.oer_model.specs.Parts.{Step, find_part}
 use Rattle.oer_model.specs.Reading.{read_value}
 use Rattle.oer_checker.specs.Check.{most}
+use Rattle.oer_parts.specs.Path.{SpellsPath}
 use Rattle.oer_json.specs.Made.{made}
 use Rattle.oer_json.specs.Take.{taken}
 use Rattle.oer_json.specs.declared.fault.JsonFault.{JsonFault}
@@ -72,6 +73,10 @@ abbrev pub ended : {A : Type 0} → ℕ → A → List ℕ → Expected A
 ended n x [] = value x
 ended n x (y ∷ rest) = stop (Follows n)
 
+-- the octets that follow what took n are none
+abbrev pub end_at : ℕ → List ℕ → Expected ⊤
+end_at n rest = ended n tt rest
+
 -- what a plain reader makes of the octets b, which have to be all of one encoding
 abbrev pub whole : {A : Type 0} → List ℕ → Outcome A → Expected A
 whole b (got x q) = ended (length b - length q.input) x q.input
@@ -92,13 +97,6 @@ canonical_of T limit b = value_read T limit b >>= λ v. value (canonical_octets 
 abbrev pub json_of : AsnType → ℕ → List ℕ → Expected Data
 json_of T limit b = value_read T limit b >>= λ v. value (made T v)
 
--- the same of what the input had left
-abbrev pub canonical_input : AsnType → ℕ → Option (List ℕ) → Expected (List ℕ)
-canonical_input T limit told = input_octets told >>= canonical_of T limit
-
-abbrev pub json_input : AsnType → ℕ → Option (List ℕ) → Expected Data
-json_input T limit told = input_octets told >>= json_of T limit
-
 -- how octets and JSON stand in a line
 abbrev pub in_digits : List ℕ → Expected Text
 in_digits c = value (encode_lower c)
@@ -109,15 +107,13 @@ in_text j = value (compact_text j)
 abbrev pub in_ascii : Text → Expected Text
 in_ascii text = value (ascii_text text)
 
--- the lines of these
-abbrev pub digits_input : AsnType → ℕ → Option (List ℕ) → Expected Text
-digits_input T limit told = canonical_input T limit told >>= in_digits
+-- JSON in ASCII
+abbrev pub in_ascii_text : Data → Expected Text
+in_ascii_text j = in_text j >>= in_ascii
 
-abbrev pub text_input : AsnType → ℕ → Option (List ℕ) → Expected Text
-text_input T limit told = json_input T limit told >>= in_text
-
-abbrev pub ascii_input : AsnType → ℕ → Option (List ℕ) → Expected Text
-ascii_input T limit told = text_input T limit told >>= in_ascii
+-- what is made of octets that are no more than the limit
+abbrev pub limited : ℕ → (List ℕ → Expected Text) → List ℕ → Expected Text
+limited limit next b = within_limit limit b >>= next
 
 abbrev pub check_octets : AsnType → List ℕ → Expected Text
 check_octets T b = checked T b >>= λ canonical. value (verdict_text canonical (length b))
@@ -139,13 +135,16 @@ abbrev pub json_read : Option Data → Expected Data
 json_read None = stop NotJson
 json_read (Some j) = value j
 
+-- the JSON of a text
+abbrev pub json_in : Text → Expected Data
+json_in text = json_read (if is_utf8 text then read text else None)
+
 abbrev pub json_taken : Result AsnValue JsonFault → Expected AsnValue
 json_taken (Ok v) = value v
 json_taken (Err e) = stop (Json e)
 
 abbrev pub make_text : AsnType → Text → Expected Text
-make_text T text = json_read (if is_utf8 text then read text else None) >>= λ j. json_taken (taken T j)
-    >>= λ v. in_digits (canonical_octets T v)
+make_text T text = json_in text >>= λ j. json_taken (taken T j) >>= λ v. in_digits (canonical_octets T v)
 
 -- the line of the value that the octets encode
 abbrev pub value_text : Form → AsnType → ℕ → List ℕ → Expected Text
@@ -179,6 +178,16 @@ abbrev pub IsPathOf : Option Text → Expected (List Step) → Type 0
 IsPathOf text (value path) = IsPath text path
 IsPathOf text (refusal r) = (refusal r ≡ stop {A = List Step} Path) × ((path : List Step) → IsPath text path → ⊥)
 IsPathOf text unknown = ⊥
+
+-- The text of `--path` spells a path, or there is none.
+abbrev pub HasPath : Option Text → Type 0
+HasPath (Some text) = (path : List Step) × SpellsPath text path
+HasPath None = ⊤
+
+-- There is a text of `--path`, which spells no path.
+abbrev pub HasNoPath : Option Text → Type 0
+HasNoPath (Some text) = (path : List Step) → SpellsPath text path → ⊥
+HasNoPath None = ⊥
 
 -- what was parsed
 abbrev pub parsed : {A : Type 0} → Result A TextFault → Expected A

@@ -1,5 +1,5 @@
 -- The canonical octets of the value that octets encode.
-use Rattle.std.specs.Prelude.{◌≡◌, ◌≢◌, ◌≤◌, ℕ, List, [], length, Option, IfSome}
+use Rattle.std.specs.Prelude.{◌≤◌, ℕ, List, length}
 use Rattle.oer_model.specs.AsnType.{AsnType}
 use Rattle.oer_model.specs.AsnValue.{AsnValue}
 use Rattle.oer_model.specs.Encoding.{Encodes}
@@ -11,11 +11,3 @@ pub record MakesCanonical (T : AsnType) (limit : ℕ) (b c : List ℕ) : Type 0 
   pub encodes : Encodes T value b
   pub canonical : IsCanonical T value c
   pub within : length b ≤ limit
-
--- Something is left, where that is known.
-abbrev pub HasMore : Option (List ℕ) → Type 0
-HasMore known = IfSome known (λ xs. xs ≢ [])
-
--- Nothing is left, where that is known.
-abbrev pub IsEmpty : Option (List ℕ) → Type 0
-IsEmpty known = IfSome known (λ xs. xs ≡ [])

@@ -1,6 +1,7 @@
 -- What is expected of a function that makes a step of an answer.
-use Rattle.std.specs.Prelude.{◌≡◌, ◌≤◌, ℕ, Result, Ok, Err, ⊤}
+use Rattle.std.specs.Prelude.{◌≡◌, ◌≤◌, ℕ, List, Result, Ok, Err, ⊤}
 use Rattle.clap.specs.Words.{Text}
+use Rattle.oer_units.specs.Octets.{IsOctets}
 use Rattle.oer_cmd.specs.Faults.{status_of, text_of}
 use Rattle.oer_cmd.specs.declared.fault.Fault.{Fault}
 
@@ -35,3 +36,13 @@ Meets view (value y) (Ok x) = view x ≡ y
 Meets view (value y) (Err fault) = status_of fault ≤ 2 → ⊥
 Meets view (refusal r) (Ok x) = ⊥
 Meets view (refusal r) (Err fault) = status_of fault ≤ 2 → refusal_of fault ≡ r
+
+-- A function answers just that, its value seen by view; or memory ran out, or a device failed. So what is expected is known.
+abbrev pub Says : {X Y : Type 0} → (X → Y) → Expected Y → Result X Fault → Type 0
+Says view expected (Ok x) = expected ≡ value (view x)
+Says view expected (Err fault) = status_of fault ≤ 2 → expected ≡ stop fault
+
+-- The same of what is made of what an input had, b: where it is a value, b are octets.
+abbrev pub SaysOf : {X Y : Type 0} → (X → Y) → List ℕ → Expected Y → Result X Fault → Type 0
+SaysOf view b expected (Ok x) = IsOctets b × (expected ≡ value (view x))
+SaysOf view b expected (Err fault) = status_of fault ≤ 2 → expected ≡ stop fault

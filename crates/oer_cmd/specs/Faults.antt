@@ -57,10 +57,6 @@ status_of Input = 3
 status_of Output = 3
 status_of Memory = 3
 
--- The machine failed, or P holds.
-abbrev pub Refuses : Fault → Type 0 → Type 0
-Refuses fault P = status_of fault ≤ 2 → P
-
 -- the text of a fault, as it stands in its line
 abbrev pub text_of : Fault → Text
 text_of (Read e) = why_name e.why ++ codes " at " ++ decimal e.taken

@@ -60,6 +60,7 @@ fn push_chars(out: &mut String, text: &str) -> Result<(), AllocError>
     Ok(())
 }
 
+#[tactic(auto, using(crate::proofs::Plain::plain))]
 /// The text with every character above U+007E escaped, as JSON escapes it in a string: `\u` and four
 /// hexadecimal digits, twice for a character above U+FFFF. Fails if an allocation does.
 pub fn in_ascii(alloc: Global, text: &str) -> Result<String, AllocError>

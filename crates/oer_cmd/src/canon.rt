@@ -1,14 +1,11 @@
 //! The canonical octets of a value.
-ghost use Rattle.std.specs.Prelude.{◌≡◌, ◌≤◌, IfErr, IfOk, IfSome, OnOk, string_bytes};
+ghost use Rattle.std.specs.Prelude.{◌≡◌, ℕ, List, Some};
 ghost use Rattle.oer_types.specs.Schema.{the_type};
 ghost use Rattle.oer_units.specs.Reading.{octet as octet_read};
 ghost use Rattle.oer_units.specs.Reads.{ReadsFront};
-ghost use Rattle.oer_cmd.specs.Canon.{HasMore, IsEmpty, MakesCanonical};
-ghost use Rattle.oer_cmd.specs.Faults.{Refuses, status_of};
-ghost use Rattle.oer_cmd.specs.Answer.{canonical_input, digits_input};
-ghost use Rattle.oer_cmd.specs.Expected.{Meets};
+ghost use Rattle.oer_cmd.specs.Answer.{canonical_of, end_at};
+ghost use Rattle.oer_cmd.specs.Expected.{Says, SaysOf};
 ghost use Rattle.oer_cmd.specs.Octets.{octets_of};
-ghost use Rattle.oer_cmd.specs.Run.{IsCanonLine};
 ghost use Rattle.oer_cmd.specs.Taking.{Amounts, GivesFront, GivesValue, IsNext, status_after};
 
 use crate::fault::Fault;
@@ -27,12 +24,11 @@ fn octet_at_front<R: Source>(reader: &mut R) -> Result<u8, ReadFault>
     octet(&mut w)
 }
 
+#[tactic(auto, using(crate::proofs::Meeting::ended_more, crate::proofs::Front::octet_left, crate::proofs::Front::none_left, crate::proofs::Taking::one_taken, crate::proofs::Taking::none_taken))]
 /// That the reader has no octet left after a value that took so many. Refused as `Follows`, or as
 /// `Input` where the reader fails.
 pub fn check_end<'a, R: Source>(reader: &mut R, taken: u64) -> Result<(), Fault<'a>>
-    ensures empty { OnOk result (IsEmpty (R.remaining reader.old)) }
-    ensures refused { IfErr result (λ fault. Refuses fault (HasMore (R.remaining reader.old))) }
-    ensures follows { IfErr result (λ fault. status_of fault ≤ 2 → fault ≡ Fault.Follows taken) }
+    ensures exact { (b : List ℕ) → R.remaining reader.old ≡ Some b → Says (λ u. u) (end_at taken b) result }
     ensures takes { GivesFront (R.remaining reader.old) (R.remaining reader.new) (Amounts 1 (status_after result) IsNext) }
     ensures loan { R.loan reader.new ≡ R.loan reader.old }
 {
@@ -46,19 +42,17 @@ pub fn check_end<'a, R: Source>(reader: &mut R, taken: u64) -> Result<(), Fault<
     }
 }
 
-// The canonical octets of the one value of the type that the reader has left, which takes no more
-// octets than the limit. Refused as `Read`, `Input` or `Memory` by the reader, as `Follows` where an
-// octet follows the value, beyond the limit too, as `Memory` where the canonical octets find no room,
-// and as `Output` where they are 2^64 or more.
-fn canonical<'a, R: Source>(
+/// The canonical octets of the one value of the type that the reader has left, which takes no more
+/// octets than the limit. Refused as `Read`, `Input` or `Memory` by the reader, as `Follows` where an
+/// octet follows the value, beyond the limit too, as `Memory` where the canonical octets find no room,
+/// and as `Output` where they are 2^64 or more.
+pub fn canonical<'a, R: Source>(
     alloc: Global,
     schema: &Schema,
     reader: &mut R,
     limit: u64,
 ) -> Result<Vec<u8>, Fault<'a>>
-    ensures made { IfOk result (λ c. IfSome (R.remaining reader.old)
-        (λ b. MakesCanonical (the_type schema.now) limit b c.items)) }
-    ensures exact { Meets octets_of (canonical_input (the_type schema.now) limit (R.remaining reader.old)) result }
+    ensures exact { (b : List ℕ) → R.remaining reader.old ≡ Some b → SaysOf octets_of b (canonical_of (the_type schema.now) limit b) result }
     ensures takes { GivesValue (the_type schema.now) limit (status_after result) (R.remaining reader.old) (R.remaining reader.new) }
     ensures loan { R.loan reader.new ≡ R.loan reader.old }
 {
@@ -69,25 +63,4 @@ fn canonical<'a, R: Source>(
     };
     check_end(reader, taken)?;
     Ok(sink.into_inner())
-}
-
-/// The canonical octets, in lower hexadecimal digits, of the one value of the type that the reader has
-/// left, which takes no more octets than the limit. Refused as `canonical` is.
-pub fn canonical_digits<'a, R: Source>(
-    alloc: Global,
-    schema: &Schema,
-    reader: &mut R,
-    limit: u64,
-) -> Result<String, Fault<'a>>
-    ensures line { IfOk result (λ line. IfSome (R.remaining reader.old)
-        (IsCanonLine (the_type schema.now) limit (string_bytes line))) }
-    ensures exact { Meets string_bytes (digits_input (the_type schema.now) limit (R.remaining reader.old)) result }
-    ensures takes { GivesValue (the_type schema.now) limit (status_after result) (R.remaining reader.old) (R.remaining reader.new) }
-    ensures loan { R.loan reader.new ≡ R.loan reader.old }
-{
-    let octets = canonical(alloc, schema, reader, limit)?;
-    match hex::encode(alloc, octets) {
-        Ok(line) => Ok(line),
-        Err(_) => Err(Fault::Memory),
-    }
 }

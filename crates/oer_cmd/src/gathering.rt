@@ -21,6 +21,7 @@ pub enum GatherFault {
     Longer,
 }
 
+#[tactic(auto, using(crate::proofs::Taking::more_gathered))]
 /// All the octets that the source has left, at most `limit` of them. Memory grows with the octets that
 /// came. It fails with `Longer` where the source gave more octets than the limit, of which some may be
 /// left; with `Device` at the first call that fails; and with `Memory` if an allocation fails.

@@ -13,6 +13,7 @@ mod part;
 mod program;
 mod show;
 mod start;
+mod task;
 pub mod type_text;
 mod value;
 

@@ -1,9 +1,9 @@
 //! The octets that a task is given.
-ghost use Rattle.std.specs.Prelude.{◌≡◌, ◌≢◌, ◌≤◌, ◌<◌, ◌+◌, ℕ, List, Option, None, length, option_map, IfErr, IfOk, IfSome};
+ghost use Rattle.std.specs.Prelude.{◌≡◌, ◌≢◌, ◌≤◌, ◌<◌, ◌+◌, ℕ, List, Option, None, length, option_map, IfErr, IfOk, IfSome, Some, string_bytes};
 ghost use Rattle.hex.specs.Hex.{decode_of};
 ghost use Rattle.oer_options.specs.Words.{behind};
-ghost use Rattle.oer_cmd.specs.Answer.{digits_octets, hex_octets, limited_octets};
-ghost use Rattle.oer_cmd.specs.Expected.{Meets};
+ghost use Rattle.oer_cmd.specs.Answer.{digits_octets, hex_octets, in_digits, limited_octets, within_limit};
+ghost use Rattle.oer_cmd.specs.Expected.{Meets, Says};
 ghost use Rattle.oer_cmd.specs.Gathering.{TellsAll};
 ghost use Rattle.oer_cmd.specs.Octets.{AreAll, AreSpelt, IsTooLong, octets_of};
 ghost use Rattle.oer_cmd.specs.Taking.{GivesAll, GivesFront, IsGathered, status_after};
@@ -17,7 +17,7 @@ use std::io::Read;
 
 /// The octets that the digits spell; fails with `Hex`, or with `Memory`.
 pub fn decoded<'a>(alloc: Global, digits: &str) -> Result<Vec<u8>, Fault<'a>>
-    ensures exact { Meets octets_of (digits_octets digits.now) result }
+    ensures exact { Says octets_of (digits_octets digits.now) result }
     ensures octets { IfOk result (λ b. decode_of digits.now ≡ Ok b.items) }
     ensures refused { IfErr result (λ fault. fault ≢ Fault.Memory → (fault ≡ Fault.Hex) × ((b : List ℕ) → decode_of digits.now ≡ Ok b → ⊥)) }
 {
@@ -56,9 +56,30 @@ fn gather_input<R: Read>(alloc: Global, input: &mut R, limit: u64) -> Result<Vec
     gather(alloc, &mut Lent::new(input), limit)
 }
 
-// All that the input has left, within the limit.
-fn gathered<'a, R: Read>(alloc: Global, input: &mut R, limit: u64) -> Result<Vec<u8>, Fault<'a>>
-    ensures exact { Meets octets_of (limited_octets limit None (R.remaining input.old)) result }
+/// The octets, if they are no more than the limit. Refused as `Longer`.
+pub fn within<'a>(octets: Vec<u8>, limit: u64) -> Result<Vec<u8>, Fault<'a>>
+    ensures { Says octets_of (within_limit limit octets.items) result }
+{
+    if octets.len() as u64 > limit {
+        return Err(Fault::Longer(limit));
+    }
+    Ok(octets)
+}
+
+/// The octets in lower hexadecimal digits; fails with `Memory`.
+pub fn in_digits<'a>(alloc: Global, octets: &[u8]) -> Result<String, Fault<'a>>
+    ensures { Says string_bytes (in_digits octets.now) result }
+{
+    match hex::encode(alloc, octets) {
+        Ok(line) => Ok(line),
+        Err(_) => Err(Fault::Memory),
+    }
+}
+
+#[tactic(auto, using(crate::proofs::Taking::gave))]
+/// All that the input has left, within the limit. Refused as `Longer`, as `Input` or as `Memory`.
+pub fn gathered<'a, R: Read>(alloc: Global, input: &mut R, limit: u64) -> Result<Vec<u8>, Fault<'a>>
+    ensures exact { (b : List ℕ) → R.remaining input.old ≡ Some b → Says octets_of (within_limit limit b) result }
     ensures within { IfOk result (λ b. length b.items ≤ limit) }
     ensures all { IfOk result (λ b. AreAll None (R.remaining input.old) b.items) }
     ensures refused { IfErr result (IsTooLong limit None (R.remaining input.old)) }

@@ -1,32 +1,33 @@
 //! A part of octets.
-ghost use Rattle.std.specs.Prelude.{◌≡◌, ◌≢◌, List, None, IfOk, string_bytes};
+ghost use Rattle.std.specs.Prelude.{◌≡◌, ℕ, List, Option, None, Some, IfOk, string_bytes};
 ghost use Rattle.oer_model.specs.Parts.{Step as PlainStep};
 ghost use Rattle.oer_types.specs.Schema.{the_type};
 ghost use Rattle.oer_parts.specs.Walk.{path_of as steps_of};
 ghost use Rattle.oer_options.specs.Words.{behind};
-ghost use Rattle.oer_cmd.specs.Answer.{IsPathOf, part_answer, part_octets};
-ghost use Rattle.oer_cmd.specs.Expected.{Expected, Meets, value};
-ghost use Rattle.oer_cmd.specs.Run.{IsEncoding, IsPart, IsPartLine, IsPath, OfOctets};
-ghost use Rattle.oer_cmd.specs.Taking.{GivesAll, GivesIfAsked, status_after};
+ghost use Rattle.oer_units.specs.Octets.{IsOctets};
+ghost use Rattle.oer_cmd.specs.Answer.{HasNoPath, HasPath, IsPathOf, part_answer, part_octets};
+ghost use Rattle.oer_cmd.specs.Expected.{Expected, Says, SaysOf, stop};
+ghost use Rattle.oer_cmd.specs.Taking.{GivesAll, status_after};
 
 use crate::check::judged;
 use crate::fault::Fault;
-use crate::octets::{all_octets, spelt};
+use crate::octets::{decoded, gathered, in_digits, within};
 use oer_parts::laws::one_path;
 use oer_parts::{PartFault, PathFault, Step, read_path};
 use oer_types::Schema;
 use std::alloc::Global;
 use std::io::Read;
 
+#[tactic(auto, using(crate::proofs::Exact::path_none))]
 // The path of `--path`; fails with `Path`, or with `Memory`.
 fn path_of<'a>(alloc: Global, text: Option<&str>) -> Result<Vec<Step>, Fault<'a>>
-    ensures exact { (path : Expected (List PlainStep)) → IsPathOf (behind text.entry) path → Meets (λ v. steps_of v.items) path result }
-    ensures path { IfOk result (λ path. IsPath (behind text.entry) (steps_of path.items)) }
+    ensures exact { (path : Expected (List PlainStep)) → IsPathOf (behind text.entry) path → Says (λ v. steps_of v.items) path result }
+    ensures spells { IfOk result (λ path. HasPath (behind text.entry)) }
 {
     let Some(text) = text else {
         return Ok(Vec::new(alloc));
     };
-    // The law that a text spells at most one path.
+    // Only a law, for the proof: a text spells at most one path. The call does nothing.
     one_path();
     match read_path(alloc, text) {
         Ok(path) => Ok(path),
@@ -42,9 +43,8 @@ fn digits_of_part<'a>(
     octets: &[u8],
     path: &[Step],
 ) -> Result<String, Fault<'a>>
-    ensures whole { IfOk result (λ line. IsEncoding (the_type schema.now) octets.now) }
-    ensures part { IfOk result (λ line. IsPart (the_type schema.now) (steps_of path.now) (string_bytes line) octets.now) }
-    ensures exact { Meets string_bytes (part_octets (the_type schema.now) (steps_of path.now) octets.now) result }
+    ensures exact { Says string_bytes (part_octets (the_type schema.now) (steps_of path.now) octets.now) result }
+    ensures octets { IfOk result (λ line. IsOctets octets.now) }
 {
     let encoding = judged(schema, octets)?;
     let octets = match encoding.part(path) {
@@ -53,32 +53,44 @@ fn digits_of_part<'a>(
         Err(PartFault::NoSuchStep) => return Err(Fault::NoSuchStep),
         Err(PartFault::Absent) => return Err(Fault::Absent),
     };
-    match hex::encode(alloc, octets) {
-        Ok(line) => Ok(line),
-        Err(_) => Err(Fault::Memory),
-    }
+    in_digits(alloc, octets)
 }
 
-/// The line of `part` for the octets that the options or the input give.
-pub fn part_line<'a, R: Read>(
+/// The line of `part` for the octets that the digits spell.
+pub fn part_of_digits<'a>(
     alloc: Global,
     schema: &Schema,
-    hex: Option<&str>,
+    digits: &str,
+    path: Option<&str>,
+    limit: u64,
+) -> Result<String, Fault<'a>>
+    ensures exact { (steps : Expected (List PlainStep)) → IsPathOf (behind path.entry) steps
+        → Says string_bytes (part_answer (the_type schema.now) limit (Some digits.now) steps None) result }
+    ensures spells { IfOk result (λ line. HasPath (behind path.entry)) }
+{
+    let octets = decoded(alloc, digits)?;
+    let steps = path_of(alloc, path)?;
+    let octets = within(octets, limit)?;
+    digits_of_part(alloc, schema, octets.as_slice(), steps.as_slice())
+}
+
+/// The line of `part` for the octets that the input has left.
+pub fn part_of_input<'a, R: Read>(
+    alloc: Global,
+    schema: &Schema,
     path: Option<&str>,
     limit: u64,
     input: &mut R,
 ) -> Result<String, Fault<'a>>
-    ensures line { IfOk result (λ line. OfOctets (behind hex.entry) (R.remaining input.old)
-        (IsPartLine (the_type schema.now) limit (behind path.entry) (string_bytes line))) }
     ensures exact { (steps : Expected (List PlainStep)) → IsPathOf (behind path.entry) steps
-        → Meets string_bytes (part_answer (the_type schema.now) limit (behind hex.entry) steps (R.remaining input.old)) result }
-    ensures untouched { behind hex.entry ≢ None → input.new ≡ input.old }
-    ensures takes { (steps : Expected (List PlainStep)) → IsPathOf (behind path.entry) steps
-        → GivesIfAsked (value (the_type schema.now)) (behind hex.entry) steps (input.new ≡ input.old)
-        (λ _. GivesAll limit (status_after result) (R.remaining input.old) (R.remaining input.new)) }
+        → (b : List ℕ) → R.remaining input.old ≡ Some b
+        → SaysOf string_bytes b (part_answer (the_type schema.now) limit None steps (Some b)) result }
+    ensures spells { IfOk result (λ line. HasPath (behind path.entry)) }
+    ensures takes { HasPath (behind path.entry)
+        → GivesAll limit (status_after result) (R.remaining input.old) (R.remaining input.new) }
+    ensures pathless { HasNoPath (behind path.entry) → (input.new ≡ input.old) × Says string_bytes (stop Fault.Path) result }
 {
-    let spelt = spelt(alloc, hex)?;
     let path = path_of(alloc, path)?;
-    let octets = all_octets(alloc, spelt, input, limit)?;
+    let octets = gathered(alloc, input, limit)?;
     digits_of_part(alloc, schema, octets.as_slice(), path.as_slice())
 }

@@ -15,20 +15,18 @@ ghost use Rattle.oer_cmd.specs.Taking.{GivesIfAsked, GivesTask, TakesBy, TakesFo
 ghost use Rattle.oer_cmd.specs.Types.{SpelledBy, reads_types, texts_at};
 ghost use Rattle.oer_cmd.specs.declared.type_text.TypeText.TheVariants.{Named, One};
 
-use crate::check::check_line;
 use crate::fault::{Fault, error_line};
-use crate::make::make_line;
-use crate::part::part_line;
+use crate::task::{line_given, line_read};
 use crate::type_text::{TypeText, definitions, named_type, one_type, type_text, types_on_input};
-use crate::value::{Form, value_line};
 use clap::error::ErrorKind;
-use oer_options::{Options, Task, parsed};
+use oer_options::{Options, parsed};
 use oer_text::laws::what_is_spelled_is_parsed;
 use oer_types::Schema;
 use oer_units::Metered;
 use std::alloc::{AllocError, Global};
 use std::io::{Read, Write};
 
+#[tactic(auto, using(crate::proofs::Asking::unasked, crate::proofs::Answered::line_read))]
 /// The line of the task for values of the type, from the octets or the JSON of the options, else from the input. The error says why
 /// there is none.
 pub fn line_of<'a, R: Read>(
@@ -46,17 +44,14 @@ pub fn line_of<'a, R: Read>(
         → GivesIfAsked (value (the_type schema.now)) (source_text options.entry.task) path (input.new ≡ input.old)
         (λ T. GivesTask (kind options.entry.task) T options.entry.limit (status_after result) (R.remaining input.old) (R.remaining input.new)) }
 {
-    let limit = options.limit;
-    match options.task {
-        Task::Show { hex } => value_line(alloc, schema, Form::Json, hex, limit, input),
-        Task::ShowAscii { hex } => value_line(alloc, schema, Form::Ascii, hex, limit, input),
-        Task::Canon { hex } => value_line(alloc, schema, Form::Octets, hex, limit, input),
-        Task::Check { hex } => check_line(alloc, schema, hex, limit, input),
-        Task::Make { json } => make_line(alloc, schema, json, limit, input),
-        Task::Part { hex, path } => part_line(alloc, schema, hex, path, limit, input),
+    let task = options.task;
+    match task.source() {
+        Some(text) => line_given(alloc, schema, task, text, options.limit),
+        None => line_read(alloc, schema, task, options.limit, input),
     }
 }
 
+#[tactic(auto, using(crate::proofs::Asking::lost, crate::proofs::Meeting::stops))]
 // The line for the type that the text spells.
 fn line_of_one<'a, R: Read>(
     alloc: Global,
@@ -77,6 +72,7 @@ fn line_of_one<'a, R: Read>(
     line_of(alloc, &schema, options, input)
 }
 
+#[tactic(auto, using(crate::proofs::Asking::lost))]
 // The line for the type that the Name has among the definitions that the text spells.
 fn line_of_named<'a, R: Read>(
     alloc: Global,

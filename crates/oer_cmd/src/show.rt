@@ -1,10 +1,10 @@
 //! The JSON of a value.
-ghost use Rattle.std.specs.Prelude.{◌≡◌, IfOk, IfSome, string_bytes};
+ghost use Rattle.std.specs.Prelude.{◌≡◌, ℕ, List, Some, false, IfOk, string_bytes};
 ghost use Rattle.serde_json.specs.View.{view};
+ghost use Rattle.serde_json.specs.Written.{has_float};
 ghost use Rattle.oer_types.specs.Schema.{the_type};
-ghost use Rattle.oer_cmd.specs.Answer.{ascii_input, json_input, text_input};
-ghost use Rattle.oer_cmd.specs.Expected.{Meets};
-ghost use Rattle.oer_cmd.specs.Run.{IsAsciiLine, IsShowLine, IsShown};
+ghost use Rattle.oer_cmd.specs.Answer.{in_ascii_text, in_text, json_of};
+ghost use Rattle.oer_cmd.specs.Expected.{Says, SaysOf};
 ghost use Rattle.oer_cmd.specs.Taking.{GivesValue, status_after};
 
 use crate::ascii::in_ascii;
@@ -17,18 +17,17 @@ use oer_units::Source;
 use serde_json::Value as Json;
 use std::alloc::Global;
 
-// The JSON of the one value of the type that the reader has left, which takes no more octets than the
-// limit. Refused as `Read`, `Input` or `Memory` by the reader, as `Follows` where an octet follows the
-// value, beyond the limit too, and as `Memory`.
-fn shown<'a, R: Source>(
+/// The JSON of the one value of the type that the reader has left, which takes no more octets than the
+/// limit. Refused as `Read`, `Input` or `Memory` by the reader, as `Follows` where an octet follows the
+/// value, beyond the limit too, and as `Memory`.
+pub fn shown<'a, R: Source>(
     alloc: Global,
     schema: &Schema,
     reader: &mut R,
     limit: u64,
 ) -> Result<Json, Fault<'a>>
-    ensures shown { IfOk result (λ json. IfSome (R.remaining reader.old)
-        (IsShown (the_type schema.now) limit (view json))) }
-    ensures exact { Meets view (json_input (the_type schema.now) limit (R.remaining reader.old)) result }
+    ensures exact { (b : List ℕ) → R.remaining reader.old ≡ Some b → SaysOf view b (json_of (the_type schema.now) limit b) result }
+    ensures whole_numbers { IfOk result (λ json. has_float (view json) ≡ false) }
     ensures takes { GivesValue (the_type schema.now) limit (status_after result) (R.remaining reader.old) (R.remaining reader.new) }
     ensures loan { R.loan reader.new ≡ R.loan reader.old }
 {
@@ -43,40 +42,23 @@ fn shown<'a, R: Source>(
     }
 }
 
-/// The text of that JSON, without a space. Refused as `shown` is, and as `Memory`.
-pub fn json_text<'a, R: Source>(
-    alloc: Global,
-    schema: &Schema,
-    reader: &mut R,
-    limit: u64,
-) -> Result<String, Fault<'a>>
-    ensures line { IfOk result (λ line. IfSome (R.remaining reader.old)
-        (IsShowLine (the_type schema.now) limit (string_bytes line))) }
-    ensures exact { Meets string_bytes (text_input (the_type schema.now) limit (R.remaining reader.old)) result }
-    ensures takes { GivesValue (the_type schema.now) limit (status_after result) (R.remaining reader.old) (R.remaining reader.new) }
-    ensures loan { R.loan reader.new ≡ R.loan reader.old }
+/// The text of JSON, without a space; fails with `Memory`.
+pub fn json_text<'a>(alloc: Global, json: &Json) -> Result<String, Fault<'a>>
+    requires { has_float (view json.now) ≡ false }
+    ensures { Says string_bytes (in_text (view json.now)) result }
 {
-    let json = shown(alloc, schema, reader, limit)?;
     match json.to_string(alloc) {
         Ok(line) => Ok(line),
         Err(_) => Err(Fault::Memory),
     }
 }
 
-/// That text in ASCII. Refused as `json_text` is.
-pub fn ascii_line<'a, R: Source>(
-    alloc: Global,
-    schema: &Schema,
-    reader: &mut R,
-    limit: u64,
-) -> Result<String, Fault<'a>>
-    ensures line { IfOk result (λ line. IfSome (R.remaining reader.old)
-        (IsAsciiLine (the_type schema.now) limit (string_bytes line))) }
-    ensures exact { Meets string_bytes (ascii_input (the_type schema.now) limit (R.remaining reader.old)) result }
-    ensures takes { GivesValue (the_type schema.now) limit (status_after result) (R.remaining reader.old) (R.remaining reader.new) }
-    ensures loan { R.loan reader.new ≡ R.loan reader.old }
+/// That text in ASCII; fails with `Memory`.
+pub fn ascii_text<'a>(alloc: Global, json: &Json) -> Result<String, Fault<'a>>
+    requires { has_float (view json.now) ≡ false }
+    ensures { Says string_bytes (in_ascii_text (view json.now)) result }
 {
-    let text = json_text(alloc, schema, reader, limit)?;
+    let text = json_text(alloc, json)?;
     match in_ascii(alloc, text.as_str()) {
         Ok(line) => Ok(line),
         Err(_) => Err(Fault::Memory),

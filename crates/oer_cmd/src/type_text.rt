@@ -1,5 +1,5 @@
 //! The type that the options name.
-ghost use Rattle.std.specs.Prelude.{◌≡◌, ◌≢◌, IfErr, IfOk, MatchResult, None, false, string_bytes};
+ghost use Rattle.std.specs.Prelude.{◌≡◌, ◌≢◌, ℕ, List, IfErr, IfOk, MatchResult, None, Some, false, string_bytes};
 ghost use Rattle.oer_types.specs.Schema.{the_type};
 ghost use Rattle.oer_notation.specs.Grammar.{IsDefined, IsNew};
 ghost use Rattle.oer_notation.specs.Parsing.{parse, parse_all};
@@ -8,12 +8,12 @@ ghost use Rattle.oer_notation.specs.Views.{knowns};
 ghost use Rattle.oer_options.specs.Words.{behind, texts_of};
 ghost use Rattle.oer_checker.specs.Check.{most};
 ghost use Rattle.oer_cmd.specs.Answer.{expected_type, named_as, parsed, types_input, types_text};
-ghost use Rattle.oer_cmd.specs.Expected.{Meets, stop};
+ghost use Rattle.oer_cmd.specs.Expected.{Meets, Says, stop};
 ghost use Rattle.oer_cmd.specs.Taking.{GivesAll, status_after};
 ghost use Rattle.oer_cmd.specs.Types.{AreDefinedIn, DefinesNone, IsOnly, IsTypeIn, NamesNone, SpellsNone, lack_of, reads_types, texts_at};
 
 use crate::fault::Fault;
-use crate::octets::all_octets;
+use crate::octets::gathered;
 use oer_options::Options;
 use oer_text::laws::{what_is_parsed_is_spelled, what_is_spelled_is_parsed};
 use oer_text::{TextFault, TextWhy, Types, parse_type, parse_types};
@@ -58,9 +58,11 @@ pub fn type_text(options: Options<'_>) -> Result<TypeText<'_>, Fault<'_>>
     Ok(TypeText::Named { types, name })
 }
 
+#[tactic(auto, using(crate::proofs::Naming::only_type))]
 /// The one well-formed type that the text spells; fails with `Type`, or with `Memory`.
 pub fn one_type(alloc: Global, text: &str) -> Result<Schema, Fault<'_>>
     ensures exact { Meets the_type (parsed (parse text.now)) result }
+    ensures says { Says the_type (parsed (parse text.now)) result }
     ensures spells { IfOk result (λ schema. IsOnly (IsTypeIn text.now) (the_type schema)) }
     ensures refused { IfErr result (λ fault. SpellsNone fault text.now) }
 {
@@ -72,9 +74,11 @@ pub fn one_type(alloc: Global, text: &str) -> Result<Schema, Fault<'_>>
     }
 }
 
+#[tactic(auto, using(crate::proofs::Naming::only_definitions))]
 /// The definitions of well-formed types that the text spells; fails with `Type`, or with `Memory`.
 pub fn definitions<'a>(alloc: Global, text: &str) -> Result<Types, Fault<'a>>
     ensures exact { Meets knowns (parsed (parse_all text.now)) result }
+    ensures says { Says knowns (parsed (parse_all text.now)) result }
     ensures spells { IfOk result (λ types. IsOnly (AreDefinedIn text.now) (knowns types)) }
     ensures refused { IfErr result (λ fault. DefinesNone fault text.now) }
 {
@@ -86,9 +90,10 @@ pub fn definitions<'a>(alloc: Global, text: &str) -> Result<Types, Fault<'a>>
     }
 }
 
+#[tactic(auto, using(crate::proofs::TypesInput::text_refused))]
 // The text that the octets are. Where they aren't UTF-8, no token begins after their longest front that is.
 fn text_of<'a>(octets: Vec<u8>) -> Result<String, Fault<'a>>
-    ensures { Meets string_bytes (types_text octets.items) result }
+    ensures { Says string_bytes (types_text octets.items) result }
 {
     match String::from_utf8(octets) {
         Ok(text) => Ok(text),
@@ -110,6 +115,7 @@ pub fn types_on_input<'a, R: Read>(
     input: &mut R,
 ) -> Result<String, Fault<'a>>
     ensures exact { Meets string_bytes (types_input (behind source.entry) (R.remaining input.old)) result }
+    ensures says { (b : List ℕ) → R.remaining input.old ≡ Some b → Says string_bytes (types_input (behind source.entry) (Some b)) result }
     ensures untouched { behind source.entry ≡ None → input.new ≡ input.old }
     ensures takes { behind source.entry ≢ None
         → GivesAll most (status_after result) (R.remaining input.old) (R.remaining input.new) }
@@ -117,13 +123,14 @@ pub fn types_on_input<'a, R: Read>(
     if source.is_none() {
         return Err(Fault::NoSource);
     }
-    let octets = all_octets(alloc, None, input, u64::MAX)?;
+    let octets = gathered(alloc, input, u64::MAX)?;
     text_of(octets)
 }
 
 /// The type that the Name has among the definitions; fails with `Unnamed` if none has it.
 pub fn named_type<'t, 'a>(types: &'t Types, name: &'a str) -> Result<&'t Schema, Fault<'a>>
     ensures exact { Meets (λ schema. the_type schema.now) (named_as name.now (find (knowns types.now) name.now)) result }
+    ensures says { Says (λ schema. the_type schema.now) (named_as name.now (find (knowns types.now) name.now)) result }
     ensures defined { MatchResult result (λ schema. IsDefined name.now (the_type schema.now) (knowns types.now))
         (λ fault. (fault ≡ Fault.Unnamed name.entry) × IsNew name.now (knowns types.now)) }
 {

@@ -3,7 +3,8 @@ use Rattle.oer_cmd.specs.Ascii.{unit_escape}
 use Rattle.oer_cmd.proofs.ascii.push_pair.Goals as goal
 
 -- one text was appended, and then another
-both : {A E : Type 0} (r : Result A E) (old mid new a b : List ℕ) → mid ≡ old ++ a → OnOk r (new ≡ mid ++ b) → OnOk r (new ≡ old ++ (a ++ b))
+both : {A E : Type 0} (r : Result A E) (old mid new a b : List ℕ) → mid ≡ old ++ a → OnOk r (new ≡ mid ++ b)
+    → OnOk r (new ≡ old ++ (a ++ b))
 both (Ok x) old mid new a b e h = h ∙ ap (λ (l : List ℕ). l ++ b) e ∙ append_assoc old a b
 both (Err x) old mid new a b e h = tt
 

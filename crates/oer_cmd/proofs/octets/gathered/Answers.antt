@@ -1,25 +1,18 @@
-use Rattle.std.proofs.Common.{Err, ℕ, Vec, Global, arith, subst, sym}
-use Rattle.std.specs.Prelude.{⊤}
-use Rattle.oer_cmd.specs.Gathering.{TellsAll}
-use Rattle.oer_cmd.proofs.Exact.{gathered_longer, gathered_made}
-use Rattle.oer_cmd.proofs.Taking.{gave}
+use Rattle.std.proofs.Common.{◌≡◌, ◌<◌, List, Option, Some, None, ℕ, length, subst}
+use Rattle.std.specs.Prelude.{IfSome}
+use Rattle.oer_cmd.proofs.Exact.{within_stop, within_value}
 use Rattle.oer_cmd.proofs.octets.gathered.Goals as goal
 
+told : (P : List ℕ → Type 0) (known : Option (List ℕ)) (b : List ℕ) → IfSome known P → known ≡ Some b → P b
+told P None b h is = absurd (cc)
+told P (Some xs) b h is = let same : xs ≡ b = cc in subst P same h
+
 pub returns-in-Ok-clause-exact : goal.returns-in-Ok-clause-exact
-returns-in-Ok-clause-exact g c = gathered_made c.args.limit _ c.in-Ok.octets c.in-Ok.ensures.all c.in-Ok.ensures.within
+returns-in-Ok-clause-exact g c = λ b is.
+    let octets = c.in-Ok.octets.items in
+    let same : b ≡ octets = told (λ xs. xs ≡ octets) _ b c.in-Ok.ensures.all is in
+    rw same (within_value c.args.limit octets c.in-Ok.ensures.within)
 
 pub returns-in-Err-Longer-clause-exact : goal.returns-in-Err-Longer-clause-exact
-returns-in-Err-Longer-clause-exact g c = gathered_longer c.args.limit _ (c.in-Err-Longer.ensures.longer c.in-Err-Longer.field-0-is)
-
-pub returns-in-Ok-clause-takes : goal.returns-in-Ok-clause-takes
-returns-in-Ok-clause-takes g c = gave c.args.limit 0 _ _ ⊤ (λ small. tt) c.in-Ok.ensures.takes
-
-pub returns-in-Err-Memory-clause-takes : goal.returns-in-Err-Memory-clause-takes
-returns-in-Err-Memory-clause-takes g c = gave c.args.limit 3 _ _ (TellsAll {A = Vec ℕ Global} (Err c.in-Err-Memory.field-0)) (λ small. absurd (omega (arith, small))) c.in-Err-Memory.ensures.takes
-
-pub returns-in-Err-Device-clause-takes : goal.returns-in-Err-Device-clause-takes
-returns-in-Err-Device-clause-takes g c = gave c.args.limit 3 _ _ (TellsAll {A = Vec ℕ Global} (Err c.in-Err-Device.field-0)) (λ small. absurd (omega (arith, small))) c.in-Err-Device.ensures.takes
-
-pub returns-in-Err-Longer-clause-takes : goal.returns-in-Err-Longer-clause-takes
-returns-in-Err-Longer-clause-takes g c = gave c.args.limit 1 _ _ (TellsAll {A = Vec ℕ Global} (Err c.in-Err-Longer.field-0))
-    (λ small. subst (λ f. TellsAll {A = Vec ℕ Global} (Err f)) (sym c.in-Err-Longer.field-0-is) tt) c.in-Err-Longer.ensures.takes
+returns-in-Err-Longer-clause-exact g c = λ b is small.
+    within_stop c.args.limit b (told (λ xs. c.args.limit < length xs) _ b (c.in-Err-Longer.ensures.longer c.in-Err-Longer.field-0-is) is)

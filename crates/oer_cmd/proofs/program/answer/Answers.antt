@@ -1,20 +1,16 @@
 use Rattle.std.proofs.Common.{◌∙◌, ap, sym}
 use Rattle.oer_options.specs.Words.{texts_of}
 use Rattle.oer_cmd.specs.Types.{texts_at}
-use Rattle.oer_cmd.proofs.Endings.{for_texts, lacking}
+use Rattle.oer_cmd.proofs.Endings.{for_texts}
 use Rattle.std.proofs.Common.{refl}
-use Rattle.oer_options.specs.Words.{source_text}
+use Rattle.oer_options.specs.Words.{kind, source_text}
 use Rattle.oer_cmd.specs.Answer.{expected_type}
 use Rattle.oer_cmd.specs.Types.{reads_types}
-use Rattle.oer_cmd.proofs.Asking.{for_same, kept, no_type}
+use Rattle.oer_cmd.proofs.Asking.{for_same, lost}
 use Rattle.oer_cmd.proofs.Choices.{failing}
 use Rattle.oer_cmd.proofs.Endings.{line_for}
 use Rattle.oer_cmd.proofs.Meeting.{left}
 use Rattle.oer_cmd.proofs.program.answer.Goals as goal
-
-pub returns-in_err-text-clause-exact : goal.returns-in_err-text-clause-exact
-returns-in_err-text-clause-exact g c =
-    rw (left c.from_residual.result _ c.from_residual.ensures.1) (λ path of. lacking c.args.options path _ _ c.in_err-text.ensures.unread c.in_err-text.ensures.lacking)
 
 pub returns-in-One-clause-exact : goal.returns-in-One-clause-exact
 returns-in-One-clause-exact g c = for_texts (texts_of c.args.options) _ c.args.options.task c.args.options.limit _ c.line_of_one.result (ap texts_at (sym c.in-One.is) ∙ c.in_ok-text.ensures.named) c.line_of_one.ensures.exact
@@ -26,8 +22,8 @@ returns-in-Named-clause-exact g c = for_texts (texts_of c.args.options) _ c.args
 pub returns-in_err-text-clause-takes : goal.returns-in_err-text-clause-takes
 returns-in_err-text-clause-takes g c =
     rw (left c.from_residual.result _ c.from_residual.ensures.1) (failing (reads_types (texts_of c.args.options)) _ _ c.in_err-text.ensures.unread
-    (λ path of. kept (expected_type (texts_of c.args.options)) (source_text c.args.options.task) path _ _ refl
-    (λ T steps is none its. absurd (no_type (expected_type (texts_of c.args.options)) T _ c.in_err-text.ensures.lacking is))))
+    (λ path of. lost (expected_type (texts_of c.args.options)) (source_text c.args.options.task) path _ (kind c.args.options.task) c.args.options.limit _ _
+    refl (λ small. c.in_err-text.ensures.lacking)))
 
 pub returns-in-One-clause-takes : goal.returns-in-One-clause-takes
 returns-in-One-clause-takes g c = for_same _ _ c.args.options.task c.args.options.limit _ _ _ _
