@@ -345,19 +345,20 @@ oer_located oer_part_at(oer_types *types, const char *name, size_t name_length,
                         const uint8_t *octets, size_t octets_length,
                         const char *path, size_t path_length) OER_NO_NULL;
 
-/* Writes that part by names: those on the way to it, joined by dots (docs/COMMAND.md, Names), as list.1.b. A name is
- * the identifier of a component, an addition or an alternative, or the number of an element, counted from 0:
- * decimal, without leading zeros, below 2^64. An alternative leads to its value if it is chosen, and else it is
- * OER_ABSENT. What the type doesn't know has no names. All else is as in oer_part.
- * OER_OK, OER_REJECTED, OER_NO_TYPES, OER_UNNAMED, OER_MEMORY, OER_ROOM; OER_NO_PATH: a name is empty, also where the
- * text is, or has another character than letters, digits and hyphens; OER_NO_STEP: there is no such name in the type,
- * or no such element; OER_ABSENT. */
+/* Writes the part to which names lead, in place of a path: those of the parts on the way, joined by dots
+ * (docs/COMMAND.md, Names), as list.1.b. A name is the identifier of a component, an addition or an alternative,
+ * or the number of an element, counted from 0: decimal, without leading zeros, below 2^64. What the type doesn't
+ * know has no name. All else is as in oer_part. A name is looked for in the type once the octets are checked.
+ * OER_OK, OER_REJECTED, OER_NO_TYPES, OER_UNNAMED, OER_MEMORY, OER_ROOM.
+ * OER_NO_PATH: a name is empty, as the whole text may be, or has another character than letters, digits and
+ * hyphens. OER_NO_STEP: the type has no such name, or there is no such element. OER_ABSENT: a component or a known
+ * addition is absent, or another alternative is chosen. */
 oer_written oer_part_named(oer_types *types, const char *name, size_t name_length,
                            const uint8_t *octets, size_t octets_length,
                            const char *names, size_t names_length,
                            uint8_t *out, size_t room) OER_NO_NULL;
 
-/* Says where that part lies, by names as in oer_part_named: else it is oer_part_at.
+/* Says where that part lies, as oer_part_at does.
  * OER_OK, OER_REJECTED, OER_NO_TYPES, OER_UNNAMED, OER_MEMORY, OER_NO_PATH, OER_NO_STEP, OER_ABSENT. */
 oer_located oer_part_named_at(oer_types *types, const char *name, size_t name_length,
                               const uint8_t *octets, size_t octets_length,

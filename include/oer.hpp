@@ -706,11 +706,13 @@ public:
             oer_part_at(&held_, name.data(), name.size(), given.data(), given.size(), path.data(), path.size()));
     }
 
-    /* The part of part(), by names: those on the way to it, joined by dots (docs/COMMAND.md, Names), as list.1.b. A name
-     * is the identifier of a component, an addition or an alternative, or the number of an element, counted from 0.
-     *   OER_NO_PATH  a name is empty, also where the text is, or has another character than letters, digits and
-     *                hyphens
-     *   OER_NO_STEP  there is no such name in the type, or no such element
+    /* The part to which names lead, in place of a path: those of the parts on the way, joined by dots
+     * (docs/COMMAND.md, Names), as list.1.b. A name is the identifier of a component, an addition or an
+     * alternative, or the number of an element, counted from 0. What the type doesn't know has no name. All else is
+     * as in part().
+     *   OER_NO_PATH  a name is empty, as the whole text may be, or has another character than letters, digits
+     *                and hyphens
+     *   OER_NO_STEP  the type has no such name, or there is no such element
      *   OER_ABSENT   a component or a known addition is absent, or another alternative is chosen
      * and the other errors of part(). */
     result<octets> part_named(text_in name, octets_in given, text_in names) noexcept {

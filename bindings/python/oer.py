@@ -704,12 +704,13 @@ class Types:
         return self._part_at(_PATH, name, octets, path)
 
     def part_named(self, name: Text, octets: Octets, names: Text) -> Part:
-        """The part of part(), by names: those on the way to it, joined by dots. A name is the identifier of a
-        component, an addition or an alternative, or the number of an element, counted from 0.
+        """The part to which names lead, in place of a path: those of the parts on the way, joined by dots. A name
+        is the identifier of a component, an addition or an alternative, or the number of an element, counted
+        from 0. What the type doesn't know has no name. All else is as in part().
 
-        Raises OctetsRejected if the octets don't begin with an encoding; NoPath if a name is empty, also where
-        the text is, or has another character than letters, digits and hyphens; NoStep if there is no such name
-        in the type, or no such element; Absent if a component or a known addition is absent, or another
+        Raises OctetsRejected if the octets don't begin with an encoding; NoPath if a name is empty, as the whole
+        text may be, or has another character than letters, digits and hyphens; NoStep if the type has no such
+        name, or there is no such element; Absent if a component or a known addition is absent, or another
         alternative is chosen.
         """
         return self._part(_NAMES, name, octets, names)

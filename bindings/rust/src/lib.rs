@@ -565,13 +565,14 @@ impl Types {
         written(answer)
     }
 
-    /// The part of [`Types::part`], by names: those on the way to it, joined by dots. A name is the identifier of
-    /// a component, an addition or an alternative, or the number of an element, counted from 0.
+    /// The part to which names lead, in place of a path: those of the parts on the way, joined by dots. A name is
+    /// the identifier of a component, an addition or an alternative, or the number of an element, counted from 0.
+    /// What the type doesn't know has no name. All else is as in [`Types::part`].
     ///
     /// # Errors
     ///
-    /// [`Error::NoPath`] if a name is empty, also where the text is, or has another character than letters,
-    /// digits and hyphens; [`Error::NoStep`] if there is no such name in the type, or no such element;
+    /// [`Error::NoPath`] if a name is empty, as the whole text may be, or has another character than letters,
+    /// digits and hyphens; [`Error::NoStep`] if the type has no such name, or there is no such element;
     /// [`Error::Absent`] if a component or a known addition is absent, or another alternative is chosen; and the
     /// other errors of [`Types::part`].
     ///

@@ -62,11 +62,11 @@ pub extern "C" fn oer_part(
 ///
 /// - `OK`: the part, `written` octets, is in the buffer;
 /// - `ROOM`: the buffer has room for fewer than these `written` octets;
-/// - `NO_PATH`: a name is empty, or has another character than letters, digits and hyphens; so the empty text is none;
+/// - `NO_PATH`: a name is empty, as the whole text may be, or has another character than letters, digits and hyphens;
 /// - `REJECTED`: no encoding is at the front, for the reason `why`, which was decided after `octets`
 ///   of them;
-/// - `NO_STEP`: the type has no such names, or the list has not so many elements;
-/// - `ABSENT`: a component or an addition is absent, or another alternative is chosen;
+/// - `NO_STEP`: the type has no such name, or there is no such element;
+/// - `ABSENT`: a component or a known addition is absent, or another alternative is chosen;
 /// - `NO_TYPES`: the handle has no types;
 /// - `UNNAMED`: no definition has the Name, or it is not UTF-8;
 /// - `MEMORY`: an allocation failed.
