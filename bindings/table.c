@@ -6,6 +6,7 @@
  *   layout STRUCT SIZE OFFSET+SIZE..     of the struct, and of each field
  *   vector TASK TYPE GIVEN PATH LIMIT STATUS WHY OCTETS WRITTEN ANSWER
  *   place TYPE GIVEN PATH STATUS WHY OCTETS AT LENGTH
+ *   named TYPE GIVEN NAMES STATUS WHY OCTETS AT LENGTH
  *   rejected TEXT WHY PLACE
  *   modules FIRST SECOND WHY TEXT PLACE LINE COLUMN WORDS */
 #include "vectors.h"
@@ -43,8 +44,8 @@ static void put_vector(const struct vector *vector) {
     putchar('\n');
 }
 
-static void put_place(const struct place *place) {
-    printf("place");
+static void put_place(const char *table, const struct place *place) {
+    printf("%s", table);
     put_text(place->type);
     put_digits(place->given);
     put_text(place->path);
@@ -116,7 +117,8 @@ int main(void) {
     printf("version\t%d\n", OER_VERSION_NUMBER);
     put_layouts();
     for (i = 0; i < sizeof vectors / sizeof *vectors; i++) put_vector(&vectors[i]);
-    for (i = 0; i < sizeof places / sizeof *places; i++) put_place(&places[i]);
+    for (i = 0; i < sizeof places / sizeof *places; i++) put_place("place", &places[i]);
+    for (i = 0; i < sizeof named_places / sizeof *named_places; i++) put_place("named", &named_places[i]);
     for (i = 0; i < sizeof rejected_texts / sizeof *rejected_texts; i++) {
         printf("rejected");
         put_text(rejected_texts[i].text);

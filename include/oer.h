@@ -75,11 +75,12 @@ enum oer_status {
     OER_UNNAMED = 3,        /* no definition has the name */
     OER_MEMORY = 4,         /* an allocation failed */
     OER_ROOM = 5,           /* the buffer is too small: `written` says how many octets are needed */
-    OER_NO_PATH = 6,        /* the text is not a path */
+    OER_NO_PATH = 6,        /* the text is not a path, or not names */
     OER_NO_STEP = 7,        /* the path has a step that the type doesn't have, one past the last element, or
                                one to an addition that the type doesn't know and that isn't there; or it
-                               goes on from a part that the type doesn't know */
-    OER_ABSENT = 8,         /* the path leads to a component or a known addition that is absent */
+                               goes on from a part that the type doesn't know; or the same of names */
+    OER_ABSENT = 8,         /* the path leads to a component or a known addition that is absent; or names do,
+                               or to an alternative that isn't chosen */
     OER_NO_JSON = 9,        /* the text is not JSON, or not UTF-8: `octets` says where */
     OER_OUTSIDE = 10,       /* the message, or the text of modules, is not all in the octets */
     OER_NOT_CANONICAL = 11, /* the octets are an encoding, but not the canonical one */
@@ -343,6 +344,25 @@ oer_written oer_part(oer_types *types, const char *name, size_t name_length,
 oer_located oer_part_at(oer_types *types, const char *name, size_t name_length,
                         const uint8_t *octets, size_t octets_length,
                         const char *path, size_t path_length) OER_NO_NULL;
+
+/* Writes the part to which names lead, in place of a path: those of the parts on the way, joined by dots
+ * (docs/COMMAND.md, Names), as list.1.b. A name is the identifier of a component, an addition or an alternative,
+ * or the number of an element, counted from 0: decimal, without leading zeros, below 2^64. What the type doesn't
+ * know has no name. All else is as in oer_part. A name is looked for in the type once the octets are checked.
+ * OER_OK, OER_REJECTED, OER_NO_TYPES, OER_UNNAMED, OER_MEMORY, OER_ROOM.
+ * OER_NO_PATH: a name is empty, as the whole text may be, or has another character than letters, digits and
+ * hyphens. OER_NO_STEP: the type has no such name, or there is no such element. OER_ABSENT: a component or a known
+ * addition is absent, or another alternative is chosen. */
+oer_written oer_part_named(oer_types *types, const char *name, size_t name_length,
+                           const uint8_t *octets, size_t octets_length,
+                           const char *names, size_t names_length,
+                           uint8_t *out, size_t room) OER_NO_NULL;
+
+/* Says where that part lies, as oer_part_at does.
+ * OER_OK, OER_REJECTED, OER_NO_TYPES, OER_UNNAMED, OER_MEMORY, OER_NO_PATH, OER_NO_STEP, OER_ABSENT. */
+oer_located oer_part_named_at(oer_types *types, const char *name, size_t name_length,
+                              const uint8_t *octets, size_t octets_length,
+                              const char *names, size_t names_length) OER_NO_NULL;
 
 /* Writes the JSON (docs/JSON.md) of the value whose encoding, of at most `limit` octets, is at the
  * front of the octets. What follows it is not looked at.

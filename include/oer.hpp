@@ -327,7 +327,7 @@ struct checked {
 /* Where a message or a part is in octets: its place and its length. */
 typedef oer_message message;
 
-/* What part_at() answers. */
+/* What part_at() and part_named_at() answer. */
 struct located : message {
     /* How many octets the encoding has that the part is in. */
     std::uint64_t read;
@@ -335,8 +335,8 @@ struct located : message {
 
 /* What a call answers that writes into a buffer of the caller's. */
 struct written {
-    /* How many octets the encoding has that was read: canon_into(), part_into() and to_json_into(). Else
-     * 0. */
+    /* How many octets the encoding has that was read: canon_into(), part_into(), part_named_into() and
+     * to_json_into(). Else 0. */
     std::uint64_t read;
     /* How many octets were written, from the first of the buffer on. Those after them are as before. */
     std::size_t size;
@@ -702,16 +702,41 @@ public:
      * errors are those of part(). */
     result<located> part_at(text_in name, octets_in given, text_in path) noexcept {
         if (missing(name, given, path)) return nowhere(subject::octets);
-        oer_located found =
-            oer_part_at(&held_, name.data(), name.size(), given.data(), given.size(), path.data(), path.size());
-        if (found.status != OER_OK) {
-            return result<located>(fault(found.status, found.why, found.octets, 0, subject::octets));
-        }
-        located place = located();
-        place.at = found.at;
-        place.length = found.length;
-        place.read = found.octets;
-        return result<located>(std::move(place));
+        return told(
+            oer_part_at(&held_, name.data(), name.size(), given.data(), given.size(), path.data(), path.size()));
+    }
+
+    /* The part to which names lead, in place of a path: those of the parts on the way, joined by dots
+     * (docs/COMMAND.md, Names), as list.1.b. A name is the identifier of a component, an addition or an
+     * alternative, or the number of an element, counted from 0. What the type doesn't know has no name. All else is
+     * as in part().
+     *   OER_NO_PATH  a name is empty, as the whole text may be, or has another character than letters, digits
+     *                and hyphens
+     *   OER_NO_STEP  the type has no such name, or there is no such element
+     *   OER_ABSENT   a component or a known addition is absent, or another alternative is chosen
+     * and the other errors of part(). */
+    result<octets> part_named(text_in name, octets_in given, text_in names) noexcept {
+        if (missing(name, given, names)) return nowhere(subject::octets);
+        return gather<std::uint8_t>(given.size(), subject::octets, [&](std::uint8_t *out, std::size_t room) {
+            return oer_part_named(&held_, name.data(), name.size(), given.data(), given.size(), names.data(),
+                                  names.size(), out, room);
+        });
+    }
+
+    /* The same, written into the buffer, which overlaps nothing else that is passed.
+     *   OER_ROOM     the buffer is too small: `needed` of the error says how many octets it has to have */
+    result<written> part_named_into(text_in name, octets_in given, text_in names, octets_out out) noexcept {
+        if (missing(name, given, names)) return nowhere(subject::octets);
+        return told(oer_part_named(&held_, name.data(), name.size(), given.data(), given.size(), names.data(),
+                                   names.size(), out.data(), out.size()),
+                    subject::octets);
+    }
+
+    /* Where that part lies in the octets, as part_at() says it. The errors are those of part_named(). */
+    result<located> part_named_at(text_in name, octets_in given, text_in names) noexcept {
+        if (missing(name, given, names)) return nowhere(subject::octets);
+        return told(oer_part_named_at(&held_, name.data(), name.size(), given.data(), given.size(), names.data(),
+                                      names.size()));
     }
 
     /* The JSON (docs/JSON.md) of the value whose encoding, of at most `limit` octets, is at the front of
@@ -810,6 +835,17 @@ private:
         if (answer.status != OER_OK) return result<written>(fault(answer, of));
         written made = { answer.octets, static_cast<std::size_t>(answer.written) };
         return result<written>(std::move(made));
+    }
+
+    static result<located> told(const oer_located &answer) noexcept {
+        if (answer.status != OER_OK) {
+            return result<located>(fault(answer.status, answer.why, answer.octets, 0, subject::octets));
+        }
+        located place = located();
+        place.at = answer.at;
+        place.length = answer.length;
+        place.read = answer.octets;
+        return result<located>(std::move(place));
     }
 
     /* Where the JSON of an encoding begins to be tried; more is taken if it is longer. */

@@ -17,10 +17,10 @@ enum { STACK = 8 << 20, FILL = 0xa5, LARGE = 1 << 20 };
 
 /* ---- a call in a thread of its own */
 
-enum call { NONE, READ, READ_WITHIN, READ_MODULES, SHARE, CHECK, CHECK_WHOLE, CHECK_NESTING, CHECK_MANY, CANON, PART, PART_AT, TO_JSON, FROM_JSON, FREE };
+enum call { NONE, READ, READ_WITHIN, READ_MODULES, SHARE, CHECK, CHECK_WHOLE, CHECK_NESTING, CHECK_MANY, CANON, PART, PART_AT, PART_NAMED, PART_NAMED_AT, TO_JSON, FROM_JSON, FREE };
 
 static const char *const names[] = { "none", "oer_types_read", "oer_types_read_within", "oer_types_read_modules", "oer_types_share", "oer_check", "oer_check_whole",
-                                     "oer_check_nesting", "oer_check_many", "oer_canon", "oer_part", "oer_part_at", "oer_to_json", "oer_from_json", "oer_types_free" };
+                                     "oer_check_nesting", "oer_check_many", "oer_canon", "oer_part", "oer_part_at", "oer_part_named", "oer_part_named_at", "oer_to_json", "oer_from_json", "oer_types_free" };
 
 /* What the call is given; `status` is what it answers. */
 struct job {
@@ -31,7 +31,7 @@ struct job {
     size_t text_length;
     const uint8_t *octets;
     size_t octets_length;
-    const char *path;
+    const char *path, *named;
     uint8_t *out;
     size_t room;
     uint64_t written;
@@ -83,6 +83,12 @@ static void *run(void *given) {
     case PART_AT:
         job->status = oer_part_at(&job->types, job->name, name, job->octets, job->octets_length, job->path, strlen(job->path)).status;
         break;
+    case PART_NAMED:
+        written = oer_part_named(&job->types, job->name, name, job->octets, job->octets_length, job->named, strlen(job->named), job->out, job->room);
+        break;
+    case PART_NAMED_AT:
+        job->status = oer_part_named_at(&job->types, job->name, name, job->octets, job->octets_length, job->named, strlen(job->named)).status;
+        break;
     case TO_JSON:
         written = oer_to_json(&job->types, job->name, name, job->octets, job->octets_length, OER_NO_LIMIT, (char *)job->out, job->room);
         break;
@@ -94,7 +100,8 @@ static void *run(void *given) {
         break;
     }
     job->written = written.written;
-    if (job->call == CANON || job->call == PART || job->call == TO_JSON || job->call == FROM_JSON) job->status = written.status;
+    if (job->call == CANON || job->call == PART || job->call == PART_NAMED || job->call == TO_JSON || job->call == FROM_JSON)
+        job->status = written.status;
     return NULL;
 }
 
@@ -138,9 +145,9 @@ static void measure(struct job *job, enum call call, const char *what, uint32_t 
 
 static uint8_t out[LARGE], json[LARGE];
 
-/* Reads the types, and makes each call with the octets and the path; the JSON is that of the octets. */
+/* Reads the types, and makes each call with the octets, the path and the names; the JSON is that of the octets. */
 static void measure_all(const char *what, const char *types, const char *name, const uint8_t *octets, size_t length,
-                        const char *path) {
+                        const char *path, const char *named) {
     struct job job;
     int canonical;
     memset(&job, 0, sizeof job);
@@ -150,6 +157,7 @@ static void measure_all(const char *what, const char *types, const char *name, c
     job.octets = octets;
     job.octets_length = length;
     job.path = path;
+    job.named = named;
     job.out = out;
     job.room = sizeof out;
     measure(&job, READ, what, OER_OK);
@@ -163,6 +171,8 @@ static void measure_all(const char *what, const char *types, const char *name, c
     measure(&job, CANON, what, OER_OK);
     measure(&job, PART, what, OER_OK);
     measure(&job, PART_AT, what, OER_OK);
+    measure(&job, PART_NAMED, what, OER_OK);
+    measure(&job, PART_NAMED_AT, what, OER_OK);
     job.out = json;
     measure(&job, TO_JSON, what, OER_OK);
     job.out = out;
@@ -176,27 +186,27 @@ static void measure_all(const char *what, const char *types, const char *name, c
 }
 
 /* A type in another one: what stands before and after it, the octets before the one of the inner type,
- * whether these are counted, and the step to it. */
+ * whether these are counted, and the step and the name to it. */
 struct level {
     const char *before, *after;
     uint8_t octets[4];
     size_t length;
     int counted;
-    const char *step;
+    const char *step, *name;
 };
 
 static const struct level levels[] = {
-    { "SEQUENCE OF ", "", { 1, 1 }, 2, 0, "i0" },
-    { "SEQUENCE {a ", "}", { 0 }, 0, 0, "c0" },
-    { "SEQUENCE {a ", " OPTIONAL}", { 0x80 }, 1, 0, "c0" },
-    { "SEQUENCE {..., a ", "}", { 0x80, 2, 7, 0x80 }, 4, 1, "a0" },
-    { "CHOICE {a ", "}", { 0x80 }, 1, 0, "v" },
-    { "CHOICE {b NULL, ..., a ", "}", { 0x81 }, 1, 1, "v" }
+    { "SEQUENCE OF ", "", { 1, 1 }, 2, 0, "i0", "0" },
+    { "SEQUENCE {a ", "}", { 0 }, 0, 0, "c0", "a" },
+    { "SEQUENCE {a ", " OPTIONAL}", { 0x80 }, 1, 0, "c0", "a" },
+    { "SEQUENCE {..., a ", "}", { 0x80, 2, 7, 0x80 }, 4, 1, "a0", "a" },
+    { "CHOICE {a ", "}", { 0x80 }, 1, 0, "v", "a" },
+    { "CHOICE {b NULL, ..., a ", "}", { 0x81 }, 1, 1, "v", "a" }
 };
 
-/* A type of many levels, with octets for it and the path to the innermost. */
+/* A type of many levels, with octets for it, and the path and the names to the innermost. */
 struct deep {
-    char type[4096], path[256], what[4200];
+    char type[4096], path[256], named[256], what[4200];
     uint8_t octets[1024];
     const uint8_t *front;
     size_t length;
@@ -210,11 +220,12 @@ static void make_deep(struct deep *made, const struct level *kind, int levels_ar
     int i;
     memcpy(front, contents, length);
     strcpy(made->type, "A ::= ");
-    made->path[0] = 0;
+    made->path[0] = made->named[0] = 0;
     for (i = 0; i < levels_around; i++) {
         const struct level *level = kind ? kind : &levels[i % KINDS];
         strcat(made->type, level->before);
         strcat(strcat(made->path, i ? "." : ""), level->step);
+        strcat(strcat(made->named, i ? "." : ""), level->name);
     }
     strcat(made->type, leaf);
     for (i = levels_around; i-- > 0;) {
@@ -237,7 +248,7 @@ static void make_deep(struct deep *made, const struct level *kind, int levels_ar
 static void measure_deep(const struct level *kind, const char *leaf, const uint8_t *contents, size_t length) {
     static struct deep made;
     make_deep(&made, kind, 31, leaf, contents, length);
-    measure_all(made.what, made.type, "A", made.front, made.length, made.path);
+    measure_all(made.what, made.type, "A", made.front, made.length, made.path, made.named);
 }
 
 /* Octets that nest too deep, where a type is written out to 32 levels. */
@@ -274,7 +285,7 @@ static void measure_certificate(const char *folder) {
     size_t length = 0;
     unsigned octet;
     while (sscanf(digits + 2 * length, "%2x", &octet) == 1) octets[length++] = (uint8_t)octet;
-    measure_all("the certificate", contents(folder, "types.asn"), "Certificate", octets, length, "c3");
+    measure_all("the certificate", contents(folder, "types.asn"), "Certificate", octets, length, "c3", "toBeSigned");
 }
 
 /* The word so many times, and then the end. */

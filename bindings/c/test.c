@@ -226,7 +226,14 @@ static oer_located locate(oer_types *types, const char *name, const struct octet
     return oer_part_at(types, name, strlen(name), given->at, given->length, path, strlen(path));
 }
 
-static void test_place(const struct place *place) {
+static oer_located locate_named(oer_types *types, const char *name, const struct octets *given, const char *names) {
+    return oer_part_named_at(types, name, strlen(name), given->at, given->length, names, strlen(names));
+}
+
+/* How parts are located: by a path or by names. */
+typedef oer_located (*locator)(oer_types *types, const char *name, const struct octets *given, const char *path);
+
+static void test_place(const struct place *place, locator locate) {
     oer_types types = types_of(place->type);
     struct octets given = from_hex(place->given);
     oer_located answer = locate(&types, "A", &given, place->path);
@@ -235,6 +242,35 @@ static void test_place(const struct place *place) {
     EXPECT(is_located(locate(&types, "\377", &given, place->path), OER_UNNAMED, 0, 0, 0, 0), place->given);
     oer_types_free(&types);
     EXPECT(is_located(locate(&types, "A", &given, place->path), OER_NO_TYPES, 0, 0, 0, 0), place->given);
+}
+
+static oer_written take_named(oer_types *types, const char *name, const struct octets *given, const char *names,
+                              uint8_t *out, size_t room) {
+    return oer_part_named(types, name, strlen(name), given->at, given->length, names, strlen(names), out, room);
+}
+
+/* That oer_part_named copies the part that lies there, or answers why there is none; and nothing into a buffer that is too small. */
+static void test_taken(const struct place *place) {
+    oer_types types = types_of(place->type);
+    struct octets given = from_hex(place->given);
+    uint8_t out[LONGEST];
+    oer_written answer;
+    size_t room;
+    memset(out, 0xaa, sizeof out);
+    answer = take_named(&types, "A", &given, place->path, out, sizeof out);
+    EXPECT(answer.status == place->status && answer.why == place->why, place->given);
+    EXPECT(answer.octets == place->octets && answer.written == place->length, place->given);
+    EXPECT(memcmp(out, given.at + place->at, place->length) == 0, place->given);
+    EXPECT(are_all(out, place->length, sizeof out, 0xaa), place->given);
+    memset(out, 0xbb, sizeof out);
+    for (room = 0; room < place->length; room++) {
+        answer = take_named(&types, "A", &given, place->path, out, room);
+        EXPECT(answer.status == OER_ROOM && answer.octets == place->octets && answer.written == place->length, place->given);
+    }
+    EXPECT(is_only(take_named(&types, "B", &given, place->path, out, sizeof out), OER_UNNAMED), place->given);
+    oer_types_free(&types);
+    EXPECT(is_only(take_named(&types, "A", &given, place->path, out, sizeof out), OER_NO_TYPES), place->given);
+    EXPECT(are_all(out, 0, sizeof out, 0xbb), place->given);
 }
 
 /* That the part which oer_part copies is where oer_part_at says. */
@@ -522,6 +558,9 @@ static void test_certificate(const char *folder) {
     EXPECT(answer.status == OER_OK && answer.octets == 230 && answer.written == 152, "toBeSigned");
     EXPECT(memcmp(out.at, certificate.at + 12, 152) == 0, "toBeSigned");
     EXPECT(is_located(locate(&types, "Certificate", &certificate, "c3"), OER_OK, 0, 230, 12, 152), "toBeSigned");
+    EXPECT(is_located(locate_named(&types, "Certificate", &certificate, "toBeSigned"), OER_OK, 0, 230, 12, 152), "toBeSigned");
+    EXPECT(is_located(locate_named(&types, "Certificate", &certificate, "toBeSigned.crlSeries"), OER_OK, 0, 230, 32, 2), "crlSeries");
+    EXPECT(is_located(locate_named(&types, "Certificate", &certificate, "toBeSigned.appPermissions.0.psid"), OER_OK, 0, 230, 70, 2), "psid");
     answer = oer_to_json(&types, "Certificate", 11, basic.at, basic.length, OER_NO_LIMIT, (char *)json.at, sizeof json.at);
     EXPECT(answer.status == OER_OK && answer.octets == 236, "to_json");
     answer = oer_from_json(&types, "Certificate", 11, (char *)json.at, (size_t)answer.written, out.at, sizeof out.at);
@@ -558,7 +597,7 @@ static void fail_in_turn(const struct vector *vector) {
 }
 
 /* The same where a part is located. */
-static void fail_place_in_turn(const struct place *place) {
+static void fail_place_in_turn(const struct place *place, locator locate) {
     oer_types types = types_of(place->type);
     struct octets given = from_hex(place->given);
     long before = blocks, nth;
@@ -651,7 +690,8 @@ static void test_memory(const char *folder) {
     size_t i;
     long failed = 0;
     for (i = 0; i < COUNT(vectors); i++) fail_in_turn(&vectors[i]);
-    for (i = 0; i < COUNT(places); i++) fail_place_in_turn(&places[i]);
+    for (i = 0; i < COUNT(places); i++) fail_place_in_turn(&places[i], locate);
+    for (i = 0; i < COUNT(named_places); i++) fail_place_in_turn(&named_places[i], locate_named);
     fail_sharing_in_turn();
     fail_modules_in_turn(MODULE("A ::= SEQUENCE {a INTEGER (0..most), b A OPTIONAL} B ::= SET {} most INTEGER ::= 7"), OER_OK, 1);
     for (i = 0; i < COUNT(rejected_modules); i++)
@@ -788,7 +828,11 @@ int main(int count, char **words) {
         if (vectors[i].task == PART) test_located(&vectors[i]);
         test_unset_buffer(&vectors[i]);
     }
-    for (i = 0; i < COUNT(places); i++) test_place(&places[i]);
+    for (i = 0; i < COUNT(places); i++) test_place(&places[i], locate);
+    for (i = 0; i < COUNT(named_places); i++) {
+        test_place(&named_places[i], locate_named);
+        test_taken(&named_places[i]);
+    }
     for (i = 0; i < COUNT(rejected_texts); i++) test_rejected_text(&rejected_texts[i]);
     test_kept_types();
     test_read_within();

@@ -185,6 +185,49 @@ static const struct place places[] = {
     { "OCTET STRING", ENDLESS, "c0", OER_REJECTED, OER_LIMIT, 9, 0, 0 }
 };
 
+/* The same by names, in place of the path. */
+static const struct place named_places[] = {
+    { BYTE, "60ff0800", "a", OER_OK, 0, 3, 1, 1 },
+    { BYTE, "60ff0800", "b", OER_OK, 0, 3, 2, 1 },
+    { BYTE, "20ff", "c", OER_OK, 0, 2, 2, 0 },
+    { BYTE, "20ff00", "b", OER_ABSENT, 0, 2, 0, 0 },
+    { BYTE, "20ff00", "d", OER_NO_STEP, 0, 2, 0, 0 },
+    { BYTE, "20ff00", "b.c", OER_NO_STEP, 0, 2, 0, 0 },
+    { BYTE, "20ff00", "B", OER_NO_STEP, 0, 2, 0, 0 },
+    { ADDITIONS, "80ff0206c001090109", "x", OER_OK, 0, 9, 6, 1 },
+    { ADDITIONS, "80ff0206c001090109", "y", OER_OK, 0, 9, 8, 1 },
+    { ADDITIONS, "80ff020680010900", "y", OER_ABSENT, 0, 7, 0, 0 },
+    { ADDITIONS, "80ff0206800109", "a1", OER_NO_STEP, 0, 7, 0, 0 },
+    { CHOSEN, "8103026162", "b", OER_OK, 0, 5, 2, 3 },
+    { CHOSEN, "80", "a", OER_OK, 0, 1, 1, 0 },
+    { CHOSEN, "8103026162", "a", OER_ABSENT, 0, 5, 0, 0 },
+    { CHOSEN, "8502616200", "b", OER_ABSENT, 0, 4, 0, 0 },
+    { CHOSEN, "8103026162", "v", OER_NO_STEP, 0, 5, 0, 0 },
+    { BOOLEANS, "020002010701", "1", OER_OK, 0, 5, 4, 1 },
+    { BOOLEANS, "0103ffffff", "3", OER_NO_STEP, 0, 5, 0, 0 },
+    { BOOLEANS, "0103ffffff", "01", OER_NO_STEP, 0, 5, 0, 0 },
+    { BOOLEANS, "0103ffffff", "18446744073709551616", OER_NO_STEP, 0, 5, 0, 0 },
+    { "SEQUENCE OF CHOICE {a SEQUENCE {long-name NULL, b BOOLEAN}, c NULL}", "01028180ff", "1.a.b", OER_OK, 0, 5, 4, 1 },
+    { "SEQUENCE OF CHOICE {a SEQUENCE {long-name NULL, b BOOLEAN}, c NULL}", "01028180ff", "1.a.long-name", OER_OK, 0, 5, 4, 0 },
+    { "SEQUENCE OF CHOICE {a SEQUENCE {long-name NULL, b BOOLEAN}, c NULL}", "01028180ff", "0.a.b", OER_ABSENT, 0, 5, 0, 0 },
+    { "BOOLEAN", "ff00", "0", OER_NO_STEP, 0, 1, 0, 0 },
+
+    /* What isn't spelt as names is so whatever the type and the octets are. */
+    { "BOOLEAN", "ff", "", OER_NO_PATH, 0, 0, 0, 0 },
+    { BYTE, "60ff08", ".a", OER_NO_PATH, 0, 0, 0, 0 },
+    { BYTE, "60ff08", "a.", OER_NO_PATH, 0, 0, 0, 0 },
+    { BYTE, "60ff08", "d..a", OER_NO_PATH, 0, 0, 0, 0 },
+    { BYTE, "60ff08", " a", OER_NO_PATH, 0, 0, 0, 0 },
+    { BYTE, "60", "a_b", OER_NO_PATH, 0, 0, 0, 0 },
+    { BYTE, "60ff08", "\377", OER_NO_PATH, 0, 0, 0, 0 },
+    { BYTE, "60ff08", "\303\244", OER_NO_PATH, 0, 0, 0, 0 },
+    { BOOLEANS, "0103ffffff", "+1", OER_NO_PATH, 0, 0, 0, 0 },
+
+    /* Octets are looked at before names are looked for. */
+    { BYTE, "60ff", "d", OER_REJECTED, OER_END, 2, 0, 0 },
+    { "OCTET STRING", ENDLESS, "a", OER_REJECTED, OER_LIMIT, 9, 0, 0 }
+};
+
 /* Definitions that are rejected: the reason, and the place. */
 struct rejected_text {
     const char *text;

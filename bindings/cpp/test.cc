@@ -327,19 +327,43 @@ static void test_vector(const vector &row) {
     EXPECT(is_only(call(none, "A", row).error, OER_NO_TYPES), "before types are read");
 }
 
-// Where a part lies.
-static void test_place(const place &row) {
+// Where a part lies, as one of the two calls says it.
+static void test_place(const place &row, oer::result<oer::located> (oer::types::*locate)(oer::text_in, oer::octets_in, oer::text_in)) {
     oer::types types = types_of(row.type);
     bytes given = from_hex(row.given);
-    oer::result<oer::located> found = types.part_at("A", given, row.path);
+    oer::result<oer::located> found = (types.*locate)("A", given, row.path);
     test_value(found);
     EXPECT(found.error().status == row.status && found.error().why == row.why, row.given);
     EXPECT(found.error().place == (row.status ? row.octets : 0) && found.error().needed == 0, row.given);
     EXPECT(found.ok() == (row.status == OER_OK), row.given);
     if (found.ok()) EXPECT(found->at == row.at && found->length == row.length && found->read == row.octets, row.given);
-    EXPECT(is_only(types.part_at("B", given, row.path).error(), OER_UNNAMED), row.given);
+    EXPECT(is_only((types.*locate)("B", given, row.path).error(), OER_UNNAMED), row.given);
     types.free();
-    EXPECT(is_only(types.part_at("A", given, row.path).error(), OER_NO_TYPES), row.given);
+    EXPECT(is_only((types.*locate)("A", given, row.path).error(), OER_NO_TYPES), row.given);
+}
+
+// A part by names: the octets that lie there, or the error; and nothing in a buffer that is too small.
+static void test_named(const place &row) {
+    static const guarded memory;
+    oer::types types = types_of(row.type);
+    bytes given = from_hex(row.given), want(given.begin() + static_cast<std::ptrdiff_t>(row.at), given.begin() + static_cast<std::ptrdiff_t>(row.at + row.length));
+    answer made = of(types.part_named("A", given, row.path));
+    EXPECT(made.error.status == row.status && made.error.why == row.why && made.error.needed == 0, row.given);
+    EXPECT(made.error.place == (row.status ? row.octets : 0) && made.made == want, row.given);
+    EXPECT(made.read == (row.status ? 0 : row.octets) && made.size == row.length, row.given);
+    for (std::size_t room = 0; room <= want.size(); room++) {
+        std::uint8_t *out = memory.end_with(room);
+        std::fill(out, out + room, static_cast<std::uint8_t>(0xbb));
+        oer::result<oer::written> written = types.part_named_into("A", given, row.path, oer::octets_out(out, room));
+        bool fits = room == want.size();
+        EXPECT(written.error().status == (fits ? row.status : std::uint32_t(OER_ROOM)), row.given);
+        EXPECT(written.error().needed == (fits ? 0 : want.size()), row.given);
+        if (written.ok()) EXPECT(written->size == room && written->read == row.octets && std::equal(want.begin(), want.end(), out), row.given);
+        if (!written.ok()) EXPECT(std::count(out, out + room, 0xbb) == static_cast<std::ptrdiff_t>(room), row.given);
+    }
+    EXPECT(is_only(types.part_named("B", given, row.path).error(), OER_UNNAMED), row.given);
+    types.free();
+    EXPECT(is_only(types.part_named("A", given, row.path).error(), OER_NO_TYPES), row.given);
 }
 
 // Each message has the answer that it has alone; one that isn't all in the octets has none.
@@ -572,6 +596,8 @@ static void test_elements(const char *what) {
     EXPECT(copy(types.canon("A", given).value()) == canonical, what);
     EXPECT(copy(types.part("A", filled_with<C>(canonical), "c0").value()) == part, what);
     EXPECT(types.part_at("A", given, "c0")->length == 5, what);
+    EXPECT(copy(types.part_named("A", filled_with<C>(canonical), "a").value()) == part, what);
+    EXPECT(types.part_named_at("A", given, "a")->length == 5, what);
     EXPECT(copy(types.to_json("A", given).value()) == from_text("{\"a\":\"0080ff\"}"), what);
     const oer::message all = { 0, 5 };
     oer_checked answer = {};
@@ -667,6 +693,9 @@ static void test_null_pointers() {
         EXPECT(is_only(types.part(name, given, "i0").error(), OER_OUTSIDE), "part");
         EXPECT(is_only(types.part_into(name, given, "i0", room).error(), OER_OUTSIDE), "part_into");
         EXPECT(is_only(types.part_at(name, given, "i0").error(), OER_OUTSIDE), "part_at");
+        EXPECT(is_only(types.part_named(name, given, "0").error(), OER_OUTSIDE), "part_named");
+        EXPECT(is_only(types.part_named_into(name, given, "0", room).error(), OER_OUTSIDE), "part_named_into");
+        EXPECT(is_only(types.part_named_at(name, given, "0").error(), OER_OUTSIDE), "part_named_at");
         EXPECT(is_only(types.to_json(name, given).error(), OER_OUTSIDE), "to_json");
         EXPECT(is_only(types.to_json_into(name, given, letters).error(), OER_OUTSIDE), "to_json_into");
         EXPECT(is_only(types.from_json(name, json).error(), OER_OUTSIDE), "from_json");
@@ -676,6 +705,9 @@ static void test_null_pointers() {
     EXPECT(is_only(types.part("A", array, text).error(), OER_OUTSIDE), "no path");
     EXPECT(is_only(types.part_into("A", array, text, { out, 0 }).error(), OER_OUTSIDE), "no path");
     EXPECT(is_only(types.part_at("A", array, text).error(), OER_OUTSIDE), "no path");
+    EXPECT(is_only(types.part_named("A", array, text).error(), OER_OUTSIDE), "no names");
+    EXPECT(is_only(types.part_named_into("A", array, text, { out, 0 }).error(), OER_OUTSIDE), "no names");
+    EXPECT(is_only(types.part_named_at("A", array, text).error(), OER_OUTSIDE), "no names");
     EXPECT(types.check("A", array).ok(), "the types are as before");
 }
 
@@ -728,6 +760,7 @@ static void test_certificate(const std::string &folder) {
     EXPECT(copy(types.canon("Certificate", basic, 236).value()) == certificate, "canon");
     EXPECT(types.canon("Certificate", basic, 235).error().why == OER_LIMIT, "limit");
     EXPECT(copy(types.part("Certificate", certificate, "c3").value()) == signed_part, "toBeSigned");
+    EXPECT(copy(types.part_named("Certificate", certificate, "toBeSigned").value()) == signed_part, "toBeSigned");
     oer::located place = types.part_at("Certificate", certificate, "c3").value();
     EXPECT(place.at == 12 && place.length == 152 && place.read == 230, "toBeSigned");
     const oer::message &message = place;
@@ -863,7 +896,11 @@ int main(int count, char **words) {
         test_vector(row);
         if (row.task == CHECK) test_many(row);
     }
-    for (const place &row : places) test_place(row);
+    for (const place &row : places) test_place(row, &oer::types::part_at);
+    for (const place &row : named_places) {
+        test_place(row, &oer::types::part_named_at);
+        test_named(row);
+    }
     for (const vector &row : vectors) test_memory(row);
     for (const rejected_text &row : rejected_texts) test_rejected_text(row);
     test_parts();

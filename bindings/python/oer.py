@@ -207,27 +207,30 @@ class OutOfMemory(Error, MemoryError):
 
 
 class NoPath(Error):
-    """The text is not a path."""
+    """The text is not a path, or not names."""
 
-    def __init__(self, path: str) -> None:
-        super().__init__(f"{_shown(path)} is not a path")
+    def __init__(self, path: str, wanted: str = "a path") -> None:
+        super().__init__(f"{_shown(path)} is not {wanted}")
         self.path = path
         """The text."""
+        self.wanted = wanted
+        """What it has to be, in words."""
 
     def __reduce__(self) -> Tuple[Any, ...]:
-        return (type(self), (self.path,))
+        return (type(self), (self.path, self.wanted))
 
 
 class NoStep(Error):
     """The path has a step that the type doesn't have, one past the last element, or one to an addition that
-    the type doesn't know and that isn't there; or it goes on from a part that the type doesn't know."""
+    the type doesn't know and that isn't there; or it goes on from a part that the type doesn't know; or the same
+    of names."""
 
     def __init__(self, step: str, path: str, read: int) -> None:
         super().__init__(f"there is no step {_shown(step)} (path {_shown(path)})")
         self.step = step
-        """The first such step."""
+        """The first such step, or name."""
         self.path = path
-        """The path up to this step, with it."""
+        """The path, or the names, up to this step, with it."""
         self.read = read
         """How many octets the encoding has, here and in Absent and Follows."""
 
@@ -236,7 +239,8 @@ class NoStep(Error):
 
 
 class Absent(Error):
-    """The path leads to a component or a known addition that is absent."""
+    """The path leads to a component or a known addition that is absent; or names do, or to an alternative that
+    isn't chosen."""
 
     def __init__(self, read: int) -> None:
         super().__init__("the part is absent")
@@ -311,7 +315,7 @@ class Json(NamedTuple):
 
 
 class Part(NamedTuple):
-    """What part() returns."""
+    """What part() and part_named() return."""
 
     octets: bytes
     """The octets of the part."""
@@ -320,7 +324,7 @@ class Part(NamedTuple):
 
 
 class Place(NamedTuple):
-    """What part_at() returns. It may be given to check_many() as a message."""
+    """What part_at() and part_named_at() return. It may be given to check_many() as a message."""
 
     at: int
     """The place of the part's first octet."""
@@ -412,6 +416,8 @@ def _load() -> ctypes.CDLL:
         "oer_canon": ([handle] + given + given + [limit] + out, _Written),
         "oer_part": ([handle] + given + given + given + out, _Written),
         "oer_part_at": ([handle] + given + given + given, _Located),
+        "oer_part_named": ([handle] + given + given + given + out, _Written),
+        "oer_part_named_at": ([handle] + given + given + given, _Located),
         "oer_to_json": ([handle] + given + given + [limit] + out, _Written),
         "oer_from_json": ([handle] + given + given + out, _Written),
     }
@@ -422,6 +428,18 @@ def _load() -> ctypes.CDLL:
 
 
 _library = _load()
+
+
+class _Way(NamedTuple):
+    """A way to a part: the call that takes it, the one that says where it lies, and what the text has to be."""
+
+    take: str
+    locate: str
+    text: str
+
+
+_PATH = _Way("oer_part", "oer_part_at", "a path")
+_NAMES = _Way("oer_part_named", "oer_part_named_at", "names joined by dots")
 
 
 def version() -> int:
@@ -437,12 +455,10 @@ _ERRORS: Dict[int, Tuple[Type[Error], str]] = {
 }
 
 
-def _error(status: int, name: bytes = b"", path: bytes = b"") -> Error:
-    """The exception of a status other than OK, REJECTED, NO_STEP, ABSENT, NO_JSON and FOLLOWS."""
+def _error(status: int, name: bytes = b"") -> Error:
+    """The exception of a status other than OK, REJECTED, NO_PATH, NO_STEP, ABSENT, NO_JSON and FOLLOWS."""
     if status == _UNNAMED:
         return Unnamed(_readable(name))
-    if status == _NO_PATH:
-        return NoPath(_readable(path))
     kind, message = _ERRORS.get(status, (Error, f"status {status}"))
     return kind(message)
 
@@ -678,23 +694,33 @@ class Types:
 
         Raises OctetsRejected if the octets don't begin with an encoding; NoPath, NoStep, Absent.
         """
-        named, given, steps = _text(name), _octets(octets), _text(path)
-        answer, made = self._gather(
-            _library.oer_part, (named, len(named), given, len(given), steps, len(steps)), len(given))
-        if answer.status != _OK:
-            raise self._no_part(answer, named, given, steps)
-        return Part(made, answer.octets)
+        return self._part(_PATH, name, octets, path)
 
     def part_at(self, name: Text, octets: Octets, path: Text) -> Place:
         """Where that part lies in the octets: it is octets[at:at + length].
 
         Raises what part() raises.
         """
-        named, given, steps = _text(name), _octets(octets), _text(path)
-        answer = self._part_at(named, given, steps)
-        if answer.status != _OK:
-            raise self._no_part(answer, named, given, steps)
-        return Place(answer.at, answer.length, answer.octets)
+        return self._part_at(_PATH, name, octets, path)
+
+    def part_named(self, name: Text, octets: Octets, names: Text) -> Part:
+        """The part to which names lead, in place of a path: those of the parts on the way, joined by dots. A name
+        is the identifier of a component, an addition or an alternative, or the number of an element, counted
+        from 0. What the type doesn't know has no name. All else is as in part().
+
+        Raises OctetsRejected if the octets don't begin with an encoding; NoPath if a name is empty, as the whole
+        text may be, or has another character than letters, digits and hyphens; NoStep if the type has no such
+        name, or there is no such element; Absent if a component or a known addition is absent, or another
+        alternative is chosen.
+        """
+        return self._part(_NAMES, name, octets, names)
+
+    def part_named_at(self, name: Text, octets: Octets, names: Text) -> Place:
+        """Where that part lies in the octets: it is octets[at:at + length].
+
+        Raises what part_named() raises.
+        """
+        return self._part_at(_NAMES, name, octets, names)
 
     def to_json(self, name: Text, octets: Octets, limit: Optional[int] = None) -> Json:
         """The JSON of the value whose encoding, of at most `limit` octets, is at the front of the octets.
@@ -743,9 +769,26 @@ class Types:
         with self._one:
             return call(self._at, *given)
 
-    def _part_at(self, named: bytes, given: bytes, steps: bytes) -> Any:
+    def _part(self, way: _Way, name: Text, octets: Octets, text: Text) -> Part:
+        """The part to which the steps of the text lead."""
+        named, given, steps = _text(name), _octets(octets), _text(text)
+        call = getattr(_library, way.take)
+        answer, made = self._gather(call, (named, len(named), given, len(given), steps, len(steps)), len(given))
+        if answer.status != _OK:
+            raise self._no_part(way, answer, named, given, steps)
+        return Part(made, answer.octets)
+
+    def _part_at(self, way: _Way, name: Text, octets: Octets, text: Text) -> Place:
+        """Where it lies."""
+        named, given, steps = _text(name), _octets(octets), _text(text)
+        answer = self._located(way, named, given, steps)
+        if answer.status != _OK:
+            raise self._no_part(way, answer, named, given, steps)
+        return Place(answer.at, answer.length, answer.octets)
+
+    def _located(self, way: _Way, named: bytes, given: bytes, steps: bytes) -> Any:
         """What the library answers on where a part lies."""
-        return self._call(_library.oer_part_at, named, len(named), given, len(given), steps, len(steps))
+        return self._call(getattr(_library, way.locate), named, len(named), given, len(given), steps, len(steps))
 
     def _checked(self, answer: Any, named: bytes) -> Union[Checked, Error]:
         """What a check returns, or the exception that it raises."""
@@ -759,22 +802,22 @@ class Types:
             return OctetsRejected(Reason(answer.why), answer.octets)
         return _error(answer.status, named)
 
-    def _no_part(self, answer: Any, named: bytes, given: bytes, steps: bytes) -> Error:
-        """The same, of an answer about a path."""
+    def _no_part(self, way: _Way, answer: Any, named: bytes, given: bytes, steps: bytes) -> Error:
+        """The same, of an answer about a part."""
         if answer.status == _NO_STEP:
-            return self._no_step(named, given, steps.split(b"."), answer.octets)
+            return self._no_step(way, named, given, steps.split(b"."), answer.octets)
         if answer.status == _ABSENT:
             return Absent(answer.octets)
         if answer.status == _NO_PATH:
-            return _error(answer.status, named, steps)
+            return NoPath(_readable(steps), way.text)
         return self._rejection(answer, named)
 
-    def _no_step(self, named: bytes, given: bytes, steps: List[bytes], read: int) -> NoStep:
+    def _no_step(self, way: _Way, named: bytes, given: bytes, steps: List[bytes], read: int) -> NoStep:
         """The exception of the first step that isn't there: the shorter paths tell which, by halves."""
         there, lacking = 0, len(steps)
         while lacking - there > 1:
             middle = (there + lacking) // 2
-            if self._part_at(named, given, b".".join(steps[:middle])).status == _NO_STEP:
+            if self._located(way, named, given, b".".join(steps[:middle])).status == _NO_STEP:
                 lacking = middle
             else:
                 there = middle

@@ -138,21 +138,30 @@ class Calls(unittest.TestCase):
                     self.assertEqual(self.raised(lambda: row.call(types, name)), (oer.Unnamed, None, None))
 
     def test_places(self) -> None:
+        for row in rows("place"):
+            self.lies(row, oer.Types.part, oer.Types.part_at)
+
+    def test_named_places(self) -> None:
+        for row in rows("named"):
+            self.lies(row, oer.Types.part_named, oer.Types.part_named_at)
+
+    def lies(self, row: List[str], part: Callable[..., oer.Part], part_at: Callable[..., oer.Place]) -> None:
+        """That the part of the row lies where it says, and is copied from there."""
         errors = {6: oer.NoPath, 7: oer.NoStep, 8: oer.Absent}
-        for kind, digits, steps, *numbers in rows("place"):
-            given, path = from_hex(digits), from_hex(steps)
-            status, why, octets, at, length = (int(number) for number in numbers)
-            with self.subTest(given=digits, path=path), types_of(from_hex(kind)) as types:
+        given, way = from_hex(row[1]), from_hex(row[2])
+        status, why, octets, at, length = (int(number) for number in row[3:])
+        with self.subTest(row=row), types_of(from_hex(row[0])) as types:
+            for call, wanted in ((part, (given[at:at + length], octets)), (part_at, (at, length, octets))):
                 if status == 0:
-                    self.assertEqual(types.part_at("A", given, path), oer.Place(at, length, octets))
-                    self.assertEqual(types.part("A", given, path), oer.Part(given[at:at + length], octets))
+                    self.assertEqual(call(types, "A", given, way), wanted)
                 else:
-                    wanted = (oer.OctetsRejected, why, octets) if status == 1 else (errors[status], None, None)
-                    self.assertEqual(self.raised(lambda: types.part_at("A", given, path)), wanted)
+                    error = (oer.OctetsRejected, why, octets) if status == 1 else (errors[status], None, None)
+                    self.assertEqual(self.raised(lambda: call(types, "A", given, way)), error)
                 if status in (7, 8):
-                    self.assertEqual(self.problem(lambda: types.part_at("A", given, path)).read, octets)
-                self.assertEqual(self.raised(lambda: types.part_at("B", given, path)), (oer.Unnamed, None, None))
-            self.assertEqual(self.raised(lambda: types.part_at("A", given, path)), (oer.NoTypes, None, None))
+                    self.assertEqual(self.problem(lambda: call(types, "A", given, way)).read, octets)
+                self.assertEqual(self.raised(lambda: call(types, "B", given, way)), (oer.Unnamed, None, None))
+        for call in (part, part_at):
+            self.assertEqual(self.raised(lambda: call(types, "A", given, way)), (oer.NoTypes, None, None))
 
     def test_many(self) -> None:
         for row in (row for row in VECTORS if row.task == "check"):
@@ -257,11 +266,14 @@ class Calls(unittest.TestCase):
                 self.assertRaises(TypeError, call, "A", octets)
             self.assertRaises(TypeError, types.part, "A", octets, "c0")
             self.assertRaises(TypeError, types.part_at, "A", octets, "c0")
+            self.assertRaises(TypeError, types.part_named, "A", octets, "a")
+            self.assertRaises(TypeError, types.part_named_at, "A", octets, "a")
             self.assertRaises(TypeError, types.check_many, "A", octets, [])
         for name in (2, None, {"A": 1}, ["A"]):
             self.assertRaises(TypeError, types.check, name, b"\x01\x05")
             self.assertRaises(TypeError, types.from_json, "A", name)
             self.assertRaises(TypeError, types.part, "A", b"\x01\x05", name)
+            self.assertRaises(TypeError, types.part_named, "A", b"\x01\x05", name)
         for definitions in (2, {"A": "NULL"}, ["A ::= NULL"]):
             self.assertRaises(TypeError, types.read, definitions)
         self.assertEqual(types.check("A", b"\x01\x05"), (2, True))
@@ -436,6 +448,12 @@ class Calls(unittest.TestCase):
                 problem = self.problem(lambda: call("A", octets, path))
                 to_it = path.split(".")[:count]
                 self.assertEqual((type(problem), problem.step, problem.path), (oer.NoStep, to_it[-1], ".".join(to_it)))
+        self.assertEqual(types.part_named("A", octets, "a.1.b"), (b"\x00", 5))
+        for names, count in (("b", 1), ("b.a.a.a.a", 1), ("a.b", 2), ("a.2.b", 2), ("a.2.c", 2), ("a.1.a", 3), ("a.1.b.0", 4), ("a.01.b", 2)):
+            for call in (types.part_named, types.part_named_at):
+                problem = self.problem(lambda: call("A", octets, names))
+                to_it = names.split(".")[:count]
+                self.assertEqual((type(problem), problem.step, problem.path), (oer.NoStep, to_it[-1], ".".join(to_it)))
         long_path = self.problem(lambda: types.part("A", octets, ".".join(["c0.i0.c0"] * 10000)))
         self.assertEqual(str(long_path), "there is no step 'c0' (path 'c0.i0.c0.c0')")
 
@@ -453,6 +471,9 @@ class Calls(unittest.TestCase):
             (lambda: types.check_many("", b"", []), "no definition has the name ''"),
             (lambda: types.part("A", b"\x00", "c01"), "'c01' is not a path"),
             (lambda: types.part_at("A", b"\x00", ""), "'' is not a path"),
+            (lambda: types.part_named("A", b"\x00", "a b"), "'a b' is not names joined by dots"),
+            (lambda: types.part_named_at("A", b"\x00", ""), "'' is not names joined by dots"),
+            (lambda: types.part_named("A", b"\x00", "b"), "there is no step 'b' (path 'b')"),
             (lambda: types.part("A", b"\x00", "c1"), "there is no step 'c1' (path 'c1')"),
             (lambda: types.part("A", b"\x00", "c0"), "the part is absent"),
             (lambda: types.check_whole("A", b"\x80\x01"), "the octets are not the canonical encoding"),
@@ -524,6 +545,8 @@ for call in (lambda: types.check("B", b""), lambda: types.part("A", b"\\0", "c0"
         self.assertEqual(rejected[:2], (oer.OctetsRejected, oer.Reason.LIMIT))
         self.assertEqual(types.part("Certificate", certificate, "c3"), (hex_file("tbs-rsu.hex"), 230))
         self.assertEqual(types.part_at("Certificate", certificate, "c3"), (12, 152, 230))
+        self.assertEqual(types.part_named("Certificate", certificate, "toBeSigned.appPermissions.0.psid"), (b"\x01\x24", 230))
+        self.assertEqual(types.part_named_at("Certificate", certificate, "toBeSigned.crlSeries"), (32, 2, 230))
         json = types.to_json("Certificate", basic)
         self.assertEqual(types.from_json("Certificate", json.text), certificate)
 

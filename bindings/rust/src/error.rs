@@ -39,16 +39,17 @@ pub enum Error {
         /// How many octets the buffer has to have.
         needed: u64,
     },
-    /// The text is not a path.
+    /// The text is not a path, or not names.
     NoPath,
     /// The path has a step that the type doesn't have, one past the last element, or one to an addition
     /// that the type doesn't know and that isn't there; or it goes on from a part that the type doesn't
-    /// know.
+    /// know; or the same of names.
     NoStep {
         /// How many octets the encoding has.
         read: u64,
     },
-    /// The path leads to a component or a known addition that is absent.
+    /// The path leads to a component or a known addition that is absent; or names do, or to an alternative
+    /// that isn't chosen.
     Absent {
         /// How many octets the encoding has.
         read: u64,
@@ -153,8 +154,8 @@ impl fmt::Display for Error {
             Error::Unnamed => out.write_str("no definition has the name"),
             Error::Memory => out.write_str("an allocation failed"),
             Error::Room { needed } => write!(out, "the buffer is too small: {needed} octets are needed"),
-            Error::NoPath => out.write_str("not a path"),
-            Error::NoStep { .. } => out.write_str("the type has no such step"),
+            Error::NoPath => out.write_str("not a path, or not names"),
+            Error::NoStep { .. } => out.write_str("there is no such step"),
             Error::Absent { .. } => out.write_str("the part is absent"),
             Error::NoJson { place } => write!(out, "not JSON at octet {place}"),
             Error::Outside => out.write_str("the message is not all in the octets"),

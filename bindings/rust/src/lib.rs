@@ -532,14 +532,7 @@ impl Types {
                 path.len(),
             )
         };
-        match answer.status {
-            sys::OK => Ok(Part {
-                octets: &octets[answer.at..][..answer.length],
-                at: answer.at,
-                read: answer.octets as usize,
-            }),
-            status => Err(Error::of_octets(status, answer.why, answer.octets, 0)),
-        }
+        located(octets, answer)
     }
 
     /// The same, written into the buffer as a copy.
@@ -565,6 +558,75 @@ impl Types {
                 octets.len(),
                 path.as_ptr().cast(),
                 path.len(),
+                out.as_mut_ptr(),
+                out.len(),
+            )
+        };
+        written(answer)
+    }
+
+    /// The part to which names lead, in place of a path: those of the parts on the way, joined by dots. A name is
+    /// the identifier of a component, an addition or an alternative, or the number of an element, counted from 0.
+    /// What the type doesn't know has no name. All else is as in [`Types::part`].
+    ///
+    /// # Errors
+    ///
+    /// [`Error::NoPath`] if a name is empty, as the whole text may be, or has another character than letters,
+    /// digits and hyphens; [`Error::NoStep`] if the type has no such name, or there is no such element;
+    /// [`Error::Absent`] if a component or a known addition is absent, or another alternative is chosen; and the
+    /// other errors of [`Types::part`].
+    ///
+    /// ```
+    /// let types = oer::Types::parse("A ::= SEQUENCE {a NULL, list SEQUENCE OF SEQUENCE {b BOOLEAN}}")?;
+    /// let part = types.part_named("A", &[0x01, 0x02, 0xff, 0x00], "list.1.b")?;
+    /// assert_eq!((part.octets, part.range(), part.read), (&[0x00][..], 3..4, 4));
+    /// # Ok::<(), oer::Error>(())
+    /// ```
+    pub fn part_named<'a>(
+        &self,
+        name: impl AsRef<[u8]>,
+        octets: &'a [u8],
+        names: impl AsRef<[u8]>,
+    ) -> Result<Part<'a>, Error> {
+        let (name, names) = (name.as_ref(), names.as_ref());
+        // SAFETY: as in `check`.
+        let answer = unsafe {
+            sys::oer_part_named_at(
+                self.held.get(),
+                name.as_ptr().cast(),
+                name.len(),
+                octets.as_ptr(),
+                octets.len(),
+                names.as_ptr().cast(),
+                names.len(),
+            )
+        };
+        located(octets, answer)
+    }
+
+    /// The same, written into the buffer as a copy.
+    ///
+    /// # Errors
+    ///
+    /// Those of [`Types::part_named`], and [`Error::Room`] if the buffer is too small.
+    pub fn part_named_into(
+        &self,
+        name: impl AsRef<[u8]>,
+        octets: &[u8],
+        names: impl AsRef<[u8]>,
+        out: &mut [u8],
+    ) -> Result<Written, Error> {
+        let (name, names) = (name.as_ref(), names.as_ref());
+        // SAFETY: as in `canon_into`.
+        let answer = unsafe {
+            sys::oer_part_named(
+                self.held.get(),
+                name.as_ptr().cast(),
+                name.len(),
+                octets.as_ptr(),
+                octets.len(),
+                names.as_ptr().cast(),
+                names.len(),
                 out.as_mut_ptr(),
                 out.len(),
             )
@@ -738,6 +800,18 @@ fn written(answer: sys::OerWritten) -> Result<Written, Error> {
     match answer.status {
         sys::OK => Ok(Written { read: answer.octets as usize, size: answer.written as usize }),
         status => Err(Error::of_octets(status, answer.why, answer.octets, answer.written)),
+    }
+}
+
+/// What a call answers that says where a part of the octets lies.
+fn located(octets: &[u8], answer: sys::OerLocated) -> Result<Part<'_>, Error> {
+    match answer.status {
+        sys::OK => Ok(Part {
+            octets: &octets[answer.at..][..answer.length],
+            at: answer.at,
+            read: answer.octets as usize,
+        }),
+        status => Err(Error::of_octets(status, answer.why, answer.octets, 0)),
     }
 }
 

@@ -150,6 +150,26 @@ extern "C" {
         path: *const c_char,
         path_length: usize,
     ) -> OerLocated;
+    pub fn oer_part_named(
+        types: *mut OerTypes,
+        name: *const c_char,
+        name_length: usize,
+        octets: *const u8,
+        octets_length: usize,
+        names: *const c_char,
+        names_length: usize,
+        out: *mut u8,
+        room: usize,
+    ) -> OerWritten;
+    pub fn oer_part_named_at(
+        types: *mut OerTypes,
+        name: *const c_char,
+        name_length: usize,
+        octets: *const u8,
+        octets_length: usize,
+        names: *const c_char,
+        names_length: usize,
+    ) -> OerLocated;
     pub fn oer_to_json(
         types: *mut OerTypes,
         name: *const c_char,

@@ -4,7 +4,7 @@
 mod table;
 
 use oer::{
-    Checked, Error, JsonReason, ModulesError, ModulesReason, Reason, RejectedModules, TextReason, Types, Written, NO_LIMIT,
+    Checked, Error, JsonReason, ModulesError, ModulesReason, Part, Reason, RejectedModules, TextReason, Types, Written, NO_LIMIT,
 };
 use std::env;
 use std::fs;
@@ -123,26 +123,56 @@ fn vectors_are_answered() {
     }
 }
 
+/// A way to a part: by a path or by names. The types, a Name, octets, the text of the way.
+type Way = for<'a> fn(&Types, &str, &'a [u8], &[u8]) -> Result<Part<'a>, Error>;
+/// The same into a buffer.
+type WayInto = fn(&Types, &str, &[u8], &[u8], &mut [u8]) -> Result<Written, Error>;
+
+/// That the part of the row lies where it says, and is written into a buffer that has room for it.
+fn lies(row: &[String], part: Way, part_into: WayInto) {
+    let (types, given, way) = (types_of(&from_hex(&row[0])), from_hex(&row[1]), from_hex(&row[2]));
+    let numbers: Vec<u64> = row[3..].iter().map(|text| text.parse().unwrap()).collect();
+    let (at, length) = (numbers[3] as usize, numbers[4] as usize);
+    let wanted = match numbers[0] as u32 {
+        0 => Ok(at..at + length),
+        1 => Err(Error::Octets { reason: Reason::from_number(numbers[1] as u32).unwrap(), place: numbers[2] }),
+        6 => Err(Error::NoPath),
+        7 => Err(Error::NoStep { read: numbers[2] }),
+        8 => Err(Error::Absent { read: numbers[2] }),
+        status => panic!("no row has status {status}"),
+    };
+    let found = part(&types, "A", &given, &way);
+    assert_eq!(found.map(|part| part.range()), wanted, "{given:02x?}");
+    assert!(found.map_or(true, |part| part.read as u64 == numbers[2]), "{given:02x?}");
+    assert_eq!(found.map(|part| part.octets.as_ptr()), wanted.map(|place| given[place].as_ptr()));
+    assert_eq!(part(&types, "B", &given, &way), Err(Error::Unnamed));
+    assert_eq!(part(&Types::new(), "A", &given, &way), Err(Error::NoTypes));
+    for room in 0..length {
+        let mut out = vec![0xbb; room];
+        assert_eq!(part_into(&types, "A", &given, &way, &mut out), Err(Error::Room { needed: length as u64 }));
+        assert_eq!(out, vec![0xbb; room]);
+    }
+    let mut out = vec![0xcc; length + 3];
+    let written = found.map(|part| Written { read: part.read, size: length });
+    assert_eq!(part_into(&types, "A", &given, &way, &mut out), written);
+    assert_eq!(out, [&given[at..at + length], &[0xcc; 3]].concat());
+}
+
 #[test]
 fn parts_lie_where_the_table_says() {
     for row in table::rows("place") {
-        let (types, given, path) = (types_of(&from_hex(&row[0])), from_hex(&row[1]), from_hex(&row[2]));
-        let numbers: Vec<u64> = row[3..].iter().map(|text| text.parse().unwrap()).collect();
-        let (at, length) = (numbers[3] as usize, numbers[4] as usize);
-        let wanted = match numbers[0] as u32 {
-            0 => Ok(at..at + length),
-            1 => Err(Error::Octets { reason: Reason::from_number(numbers[1] as u32).unwrap(), place: numbers[2] }),
-            6 => Err(Error::NoPath),
-            7 => Err(Error::NoStep { read: numbers[2] }),
-            8 => Err(Error::Absent { read: numbers[2] }),
-            status => panic!("no row has status {status}"),
-        };
-        let found = types.part("A", &given, &path);
-        assert_eq!(found.map(|part| part.range()), wanted, "{given:02x?}");
-        assert!(found.map_or(true, |part| part.read as u64 == numbers[2]), "{given:02x?}");
-        assert_eq!(found.map(|part| part.octets.as_ptr()), wanted.map(|place| given[place].as_ptr()));
-        assert_eq!(types.part("B", &given, &path), Err(Error::Unnamed));
-        assert_eq!(Types::new().part("A", &given, &path), Err(Error::NoTypes));
+        lies(&row, |types, name, octets, path| types.part(name, octets, path), |types, name, octets, path, out| {
+            types.part_into(name, octets, path, out)
+        });
+    }
+}
+
+#[test]
+fn named_parts_lie_where_the_table_says() {
+    for row in table::rows("named") {
+        lies(&row, |types, name, octets, names| types.part_named(name, octets, names), |types, name, octets, names, out| {
+            types.part_named_into(name, octets, names, out)
+        });
     }
 }
 
@@ -326,6 +356,7 @@ fn the_certificate_of_the_example() {
     assert_eq!(rejected.reason(), Some("Limit"));
     let part = types.part("Certificate", &certificate, "c3").unwrap();
     assert_eq!((part.range(), part.read, part.octets), (12..164, 230, &from_hex(&file("tbs-rsu.hex"))[..]));
+    assert_eq!(types.part_named("Certificate", &certificate, "toBeSigned"), Ok(part));
     let json = types.to_json("Certificate", &basic).unwrap();
     assert_eq!(types.from_json("Certificate", json.text), Ok(certificate));
 }

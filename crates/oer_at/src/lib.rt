@@ -12,6 +12,6 @@ mod range;
 
 pub use hop::{Hop, NameFault, Wanted};
 pub use leading::{HopsFault, hops};
-pub use names::names_in;
+pub use names::{is_word, names_in};
 pub use part::{AtFault, part_at};
 pub use range::range_at;

@@ -1,9 +1,9 @@
 -- What is said where `--at` or a name is rejected.
-use Rattle.std.specs.Prelude.{◌≡◌, ◌⊎◌, ℕ, List, [], ◌∷◌, ◌++◌, take, get_or, Bool, true, false, ◌||◌, ◌&&◌, eqb, Option, Result, Ok, Err, codes, if◌then◌else◌}
+use Rattle.std.specs.Prelude.{◌≡◌, ◌⊎◌, ℕ, List, [], ◌∷◌, ◌++◌, take, get_or, Option, Result, Ok, Err, codes, if◌then◌else◌}
 use Rattle.std.specs.List.{join_by}
 use Rattle.std.specs.Io.KnownBytes.{Keeps}
 use Rattle.clap.specs.Words.{Text}
-use Rattle.oer_model.specs.WellFormed.{is_alphanumeric}
+use Rattle.oer_at.specs.Names.{is_word}
 use Rattle.oer_at.specs.declared.hop.NameFault.{NameFault}
 use Rattle.oer_at.specs.declared.hop.Wanted.{Wanted}
 use Rattle.oer_at.specs.declared.hop.Wanted.TheVariants as wanted
@@ -36,16 +36,6 @@ kind_of wanted.Component = codes "component"
 kind_of wanted.Alternative = codes "alternative"
 kind_of wanted.Element = codes "element"
 kind_of wanted.Nothing = codes "part"
-
--- letters, digits and hyphens (45)
-abbrev pub are_of_words : Text → Bool
-are_of_words [] = true
-are_of_words (c ∷ cs) = (is_alphanumeric c || eqb c 45) && are_of_words cs
-
--- these only, and one at least
-abbrev pub is_word : Text → Bool
-is_word [] = false
-is_word (c ∷ cs) = are_of_words (c ∷ cs)
 
 -- what isn't there: the name, unless it can be none
 abbrev pub subject_of : Wanted → Text → Text

@@ -1,10 +1,10 @@
 //! What is said of a name that leads nowhere.
 ghost use Rattle.std.specs.Prelude.{◌≡◌, ◌<◌, ◌⊎◌, IfOk, length, map, string_bytes};
 ghost use Rattle.oer_cmd.specs.Faults.{AppendsFront, error_line};
-ghost use Rattle.oer_at_cmd.specs.Errors.{is_word, kind_of, name_line, place_of, subject_of};
+ghost use Rattle.oer_at_cmd.specs.Errors.{kind_of, name_line, place_of, subject_of};
 ghost use Rattle.oer_words.specs.Scan.{text_behind};
 
-use oer_at::{NameFault, Wanted};
+use oer_at::{NameFault, Wanted, is_word};
 use oer_cmd::{Fault, put_all};
 use std::alloc::{AllocError, Global};
 use std::io::Write;
@@ -19,18 +19,6 @@ fn kind_of(wanted: Wanted) -> &'static str
         Wanted::Element => "element",
         Wanted::Nothing => "part",
     }
-}
-
-// Whether the text has letters, digits and hyphens only, and one at least.
-fn is_word(text: &str) -> bool
-    ensures { result ≡ is_word text.now }
-{
-    for c in text.as_bytes() {
-        if !matches!(*c, b'a'..=b'z' | b'A'..=b'Z' | b'0'..=b'9' | b'-') {
-            return false;
-        }
-    }
-    !text.is_empty()
 }
 
 // What isn't there: the name, unless it can be none.

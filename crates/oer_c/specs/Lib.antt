@@ -9,6 +9,7 @@ pub mod Messages
 pub mod Buffers
 pub mod Rewriting
 pub mod Parts
+pub mod Found
 pub mod Showing
 pub mod Making
 pub mod Modules

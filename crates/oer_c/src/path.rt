@@ -1,5 +1,5 @@
 //! The text of a path.
-ghost use Rattle.oer_c.specs.Parts.{AreSteps};
+ghost use Rattle.oer_c.specs.Found.{AreSteps};
 
 use crate::status::{MEMORY, NO_PATH};
 use oer_parts::{PathFault, Step, read_path};

@@ -18,13 +18,13 @@ pub const MEMORY: u32 = 4;
 /// The buffer is too small.
 pub const ROOM: u32 = 5;
 
-/// The text spells no path.
+/// The text spells no path, or no names.
 pub const NO_PATH: u32 = 6;
 
-/// The path leads nowhere.
+/// The path leads nowhere, or the names do.
 pub const NO_STEP: u32 = 7;
 
-/// The path leads to a component or an addition that is absent.
+/// The path, or the names, lead to a component or an addition that is absent, or the names to an alternative that isn't chosen.
 pub const ABSENT: u32 = 8;
 
 /// The text is not JSON.
