@@ -4,3 +4,4 @@ pub mod Rejecting
 pub mod Nexts
 pub mod Downward
 pub mod Going
+pub mod Innermost

@@ -1,7 +1,6 @@
 -- What comes next leads to a part that is rejected with the fault; or what is said to be wrong is true.
 use Rattle.std.proofs.Common.{◌≡◌, ◌⊎◌, ℕ, suc, List, [], ◌∷◌, Bool, true, false, not, ◌&&◌, cond, Option, Some, None, Ok, Err, Result, inl, inr, refl, sym, subst, ap, ◌∙◌, ◌+◌, zero-add}
 use Rattle.std.proofs.Math.Nat.{add-suc, add-zero, suc-add}
-use Rattle.serde_json.proofs.Views.{get_member-put}
 use Rattle.serde_json.specs.Data as json
 use Rattle.serde_json.specs.Data.{Data, Items, Members}
 use Rattle.serde_json.specs.Find.{get_item, get_member}
@@ -54,7 +53,7 @@ found f name optional T (Some j) x h = present f name optional T j x (is_rejecte
 
 -- ---- several
 
-abbrev FoundAmong : JsonFault → Members → (List ℕ → AsnType → Type 0) → (List ℕ → Type 0) → Next → Type 0
+abbrev pub FoundAmong : JsonFault → Members → (List ℕ → AsnType → Type 0) → (List ℕ → Type 0) → Next → Type 0
 FoundAmong f ms Has Must x = ((name : List ℕ) × (x ≡ stop (missing_key name)) × (get_member name ms ≡ None) × Must name × (f ≡ Missing))
     ⊎ ((name : List ℕ) × (U : AsnType) × (d : Data) × (x ≡ into (key name) U d) × Has name U × (get_member name ms ≡ Some d) ×
     (is_rejected f U d ≡ true))
@@ -63,7 +62,7 @@ either : (o p : Option Next) (x : Next) → or_else o p ≡ Some x → (o ≡ So
 either None p x h = inr (refl, h)
 either (Some y) p x h = inl h
 
-fields_found : (f : JsonFault) (ms : Members) (fs : Fields) (x : Next) → fields_next f fs ms ≡ Some x
+pub fields_found : (f : JsonFault) (ms : Members) (fs : Fields) (x : Next) → fields_next f fs ms ≡ Some x
     → FoundAmong f ms (HasField fs) (MustHave fs) x
 fields_found f ms no_fields x h = absurd (cc)
 fields_found f ms (field name need T fs) x h =
@@ -78,7 +77,7 @@ fields_found f ms (field name need T fs) x h =
       ]
     ]
 
-additions_found : (f : JsonFault) (ms : Members) (more : Additions) (x : Next) → additions_next f more ms ≡ Some x
+pub additions_found : (f : JsonFault) (ms : Members) (more : Additions) (x : Next) → additions_next f more ms ≡ Some x
     → (name : List ℕ) × (U : AsnType) × (d : Data) × (x ≡ into (key name) U d) × HasAddition more name U × (get_member name ms
     ≡ Some d) × (is_rejected f U d ≡ true)
 additions_found f ms no_additions x h = absurd (cc)
@@ -106,7 +105,7 @@ other_found test (l ∷ ks) k h = by_test (test l) refl h (λ g. other_found tes
 
 -- ---- elements
 
-items_found : (f : JsonFault) (T : AsnType) (n : ℕ) (js : Items) (x : Next) → items_next f T n js ≡ Some x
+pub items_found : (f : JsonFault) (T : AsnType) (n : ℕ) (js : Items) (x : Next) → items_next f T n js ≡ Some x
     → (i : ℕ) × (d : Data) × (x ≡ into (element (i + n)) T d) × (get_item i js ≡ Some d) × (is_rejected f T d ≡ true)
 items_found f T n json.no_items x h = absurd (cc)
 items_found f T n (json.item j js) x h = by_test (is_rejected f T j) refl h (λ g. items_found f T (suc n) js x g) where
@@ -200,7 +199,7 @@ chosen_next f extensible more k d = by_named (alternative_named more k) refl whe
 
   known : (U : AsnType) (b : Bool) → alternative_named more k ≡ Some U → is_rejected f U d ≡ b
       → IsNext f (choice extensible more) (json.object (json.member k d json.no_members)) (cond b (into (key k) U d) (stop itself))
-  known U true e r = ((e, get_member-put k d json.no_members), of_rejected f U d r)
+  known U true e r = ((e, refl), of_rejected f U d r)
   known U false e r = tt
 
   by_named : (o : Option AsnType) → alternative_named more k ≡ o

@@ -34,9 +34,14 @@ abbrev pub IsOfElements : AsnType → AsnType → Type 0
 IsOfElements (sequence_of size T) U = T ≡ U
 IsOfElements T U = ⊥
 
+-- d is what a key of JSON of type T has; of a CHOICE it is the one key
+abbrev pub Holds : AsnType → List ℕ → Data → Data → Type 0
+Holds (choice extensible more) k j d = j ≡ json.object (json.member k d json.no_members)
+Holds T k j d = get k j ≡ Some d
+
 -- from JSON of type T the step leads to d, of type U: to what a key has, or to an element
 abbrev pub LeadsBy : Hop → AsnType → Data → AsnType → Data → Type 0
-LeadsBy (key k) T j U d = HasPart T k U × (get k j ≡ Some d)
+LeadsBy (key k) T j U d = HasPart T k U × Holds T k j d
 LeadsBy (element n) T j U d = IsOfElements T U × (at n j ≡ Some d)
 
 -- so do these steps, one after another
