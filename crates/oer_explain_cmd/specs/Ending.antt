@@ -51,14 +51,16 @@ IsDone command words told untouched None is status output output' errors middle 
 IsDone command words told untouched (Some b) is status output output' errors middle =
     (is ≡ true) × IfSome told (λ xs. xs ≡ b) × EndsWithout command words (Some b) ⊤ status output output' errors middle
 
--- The words ask for these options. What the command does leaves the errors as in middle, and then the notes are added to them.
+-- The words ask for these options. What the command does leaves the errors as in middle, and then the notes are added to them. Nothing is said of
+-- the place at which the JSON reader stopped.
 pub record Does (command : Command) (words : List Text) (told : Option (List ℕ)) (untouched : Type 0) (status : ℕ)
     (output output' errors errors' : Option (List ℕ)) : Type 0 where
   pub options : Options
   pub asks : Asks words options
   pub held : Option (List ℕ)
+  pub stopped : ℕ
   pub ends : (middle : Option (List ℕ)) × IsDone command words told untouched held (is_held command options) status output output' errors middle
-      × Adds (notes_of command options held) status middle errors'
+      × Adds (notes_of stopped command options held) status middle errors'
 
 -- The input is looked at, which takes nothing of it, and then the command does what it does without the option. Where it rejects octets that
 -- seem to be digits, the errors grow by a line that says so.
@@ -109,8 +111,9 @@ pub record DoesFor (command : Command) (T : AsnType) (words : List Text) (told :
     (output output' errors errors' : Option (List ℕ)) : Type 0 where
   pub options : Options
   pub asks : Asks words options
+  pub stopped : ℕ
   pub ends : (middle : Option (List ℕ)) × EndsWithoutFor command T words told untouched status output output' errors middle
-      × Adds (own_notes command options) status middle errors'
+      × Adds (own_notes stopped command T options) status middle errors'
 
 abbrev pub LooksFor : Command → AsnType → List Text → Option (List ℕ) → ℕ
     → Option (List ℕ) → Option (List ℕ) → Option (List ℕ) → Option (List ℕ) → Type 0

@@ -184,6 +184,6 @@ pub fn run_explained_for<R: BufRead, W: Write, E: Write>(
         return run_looking_for(alloc, command, schema, words, input, output, errors);
     }
     let status = run_without_for(alloc, command, schema, words, input, output, errors);
-    add_for(alloc, status, command, options, errors);
+    add_for(alloc, status, command, schema, options, errors);
     status
 }

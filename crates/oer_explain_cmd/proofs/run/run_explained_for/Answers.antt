@@ -20,5 +20,6 @@ pub returns-clause-exact : goal.returns-clause-exact
 returns-clause-exact g c = inr (inl (record {
   options = c.in-Ok.options;
   asks = c.in-Ok.ensures.ok;
-  ends = (_, c.run_without_for-status.ensures.ends, c.add_for.ensures);
+  stopped = c.add_for.ensures.0;
+  ends = (_, c.run_without_for-status.ensures.ends, c.add_for.ensures.1);
 }))
