@@ -1,6 +1,7 @@
 -- What is added to the error of JSON.
 use Rattle.std.specs.Prelude.{ℕ, List, [], ◌++◌, length, min, Option, Some, None, Result, Ok, Err, codes, if◌then◌else◌}
 use Rattle.std.specs.Str.{is_utf8}
+use Rattle.std.specs.Str.Lossy.{utf8_valid_len}
 use Rattle.serde_json.specs.Data.{Data, string}
 use Rattle.serde_json.specs.Data as json
 use Rattle.serde_json.specs.Read.{read}
@@ -46,29 +47,35 @@ read_notes at T text None = notes_at text (min at (length text)) (codes "the JSO
 read_notes at T text (Some j) = tree_notes T j
 
 -- a text of JSON
+abbrev pub text_notes : ℕ → AsnType → List ℕ → List ℕ
+text_notes at T text = read_notes at T text (read text)
+
+-- the octets of a text of JSON
 abbrev pub json_notes : ℕ → AsnType → List ℕ → List ℕ
-json_notes at T text = read_notes at T text (read text)
+json_notes at T octets =
+    if is_utf8 octets then text_notes at T octets
+    else notes_at octets (min (utf8_valid_len octets) (length octets)) (codes "the text is no UTF-8 from here on") []
 
 -- ---- by the text of the type
 
--- by the type that a text spells; nothing where it is rejected
+-- by the type that a text spells; nothing where it is rejected. octets: those of the JSON
 abbrev pub notes_typed : ℕ → Result AsnType TextFault → List ℕ → List ℕ
-notes_typed at (Ok T) text = json_notes at T text
-notes_typed at (Err fault) text = []
+notes_typed at (Ok T) octets = json_notes at T octets
+notes_typed at (Err fault) octets = []
 
 -- types: the text of one type
 abbrev pub type_json_notes : ℕ → List ℕ → List ℕ → List ℕ
-type_json_notes at types text = notes_typed at (parse types) text
+type_json_notes at types octets = notes_typed at (parse types) octets
 
 abbrev pub notes_found : ℕ → Option AsnType → List ℕ → List ℕ
-notes_found at None text = []
-notes_found at (Some T) text = json_notes at T text
+notes_found at None octets = []
+notes_found at (Some T) octets = json_notes at T octets
 
 -- by the type that the Name has among definitions
 abbrev pub notes_named : ℕ → Result (List Known) TextFault → List ℕ → List ℕ → List ℕ
-notes_named at (Ok definitions) name text = notes_found at (find definitions name) text
-notes_named at (Err fault) name text = []
+notes_named at (Ok definitions) name octets = notes_found at (find definitions name) octets
+notes_named at (Err fault) name octets = []
 
 -- types: the octets of a text of definitions
 abbrev pub types_json_notes : ℕ → List ℕ → List ℕ → List ℕ → List ℕ
-types_json_notes at types name text = if is_utf8 types then notes_named at (parse_all types) name text else []
+types_json_notes at types name octets = if is_utf8 types then notes_named at (parse_all types) name octets else []

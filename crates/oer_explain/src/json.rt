@@ -5,7 +5,7 @@ ghost use Rattle.oer_types.specs.Schema.{the_type};
 ghost use Rattle.oer_values.specs.ShapeView.{type_of};
 ghost use Rattle.oer_json_places.specs.Views.{spot_of, wrong_of};
 ghost use Rattle.oer_model.specs.WellFormed.{names};
-ghost use Rattle.oer_explain.specs.Json.{json_notes, spot_notes, text_hint, tree_notes, wrong_lines};
+ghost use Rattle.oer_explain.specs.Json.{json_notes, spot_notes, text_hint, text_notes, tree_notes, wrong_lines};
 ghost use Rattle.oer_explain.specs.JsonNames.{near_hint};
 
 use crate::json_names::{names_of, near_hint};
@@ -111,11 +111,9 @@ fn stop(text: &[u8], error: &JsonError) -> usize
         .min(text.len())
 }
 
-/// What is added where a text of JSON is rejected: the innermost part that the type rejects, what is wrong there and what is wanted; nothing
-/// where it isn't. Of a text that is no JSON it is the place where the JSON reader stopped, which is tested and not proved. It fails where an
-/// allocation does.
-pub fn json_notes(alloc: Global, schema: &Schema, text: &str) -> Result<String, AllocError>
-    ensures { IfOk result (λ notes. (at : ℕ) × (string_bytes notes ≡ json_notes at (the_type schema.now) text.now)) }
+// What is added where a text of JSON is rejected.
+fn text_notes(alloc: Global, schema: &Schema, text: &str) -> Result<String, AllocError>
+    ensures { IfOk result (λ notes. (at : ℕ) × (string_bytes notes ≡ text_notes at (the_type schema.now) text.now)) }
 {
     match Json::from_str(alloc, text) {
         Ok(json) => tree_notes(alloc, schema, &json),
@@ -130,5 +128,23 @@ pub fn json_notes(alloc: Global, schema: &Schema, text: &str) -> Result<String, 
                 "",
             )
         }
+    }
+}
+
+/// What is added where the octets of a text of JSON are rejected: the innermost part that the type rejects, what is wrong there and what is
+/// wanted; nothing where they aren't. Of a text that is no JSON it is the place where the JSON reader stopped, which is tested and not proved; of
+/// octets that are no UTF-8 the place where they cease to be. It fails where an allocation does.
+pub fn json_notes(alloc: Global, schema: &Schema, octets: &[u8]) -> Result<String, AllocError>
+    ensures { IfOk result (λ notes. (at : ℕ) × (string_bytes notes ≡ json_notes at (the_type schema.now) octets.now)) }
+{
+    match str::from_utf8(octets) {
+        Ok(text) => text_notes(alloc, schema, text),
+        Err(error) => notes_at(
+            alloc,
+            octets,
+            error.valid_up_to().min(octets.len()),
+            "the text is no UTF-8 from here on",
+            "",
+        ),
     }
 }

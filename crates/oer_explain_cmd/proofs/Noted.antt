@@ -1,11 +1,12 @@
 -- What is added, whatever the place is at which the JSON reader stopped.
 use Rattle.std.proofs.Common.{◌≡◌, ◌∙◌, ℕ, List, [], Bool, true, false, Option, Some, None, Result, Ok, Err, IfOk, String, Global, refl, sym, ap, string_bytes}
 use Rattle.std.specs.Prelude.{if◌then◌else◌}
-use Rattle.oer_explain.specs.Json.{type_json_notes, types_json_notes}
+use Rattle.oer_model.specs.AsnType.{AsnType}
+use Rattle.oer_explain.specs.Json.{json_notes, type_json_notes, types_json_notes}
 use Rattle.oer_explain.specs.Types.{defines, type_notes, types_notes}
 use Rattle.oer_options.specs.Words.{texts_of}
 use Rattle.oer_options.specs.declared.options.Options.{Options}
-use Rattle.oer_explain_cmd.specs.Adding.{is_silent, json_within, named_notes, notes_among, notes_by, notes_of, one_notes, or_else, source_by}
+use Rattle.oer_explain_cmd.specs.Adding.{asks, is_silent, json_within, named_notes, notes_among, notes_by, notes_of, one_notes, or_else, own_notes, source_by}
 use Rattle.oer_explain_cmd.specs.declared.adding.Command.{Command}
 
 pub same_notes : {E : Type 0} (r : Result (String Global) E) (f g : ℕ → List ℕ) → ((x : ℕ) → f x ≡ g x)
@@ -50,3 +51,22 @@ module _ (command : Command) (o : Options) (held : Option (List ℕ)) (n t : Lis
   option_notes is x =
       sym (ap (λ (b : Bool). if b then [] else notes_by x (texts_of o) o held) said
       ∙ by_option x (texts_of o).one (texts_of o).types (texts_of o).name o held n t no_one types name is)
+
+by_one : (x : ℕ) (one types name : Option (List ℕ)) (o : Options) (held : Option (List ℕ)) (t : List ℕ) → one ≡ Some t → types ≡ None
+    → name ≡ None
+    → notes_among x one types name o held ≡ one_notes x t o
+by_one x one types name o held t e0 e1 e2 = rw (e0, e1, e2) refl
+
+pub one_said : (command : Command) (o : Options) (held : Option (List ℕ)) (t : List ℕ) → is_silent command o held ≡ false →
+    (texts_of o).one ≡ Some t
+    → (texts_of o).types ≡ None → (texts_of o).name ≡ None → (x : ℕ) → one_notes x t o ≡ notes_of x command o held
+one_said command o held t said one types name x =
+    sym (ap (λ (b : Bool). if b then [] else notes_by x (texts_of o) o held) said
+    ∙ by_one x (texts_of o).one (texts_of o).types (texts_of o).name o held t one types name)
+
+-- by a type of modules
+pub own_json : (command : Command) (T : AsnType) (json : List ℕ) (o : Options) → asks command o.task ≡ true → Some json ≡ json_within o
+    → (x : ℕ) → json_notes x T json ≡ own_notes x command T o
+own_json command T json o asked given x =
+    sym (ap (λ (b : Bool). if b then source_by (json_within o) (json_notes x T) o.task else []) asked
+    ∙ ap (λ (j : Option (List ℕ)). source_by j (json_notes x T) o.task) (sym given))

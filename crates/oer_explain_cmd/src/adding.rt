@@ -86,7 +86,7 @@ fn one_notes(alloc: Global, text: &str, options: Options<'_>) -> Result<String, 
         return Ok(notes);
     }
     match json_within(options) {
-        Some(json) => type_json_notes(alloc, text, json),
+        Some(json) => type_json_notes(alloc, text, json.as_bytes()),
         None => source_notes(alloc, options.task),
     }
 }
@@ -105,7 +105,7 @@ fn named_notes(
         return Ok(notes);
     }
     match json_within(options) {
-        Some(json) => types_json_notes(alloc, octets, name, json),
+        Some(json) => types_json_notes(alloc, octets, name, json.as_bytes()),
         None => source_notes(alloc, options.task),
     }
 }
@@ -152,7 +152,7 @@ fn own_notes(
         return Ok(String::new(alloc));
     }
     match json_within(options) {
-        Some(json) => json_notes(alloc, schema, json),
+        Some(json) => json_notes(alloc, schema, json.as_bytes()),
         None => source_notes(alloc, options.task),
     }
 }

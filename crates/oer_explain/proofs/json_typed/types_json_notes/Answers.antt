@@ -13,4 +13,4 @@ returns-in-Ok c =
 pub returns-in-Err : goal.returns-in-Err
 returns-in-Err c =
     let empty : string_bytes c.new.result ≡ [] = search rules in
-    (0, empty ∙ of_none c.args.types.now (notes_named 0 (parse_all c.args.types.now) c.args.name.now c.args.text.now) [] c.in-Err.ensures.cases.0)
+    (0, empty ∙ of_none c.args.types.now (notes_named 0 (parse_all c.args.types.now) c.args.name.now c.args.octets.now) [] c.in-Err.ensures.cases.0)

@@ -16,4 +16,4 @@ returns-in-Some c =
     let given : Some json ≡ json_within o = search rules in
     same_notes c.types_json_notes.result (λ x. types_json_notes x octets name json) (λ x. named_notes x octets name o)
     (named_json octets name json o none found given)
-    c.types_json_notes.ensures
+    (rw c.as_bytes.ensures.value at c.types_json_notes.ensures)

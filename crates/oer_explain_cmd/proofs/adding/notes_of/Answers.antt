@@ -1,7 +1,7 @@
 use Rattle.std.proofs.Common.{◌≡◌, ◌∙◌, ap, false, sym}
 use Rattle.oer_options.specs.Words.{behind}
-use Rattle.oer_explain_cmd.specs.Adding.{is_silent, items_behind, named_notes, notes_of}
-use Rattle.oer_explain_cmd.proofs.Noted.{held_notes, option_notes, same_notes}
+use Rattle.oer_explain_cmd.specs.Adding.{is_silent, items_behind, named_notes, notes_of, one_notes}
+use Rattle.oer_explain_cmd.proofs.Noted.{held_notes, one_said, option_notes, same_notes}
 use Rattle.oer_explain_cmd.proofs.adding.notes_of.Goals as goal
 
 pub returns-in-Some : goal.returns-in-Some
@@ -27,3 +27,13 @@ returns-in-None c =
     (option_notes c.args.command o held a.name.now a.types.now said (ap behind a.is-0) (ap behind a.is-1) (ap behind a.is-2)
     (ap items_behind c.in-None.is))
     h
+
+pub returns-in-Some-None-None : goal.returns-in-Some-None-None
+returns-in-Some-None-None c =
+    let o = c.args.options in
+    let held = items_behind c.args.held in
+    let a = c.in-Some-None-None in
+    let said : is_silent c.args.command o held ≡ false = sym c.is_silent.ensures ∙ c.if-is_silent.false in
+    same_notes c.one_notes.result (λ x. one_notes x a.text.now o) (λ x. notes_of x c.args.command o held)
+    (one_said c.args.command o held a.text.now said (ap behind a.is-0) (ap behind a.is-1) (ap behind a.is-2))
+    c.one_notes.ensures

@@ -13,4 +13,4 @@ returns-in-Some c =
     let given : Some c.in-Some.json.now ≡ json_within o = search rules in
     same_notes c.type_json_notes.result (λ x. type_json_notes x text c.in-Some.json.now) (λ x. one_notes x text o)
     (one_json text c.in-Some.json.now o none given)
-    c.type_json_notes.ensures
+    (rw c.as_bytes.ensures.value at c.type_json_notes.ensures)

@@ -14,7 +14,11 @@ returns-in-Err-clause-exact g c =
 
 pub returns-then-looks_first-clause-exact : goal.returns-then-looks_first-clause-exact
 returns-then-looks_first-clause-exact g c =
-    inr (inr (inr (c.in-Ok.options, c.in-Ok.ensures.ok, c.looks_first.ensures c.if-looks_first.true, c.run_looking.ensures.looks)))
+    inr (inr (inr (inl (c.in-Ok.options, c.in-Ok.ensures.ok, c.looks_first.ensures c.if-looks_first.true, c.run_looking.ensures.looks))))
+
+pub returns-then-holds_json-clause-exact : goal.returns-then-holds_json-clause-exact
+returns-then-holds_json-clause-exact g c =
+    inr (inr (inr (inr (c.in-Ok.options, c.in-Ok.ensures.ok, c.holds_json.ensures c.if-holds_json.true, c.run_holding.ensures.holds))))
 
 pub returns-clause-exact : goal.returns-clause-exact
 returns-clause-exact g c =
