@@ -1,1 +1,2 @@
 mod Utf8
+mod Stopping

@@ -1,3 +1,7 @@
+pub mod JsonNames
+pub mod JsonPath
+pub mod JsonWords
+pub mod Json
 pub mod Reasons
 pub mod Hints
 pub mod Place

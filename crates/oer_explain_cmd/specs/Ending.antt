@@ -5,7 +5,7 @@ use Rattle.std.specs.Io.KnownBytes.{Keeps}
 use Rattle.clap.specs.Words.{Text, takes}
 use Rattle.oer_model.specs.AsnType.{AsnType}
 use Rattle.oer_checker.specs.Check.{most}
-use Rattle.oer_options.specs.Words.{Asks, oer}
+use Rattle.oer_options.specs.Words.{Asks, oer, texts_of}
 use Rattle.oer_options.specs.declared.options.Options.{Options}
 use Rattle.oer_cmd.specs.Ending as usual
 use Rattle.oer_cmd.specs.Faults.{Reports}
@@ -16,6 +16,8 @@ use Rattle.oer_at_cmd.specs.Ending as at
 use Rattle.oer_ends_cmd.specs.Ending.{EndsForModules}
 use Rattle.oer_places.specs.Input.{BeginsWithDigits}
 use Rattle.oer_explain_cmd.specs.Adding.{Adds, is_held, notes_of, own_notes}
+use Rattle.oer_explain.specs.Json.{json_notes}
+use Rattle.oer_explain_cmd.specs.Holding.{holds_json, read_notes, reads_json}
 use Rattle.oer_explain_cmd.specs.Looking.{digits_hint, looks_first, reads_octets}
 use Rattle.oer_explain_cmd.specs.declared.adding.Command.{Command}
 use Rattle.oer_explain_cmd.specs.declared.adding.Command.TheVariants.{At, Canonical, Usual}
@@ -51,14 +53,16 @@ IsDone command words told untouched None is status output output' errors middle 
 IsDone command words told untouched (Some b) is status output output' errors middle =
     (is ≡ true) × IfSome told (λ xs. xs ≡ b) × EndsWithout command words (Some b) ⊤ status output output' errors middle
 
--- The words ask for these options. What the command does leaves the errors as in middle, and then the notes are added to them.
+-- The words ask for these options. What the command does leaves the errors as in middle, and then the notes are added to them. Nothing is said of
+-- the place at which the JSON reader stopped.
 pub record Does (command : Command) (words : List Text) (told : Option (List ℕ)) (untouched : Type 0) (status : ℕ)
     (output output' errors errors' : Option (List ℕ)) : Type 0 where
   pub options : Options
   pub asks : Asks words options
   pub held : Option (List ℕ)
+  pub stopped : ℕ
   pub ends : (middle : Option (List ℕ)) × IsDone command words told untouched held (is_held command options) status output output' errors middle
-      × Adds (notes_of command options held) status middle errors'
+      × Adds (notes_of stopped command options held) status middle errors'
 
 -- The input is looked at, which takes nothing of it, and then the command does what it does without the option. Where it rejects octets that
 -- seem to be digits, the errors grow by a line that says so.
@@ -81,6 +85,33 @@ abbrev pub DoesLooking : Command → List Text → Option (List ℕ) → ℕ
 DoesLooking command words told status output output' errors errors' =
     (o : Options) × Asks words o × (looks_first command o ≡ true) × Looks command words told status output output' errors errors'
 
+-- The input could not be read whole, where JSON is read from it, and the errors say why; no more than this limit is read.
+abbrev pub IsUnreadJson : ℕ → Option (List ℕ) → ℕ → Option (List ℕ) → Option (List ℕ) → Option (List ℕ) → Option (List ℕ) → Type 0
+IsUnreadJson limit told status output output' errors errors' =
+    (fault : Fault) × IsTooLong limit None told fault × Reports fault status errors errors' × Keeps output output'
+
+-- What the input had left was held. What the command does on it, as without the option, leaves the errors as in middle, and then the notes are
+-- added to them. Nothing is said of the place at which the JSON reader stopped.
+pub record IsHeldJson (ends : Option (List ℕ) → Option (List ℕ) → Type 0) (notes : ℕ → List ℕ → Text) (told : Option (List ℕ)) (status : ℕ)
+    (errors' : Option (List ℕ)) : Type 0 where
+  pub octets : List ℕ
+  pub all : IfSome told (λ xs. xs ≡ octets)
+  pub stopped : ℕ
+  pub done : (middle : Option (List ℕ)) × ends (Some octets) middle × Adds (notes stopped octets) status middle errors'
+
+abbrev pub Holds : Command → List Text → Options → Option (List ℕ) → ℕ
+    → Option (List ℕ) → Option (List ℕ) → Option (List ℕ) → Option (List ℕ) → Type 0
+Holds command words o told status output output' errors errors' =
+    IsUnreadJson o.limit told status output output' errors errors'
+    ⊎ IsHeldJson (λ found middle. EndsWithout command words found ⊤ status output output' errors middle) (λ at octets. read_notes at (texts_of o) octets)
+    told status errors'
+
+-- The words ask for these options, by which the command comes to read JSON from the input: this can't be read whole, or is held.
+abbrev pub DoesHolding : Command → List Text → Option (List ℕ) → ℕ
+    → Option (List ℕ) → Option (List ℕ) → Option (List ℕ) → Option (List ℕ) → Type 0
+DoesHolding command words told status output output' errors errors' =
+    (o : Options) × Asks words o × (holds_json command o ≡ true) × Holds command words o told status output output' errors errors'
+
 -- What a command with `--explain` does.
 abbrev pub Explains : Command → List Text → Option (List ℕ) → Type 0 → ℕ
     → Option (List ℕ) → Option (List ℕ) → Option (List ℕ) → Option (List ℕ) → Type 0
@@ -89,6 +120,7 @@ Explains command words told untouched status output output' errors errors' =
     ⊎ IsUnread told status output output' errors errors'
     ⊎ Does command words told untouched status output output' errors errors'
     ⊎ DoesLooking command words told status output output' errors errors'
+    ⊎ DoesHolding command words told status output output' errors errors'
 
 -- ---- by a type of modules
 
@@ -109,8 +141,9 @@ pub record DoesFor (command : Command) (T : AsnType) (words : List Text) (told :
     (output output' errors errors' : Option (List ℕ)) : Type 0 where
   pub options : Options
   pub asks : Asks words options
+  pub stopped : ℕ
   pub ends : (middle : Option (List ℕ)) × EndsWithoutFor command T words told untouched status output output' errors middle
-      × Adds (own_notes command options) status middle errors'
+      × Adds (own_notes stopped command T options) status middle errors'
 
 abbrev pub LooksFor : Command → AsnType → List Text → Option (List ℕ) → ℕ
     → Option (List ℕ) → Option (List ℕ) → Option (List ℕ) → Option (List ℕ) → Type 0
@@ -122,9 +155,22 @@ abbrev pub DoesLookingFor : Command → AsnType → List Text → Option (List �
 DoesLookingFor command T words told status output output' errors errors' =
     (o : Options) × Asks words o × (reads_octets command o.task ≡ true) × LooksFor command T words told status output output' errors errors'
 
+abbrev pub HoldsFor : Command → AsnType → List Text → Options → Option (List ℕ) → ℕ
+    → Option (List ℕ) → Option (List ℕ) → Option (List ℕ) → Option (List ℕ) → Type 0
+HoldsFor command T words o told status output output' errors errors' =
+    IsUnreadJson o.limit told status output output' errors errors'
+    ⊎ IsHeldJson (λ found middle. EndsWithoutFor command T words found ⊤ status output output' errors middle) (λ at octets. json_notes at T octets)
+    told status errors'
+
+abbrev pub DoesHoldingFor : Command → AsnType → List Text → Option (List ℕ) → ℕ
+    → Option (List ℕ) → Option (List ℕ) → Option (List ℕ) → Option (List ℕ) → Type 0
+DoesHoldingFor command T words told status output output' errors errors' =
+    (o : Options) × Asks words o × (reads_json command o.task ≡ true) × HoldsFor command T words o told status output output' errors errors'
+
 abbrev pub ExplainsFor : Command → AsnType → List Text → Option (List ℕ) → Type 0 → ℕ
     → Option (List ℕ) → Option (List ℕ) → Option (List ℕ) → Option (List ℕ) → Type 0
 ExplainsFor command T words told untouched status output output' errors errors' =
     IsNotTakenFor command T words told untouched status output output' errors errors'
     ⊎ DoesFor command T words told untouched status output output' errors errors'
     ⊎ DoesLookingFor command T words told status output output' errors errors'
+    ⊎ DoesHoldingFor command T words told status output output' errors errors'

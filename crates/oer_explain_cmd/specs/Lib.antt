@@ -3,3 +3,4 @@ pub mod Errors
 pub mod Adding
 pub mod Ending
 pub mod Looking
+pub mod Holding

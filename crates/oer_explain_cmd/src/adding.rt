@@ -1,12 +1,16 @@
 //! What is added to the error of a command.
 ghost use Rattle.std.specs.Prelude.{◌≡◌, IfOk, List, None, Some, ℕ, option_map, string_bytes};
+ghost use Rattle.oer_types.specs.Schema.{the_type};
 ghost use Rattle.oer_options.specs.Words.{behind, texts_of};
 ghost use Rattle.oer_cmd.specs.Types.{reads_types};
-ghost use Rattle.oer_explain_cmd.specs.Adding.{Adds, asks, is_held, is_rejection, items_behind, named_notes, notes_of, one_notes, own_notes, source_notes};
+ghost use Rattle.oer_explain_cmd.specs.Adding.{Adds, asks, is_held, is_rejection, is_silent, items_behind, json_within, named_notes, notes_of, one_notes, own_notes, source_notes};
 
 use oer_cmd::put_all;
-use oer_explain::{defines, digits_notes, type_notes, types_notes};
+use oer_explain::{
+    defines, digits_notes, json_notes, type_json_notes, type_notes, types_json_notes, types_notes,
+};
 use oer_options::{Options, Task};
+use oer_types::Schema;
 use std::alloc::{AllocError, Global};
 use std::io::Write;
 
@@ -50,7 +54,17 @@ pub fn is_held(command: Command<'_>, options: Options<'_>) -> bool
     command.asks(options.task) && reads_types(options) && options.task.source().is_some()
 }
 
-// What is added where the octets or the JSON of the options are rejected by themselves.
+// The JSON of the options, unless it is longer than the limit.
+fn json_within(options: Options<'_>) -> Option<&str>
+    ensures { option_map (λ s. s.now) result ≡ json_within options.entry }
+{
+    match options.task {
+        Task::Make { json: Some(text) } if text.len() as u64 <= options.limit => Some(text),
+        _ => None,
+    }
+}
+
+// What is added where the octets of the options are rejected by themselves.
 fn source_notes(alloc: Global, task: Task<'_>) -> Result<String, AllocError>
     ensures { IfOk result (λ notes. string_bytes notes ≡ source_notes task.entry) }
 {
@@ -64,14 +78,17 @@ fn source_notes(alloc: Global, task: Task<'_>) -> Result<String, AllocError>
 }
 
 // What is added to the error of a command by the text of one type.
-fn one_notes(alloc: Global, text: &str, task: Task<'_>) -> Result<String, AllocError>
-    ensures { IfOk result (λ notes. string_bytes notes ≡ one_notes text.now task.entry) }
+fn one_notes(alloc: Global, text: &str, options: Options<'_>) -> Result<String, AllocError>
+    ensures { IfOk result (λ notes. (at : ℕ) × (string_bytes notes ≡ one_notes at text.now options.entry)) }
 {
     let notes = type_notes(alloc, text)?;
     if !notes.is_empty() {
         return Ok(notes);
     }
-    source_notes(alloc, task)
+    match json_within(options) {
+        Some(json) => type_json_notes(alloc, text, json.as_bytes()),
+        None => source_notes(alloc, options.task),
+    }
 }
 
 // What is added to the error of a command by the type that the Name has among the definitions of this text.
@@ -79,15 +96,25 @@ fn named_notes(
     alloc: Global,
     octets: &[u8],
     name: &str,
-    task: Task<'_>,
+    options: Options<'_>,
 ) -> Result<String, AllocError>
-    ensures { IfOk result (λ notes. string_bytes notes ≡ named_notes octets.now name.now task.entry) }
+    ensures { IfOk result (λ notes. (at : ℕ) × (string_bytes notes ≡ named_notes at octets.now name.now options.entry)) }
 {
     let notes = types_notes(alloc, octets)?;
     if !notes.is_empty() || !defines(alloc, octets, name)? {
         return Ok(notes);
     }
-    source_notes(alloc, task)
+    match json_within(options) {
+        Some(json) => types_json_notes(alloc, octets, name, json.as_bytes()),
+        None => source_notes(alloc, options.task),
+    }
+}
+
+// Whether nothing is said: the command doesn't look at the type, or has to read its text, and none was held.
+fn is_silent(command: Command<'_>, options: Options<'_>, held: Option<&[u8]>) -> bool
+    ensures { result ≡ is_silent command.entry options.entry (items_behind held.entry) }
+{
+    !command.asks(options.task) || (reads_types(options) && held.is_none())
 }
 
 // What is added to the error of a command with these options, where this text of definitions was held.
@@ -97,16 +124,16 @@ fn notes_of(
     options: Options<'_>,
     held: Option<&[u8]>,
 ) -> Result<String, AllocError>
-    ensures { IfOk result (λ notes. string_bytes notes ≡ notes_of command.entry options.entry (items_behind held.entry)) }
+    ensures { IfOk result (λ notes. (at : ℕ) × (string_bytes notes ≡ notes_of at command.entry options.entry (items_behind held.entry))) }
 {
-    if !command.asks(options.task) || (reads_types(options) && held.is_none()) {
+    if is_silent(command, options, held) {
         return Ok(String::new(alloc));
     }
     match (options.type_text, options.types, options.name) {
-        (Some(text), None, None) => one_notes(alloc, text, options.task),
+        (Some(text), None, None) => one_notes(alloc, text, options),
         (None, Some(types), Some(name)) => match held {
-            Some(octets) => named_notes(alloc, octets, name, options.task),
-            None => named_notes(alloc, types.as_bytes(), name, options.task),
+            Some(octets) => named_notes(alloc, octets, name, options),
+            None => named_notes(alloc, types.as_bytes(), name, options),
         },
         _ => Ok(String::new(alloc)),
     }
@@ -116,14 +143,18 @@ fn notes_of(
 fn own_notes(
     alloc: Global,
     command: Command<'_>,
+    schema: &Schema,
     options: Options<'_>,
 ) -> Result<String, AllocError>
-    ensures { IfOk result (λ notes. string_bytes notes ≡ own_notes command.entry options.entry) }
+    ensures { IfOk result (λ notes. (at : ℕ) × (string_bytes notes ≡ own_notes at command.entry (the_type schema.now) options.entry)) }
 {
     if !command.asks(options.task) {
         return Ok(String::new(alloc));
     }
-    source_notes(alloc, options.task)
+    match json_within(options) {
+        Some(json) => json_notes(alloc, schema, json.as_bytes()),
+        None => source_notes(alloc, options.task),
+    }
 }
 
 /// Whether the status is that of an error that isn't the machine's.
@@ -143,7 +174,8 @@ pub fn add<E: Write>(
     held: Option<&[u8]>,
     errors: &mut E,
 )
-    ensures { Adds (notes_of command.entry options.entry (items_behind held.entry)) status (E.contents errors.old) (E.contents errors.new) }
+    ensures { (at : ℕ) × Adds (notes_of at command.entry options.entry (items_behind held.entry)) status
+        (E.contents errors.old) (E.contents errors.new) }
 {
     if !is_rejection(status) {
         return;
@@ -158,15 +190,17 @@ pub fn add_for<E: Write>(
     alloc: Global,
     status: u8,
     command: Command<'_>,
+    schema: &Schema,
     options: Options<'_>,
     errors: &mut E,
 )
-    ensures { Adds (own_notes command.entry options.entry) status (E.contents errors.old) (E.contents errors.new) }
+    ensures { (at : ℕ) × Adds (own_notes at command.entry (the_type schema.now) options.entry) status
+        (E.contents errors.old) (E.contents errors.new) }
 {
     if !is_rejection(status) {
         return;
     }
-    if let Ok(notes) = own_notes(alloc, command, options) {
+    if let Ok(notes) = own_notes(alloc, command, schema, options) {
         put_all(notes.as_bytes(), errors);
     }
 }

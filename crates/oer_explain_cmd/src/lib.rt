@@ -3,6 +3,7 @@
 
 mod adding;
 mod asked;
+mod holding;
 mod looking;
 mod misuse;
 mod run;

@@ -32,8 +32,8 @@ pub fn reads_octets(command: Command<'_>, task: Task<'_>) -> bool
     }
 }
 
-// Whether the options name a type, in a text that is accepted.
-fn is_accepted(alloc: Global, options: Options<'_>) -> Result<bool, AllocError>
+/// Whether the options name a type, in a text that is accepted. It fails where an allocation does.
+pub fn is_accepted(alloc: Global, options: Options<'_>) -> Result<bool, AllocError>
     ensures { IfOk result (λ found. found ≡ is_accepted (texts_of options.entry)) }
 {
     match (options.type_text, options.types, options.name) {

@@ -4,9 +4,10 @@ ghost use Rattle.oer_checker.specs.Check.{most};
 ghost use Rattle.oer_types.specs.Schema.{the_type};
 ghost use Rattle.oer_cmd.specs.Octets.{IsTooLong};
 ghost use Rattle.oer_explain_cmd.specs.Adding.{is_held};
-ghost use Rattle.oer_explain_cmd.specs.Ending.{EndsWithout, EndsWithoutFor, Explains, ExplainsFor, IsHeld, Looks, LooksFor};
+ghost use Rattle.oer_explain_cmd.specs.Ending.{EndsWithout, EndsWithoutFor, Explains, ExplainsFor, Holds, HoldsFor, IsHeld, Looks, LooksFor};
 
 use crate::adding::{Command, add, add_for, is_held};
+use crate::holding::{add_read, add_read_for, holds_json, reads_json};
 use crate::looking::{add_hint, looks_first, reads_octets};
 use oer_at_cmd::{run_at, run_at_for};
 use oer_canonical_cmd::{run_canonical, run_canonical_for};
@@ -76,9 +77,33 @@ fn run_looking<R: BufRead, W: Write, E: Write>(
     status
 }
 
+// Reads JSON from the input, runs the command on it, and explains its error. The status.
+fn run_holding<R: Read, W: Write, E: Write>(
+    alloc: Global,
+    command: Command<'_>,
+    words: &[String],
+    options: Options<'_>,
+    input: &mut R,
+    output: &mut W,
+    errors: &mut E,
+) -> u8
+    ensures holds { Holds command.entry (map string_bytes words.now) options.entry (R.remaining input.old) result
+        (W.contents output.old) (W.contents output.new) (E.contents errors.old) (E.contents errors.new) }
+    ensures statuses { result ≤ 3 }
+{
+    let octets = match all_octets(alloc, None, input, options.limit) {
+        Ok(octets) => octets,
+        Err(fault) => return report(alloc, fault, errors),
+    };
+    let mut reader = octets.as_slice();
+    let status = run_without(alloc, command, words, &mut reader, output, errors);
+    add_read(alloc, status, options, octets.as_slice(), errors);
+    status
+}
+
 /// Runs the command and explains its error: `words` are the arguments without `--explain`, and without the option that the command stands
-/// for, the program's name first. The text of definitions that the command reads from the input is held meanwhile; where it comes to read
-/// octets from there, the input is looked at first. Returns the status of the program, which is that of the command.
+/// for, the program's name first. The text of definitions that the command reads from the input is held meanwhile, and so is JSON; where it comes
+/// to read octets from there, the input is looked at first. Returns the status of the program, which is that of the command.
 pub fn run_explained<R: BufRead, W: Write, E: Write>(
     alloc: Global,
     command: Command<'_>,
@@ -97,6 +122,9 @@ pub fn run_explained<R: BufRead, W: Write, E: Write>(
     };
     if looks_first(alloc, command, options) {
         return run_looking(alloc, command, words, input, output, errors);
+    }
+    if holds_json(alloc, command, options) {
+        return run_holding(alloc, command, words, options, input, output, errors);
     }
     let held = match held_types(alloc, command, options, input) {
         Ok(held) => held,
@@ -161,6 +189,31 @@ fn run_looking_for<R: BufRead, W: Write, E: Write>(
     status
 }
 
+// Reads JSON from the input, and runs the command on it by a type of modules, as `run_holding` does. The status.
+fn run_holding_for<R: Read, W: Write, E: Write>(
+    alloc: Global,
+    command: Command<'_>,
+    schema: &Schema,
+    words: &[String],
+    options: Options<'_>,
+    input: &mut R,
+    output: &mut W,
+    errors: &mut E,
+) -> u8
+    ensures holds { HoldsFor command.entry (the_type schema.now) (map string_bytes words.now) options.entry (R.remaining input.old) result
+        (W.contents output.old) (W.contents output.new) (E.contents errors.old) (E.contents errors.new) }
+    ensures statuses { result ≤ 3 }
+{
+    let octets = match all_octets(alloc, None, input, options.limit) {
+        Ok(octets) => octets,
+        Err(fault) => return report(alloc, fault, errors),
+    };
+    let mut reader = octets.as_slice();
+    let status = run_without_for(alloc, command, schema, words, &mut reader, output, errors);
+    add_read_for(alloc, status, schema, octets.as_slice(), errors);
+    status
+}
+
 /// Runs the command for a type of modules and explains its error, as `run_explained` does for the type that the words name; those on types
 /// count for nothing.
 pub fn run_explained_for<R: BufRead, W: Write, E: Write>(
@@ -183,7 +236,12 @@ pub fn run_explained_for<R: BufRead, W: Write, E: Write>(
     if reads_octets(command, options.task) {
         return run_looking_for(alloc, command, schema, words, input, output, errors);
     }
+    if reads_json(command, options.task) {
+        return run_holding_for(
+            alloc, command, schema, words, options, input, output, errors,
+        );
+    }
     let status = run_without_for(alloc, command, schema, words, input, output, errors);
-    add_for(alloc, status, command, options, errors);
+    add_for(alloc, status, command, schema, options, errors);
     status
 }

@@ -14,7 +14,11 @@ returns-in-Err-clause-exact g c =
 
 pub returns-then-looks_first-clause-exact : goal.returns-then-looks_first-clause-exact
 returns-then-looks_first-clause-exact g c =
-    inr (inr (inr (c.in-Ok.options, c.in-Ok.ensures.ok, c.looks_first.ensures c.if-looks_first.true, c.run_looking.ensures.looks)))
+    inr (inr (inr (inl (c.in-Ok.options, c.in-Ok.ensures.ok, c.looks_first.ensures c.if-looks_first.true, c.run_looking.ensures.looks))))
+
+pub returns-then-holds_json-clause-exact : goal.returns-then-holds_json-clause-exact
+returns-then-holds_json-clause-exact g c =
+    inr (inr (inr (inr (c.in-Ok.options, c.in-Ok.ensures.ok, c.holds_json.ensures c.if-holds_json.true, c.run_holding.ensures.holds))))
 
 pub returns-clause-exact : goal.returns-clause-exact
 returns-clause-exact g c =
@@ -27,10 +31,12 @@ returns-clause-exact g c =
       options = o;
       asks = c.in-Ok.ensures.ok;
       held = Some b.items;
+      stopped = c.add-2.ensures.0;
       ends = (
         middle,
         done_on c.args.command words (g.R.Read.remaining c.args.input.now) _ _ c.in-Ok-held_types.held b c.as_slice-reader.result.now (is_held c.args.command o)
             c.run_without-status-2.result _ _ _ middle c.in-Ok-held_types.ensures.held c.in-Some.is c.as_slice-reader.ensures.value c.run_without-status-2.ensures.ends,
-        subst (λ (l : List ℕ). Adds (notes_of c.args.command o (Some l)) c.run_without-status-2.result middle errors) c.as_slice.ensures.value c.add-2.ensures,
+        subst (λ (l : List ℕ). Adds (notes_of c.add-2.ensures.0 c.args.command o (Some l)) c.run_without-status-2.result middle errors)
+            c.as_slice.ensures.value c.add-2.ensures.1,
       );
     })))
