@@ -8,6 +8,7 @@
  *   place TYPE GIVEN PATH STATUS WHY OCTETS AT LENGTH
  *   named TYPE GIVEN NAMES STATUS WHY OCTETS AT LENGTH
  *   rejected TEXT WHY PLACE
+ *   explained TEXT LINES
  *   modules FIRST SECOND WHY TEXT PLACE LINE COLUMN WORDS */
 #include "vectors.h"
 
@@ -30,17 +31,19 @@ static void put_number(uint64_t number) {
 }
 
 static void put_vector(const struct vector *vector) {
-    static const char *const tasks[] = { "check", "canon", "part", "to_json", "from_json", "whole" };
+    static const char *const tasks[] = { "check", "canon", "part", "to_json", "from_json", "whole", "explain_json", "explain_octets" };
+    int is_text;
     printf("vector\t%s", tasks[vector->task]);
     put_text(vector->type);
-    (vector->task == FROM_JSON ? put_text : put_digits)(vector->given);
+    (vector->task == FROM_JSON || vector->task == EXPLAIN_JSON ? put_text : put_digits)(vector->given);
     put_text(vector->path);
     put_number(vector->limit);
     put_number(vector->status);
     put_number(vector->why);
     put_number(vector->octets);
     put_number(vector->written);
-    (vector->task == TO_JSON ? put_text : put_digits)(vector->answer);
+    is_text = vector->task == TO_JSON || vector->task == EXPLAIN_JSON || vector->task == EXPLAIN_OCTETS;
+    (is_text ? put_text : put_digits)(vector->answer);
     putchar('\n');
 }
 
@@ -124,6 +127,12 @@ int main(void) {
         put_text(rejected_texts[i].text);
         put_number(rejected_texts[i].why);
         put_number(rejected_texts[i].place);
+        putchar('\n');
+    }
+    for (i = 0; i < sizeof explained_texts / sizeof *explained_texts; i++) {
+        printf("explained");
+        put_text(explained_texts[i].text);
+        put_text(explained_texts[i].lines);
         putchar('\n');
     }
     for (i = 0; i < sizeof rejected_modules / sizeof *rejected_modules; i++) put_modules(&rejected_modules[i]);

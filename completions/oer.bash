@@ -21,12 +21,13 @@ _oer() {
     part) options='--type --types --name --hex --in --lines --framed --stream --path --at --explain --limit --help' ;;
     make) options='--type --types --name --json --explain --limit --help' ;;
     example) options='--type --types --name --full --random --help' ;;
+    types) options='--modules --types --name --names --nesting --help' ;;
     compare) options='--type --types --name --with --with-types --help' ;;
     *) return ;;
   esac
   # An equals sign is a word of its own here.
   case $before in
-    = | --type | --types | --name | --hex | --in | --framed | --path | --at | --json | --limit | --random | --with | --with-types) return ;;
+    = | --modules | --type | --types | --name | --nesting | --hex | --in | --framed | --path | --at | --json | --limit | --random | --with | --with-types) return ;;
   esac
   [ "$word" != = ] || return
   # Of --type and of --types with --name a line takes only one, of --hex, --in, --lines, --framed and --stream, but for --in with
@@ -34,7 +35,11 @@ _oer() {
   for ((at = 2; at < COMP_CWORD; at++)); do
     case ${COMP_WORDS[at]} in
       --type) given+='--type --types --name --with-types ' ;;
-      --types | --name) given+="${COMP_WORDS[at]} --type " ;;
+      --types) given+='--types --type --modules --names --nesting ' ;;
+      --modules) given+='--types --type ' ;;
+      --name) given+='--name --type --names ' ;;
+      --names) given+='--names --name --types ' ;;
+      --nesting) given+='--nesting --types ' ;;
       --with-types) given+='--with-types --type ' ;;
       --hex) given+='--hex --in --lines --framed --stream ' ;;
       --in) given+='--hex --in --lines --framed ' ;;

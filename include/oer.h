@@ -39,7 +39,7 @@
  * - No call is made from a signal handler, or in the child of a fork of a process with threads.
  *
  * Octets are uint8_t, texts are char. All lengths and places are numbers of octets; texts are UTF-8,
- * come with their length, and need no zero octet at the end. None is written after JSON or words. */
+ * come with their length, and need no zero octet at the end. None is written after JSON, words or lines. */
 #ifndef OER_H
 #define OER_H
 
@@ -218,7 +218,7 @@ typedef struct oer_written {
     uint64_t octets;  /* at OER_OK, OER_ROOM, OER_NO_STEP and OER_ABSENT how many octets the encoding has
                          that was read; at OER_REJECTED how many had been looked at; else 0.
                          oer_from_json reads no encoding: at OER_NO_JSON it answers the place in the
-                         text at which reading stopped, and else 0 */
+                         text at which reading stopped, and else 0; of the calls that explain it is 0 */
     uint64_t written; /* at OER_OK how many octets were written; at OER_ROOM how many are needed; else
                          0 */
 } oer_written;
@@ -272,6 +272,14 @@ oer_parsed oer_types_read_within(oer_types *types, const char *text, size_t text
 oer_understood oer_types_read_modules(oer_types *types, const char *texts, size_t texts_length,
                                       const oer_message *places, size_t places_length, uint8_t nesting,
                                       char *words, size_t room) OER_NO_NULL;
+
+/* Writes why definitions are rejected, as `oer --explain` says it (docs/COMMAND.md, Where a text or octets are rejected):
+ * lines of UTF-8, each with its line feed, or nothing where they are accepted. They have the line and the column of the place
+ * that oer_types_read answers, that line of the text with a mark under the place, what is wrong there, and perhaps what
+ * may help, which speaks of the program's options. The text is read again, by as much memory as oer_types_read takes:
+ * of a text from someone else ask only where oer_types_read_within rejects it, and not with OER_TEXT_PARTS.
+ * OER_OK, OER_MEMORY, OER_ROOM: room for 1,024 octets is enough. */
+oer_written oer_explain_types(const char *text, size_t text_length, char *out, size_t room) OER_NO_NULL;
 
 /* Frees the types. With NULL it does nothing, as free does. */
 void oer_types_free(oer_types *types);
@@ -381,6 +389,25 @@ oer_written oer_to_json(oer_types *types, const char *name, size_t name_length,
 oer_written oer_from_json(oer_types *types, const char *name, size_t name_length,
                           const char *text, size_t text_length,
                           uint8_t *out, size_t room) OER_NO_NULL;
+
+/* Writes why oer_from_json rejects the JSON, as `oer make --explain` says it (docs/COMMAND.md, Where a text or octets are
+ * rejected): lines of UTF-8, each with its line feed, or nothing where the JSON is accepted. They name the way to the
+ * innermost part that the type rejects, what is wrong with it, and what is wanted there; of a text that is not JSON, or
+ * not UTF-8, the line and the column of the place, and that line with a mark under it.
+ * OER_OK, OER_NO_TYPES, OER_UNNAMED, OER_MEMORY, OER_ROOM: room for 1,024 octets is mostly enough; names of the type
+ * may be long. */
+oer_written oer_explain_json(oer_types *types, const char *name, size_t name_length,
+                             const char *text, size_t text_length,
+                             char *out, size_t room) OER_NO_NULL;
+
+/* Writes why oer_check rejects the octets, as `oer check --explain` says it: lines of UTF-8, each with its line feed, or
+ * nothing where the octets are accepted. They are the lines of `oer-dump --width 100` up to the part that was being read,
+ * the names on the way to it, what is wrong with it, and what is wanted there. Each part that was read has a line, so they
+ * are much longer than the octets, and are held twice: of long octets from someone else ask by a front of them.
+ * OER_OK, OER_NO_TYPES, OER_UNNAMED, OER_MEMORY, OER_ROOM. */
+oer_written oer_explain_octets(oer_types *types, const char *name, size_t name_length,
+                               const uint8_t *octets, size_t octets_length,
+                               char *out, size_t room) OER_NO_NULL;
 
 #undef OER_NO_NULL
 

@@ -577,6 +577,27 @@ public:
         return from_modules<std::initializer_list<text_in>>(texts, nesting);
     }
 
+    /* Why definitions are rejected, in lines of UTF-8, each with its line feed, or nothing where they are accepted:
+     * the line and the column of the place that read() answers, that line of the text with a mark under the place,
+     * what is wrong there, and perhaps what may help. oer_explain_types in oer.h says more, on memory too.
+     *   OER_MEMORY   an allocation failed, here or in the library
+     *   OER_OUTSIDE  the text is missing() */
+    static result<text> explain_types(text_in definitions) noexcept {
+        if (missing(definitions)) return nowhere(subject::definitions);
+        return gather<char>(room_of_lines, subject::definitions, [&](char *out, std::size_t room) {
+            return oer_explain_types(definitions.data(), definitions.size(), out, room);
+        });
+    }
+
+    /* The same, written into the buffer, which overlaps nothing else that is passed. No zero octet is written
+     * after it.
+     *   OER_ROOM     the buffer is too small: `needed` of the error says how many octets it has to have */
+    static result<written> explain_types_into(text_in definitions, text_out out) noexcept {
+        if (missing(definitions)) return nowhere(subject::definitions);
+        return told(oer_explain_types(definitions.data(), definitions.size(), out.data(), out.size()),
+                    subject::definitions);
+    }
+
     /* Frees the types. After it there are none, and types may be read again. It may be called twice. */
     void free() noexcept { oer_types_free(&held_); }
 
@@ -781,6 +802,48 @@ public:
                     subject::json);
     }
 
+    /* Why from_json() rejects the JSON, in lines of UTF-8, each with its line feed, or nothing where it is accepted:
+     * the way to the innermost part that the type rejects, what is wrong with it, and what is wanted there; of a text
+     * that is not JSON the line and the column of the place, and that line with a mark under it.
+     *   OER_MEMORY   an allocation failed, here or in the library */
+    result<text> explain_json(text_in name, text_in json) noexcept {
+        if (missing(name, json)) return nowhere(subject::json);
+        return gather<char>(room_of_lines, subject::json, [&](char *out, std::size_t room) {
+            return oer_explain_json(&held_, name.data(), name.size(), json.data(), json.size(), out, room);
+        });
+    }
+
+    /* The same, written into the buffer, which overlaps nothing else that is passed. No zero octet is written
+     * after it.
+     *   OER_ROOM     the buffer is too small: `needed` of the error says how many octets it has to have */
+    result<written> explain_json_into(text_in name, text_in json, text_out out) noexcept {
+        if (missing(name, json)) return nowhere(subject::json);
+        return told(oer_explain_json(&held_, name.data(), name.size(), json.data(), json.size(), out.data(),
+                                     out.size()),
+                    subject::json);
+    }
+
+    /* Why check() rejects the octets, in lines of UTF-8, each with its line feed, or nothing where they are accepted:
+     * what each octet is, up to the part that was being read, the names on the way to it, what is wrong with it, and
+     * what is wanted there. oer_explain_octets in oer.h says more, on memory too.
+     *   OER_MEMORY   an allocation failed, here or in the library */
+    result<text> explain_octets(text_in name, octets_in given) noexcept {
+        if (missing(name, given)) return nowhere(subject::octets);
+        return gather<char>(room_of_lines, subject::octets, [&](char *out, std::size_t room) {
+            return oer_explain_octets(&held_, name.data(), name.size(), given.data(), given.size(), out, room);
+        });
+    }
+
+    /* The same, written into the buffer, which overlaps nothing else that is passed. No zero octet is written
+     * after it.
+     *   OER_ROOM     the buffer is too small: `needed` of the error says how many octets it has to have */
+    result<written> explain_octets_into(text_in name, octets_in given, text_out out) noexcept {
+        if (missing(name, given)) return nowhere(subject::octets);
+        return told(oer_explain_octets(&held_, name.data(), name.size(), given.data(), given.size(), out.data(),
+                                       out.size()),
+                    subject::octets);
+    }
+
 private:
     /* The error of a status other than OER_REJECTED. */
     static modules_error modules_fault(std::uint32_t status) noexcept {
@@ -852,6 +915,9 @@ private:
     static std::size_t room_of_json(std::size_t size) noexcept {
         return size < static_cast<std::size_t>(-1) / 8 ? 4 * size + 64 : size;
     }
+
+    /* Where the lines that explain an error begin to be tried. */
+    static constexpr std::size_t room_of_lines = 1024;
 
     /* Calls with a buffer of `room` elements, and where that is too small once more with as many as are
      * needed. */

@@ -74,6 +74,10 @@ def digests(crate, parts):
 # A function in the layout of rt fmt, from its first line to the brace that closes it.
 FUNCTION = re.compile(r"^(?P<indent> *)(?P<open>pub )?(?:pub\([^)]*\) )?(?:(?:unsafe|extern \"C\") )*fn [^\n]*\n.*?^(?P=indent)}\n", re.M | re.S)
 COMMENTS = {".rt": re.compile(r"^ *//.*\n", re.M), ".antt": re.compile(r"^ *--.*\n", re.M)}
+# How functions are proved, and the names of private modules.
+UNSEEN = re.compile(r"^ *#!?\[(?:tactic|cycle)\b[^\n]*\n|^mod \w+;\n", re.M)
+# Names of other modules. What `pub use` lists, others see.
+IMPORT = re.compile(r"^((?:ghost )?use [^;{\n]*)(?:\{([^;{}]*)\})?;\n", re.M)
 # A constant or a macro, which a blank line follows.
 CONSTANT = re.compile(r"^(?:pub )?(?:const|macro_rules!) (\w+)\b.*?[;}]\n(?=\n|\Z)", re.M | re.S)
 
@@ -111,15 +115,41 @@ def shown_constants(crate, file, text):
     return CONSTANT.sub(lambda it: it[0] if re.search(rf"\b{it[1]}\b", root) else "", text)
 
 
+def with_needed_imports(text):
+    """The text of a file in Rattle without imported names that nothing else in it says. An operator stays."""
+    words = set(re.findall(r"\w+", IMPORT.sub("", text)))
+
+    def is_needed(name):
+        return "◌" in name or not re.fullmatch(r"[\w.: ]+", name) or re.findall(r"\w+", name)[-1] in words
+
+    def without_others(line):
+        if line[2] is None:
+            return line[0] if is_needed(line[1]) else ""
+        names = [name.strip() for name in line[2].split(",") if name.strip() and is_needed(name.strip())]
+        return f"{line[1]}{{{', '.join(names)}}};\n" if names else ""
+
+    return IMPORT.sub(without_others, text)
+
+
+def shown_of(crate, file, text):
+    """What the crates above see of a file with this text."""
+    if not file.endswith(".rt"):
+        return text
+    return with_needed_imports(FUNCTION.sub(without_body, UNSEEN.sub("", shown_constants(crate, file, text))))
+
+
 @cache
 def seen_of(crate):
     """What the crates above see of a crate: its line of crates.txt, its definitions, and its types and the contracts of its
-    functions, but no body under a contract, no constant that is private, no proof and no comment."""
+    functions with the names that these import, but no body under a contract, no tactic, no constant that is private, no proof
+    and no comment."""
     found = [f"{crate.name}: {' '.join(crate.below)}\n"]
     for file in files_of(crate, ("specs", "src")):
         comments = COMMENTS.get(os.path.splitext(file)[1])
         text = comments.sub("", text_of(file)) if comments else text_of(file)
-        found.append(f"{file[len(TOP):]}\0{FUNCTION.sub(without_body, shown_constants(crate, file, text))}\0")
+        shown = re.sub(r"\n{2,}", "\n", shown_of(crate, file, text)).strip()
+        if shown:
+            found.append(f"{file[len(TOP):]}\0{shown}\0")
     return hashlib.sha256("".join(found).encode()).digest()
 
 

@@ -17,10 +17,11 @@ enum { STACK = 8 << 20, FILL = 0xa5, LARGE = 1 << 20 };
 
 /* ---- a call in a thread of its own */
 
-enum call { NONE, READ, READ_WITHIN, READ_MODULES, SHARE, CHECK, CHECK_WHOLE, CHECK_NESTING, CHECK_MANY, CANON, PART, PART_AT, PART_NAMED, PART_NAMED_AT, TO_JSON, FROM_JSON, FREE };
+enum call { NONE, READ, READ_WITHIN, READ_MODULES, SHARE, CHECK, CHECK_WHOLE, CHECK_NESTING, CHECK_MANY, CANON, PART, PART_AT, PART_NAMED, PART_NAMED_AT, TO_JSON, FROM_JSON, EXPLAIN_TYPES, EXPLAIN_JSON, EXPLAIN_OCTETS, FREE };
 
 static const char *const names[] = { "none", "oer_types_read", "oer_types_read_within", "oer_types_read_modules", "oer_types_share", "oer_check", "oer_check_whole",
-                                     "oer_check_nesting", "oer_check_many", "oer_canon", "oer_part", "oer_part_at", "oer_part_named", "oer_part_named_at", "oer_to_json", "oer_from_json", "oer_types_free" };
+                                     "oer_check_nesting", "oer_check_many", "oer_canon", "oer_part", "oer_part_at", "oer_part_named", "oer_part_named_at", "oer_to_json", "oer_from_json",
+                                     "oer_explain_types", "oer_explain_json", "oer_explain_octets", "oer_types_free" };
 
 /* What the call is given; `status` is what it answers. */
 struct job {
@@ -37,6 +38,11 @@ struct job {
     uint64_t written;
     uint32_t status;
 };
+
+/* Whether the call answers an oer_written. */
+static int is_written(enum call call) {
+    return call == CANON || call == PART || call == PART_NAMED || (call >= TO_JSON && call <= EXPLAIN_OCTETS);
+}
 
 static void *run(void *given) {
     struct job *job = given;
@@ -95,13 +101,21 @@ static void *run(void *given) {
     case FROM_JSON:
         written = oer_from_json(&job->types, job->name, name, job->text, job->text_length, job->out, job->room);
         break;
+    case EXPLAIN_TYPES:
+        written = oer_explain_types(job->text, job->text_length, (char *)job->out, job->room);
+        break;
+    case EXPLAIN_JSON:
+        written = oer_explain_json(&job->types, job->name, name, job->text, job->text_length, (char *)job->out, job->room);
+        break;
+    case EXPLAIN_OCTETS:
+        written = oer_explain_octets(&job->types, job->name, name, job->octets, job->octets_length, (char *)job->out, job->room);
+        break;
     case FREE:
         oer_types_free(&job->types);
         break;
     }
     job->written = written.written;
-    if (job->call == CANON || job->call == PART || job->call == PART_NAMED || job->call == TO_JSON || job->call == FROM_JSON)
-        job->status = written.status;
+    if (is_written(job->call)) job->status = written.status;
     return NULL;
 }
 
@@ -162,12 +176,14 @@ static void measure_all(const char *what, const char *types, const char *name, c
     job.room = sizeof out;
     measure(&job, READ, what, OER_OK);
     measure(&job, READ_WITHIN, what, OER_OK);
+    measure(&job, EXPLAIN_TYPES, what, OER_OK);
     measure(&job, SHARE, what, OER_OK);
     measure(&job, CHECK, what, OER_OK);
     canonical = oer_check(&job.types, name, strlen(name), octets, length).canonical == 1;
     measure(&job, CHECK_WHOLE, what, canonical ? OER_OK : OER_NOT_CANONICAL);
     measure(&job, CHECK_NESTING, what, OER_OK);
     measure(&job, CHECK_MANY, what, OER_OK);
+    measure(&job, EXPLAIN_OCTETS, what, OER_OK);
     measure(&job, CANON, what, OER_OK);
     measure(&job, PART, what, OER_OK);
     measure(&job, PART_AT, what, OER_OK);
@@ -179,6 +195,7 @@ static void measure_all(const char *what, const char *types, const char *name, c
     job.text = (const char *)json;
     job.text_length = (size_t)job.written;
     measure(&job, FROM_JSON, what, OER_OK);
+    measure(&job, EXPLAIN_JSON, what, OER_OK);
     job.status = OER_OK;
     measure(&job, FREE, what, OER_OK);
     job.types = job.other;
@@ -263,6 +280,9 @@ static void measure_end(const struct level *kind) {
     job.octets = made.front;
     job.octets_length = made.length;
     measure(&job, CHECK_NESTING, made.what, OER_REJECTED);
+    job.out = out;
+    job.room = sizeof out;
+    measure(&job, EXPLAIN_OCTETS, made.what, OER_OK);
     oer_types_free(&job.types);
 }
 
@@ -313,6 +333,8 @@ static void measure_text(const char *what, enum call call, const char *text, uin
     job.room = sizeof out;
     measure(&job, call, what, status);
     if (call == READ) measure(&job, READ_WITHIN, what, status);
+    if (call == READ) measure(&job, EXPLAIN_TYPES, what, OER_OK);
+    if (call == FROM_JSON) measure(&job, EXPLAIN_JSON, what, OER_OK);
     oer_types_free(&job.types);
 }
 

@@ -111,7 +111,8 @@ static oer_types types_of(const char *type) {
 }
 
 static struct octets given_of(const struct vector *vector) {
-    return vector->task == FROM_JSON ? from_text(vector->given) : from_hex(vector->given);
+    int is_text = vector->task == FROM_JSON || vector->task == EXPLAIN_JSON;
+    return is_text ? from_text(vector->given) : from_hex(vector->given);
 }
 
 /* The answer of a check, with its `canonical` in `written`. */
@@ -137,6 +138,10 @@ static oer_written call_with(oer_types *types, const char *name, const struct ve
         return oer_to_json(types, name, length, given->at, given->length, vector->limit, (char *)out, room);
     case FROM_JSON:
         return oer_from_json(types, name, length, (const char *)given->at, given->length, out, room);
+    case EXPLAIN_JSON:
+        return oer_explain_json(types, name, length, (const char *)given->at, given->length, (char *)out, room);
+    case EXPLAIN_OCTETS:
+        return oer_explain_octets(types, name, length, given->at, given->length, (char *)out, room);
     case WHOLE:
         return as_written(oer_check_whole(types, name, length, given->at, given->length));
     default:
@@ -161,8 +166,9 @@ static int are_all(const uint8_t *buffer, size_t from, size_t to, uint8_t fill) 
 }
 
 static struct octets wanted(const struct vector *vector) {
+    int is_text = vector->task == TO_JSON || vector->task == EXPLAIN_JSON || vector->task == EXPLAIN_OCTETS;
     if (!vector->answer) return from_text("");
-    return vector->task == TO_JSON ? from_text(vector->answer) : from_hex(vector->answer);
+    return is_text ? from_text(vector->answer) : from_hex(vector->answer);
 }
 
 /* ---- the table */
@@ -338,8 +344,13 @@ static void test_many(const struct vector *vector) {
     EXPECT(oer_check_many(&types, "A", 1, given.at, given.length, messages, count, answers, count) == OER_NO_TYPES, vector->given);
 }
 
-/* A text that is rejected leaves the types from before. */
+static oer_written explain(const char *text, uint8_t *out, size_t room) {
+    return oer_explain_types(text, strlen(text), (char *)out, room);
+}
+
+/* A text that is rejected leaves the types from before, and there are lines on it. */
 static void test_rejected_text(const struct rejected_text *row) {
+    uint8_t none;
     oer_types types = OER_TYPES_NONE;
     struct vector check = { CHECK, 0, "ff", 0, OER_NO_LIMIT, 0, 0, 0, 0, 0 };
     oer_parsed parsed = oer_types_read(&types, row->text, strlen(row->text));
@@ -350,7 +361,27 @@ static void test_rejected_text(const struct rejected_text *row) {
     parsed = oer_types_read(&types, row->text, strlen(row->text));
     EXPECT(parsed.status == OER_REJECTED && parsed.why == row->why && parsed.place == row->place, row->text);
     EXPECT(call(&types, "A", &check, 0, 0).octets == 1, row->text);
+    EXPECT(explain(row->text, &none, 0).status == OER_ROOM, row->text);
     oer_types_free(&types);
+}
+
+/* That the lines on the text are written, and nothing into a buffer that is too small. */
+static void test_explained_text(const struct explained_text *row) {
+    size_t length = strlen(row->lines), room;
+    uint8_t out[LONGEST];
+    oer_written answer;
+    memset(out, 0xaa, sizeof out);
+    answer = explain(row->text, out, sizeof out);
+    EXPECT(answer.status == OER_OK && answer.why == 0 && answer.octets == 0 && answer.written == length, row->text);
+    EXPECT(memcmp(out, row->lines, length) == 0 && are_all(out, length, sizeof out, 0xaa), (char *)out);
+    memset(out, 0xbb, sizeof out);
+    for (room = 0; room < length; room++) {
+        answer = explain(row->text, out, room);
+        EXPECT(answer.status == OER_ROOM && answer.why == 0 && answer.octets == 0 && answer.written == length, row->text);
+    }
+    EXPECT(are_all(out, 0, sizeof out, 0xbb), row->text);
+    answer = explain(row->text, out, length);
+    EXPECT(answer.status == OER_OK && memcmp(out, row->lines, length) == 0, row->text);
 }
 
 /* Definitions whose types have more parts together than they may have leave the types from before. */
@@ -686,12 +717,31 @@ static long fail_text_in_turn(const char *text) {
     return nth - 1;
 }
 
+/* Explaining why the text is rejected where each growth fails in turn. */
+static void fail_explained_in_turn(const struct explained_text *row) {
+    long before = blocks, nth;
+    uint8_t out[LONGEST];
+    oer_written answer;
+    memset(out, 0xdd, sizeof out);
+    for (nth = 1;; nth++) {
+        growths = 0;
+        fail_at = nth;
+        answer = explain(row->text, out, sizeof out);
+        fail_at = 0;
+        EXPECT(blocks == before, row->text);
+        if (growths < nth) break;
+        EXPECT(is_only(answer, OER_MEMORY) && are_all(out, 0, sizeof out, 0xdd), row->text);
+    }
+    EXPECT(nth > 1 && answer.status == OER_OK && answer.written == strlen(row->lines), row->text);
+}
+
 static void test_memory(const char *folder) {
     size_t i;
     long failed = 0;
     for (i = 0; i < COUNT(vectors); i++) fail_in_turn(&vectors[i]);
     for (i = 0; i < COUNT(places); i++) fail_place_in_turn(&places[i], locate);
     for (i = 0; i < COUNT(named_places); i++) fail_place_in_turn(&named_places[i], locate_named);
+    for (i = 0; i < COUNT(explained_texts); i++) fail_explained_in_turn(&explained_texts[i]);
     fail_sharing_in_turn();
     fail_modules_in_turn(MODULE("A ::= SEQUENCE {a INTEGER (0..most), b A OPTIONAL} B ::= SET {} most INTEGER ::= 7"), OER_OK, 1);
     for (i = 0; i < COUNT(rejected_modules); i++)
@@ -834,6 +884,7 @@ int main(int count, char **words) {
         test_taken(&named_places[i]);
     }
     for (i = 0; i < COUNT(rejected_texts); i++) test_rejected_text(&rejected_texts[i]);
+    for (i = 0; i < COUNT(explained_texts); i++) test_explained_text(&explained_texts[i]);
     test_kept_types();
     test_read_within();
     for (i = 0; i < COUNT(rejected_modules); i++) test_rejected_modules(&rejected_modules[i]);

@@ -6,11 +6,11 @@
 
 #include "oer.h"
 
-enum task { CHECK, CANON, PART, TO_JSON, FROM_JSON, WHOLE };
+enum task { CHECK, CANON, PART, TO_JSON, FROM_JSON, WHOLE, EXPLAIN_JSON, EXPLAIN_OCTETS };
 
 /* A call: the definition of the type A, what it is given (octets in hexadecimal digits, or JSON), the
  * path or NULL, the limit, and the answer: the fields of it, and what is written, where something is
- * (octets in digits, or JSON). For CHECK and WHOLE `written` is `canonical`. */
+ * (octets in digits, JSON, or lines). For CHECK and WHOLE `written` is `canonical`. */
 struct vector {
     enum task task;
     const char *type;
@@ -36,6 +36,9 @@ struct vector {
 
 /* The longest octets of the table, and room for more. */
 #define LONGEST 16384
+
+/* Lines that are written: their length, and their text. */
+#define LINES(text) sizeof(text) - 1, text
 
 /* Some octets are long. */
 #ifdef __GNUC__
@@ -145,7 +148,39 @@ static const struct vector vectors[] = {
     { FROM_JSON, BOOLEANS, "[true,", 0, ALL, OER_NO_JSON, 0, 6, 0, 0 },
     { FROM_JSON, BOOLEANS, "[true, fal", 0, ALL, OER_NO_JSON, 0, 10, 0, 0 },
     { FROM_JSON, BOOLEANS, "[true,\n", 0, ALL, OER_NO_JSON, 0, 7, 0, 0 },
-    { FROM_JSON, BOOLEANS, "[five, \377]", 0, ALL, OER_NO_JSON, 0, 7, 0, 0 }
+    { FROM_JSON, BOOLEANS, "[five, \377]", 0, ALL, OER_NO_JSON, 0, 7, 0, 0 },
+
+    /* Why JSON is rejected: docs/COMMAND.md, Where a text or octets are rejected. */
+    { EXPLAIN_JSON, BOOLEANS, "[true, false]", 0, ALL, OER_OK, 0, 0, LINES("") },
+    { EXPLAIN_JSON, "SEQUENCE {validityPeriod SEQUENCE {duration CHOICE {microseconds INTEGER, hours INTEGER}}}",
+      "{\"validityPeriod\":{\"duration\":{\"hous\":3}}}", 0, ALL, OER_OK, 0, 0,
+      LINES("  at .validityPeriod.duration.hous:\n  no alternative has this name; wanted: microseconds, hours\n  Did you mean hours?\n") },
+    { EXPLAIN_JSON, "SEQUENCE {list SEQUENCE OF SEQUENCE {n INTEGER (0..255), b BOOLEAN}}",
+      "{\"list\":[{\"n\":0,\"b\":true},{\"n\":256,\"b\":true}]}", 0, ALL, OER_OK, 0, 0,
+      LINES("  at .list[1].n:\n  the number is outside of the bounds; wanted: an INTEGER from 0 to 255\n") },
+    { EXPLAIN_JSON, "SEQUENCE {list SEQUENCE OF SEQUENCE {n INTEGER (0..255), b BOOLEAN}}", "{\"list\":[{\"n\":0}]}", 0, ALL, OER_OK, 0, 0,
+      LINES("  at .list[0]:\n  the component b must be present\n") },
+    { EXPLAIN_JSON, "SEQUENCE {a BOOLEAN}", "{\"a\":1}", 0, ALL, OER_OK, 0, 0,
+      LINES("  at .a:\n  this is JSON of another kind or form; wanted: true or false\n") },
+    { EXPLAIN_JSON, BOOLEANS, "[true,,false]", 0, ALL, OER_OK, 0, 0,
+      LINES("  line 1, column 7:\n  [true,,false]\n        ^\n  the JSON reader stopped here\n") },
+    { EXPLAIN_JSON, BOOLEANS, "[true,\n\"\303\244\", five]", 0, ALL, OER_OK, 0, 0,
+      LINES("  line 2, column 6:\n  \"\303\244\", five]\n       ^\n  the JSON reader stopped here\n") },
+    { EXPLAIN_JSON, "BOOLEAN", "", 0, ALL, OER_OK, 0, 0, LINES("  line 1, column 1:\n  \n  ^\n  the JSON reader stopped here\n") },
+    { EXPLAIN_JSON, "UTF8String", "\"a\377", 0, ALL, OER_OK, 0, 0,
+      LINES("  line 1, column 3:\n  \"a..\n    ^\n  the text is no UTF-8 from here on\n") },
+
+    /* Why octets are rejected: the same section. */
+    { EXPLAIN_OCTETS, "BOOLEAN", "ff00", 0, ALL, OER_OK, 0, 0, LINES("") },
+    { EXPLAIN_OCTETS, "SEQUENCE {list SEQUENCE OF ENUMERATED {red, green}}", "01020005", 0, ALL, OER_OK, 0, 0,
+      LINES("  0  0  -      -       SEQUENCE     preamble\n"
+            "  0  2  c0     list    SEQUENCE OF  quantity 2\n"
+            "  2  1  c0.i0  list.0  ENUMERATED   \"red\"\n"
+            "  3  1  c0.i1  list.1  ENUMERATED   \"05\" -- rejected\n"
+            "  at list.1:\n  no item has this number; wanted: red, green\n") },
+    { EXPLAIN_OCTETS, "UTF8String", "026a", 0, ALL, OER_OK, 0, 0,
+      LINES("  0  2  -  -  UTF8String  \"026a\" -- rejected\n  at the whole:\n  the octets end within the value\n") },
+    { EXPLAIN_OCTETS, "OCTET STRING", "88ffffffffffffffff", 0, ALL, OER_OK, 0, 0, LINES("  the value would pass the limit\n") }
 };
 
 /* Where a part lies: the definition of the type A, octets in hexadecimal digits, the path, and the
@@ -255,6 +290,29 @@ static const struct rejected_text rejected_texts[] = {
     { "A ::= NULL  A ::= NULL", OER_TEXT_REPEATED, 12 },
     { "A ::= NULL  B ::= SEQUENCE OF A", OER_TEXT_EMPTY_ELEMENT, 18 },
     { "", OER_TEXT_SYNTAX, 0 }
+};
+
+/* Definitions, and the lines on why they are rejected. */
+struct explained_text {
+    const char *text;
+    const char *lines;
+};
+
+#define NO_NAME "  no definition before this place has this Name\n"
+#define NO_TOKEN "  no word, number, sign or quoted text begins here, or a comment or quoted text has no end\n"
+#define NO_SYNTAX "  the notation has no such word or sign here, or the text ends too early\n"
+
+static const struct explained_text explained_texts[] = {
+    { "A ::= NULL", "" },
+    { "A ::= NULL B ::= SEQUENCE {a A}", "" },
+    { "A ::= SEQUENCE OF B\nB ::= BOOLEAN",
+      "  line 1, column 19:\n  A ::= SEQUENCE OF B\n                    ^\n" NO_NAME
+      "  It is defined at line 2. A definition may only refer to those before it.\n" },
+    { "A ::= NULL\nB ::= INTEGER (05)", "  line 2, column 16:\n  B ::= INTEGER (05)\n                 ^\n" NO_TOKEN },
+    { "-- \303\244\nA ::= \377", "  line 2, column 7:\n  A ::= ..\n        ^\n" NO_TOKEN },
+    { "", "  line 1, column 1:\n  \n  ^\n" NO_SYNTAX },
+    { "M DEFINITIONS ::= BEGIN\nA ::= BOOLEAN END",
+      "  line 1, column 3:\n  M DEFINITIONS ::= BEGIN\n    ^\n" NO_SYNTAX "  DEFINITIONS follows, as in a module: give modules by --modules.\n" }
 };
 
 /* Texts of modules that are rejected, at most two: the fields of the answer, and the words. */

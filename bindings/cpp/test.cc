@@ -224,6 +224,7 @@ static answer of(oer::result<oer::checked> from) {
 static answer call(oer::types &types, const char *name, const vector &row) {
     static const guarded memory;
     if (row.task == FROM_JSON) return of(types.from_json(name, row.given));
+    if (row.task == EXPLAIN_JSON) return of(types.explain_json(name, row.given));
     oer::octets_in given = memory.with(from_hex(row.given));
     switch (row.task) {
     case CANON:
@@ -234,6 +235,8 @@ static answer call(oer::types &types, const char *name, const vector &row) {
         return of(types.to_json(name, given, row.limit));
     case WHOLE:
         return of(types.check_whole(name, given));
+    case EXPLAIN_OCTETS:
+        return of(types.explain_octets(name, given));
     default:
         return of(types.check(name, given));
     }
@@ -241,16 +244,19 @@ static answer call(oer::types &types, const char *name, const vector &row) {
 
 // The same into a buffer.
 static oer::result<oer::written> call_into(oer::types &types, const vector &row, oer::octets_out out) {
-    bytes given = row.task == FROM_JSON ? bytes() : from_hex(row.given);
+    const oer::text_out letters(reinterpret_cast<char *>(out.data()), out.size());
+    if (row.task == FROM_JSON) return types.from_json_into("A", row.given, out);
+    if (row.task == EXPLAIN_JSON) return types.explain_json_into("A", row.given, letters);
+    bytes given = from_hex(row.given);
     switch (row.task) {
     case CANON:
         return types.canon_into("A", given, out, row.limit);
     case PART:
         return types.part_into("A", given, row.path, out);
-    case TO_JSON:
-        return types.to_json_into("A", given, oer::text_out(reinterpret_cast<char *>(out.data()), out.size()), row.limit);
+    case EXPLAIN_OCTETS:
+        return types.explain_octets_into("A", given, letters);
     default:
-        return types.from_json_into("A", row.given, out);
+        return types.to_json_into("A", given, letters, row.limit);
     }
 }
 
@@ -265,7 +271,7 @@ static oer::types types_of(const std::string &type) {
 
 // What the calls of the row read.
 static oer::subject subject_of(const vector &row) {
-    return row.task == FROM_JSON ? oer::subject::json : oer::subject::octets;
+    return row.task == FROM_JSON || row.task == EXPLAIN_JSON ? oer::subject::json : oer::subject::octets;
 }
 
 static bool is_only(const oer::error &error, std::uint32_t status) {
@@ -276,7 +282,8 @@ static bool is_only(const oer::error &error, std::uint32_t status) {
 
 static bytes wanted(const vector &row) {
     if (!row.answer) return bytes();
-    return row.task == TO_JSON ? from_text(row.answer) : from_hex(row.answer);
+    bool is_text = row.task == TO_JSON || row.task == EXPLAIN_JSON || row.task == EXPLAIN_OCTETS;
+    return is_text ? from_text(row.answer) : from_hex(row.answer);
 }
 
 // Each size below what is needed is too small, and leaves the buffer as it was.
@@ -432,6 +439,29 @@ static void test_rejected_text(const rejected_text &row) {
     EXPECT(read.error().status == OER_REJECTED && read.error().why == row.why, row.text);
     EXPECT(read.error().place == row.place, row.text);
     EXPECT(types.check("A", octets).value().octets == 1, row.text);
+}
+
+// The lines on definitions that are rejected; nothing in a buffer that is too small.
+static void test_explained_text(const explained_text &row) {
+    static const guarded memory;
+    const bytes want = from_text(row.lines);
+    answer made = of(oer::types::explain_types(row.text));
+    EXPECT(made.error.status == OER_OK && made.made == want && made.read == 0, row.text);
+    for (std::size_t room = 0; room <= want.size(); room++) {
+        char *out = reinterpret_cast<char *>(memory.end_with(room));
+        std::fill(out, out + room, 'x');
+        oer::result<oer::written> written = oer::types::explain_types_into(row.text, oer::text_out(out, room));
+        if (room == want.size()) {
+            EXPECT(written.ok() && written->size == room && written->read == 0, row.text);
+            EXPECT(bytes(out, out + room) == want, row.text);
+        } else {
+            EXPECT(written.error().status == OER_ROOM && written.error().needed == want.size(), row.text);
+            EXPECT(std::count(out, out + room, 'x') == static_cast<std::ptrdiff_t>(room), row.text);
+        }
+    }
+    fail_new = true;
+    EXPECT(is_only(oer::types::explain_types(row.text).error(), OER_MEMORY), row.text);
+    fail_new = false;
 }
 
 // Definitions whose types have more parts together than they may have leave the types from before.
@@ -672,12 +702,19 @@ static void test_null_pointers() {
     EXPECT(small.status == OER_ROOM && small.needed == 6, "no buffer");
     small = types.from_json_into("A", "[true]", { out, 64 }).error();
     EXPECT(small.status == OER_ROOM && small.needed == 3, "no buffer");
+    small = types.explain_json_into("A", "[5]", { characters, 64 }).error();
+    EXPECT(small.status == OER_ROOM && small.needed > 0, "no buffer");
+    small = types.explain_octets_into("A", { array, 1 }, { characters, 64 }).error();
+    EXPECT(small.status == OER_ROOM && small.needed > 0, "no buffer");
+    small = oer::types::explain_types_into("$", { characters, 64 }).error();
+    EXPECT(small.status == OER_ROOM && small.needed > 0, "no buffer");
     small = types.check_many("A", array, { &all, 1 }, { answers, 1 }).error();
     EXPECT(small.status == OER_ROOM && small.needed == 1, "no answers");
 
     EXPECT(is_only(types.read(no_text).error(), OER_OUTSIDE), "no definitions");
     EXPECT(is_only(types.read(text).error(), OER_OUTSIDE), "no definitions");
     EXPECT(is_only(oer::types::of(no_text).error(), OER_OUTSIDE), "no definitions");
+    EXPECT(is_only(oer::types::explain_types(no_text).error(), OER_OUTSIDE), "no definitions");
     for (int turn = 0; turn < 2; turn++) {
         oer::text_in name = turn ? oer::text_in("A") : no_text;
         oer::octets_in given = turn ? none : oer::octets_in(array);
@@ -700,6 +737,11 @@ static void test_null_pointers() {
         EXPECT(is_only(types.to_json_into(name, given, letters).error(), OER_OUTSIDE), "to_json_into");
         EXPECT(is_only(types.from_json(name, json).error(), OER_OUTSIDE), "from_json");
         EXPECT(is_only(types.from_json_into(name, json, room).error(), OER_OUTSIDE), "from_json_into");
+        EXPECT(is_only(types.explain_json(name, json).error(), OER_OUTSIDE), "explain_json");
+        EXPECT(is_only(types.explain_json_into(name, json, letters).error(), OER_OUTSIDE), "explain_json_into");
+        EXPECT(is_only(types.explain_octets(name, given).error(), OER_OUTSIDE), "explain_octets");
+        EXPECT(is_only(types.explain_octets_into(name, given, letters).error(), OER_OUTSIDE), "explain_octets_into");
+        EXPECT(is_only(oer::types::explain_types_into(no_text, letters).error(), OER_OUTSIDE), "explain_types_into");
     }
     EXPECT(is_only(types.check_many("A", array, { messages, 1 }, { &answer, 1 }).error(), OER_OUTSIDE), "no messages");
     EXPECT(is_only(types.part("A", array, text).error(), OER_OUTSIDE), "no path");
@@ -744,6 +786,10 @@ static void test_growth() {
     oer::result<oer::text> json = types.to_json("A", octets);
     EXPECT(json.value().size() == 100 * 36 + 1 && json.value().read() == octets.size(), "JSON");
     EXPECT(copy(types.from_json("A", json.value()).value()) == octets, "octets");
+    std::string names = "SEQUENCE {n NULL";
+    for (char letter = 'a'; letter < 'h'; letter++) names += ", " + std::string(200, letter) + " NULL";
+    types = types_of(names + "}");
+    EXPECT(types.explain_json("A", "{\"m\":null}").value().size() > 7 * 200, "lines");
 }
 
 // ---- the certificate of the example
@@ -903,6 +949,7 @@ int main(int count, char **words) {
     }
     for (const vector &row : vectors) test_memory(row);
     for (const rejected_text &row : rejected_texts) test_rejected_text(row);
+    for (const explained_text &row : explained_texts) test_explained_text(row);
     test_parts();
     for (const modules_row &row : rejected_modules) test_rejected_modules(row);
     test_modules(words[1]);

@@ -407,6 +407,7 @@ def _load() -> ctypes.CDLL:
         "oer_types_read": ([handle] + given, _Parsed),
         "oer_types_read_within": ([handle] + given + [limit], _Parsed),
         "oer_types_read_modules": ([handle] + given + [ctypes.c_void_p, size, ctypes.c_uint8] + out, _Understood),
+        "oer_explain_types": (given + out, _Written),
         "oer_types_free": ([handle], None),
         "oer_types_share": ([handle, handle], ctypes.c_uint32),
         "oer_check": ([handle] + given + given, _Checked),
@@ -420,6 +421,8 @@ def _load() -> ctypes.CDLL:
         "oer_part_named_at": ([handle] + given + given + given, _Located),
         "oer_to_json": ([handle] + given + given + [limit] + out, _Written),
         "oer_from_json": ([handle] + given + given + out, _Written),
+        "oer_explain_json": ([handle] + given + given + out, _Written),
+        "oer_explain_octets": ([handle] + given + given + out, _Written),
     }
     for name, (arguments, answer) in calls.items():
         call = getattr(library, name)
@@ -514,6 +517,21 @@ def _in_order(items: Any, what: str) -> Iterable[Any]:
     return items  # type: ignore[no-any-return]
 
 
+def _filled(call: Callable[..., Any], out: Any) -> Tuple[Any, Any]:
+    """Calls with the buffer, and where that is too small once more with one of as many octets as are needed. Returns
+    the answer, and the buffer."""
+    answer = call(out, len(out))
+    if answer.status == _ROOM:
+        out = ctypes.create_string_buffer(answer.written)
+        answer = call(out, len(out))
+    return answer, out
+
+
+def _written(answer: Any, out: Any) -> bytes:
+    """What the call wrote into the buffer."""
+    return bytes(memoryview(out)[:answer.written]) if answer.status == _OK else b""
+
+
 def _message(message: Tuple[int, int]) -> Tuple[int, int]:
     """A message as the library takes it. One for whose numbers it has none is outside of all octets."""
     numbers = _in_order(message[:2] if isinstance(message, Place) else message, "a message is a place and a length")
@@ -599,6 +617,22 @@ class Types:
         if answer.status != _OK:
             raise _error(answer.status)
         return types
+
+    @staticmethod
+    def explain_types(definitions: Text) -> str:
+        """Why definitions are rejected, in lines, each with its line feed, or nothing where they are accepted: the line
+        and the column of the place that DefinitionsRejected names, that line of the text with a mark under the place,
+        what is wrong there, and perhaps what may help.
+
+        The text is read again, by as much memory as read() takes without `parts`: of one from someone else ask only
+        where read() with `parts` rejects it, and not with PARTS.
+        """
+        text = _text(definitions)
+        answer, out = _filled(lambda *buffer: _library.oer_explain_types(text, len(text), *buffer),
+                              ctypes.create_string_buffer(1024))
+        if answer.status != _OK:
+            raise _error(answer.status)
+        return _written(answer, out).decode("utf-8")
 
     def close(self) -> None:
         """Frees the types. After it there are none, and types may be read again. It may be called twice."""
@@ -750,6 +784,28 @@ class Types:
             raise _error(answer.status, named)
         return made
 
+    def explain_json(self, name: Text, json: Text) -> str:
+        """Why from_json() rejects the JSON, in lines, each with its line feed, or nothing where it is accepted: the way to
+        the innermost part that the type rejects, what is wrong with it, and what is wanted there; of a text that is not
+        JSON the line and the column of the place, and that line with a mark under it.
+        """
+        named, given = _text(name), _text(json)
+        answer, made = self._gather(_library.oer_explain_json, (named, len(named), given, len(given)), 1024)
+        if answer.status != _OK:
+            raise _error(answer.status, named)
+        return made.decode("utf-8")
+
+    def explain_octets(self, name: Text, octets: Octets) -> str:
+        """Why check() rejects the octets, in lines, each with its line feed, or nothing where they are accepted: what each
+        octet is, up to the part that was being read, the names on the way to it, what is wrong with it, and what is wanted
+        there. Each part that was read has a line, so they are much longer than the octets.
+        """
+        named, given = _text(name), _octets(octets)
+        answer, made = self._gather(_library.oer_explain_octets, (named, len(named), given, len(given)), 1024)
+        if answer.status != _OK:
+            raise _error(answer.status, named)
+        return made.decode("utf-8")
+
     def __enter__(self) -> "Types":
         return self
 
@@ -831,11 +887,8 @@ class Types:
             out, self._room = self._room, None
         if out is None or len(out) < room:
             out = ctypes.create_string_buffer(max(room, 1024))
-        answer = self._call(call, *given, out, len(out))
-        if answer.status == _ROOM:
-            out = ctypes.create_string_buffer(answer.written)
-            answer = self._call(call, *given, out, len(out))
-        made = bytes(memoryview(out)[:answer.written]) if answer.status == _OK else b""
+        answer, out = _filled(lambda *buffer: self._call(call, *given, *buffer), out)
+        made = _written(answer, out)
         if len(out) <= _KEPT:
             self._room = out
         return answer, made

@@ -73,6 +73,10 @@ class Vector(NamedTuple):
             return types.part(name, self.given, self.path)
         if self.task == "to_json":
             return types.to_json(name, self.given, self.limit)
+        if self.task == "explain_json":
+            return types.explain_json(name, self.given)
+        if self.task == "explain_octets":
+            return types.explain_octets(name, self.given)
         return types.from_json(name, self.given)
 
     def wanted(self) -> Any:
@@ -87,6 +91,8 @@ class Vector(NamedTuple):
             return (self.answer, self.octets)
         if self.task == "to_json":
             return (self.answer.decode("utf-8"), self.octets)
+        if self.task in ("explain_json", "explain_octets"):
+            return self.answer.decode("utf-8")
         return self.answer
 
     def raised(self) -> Tuple[type, Optional[int], Optional[int]]:
@@ -202,6 +208,15 @@ class Calls(unittest.TestCase):
                 self.assertEqual(self.raised(lambda: types.read(from_hex(text))), wanted)
                 self.assertEqual(types.check("A", b"\xff"), (1, True))
 
+    def test_explained_definitions(self) -> None:
+        for text, lines in rows("explained"):
+            with self.subTest(text=from_hex(text)):
+                self.assertEqual(oer.Types.explain_types(from_hex(text)), from_hex(lines).decode("utf-8"))
+        for text, _, _ in rows("rejected"):
+            self.assertNotEqual(oer.Types.explain_types(from_hex(text)), "")
+        self.assertEqual(oer.Types().explain_types("A ::= \u00e4").splitlines()[1], "  A ::= \u00e4")
+        self.assertRaises(TypeError, oer.Types.explain_types, 5)
+
     def test_parts(self) -> None:
         text = "A ::= NULL B ::= SEQUENCE {a A}"
         for parts in (3, 2**70, None):
@@ -272,6 +287,7 @@ class Calls(unittest.TestCase):
         for name in (2, None, {"A": 1}, ["A"]):
             self.assertRaises(TypeError, types.check, name, b"\x01\x05")
             self.assertRaises(TypeError, types.from_json, "A", name)
+            self.assertRaises(TypeError, types.explain_json, "A", name)
             self.assertRaises(TypeError, types.part, "A", b"\x01\x05", name)
             self.assertRaises(TypeError, types.part_named, "A", b"\x01\x05", name)
         for definitions in (2, {"A": "NULL"}, ["A ::= NULL"]):
@@ -410,8 +426,12 @@ class Calls(unittest.TestCase):
                 library.oer_types_read_within.return_value = oer._Parsed(status, 0, 0)
                 library.oer_check.return_value = oer._Checked(status, 0, 0, 0)
                 library.oer_canon.return_value = oer._Written(status, 0, 0, 0)
+                library.oer_explain_types.return_value = oer._Written(status, 0, 0, 0)
+                library.oer_explain_json.return_value = oer._Written(status, 0, 0, 0)
+                library.oer_explain_octets.return_value = oer._Written(status, 0, 0, 0)
                 for call in (lambda: types.read("A ::= NULL"), lambda: types.read("A ::= NULL", 1),
-                             lambda: types.check("A", b""), lambda: types.canon("A", b"")):
+                             lambda: types.check("A", b""), lambda: types.canon("A", b""),
+                             lambda: types.explain_types(""), lambda: types.explain_json("A", ""), lambda: types.explain_octets("A", b"")):
                     self.assertEqual(self.raised(call), (wanted, None, None))
         self.assertEqual(types.check("A", b""), (0, True))
 
@@ -512,6 +532,9 @@ for call in (lambda: types.check("B", b""), lambda: types.part("A", b"\\0", "c0"
             self.assertEqual((len(json.text), json.read), (count * 36 + 1, len(octets)))
             self.assertEqual(types.from_json("A", json.text)[-count:], b"\xff" * count)
             self.assertLessEqual(len(types._room or b""), oer._KEPT)
+        names = [letter * 200 for letter in "abcdefgh"]
+        types = oer.Types(f"A ::= SEQUENCE {{{', '.join(name + ' NULL' for name in names)}}}")
+        self.assertIn(", ".join(names), types.explain_json("A", '{"m": null}'))
 
     def test_call_within_a_call(self) -> None:
         types = types_of(b"OCTET STRING")

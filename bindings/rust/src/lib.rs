@@ -278,6 +278,41 @@ impl Types {
         }
     }
 
+    /// Why definitions are rejected, in lines, each with its line feed, or nothing where they are accepted: the
+    /// line and the column of the place that the error of [`Types::read`] names, that line of the text with a mark
+    /// under the place, what is wrong there, and perhaps what may help. The text is read again, by as much memory as
+    /// [`Types::read`] takes: of one from someone else ask only where [`Types::read_within`] rejects it, and not with
+    /// [`TextReason::Parts`].
+    ///
+    /// # Errors
+    ///
+    /// [`Error::Memory`].
+    ///
+    /// ```
+    /// let lines = oer::Types::explain_types("A ::= SEQUENCE {b B}\nB ::= NULL")?;
+    /// assert_eq!(lines.lines().nth(3), Some("  no definition before this place has this Name"));
+    /// assert_eq!(oer::Types::explain_types("A ::= NULL")?, "");
+    /// # Ok::<(), oer::Error>(())
+    /// ```
+    pub fn explain_types(definitions: impl AsRef<[u8]>) -> Result<String, Error> {
+        let text = definitions.as_ref();
+        lines(|out| Types::explain_types_into(text, out))
+    }
+
+    /// The same, written into the buffer, as UTF-8.
+    ///
+    /// # Errors
+    ///
+    /// [`Error::Memory`], and [`Error::Room`] if the buffer is too small.
+    pub fn explain_types_into(definitions: impl AsRef<[u8]>, out: &mut [u8]) -> Result<Written, Error> {
+        let text = definitions.as_ref();
+        // SAFETY: the slices are as long as it says; `out` is borrowed mutably, so that it overlaps nothing.
+        let answer = unsafe {
+            sys::oer_explain_types(text.as_ptr().cast(), text.len(), out.as_mut_ptr().cast::<c_char>(), out.len())
+        };
+        written(answer)
+    }
+
     /// Frees the types. After it there are none, and types may be read again.
     ///
     /// ```
@@ -738,6 +773,101 @@ impl Types {
             status => Err(Error::of_json(status, answer.why, answer.octets, answer.written)),
         }
     }
+
+    /// Why [`Types::from_json`] rejects the JSON, in lines, each with its line feed, or nothing where it is accepted:
+    /// the way to the innermost part that the type rejects, what is wrong with it, and what is wanted there; of a
+    /// text that is not JSON the line and the column of the place, and that line with a mark under it.
+    ///
+    /// # Errors
+    ///
+    /// [`Error::Memory`].
+    ///
+    /// ```
+    /// let types = oer::Types::parse("A ::= SEQUENCE OF INTEGER (0..5)")?;
+    /// let lines = types.explain_json("A", "[1, 6]")?;
+    /// assert_eq!(lines, "  at [1]:\n  the number is outside of the bounds; wanted: an INTEGER from 0 to 5\n");
+    /// assert_eq!(types.explain_json("A", "[1, 5]")?, "");
+    /// # Ok::<(), oer::Error>(())
+    /// ```
+    pub fn explain_json(&self, name: impl AsRef<[u8]>, json: impl AsRef<[u8]>) -> Result<String, Error> {
+        let (name, json) = (name.as_ref(), json.as_ref());
+        lines(|out| self.explain_json_into(name, json, out))
+    }
+
+    /// The same, written into the buffer, as UTF-8.
+    ///
+    /// # Errors
+    ///
+    /// Those of [`Types::explain_json`], and [`Error::Room`] if the buffer is too small.
+    pub fn explain_json_into(
+        &self,
+        name: impl AsRef<[u8]>,
+        json: impl AsRef<[u8]>,
+        out: &mut [u8],
+    ) -> Result<Written, Error> {
+        let (name, json) = (name.as_ref(), json.as_ref());
+        // SAFETY: as in `canon_into`.
+        let answer = unsafe {
+            sys::oer_explain_json(
+                self.held.get(),
+                name.as_ptr().cast(),
+                name.len(),
+                json.as_ptr().cast(),
+                json.len(),
+                out.as_mut_ptr().cast::<c_char>(),
+                out.len(),
+            )
+        };
+        written(answer)
+    }
+
+    /// Why [`Types::check`] rejects the octets, in lines, each with its line feed, or nothing where they are accepted:
+    /// what each octet is, up to the part that was being read, the names on the way to it, what is wrong with it, and
+    /// what is wanted there. Each part that was read has a line, so they are much longer than the octets.
+    ///
+    /// # Errors
+    ///
+    /// [`Error::Memory`].
+    ///
+    /// ```
+    /// let types = oer::Types::parse("A ::= INTEGER (0..5)")?;
+    /// let lines = types.explain_octets("A", &[6])?;
+    /// assert_eq!(lines.lines().next(), Some("  0  1  -  -  INTEGER  \"06\" -- rejected"));
+    /// assert_eq!(lines.lines().last(), Some("  the number is outside of the bounds; wanted: an INTEGER from 0 to 5"));
+    /// assert_eq!(types.explain_octets("A", &[5])?, "");
+    /// # Ok::<(), oer::Error>(())
+    /// ```
+    pub fn explain_octets(&self, name: impl AsRef<[u8]>, octets: &[u8]) -> Result<String, Error> {
+        let name = name.as_ref();
+        lines(|out| self.explain_octets_into(name, octets, out))
+    }
+
+    /// The same, written into the buffer, as UTF-8.
+    ///
+    /// # Errors
+    ///
+    /// Those of [`Types::explain_octets`], and [`Error::Room`] if the buffer is too small.
+    pub fn explain_octets_into(
+        &self,
+        name: impl AsRef<[u8]>,
+        octets: &[u8],
+        out: &mut [u8],
+    ) -> Result<Written, Error> {
+        let name = name.as_ref();
+        // SAFETY: as in `canon_into`.
+        let answer = unsafe {
+            sys::oer_explain_octets(
+                self.held.get(),
+                name.as_ptr().cast(),
+                name.len(),
+                octets.as_ptr(),
+                octets.len(),
+                out.as_mut_ptr().cast::<c_char>(),
+                out.len(),
+            )
+        };
+        written(answer)
+    }
 }
 
 impl Default for Types {
@@ -827,6 +957,12 @@ fn gather(room: usize, call: impl Fn(&mut [u8]) -> Result<Written, Error>) -> Re
     let written = answer?;
     out.truncate(written.size);
     Ok((out, written.read))
+}
+
+/// What a call writes that explains an error.
+fn lines(call: impl Fn(&mut [u8]) -> Result<Written, Error>) -> Result<String, Error> {
+    let (text, _) = gather(1024, call)?;
+    Ok(String::from_utf8(text).expect("the library writes lines as UTF-8"))
 }
 
 /// So many zero octets, or [`Error::Memory`].

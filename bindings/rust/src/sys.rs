@@ -86,6 +86,7 @@ extern "C" {
         words: *mut c_char,
         room: usize,
     ) -> OerUnderstood;
+    pub fn oer_explain_types(text: *const c_char, text_length: usize, out: *mut c_char, room: usize) -> OerWritten;
     pub fn oer_types_free(types: *mut OerTypes);
     pub fn oer_types_share(types: *mut OerTypes, other: *mut OerTypes) -> u32;
     pub fn oer_check(
@@ -187,6 +188,24 @@ extern "C" {
         text: *const c_char,
         text_length: usize,
         out: *mut u8,
+        room: usize,
+    ) -> OerWritten;
+    pub fn oer_explain_octets(
+        types: *mut OerTypes,
+        name: *const c_char,
+        name_length: usize,
+        octets: *const u8,
+        octets_length: usize,
+        out: *mut c_char,
+        room: usize,
+    ) -> OerWritten;
+    pub fn oer_explain_json(
+        types: *mut OerTypes,
+        name: *const c_char,
+        name_length: usize,
+        text: *const c_char,
+        text_length: usize,
+        out: *mut c_char,
         room: usize,
     ) -> OerWritten;
 }

@@ -69,6 +69,8 @@ impl Vector {
                 .to_json_within(name, &self.given, self.limit)
                 .map(|made| (made.text.into_bytes(), made.read, false)),
             "from_json" => types.from_json(name, &self.given).map(|octets| (octets, 0, false)),
+            "explain_json" => types.explain_json(name, &self.given).map(|lines| (lines.into_bytes(), 0, false)),
+            "explain_octets" => types.explain_octets(name, &self.given).map(|lines| (lines.into_bytes(), 0, false)),
             task => panic!("no task {task}"),
         }?;
         Ok(Made { octets, read, canonical })
@@ -80,6 +82,8 @@ impl Vector {
             "part" => types.part_into("A", &self.given, &self.path, out),
             "to_json" => types.to_json_into("A", &self.given, self.limit, out),
             "from_json" => types.from_json_into("A", &self.given, out),
+            "explain_json" => types.explain_json_into("A", &self.given, out),
+            "explain_octets" => types.explain_octets_into("A", &self.given, out),
             task => panic!("no buffer for {task}"),
         }
     }
@@ -256,6 +260,25 @@ fn rejected_definitions_leave_the_types() {
 }
 
 #[test]
+fn rejected_definitions_are_explained() {
+    for row in table::rows("explained") {
+        let (text, lines) = (from_hex(&row[0]), from_hex(&row[1]));
+        assert_eq!(Types::explain_types(&text).unwrap().into_bytes(), lines, "{text:02x?}");
+        for room in 0..lines.len() {
+            let mut out = vec![0xbb; room];
+            assert_eq!(Types::explain_types_into(&text, &mut out), Err(Error::Room { needed: lines.len() as u64 }));
+            assert_eq!(out, vec![0xbb; room]);
+        }
+        let mut out = vec![0xcc; lines.len() + 3];
+        assert_eq!(Types::explain_types_into(&text, &mut out), Ok(Written { read: 0, size: lines.len() }));
+        assert_eq!(out, [&lines[..], &[0xcc; 3]].concat());
+    }
+    for row in table::rows("rejected") {
+        assert_ne!(Types::explain_types(from_hex(&row[0])).unwrap(), "");
+    }
+}
+
+#[test]
 fn rejected_modules_are_said_in_words() {
     for row in table::rows("modules") {
         let number = |place: usize| row[place].parse::<u64>().unwrap();
@@ -338,6 +361,9 @@ fn long_json_is_made_with_a_second_buffer() {
     let json = types.to_json("A", &octets).unwrap();
     assert_eq!((json.text.len(), json.read), (100 * 36 + 1, octets.len()));
     assert_eq!(types.from_json("A", json.text), Ok(octets));
+    let names: Vec<_> = (0..8).map(|number| format!("{}{number} NULL", "n".repeat(200))).collect();
+    let types = types_of(format!("SEQUENCE {{{}}}", names.join(", ")).as_bytes());
+    assert!(types.explain_json("A", "{\"m\":null}").unwrap().len() > 8 * 200);
 }
 
 #[test]

@@ -4,7 +4,8 @@ use Rattle.clap.specs.Words.{Text}
 use Rattle.oer_options.specs.Words.{behind}
 use Rattle.oer_options.specs.declared.options.Task.{Task}
 use Rattle.oer_options.specs.declared.options.Task.TheVariants.{Part}
-use Rattle.oer_words.specs.Setting.{Setting, missing, no_value, once, twice, without_option}
+use Rattle.oer_words.specs.Rejected.{line_of, unless_misused}
+use Rattle.oer_words.specs.Setting.{option_asked}
 use Rattle.oer_words.specs.Words.{asks_many, words_of}
 use Rattle.oer_at_cmd.specs.declared.asked.Asked.{Asked as RawAsked}
 use Rattle.oer_at_cmd.specs.declared.misuse.Misuse.{Misuse}
@@ -17,15 +18,13 @@ Asked = Text × List Text
 abbrev pub asked_of : RawAsked → Asked
 asked_of a = (a.names.now, words_of a.words)
 
-abbrev pub asked_by : Setting → Result (Option Asked) Misuse
-asked_by missing = Ok None
-asked_by no_value = Err misuse.NoValue
-asked_by twice = Err misuse.Twice
-asked_by (once names ws) = if asks_many ws then Err misuse.Many else Ok (Some (names, ws))
+-- the line that says why `--at` is rejected beside these words
+abbrev pub misuse_in : Asked → Option Text
+misuse_in (names, ws) = if asks_many ws then Some (line_of (codes "--at takes one message, without --lines and --framed")) else None
 
--- What `--at` asks for, and the words without it and its value; none where it isn't among them.
-abbrev pub at_asked : List Text → Result (Option Asked) Misuse
-at_asked ws = asked_by (without_option (codes "--at") ws)
+-- What `--at` asks for, and the words without it and its value; none where it isn't among them; or the line that says why it is rejected.
+abbrev pub at_asked : List Text → Result (Option Asked) Text
+at_asked ws = unless_misused misuse_in (option_asked (codes "--at") ws)
 
 -- the text of `--hex`; the task has to be `part` without `--path`
 abbrev pub hex_of : Task → Result (Option Text) Misuse

@@ -1,14 +1,12 @@
 //! Whether the words of a command line ask for a part by names.
 ghost use Rattle.std.specs.Prelude.{◌≡◌, map, option_map, string_bytes};
-ghost use Rattle.oer_words.specs.Setting.{setting_of};
+ghost use Rattle.oer_words.specs.Rejected.{EndsAsked};
 ghost use Rattle.oer_words.specs.Words.{behind, result_map};
-ghost use Rattle.oer_at_cmd.specs.Asking.{asked_by, asked_of, at_asked, hex_of};
-ghost use Rattle.oer_at_cmd.specs.Errors.{EndsAsked};
+ghost use Rattle.oer_at_cmd.specs.Asking.{asked_of, at_asked, hex_of};
 
-use crate::misuse::{Misuse, tell};
-use oer_cmd::{NoStart, stop};
+use crate::misuse::Misuse;
 use oer_options::Task;
-use oer_words::{Setting, asks_many, without_option};
+use oer_words::{Given, asks_many, option_asked, reject};
 use std::alloc::Global;
 use std::io::Write;
 
@@ -19,26 +17,6 @@ pub struct Asked<'a> {
     pub names: &'a str,
     /// The words without `--at` and its value, the program's name first.
     pub words: Vec<String>,
-}
-
-// What `--at` asks for, by what became of it.
-fn asked_by(found: Setting<'_>) -> Result<Option<Asked<'_>>, Misuse>
-    ensures { result_map (option_map asked_of) result ≡ asked_by (setting_of found.entry) }
-{
-    match found {
-        Setting::Missing => Ok(None),
-        Setting::NoValue => Err(Misuse::NoValue),
-        Setting::Twice => Err(Misuse::Twice),
-        Setting::Once { value, words } => {
-            if asks_many(&words) {
-                return Err(Misuse::Many);
-            }
-            Ok(Some(Asked {
-                names: value,
-                words,
-            }))
-        }
-    }
 }
 
 /// What `--at` asks for, where it stands among the words before a word `--`; none where it doesn't.
@@ -54,13 +32,19 @@ pub fn at_asked<'a, E: Write>(
     ensures { EndsAsked (option_map asked_of) result (at_asked (map string_bytes words.entry.now))
         (E.contents errors.old) (E.contents errors.new) }
 {
-    let Ok(found) = without_option(alloc, "--at", words) else {
-        return Err(stop(NoStart::NoMemory, errors));
+    let Given { value, words } = match option_asked(alloc, "--at", words, errors) {
+        Ok(Some(given)) => given,
+        Ok(None) => return Ok(None),
+        Err(status) => return Err(status),
     };
-    match asked_by(found) {
-        Ok(asked) => Ok(asked),
-        Err(misuse) => Err(tell(misuse, errors)),
+    if asks_many(&words) {
+        let line = "oer: --at takes one message, without --lines and --framed\n";
+        return Err(reject(line, errors));
     }
+    Ok(Some(Asked {
+        names: value,
+        words,
+    }))
 }
 
 /// The text of `--hex` of the task, which has to be `part` without `--path`.

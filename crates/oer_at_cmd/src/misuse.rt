@@ -1,20 +1,14 @@
-//! Why `--at` is rejected.
+//! Why the task of a command line doesn't take `--at`.
 ghost use Rattle.std.specs.Prelude.{◌≡◌};
 ghost use Rattle.oer_cmd.specs.Faults.{AppendsFront};
 ghost use Rattle.oer_at_cmd.specs.Errors.{misuse_line};
 
-use oer_cmd::put_all;
+use oer_words::reject;
 use std::io::Write;
 
-/// Why `--at` is rejected.
+/// Why the task doesn't take `--at`.
 #[derive(Clone, Copy)]
 pub enum Misuse {
-    /// It is the last word, and its value isn't there.
-    NoValue,
-    /// It stands twice among the words.
-    Twice,
-    /// `--lines` or `--framed` is given, too.
-    Many,
     /// The subcommand is another one than `part`.
     Subcommand,
     /// `--path` is given, too.
@@ -27,9 +21,6 @@ impl Misuse {
         ensures { result.now ≡ misuse_line self }
     {
         match self {
-            Misuse::NoValue => "oer: --at needs a value\n",
-            Misuse::Twice => "oer: --at is given twice\n",
-            Misuse::Many => "oer: --at takes one message, without --lines and --framed\n",
             Misuse::Subcommand => "oer: --at needs part\n",
             Misuse::Path => "oer: one of --at and --path\n",
         }
@@ -41,6 +32,5 @@ pub fn tell<E: Write>(misuse: Misuse, errors: &mut E) -> u8
     ensures line { AppendsFront (E.contents errors.old) (E.contents errors.new) (misuse_line misuse) }
     ensures status { result ≡ 2 }
 {
-    put_all(misuse.line().as_bytes(), errors);
-    2
+    reject(misuse.line(), errors)
 }

@@ -12,4 +12,5 @@ pub mod Parts
 pub mod Found
 pub mod Showing
 pub mod Making
+pub mod Explaining
 pub mod Modules

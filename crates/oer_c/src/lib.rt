@@ -6,6 +6,7 @@ mod buffer;
 mod canon;
 mod check;
 mod definitions;
+mod explain;
 mod find;
 mod handle;
 mod held;

@@ -1,4 +1,3 @@
 pub mod Strict
 pub mod Scan
-pub mod Errors
 pub mod Ending

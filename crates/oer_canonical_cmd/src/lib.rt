@@ -3,7 +3,6 @@
 
 mod asked;
 pub mod laws;
-mod misuse;
 mod run;
 mod strict;
 

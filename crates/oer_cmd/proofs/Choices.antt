@@ -7,18 +7,10 @@ pub passing : (b : Bool) (P Q : Type 0) → b ≡ true → P → MatchBool b P Q
 passing true P Q is p = p
 passing false P Q is p = absurd (cc)
 
-pub passed : (b : Bool) (P Q : Type 0) → b ≡ true → MatchBool b P Q → P
-passed true P Q is h = h
-passed false P Q is h = absurd (cc)
-
 -- where it fails
 pub failing : (b : Bool) (P Q : Type 0) → b ≡ false → Q → MatchBool b P Q
 failing true P Q is q = absurd (cc)
 failing false P Q is q = q
-
-pub failed : (b : Bool) (P Q : Type 0) → b ≡ false → MatchBool b P Q → Q
-failed true P Q is h = absurd (cc)
-failed false P Q is h = h
 
 -- in both cases
 pub either : (b : Bool) {P Q P' Q' : Type 0} → (P → P') → (Q → Q') → MatchBool b P Q → MatchBool b P' Q'

@@ -1,55 +1,18 @@
 -- How the program ends, from what its steps answer.
-use Rattle.std.proofs.Common.{Result, ◌≡◌, ◌≢◌, ◌∙◌, ℕ, ◌≤◌, List, [], ◌∷◌, ◌++◌, true, false, Option, Some, None, Ok, Err, String, Global, refl, sym, ap, subst, arith, string_bytes, ◌⊎◌, inl, inr}
-use Rattle.std.specs.Prelude.{Bool, IfOk, if◌then◌else◌}
+use Rattle.std.proofs.Common.{Result, ◌≡◌, ◌∙◌, ℕ, ◌≤◌, List, [], ◌∷◌, ◌++◌, true, Option, Some, None, Ok, Err, String, Global, refl, sym, ap, subst, arith, string_bytes, ◌⊎◌, inl, inr}
+use Rattle.std.specs.Prelude.{IfOk, IsOkAnd}
 use Rattle.std.specs.Io.KnownBytes.{Appends, Keeps}
 use Rattle.clap.specs.Words.{HasKind, IsAmong, Kinds, Text, fault_of, kind_of, takes}
 use Rattle.clap.specs.declared.error.Error.{Error}
 use Rattle.clap.specs.declared.error.kind.ErrorKind.{ErrorKind}
 use Rattle.clap.specs.declared.error.kind.ErrorKind.TheVariants.{DisplayHelp, DisplayVersion, OutOfMemory}
-use Rattle.oer_model.specs.AsnType.{AsnType}
-use Rattle.oer_model.specs.Parts.{Step}
-use Rattle.oer_options.specs.Words.{Asks, Texts, oer, path_text, source_text, texts_of}
-use Rattle.oer_options.specs.declared.options.Options.{Options}
-use Rattle.oer_options.specs.declared.options.Task.{Task}
-use Rattle.oer_cmd.specs.Answer.{IsPathOf, answer_of, expected_answer, expected_type, given_answer, task_answer, types_input}
-use Rattle.oer_cmd.specs.Ending.{Delivers, Breaks, Does, DoesFor, HoldsFront, IsMachineLine, IsNotTaken, IsUnstarted, MayPrint, Streams, refusal_line}
-use Rattle.oer_cmd.specs.Expected.{Expected, Meets, refusal, stop, unknown, value, ◌>>=◌}
+use Rattle.oer_options.specs.Words.{oer}
+use Rattle.oer_cmd.specs.Ending.{Delivers, Breaks, HoldsFront, IsMachineLine, IsNotTaken, IsUnstarted, MayPrint, Streams, refusal_line}
+use Rattle.oer_cmd.specs.Expected.{Expected, Meets, refusal, unknown, value}
 use Rattle.oer_cmd.specs.Faults.{AppendsFront, Printed, Reports, error_line, status_of}
-use Rattle.oer_cmd.specs.Run.{IsLineGiven}
-use Rattle.oer_cmd.specs.Types.{reads_types}
 use Rattle.oer_cmd.specs.declared.fault.Fault.{Fault}
 use Rattle.oer_cmd.specs.declared.fault.Fault.TheVariants.{Input, Memory, Output}
 use Rattle.oer_cmd.proofs.Meeting.{bytes}
-
--- ---- the type, and then the task
-
-pub for_texts : (texts same : Texts) (task : Task) (limit : ℕ) (told : Option (List ℕ)) (result : Result (String Global) Fault)
-    → same ≡ texts
-    → ((path : Expected (List Step)) → IsPathOf (path_text task) path → Meets bytes (given_answer same task limit path told) result)
-    → (path : Expected (List Step)) → IsPathOf (path_text task) path → Meets bytes (given_answer texts task limit path told) result
-for_texts texts same task limit told result is h = subst
-    (λ t. (path : Expected (List Step)) → IsPathOf (path_text task) path → Meets bytes (given_answer t task limit path told) result) is h
-
-pub line_for : (texts same : Texts) (task : Task) (limit : ℕ) (told : Option (List ℕ)) (result : Result (String Global) Fault)
-    → same ≡ texts → IfOk result (λ line. IsLineGiven same task limit told (string_bytes line))
-    → IfOk result (λ line. IsLineGiven texts task limit told (string_bytes line))
-line_for texts same task limit told result is h = subst (λ t. IfOk result (λ line. IsLineGiven t task limit told (string_bytes line))) is h
-
--- ---- the texts of a type
-
--- the answer for texts of which none is read from the input
-pub unread : (t : Texts) (task : Task) (limit : ℕ) (path : Expected (List Step)) (told : Option (List ℕ))
-    (result : Result (String Global) Fault) → reads_types t ≡ false → Meets bytes (answer_of t task limit path told) result
-    → Meets bytes (given_answer t task limit path told) result
-unread t task limit path told result own h = subst (λ (b : Bool). Meets bytes ((if b
-    then (types_input (source_text task) told >>= λ text. value (record t { types = Some text }))
-    else value t) >>= λ texts. answer_of texts task limit path told) result) (sym own) h
-
-pub lacking : (o : Options) (path : Expected (List Step)) (told : Option (List ℕ)) (fault : Fault) → reads_types (texts_of o) ≡ false
-    → expected_type (texts_of o) ≡ stop fault → Meets {X = String Global} bytes (expected_answer o path told) (Err fault)
-lacking o path told fault own is = unread (texts_of o) o.task o.limit path told (Err fault) own
-    (subst (λ (t : Expected AsnType). Meets {X = String Global} bytes (t >>= λ T. task_answer o.task T o.limit path told) (Err fault))
-    (sym is) (λ small. refl))
 
 -- ---- the end
 
@@ -118,37 +81,12 @@ among_help : (kinds : Kinds) (kind : ErrorKind) → IsAmong kind kinds → (kind
 among_help kinds kind among (inl is) = inl (subst (λ k. IsAmong k kinds) is among)
 among_help kinds kind among (inr is) = inr (subst (λ k. IsAmong k kinds) is among)
 
--- Words that are not taken.
-pub not_taken : (words : List Text) (untouched : Type 0) (e : Error) (status : ℕ) (s : Streams)
-    → IsAmong (kind_of e) (fault_of oer words) → (takes oer words ≡ true → kind_of e ≡ OutOfMemory)
-    → (kind_of e ≡ OutOfMemory → status ≡ 3) → (kind_of e ≡ OutOfMemory → Keeps s.output s.output')
-    → (status ≡ 0 → (kind_of e ≡ DisplayHelp) ⊎ (kind_of e ≡ DisplayVersion)) → (status ≡ 0 → Keeps s.errors s.errors')
-    → (1 ≤ status → status ≤ 2 → status ≡ 2) → (1 ≤ status → status ≤ 2 → Keeps s.output s.output')
-    → (status ≡ 3 → Reports Memory 3 s.errors s.errors' ⊎ Reports Output 3 s.errors s.errors') → untouched
-    → IsNotTaken words untouched status s
-not_taken words untouched e status s among passes memory kept shows alone two quiet failed same = record {
-  refused = λ small taken. (let three = memory (passes taken) in omega (arith, small, three));
-  help = λ none. (among_help (fault_of oer words) (kind_of e) among (shows none), alone none);
-  said = λ low high. (two low high, quiet low high);
-  unwritten = λ taken. kept (passes taken);
-  machine = λ three. by (failed three);
-  keeps = same;
-} where
-  by : Reports Memory 3 s.errors s.errors' ⊎ Reports Output 3 s.errors s.errors' → (line : Text) × IsMachineLine line × AppendsFront s.errors s.errors' line
-  by (inl h) = told_machine Memory s.errors s.errors' (inr (inr refl)) h
-  by (inr h) = told_machine Output s.errors s.errors' (inr (inl refl)) h
-
-pub does : (words : List Text) (told : Option (List ℕ)) (untouched : Type 0) (status : ℕ) (s : Streams) (o : Options) → Asks words o
-    → ((path : Expected (List Step)) → IsPathOf (path_text o.task) path → Delivers (expected_answer o path told) status s ⊎ Breaks (expected_answer o path told) status s)
-    → (source_text o.task ≢ None → reads_types (texts_of o) ≡ false → untouched) → Does words told untouched status s
-does words told untouched status s o asks answers keeps = record { options = o; asks = asks; answers = answers; keeps = keeps }
-
-pub does_for : (T : AsnType) (words : List Text) (told : Option (List ℕ)) (untouched : Type 0) (status : ℕ) (s : Streams) (o : Options)
-    → Asks words o
-    → ((path : Expected (List Step)) → IsPathOf (path_text o.task) path
-    → Delivers (task_answer o.task T o.limit path told) status s ⊎ Breaks (task_answer o.task T o.limit path told) status s)
-    → (source_text o.task ≢ None → untouched) → DoesFor T words told untouched status s
-does_for T words told untouched status s o asks answers keeps = record { options = o; asks = asks; answers = answers; keeps = keeps }
+-- The line that was printed is that of which P holds.
+pub line_printed : (result : Result (String Global) Fault) (P Q : Text → Type 0) (s : Streams) → IfOk result (λ line. P (string_bytes line)) → ((line : Text) → P line → Q line)
+    → IsOkAnd result (λ line. Appends s.output s.output' (string_bytes line ++ 10 ∷ []) × Keeps s.errors s.errors')
+    → (line : Text) × Q line × Appends s.output s.output' (line ++ 10 ∷ []) × Keeps s.errors s.errors'
+line_printed (Ok line) P Q s h to printed = (string_bytes line, to (string_bytes line) h, printed.0, printed.1)
+line_printed (Err fault) P Q s h to printed = absurd printed
 
 pub keeps_same : (known : Option (List ℕ)) → Keeps known known
 keeps_same None = tt
@@ -165,4 +103,14 @@ pub words_end : {D : Type 0} (words : List Text) (untouched : Type 0) (e : Error
     → (kind_of e ≡ OutOfMemory → Reports Memory 3 s.errors s.errors') → untouched
     → IsUnstarted untouched status s ⊎ D ⊎ IsNotTaken words untouched status s
 words_end words untouched e status s (inl kind) passes memory shows alone two quiet failed kept line same = inl (memory kind, same, kept kind, unread_end 3 s.errors s.errors' (line kind))
-words_end words untouched e status s (inr among) passes memory shows alone two quiet failed kept line same = inr (inr (not_taken words untouched e status s among passes memory kept shows alone two quiet failed same))
+words_end words untouched e status s (inr among) passes memory shows alone two quiet failed kept line same = inr (inr (record {
+  refused = λ small taken. (let three = memory (passes taken) in omega (arith, small, three));
+  help = λ none. (among_help (fault_of oer words) (kind_of e) among (shows none), alone none);
+  said = λ low high. (two low high, quiet low high);
+  unwritten = λ taken. kept (passes taken);
+  machine = λ three. by (failed three);
+  keeps = same;
+})) where
+  by : Reports Memory 3 s.errors s.errors' ⊎ Reports Output 3 s.errors s.errors' → (line : Text) × IsMachineLine line × AppendsFront s.errors s.errors' line
+  by (inl h) = told_machine Memory s.errors s.errors' (inr (inr refl)) h
+  by (inr h) = told_machine Output s.errors s.errors' (inr (inl refl)) h

@@ -9,9 +9,7 @@ use Rattle.std.specs.Borrow.{Bor}
 use Rattle.clap.specs.Words.{Text}
 use Rattle.serde_json.specs.Read.{read}
 use Rattle.oer_units.specs.declared.fault.ReadFault.{ReadFault}
-use Rattle.oer_units.specs.Reader.{Outcome, Place, Reader, at, got, refused}
-use Rattle.oer_units.specs.Reads.{ReadsFront, seen}
-use Rattle.oer_writer.specs.declared.fault.WriteFault.TheVariants as write
+use Rattle.oer_units.specs.Reader.{Outcome, Place, at, got, refused}
 use Rattle.oer_model.specs.AsnType.{AsnType}
 use Rattle.oer_model.specs.Canonical.{canonical_octets}
 use Rattle.oer_model.specs.Checking.{check_value}
@@ -22,51 +20,15 @@ use Rattle.oer_parts.specs.Path.{OnePath}
 use Rattle.oer_parts.specs.declared.fault.PartFault.{PartFault}
 use Rattle.oer_checker.specs.declared.verdict.Verdict.{Verdict}
 use Rattle.oer_json.specs.Take.{taken}
-use Rattle.oer_decoder.specs.Front.{ReadsAndCounts, first_of}
-use Rattle.oer_decoder.specs.Rewriting.{IsRewritten, ReadsAndWrites}
-use Rattle.oer_decoder.specs.declared.fault.RewriteFault.{RewriteFault}
-use Rattle.oer_decoder.specs.declared.fault.RewriteFault.TheVariants as rewrite
 use Rattle.oer_options.specs.Words.{behind}
-use Rattle.oer_cmd.specs.Answer.{IsPathOf, canonical_of, checked, end_at, ended, handed, in_digits, json_in, json_read, json_taken, make_text, part_octets, whole, within_limit}
+use Rattle.oer_cmd.specs.Answer.{IsPathOf, checked, ended, handed, in_digits, json_in, json_read, json_taken, make_text, part_octets, whole, within_limit}
 use Rattle.oer_cmd.specs.Expected.{Expected, refusal, stop, unknown, value, ◌>>=◌}
-use Rattle.oer_cmd.specs.Faults.{IsOfRead, IsOfRewrite, status_of}
+use Rattle.oer_cmd.specs.Faults.{IsOfRead, status_of}
 use Rattle.oer_cmd.specs.Run.{IsPath}
 use Rattle.oer_cmd.specs.declared.fault.Fault.{Fault}
 use Rattle.oer_cmd.specs.declared.fault.Fault.TheVariants.{Follows, Longer, NotJson, Path, Read}
-use Rattle.oer_cmd.proofs.Meeting.{ended_more, is_read, three, value_ends, value_stops}
-
--- ---- canonical octets
-
--- They were appended to nothing. They are what is made of the octets, where nothing follows these.
-pub canonical_read : (T : AsnType) (limit failed failed' m n count count' : ℕ) (known known' : Option (List ℕ)) (old new b : List ℕ)
-    → ReadsAndWrites T limit known failed known' failed' (Some old) count (Ok (m, n)) (Some new) count'
-    → IsRewritten T limit known known' (Some old) (Some new) (m, n) → old ≡ [] → known ≡ Some b
-    → (rest : List ℕ) × (known' ≡ Some rest) × (canonical_of T limit b ≡ (end_at m rest >>= λ u. value new))
-canonical_read T limit failed failed' m n count count' known known' old new b (Ok v, front, (size, few, appends, still)) (w, t, takes, length_is, puts) none is =
-    let r = value_ends T limit failed failed' m known known' v t b (λ x. value (canonical_octets T x)) front takes.0 length_is is in
-    let all : new ≡ canonical_octets T v = appends ∙ ap (λ (l : List ℕ). l ++ canonical_octets T v) none in
-    (r.0, r.1, r.2 ∙ ap (λ (l : List ℕ). end_at m r.0 >>= λ u. value l) (sym all))
-canonical_read T limit failed failed' m n count count' known known' old new b (Err e, front, (clash, kept, still)) written none is = absurd (cc)
-
-pub canonical_stops : (T : AsnType) (limit failed failed' count count' : ℕ) (known known' old new : Option (List ℕ)) (e : RewriteFault) (fault : Fault) (b : List ℕ)
-    → IsOfRewrite e fault → ReadsAndWrites T limit known failed known' failed' old count (Err e) new count' → known ≡ Some b
-    → status_of fault ≤ 2
-    → canonical_of T limit b ≡ stop fault
-canonical_stops T limit failed failed' count count' known known' old new (rewrite.Read e) fault b told (Ok v, front, follows) is small = absurd follows
-canonical_stops T limit failed failed' count count' known known' old new (rewrite.Read e) fault b told (Err f, front, (one, kept, still)) is small =
-    let other : f ≡ e = cc in
-    value_stops T limit failed failed' known known' f fault b (λ x. value (canonical_octets T x)) (subst (λ x. IsOfRead x fault) (sym other) told) front is small
-canonical_stops T limit failed failed' count count' known known' old new (rewrite.Write (write.Device n)) fault b told h is small =
-    absurd (three fault _ told refl small)
-canonical_stops T limit failed failed' count count' known known' old new (rewrite.Write write.TooLong) fault b told h is small =
-    absurd (three fault _ told refl small)
-
--- ---- the JSON of a value
-
-pub front_of : {A : Type 0} (r : Reader A) (limit failed failed' : ℕ) (known known' : Option (List ℕ)) (result : Result (A × ℕ) ReadFault)
-    → ReadsAndCounts r limit known failed result known' failed' → ReadsFront r limit known failed (seen first_of result) known' failed'
-front_of r limit failed failed' known known' result h =
-    record { name = h.name; loan = h.loan; bound = h.bound; within = h.within; reads = h.reads }
+use Rattle.oer_cmd.proofs.Front.{is_read}
+use Rattle.oer_cmd.proofs.Meeting.{ended_more}
 
 -- ---- octets that are checked
 
@@ -153,14 +115,15 @@ path_none text unknown none of = absurd of
 pub utf8_read : (text : Text) → IsUtf8 text → json_in text ≡ json_read (read text)
 utf8_read text utf8 = ap (λ (b : Bool). json_read (if b then read text else None)) (is_utf8-from_IsUtf8 text utf8)
 
-pub not_utf8 : (text : Text) → (IsUtf8 text → ⊥) → json_in text ≡ stop NotJson
-not_utf8 text broken = ap (λ (b : Bool). json_read (if b then read text else None)) (by (is_utf8 text) refl) where
+pub not_text : (text : Text) → (IsUtf8 text → ⊥) → is_utf8 text ≡ false
+not_text text broken = by (is_utf8 text) refl where
   by : (t : Bool) → is_utf8 text ≡ t → t ≡ false
   by true e = absurd (broken (IsUtf8-from_is_utf8 text e))
   by false e = refl
 
 pub text_broken : (T : AsnType) (text : Text) → (IsUtf8 text → ⊥) → make_text T text ≡ stop NotJson
-text_broken T text broken = ap (λ o. o >>= λ j. json_taken (taken T j) >>= λ v. in_digits (canonical_octets T v)) (not_utf8 text broken)
+text_broken T text broken = ap (λ o. o >>= λ j. json_taken (taken T j) >>= λ v. in_digits (canonical_octets T v))
+    (ap (λ (b : Bool). json_read (if b then read text else None)) (not_text text broken))
 
 -- ---- the limit
 

@@ -1,21 +1,13 @@
 -- How answers that are expected are put together.
-use Rattle.std.proofs.Common.{Result, ◌≡◌, ◌≢◌, ◌∙◌, ℕ, ◌-◌, ◌≤◌, false, List, [], ◌∷◌, ◌++◌, append-nil, length, Option, Some, None, Ok, Err, refl, sym, ap, subst, arith, length-append, String, Global, string_bytes}
+use Rattle.std.proofs.Common.{Result, ◌≡◌, ◌≢◌, ◌∙◌, ℕ, ◌≤◌, List, [], ◌∷◌, Option, Some, None, Ok, Err, refl, sym, ap, subst, arith, String, Global, string_bytes}
 use Rattle.std.specs.Prelude.{IfOk, IfSome, IsErrAnd}
 use Rattle.clap.specs.Words.{Text}
-use Rattle.std.specs.Io.KnownBytes.{Consumes}
-use Rattle.oer_units.specs.declared.fault.ReadFault.{ReadFault}
-use Rattle.oer_units.specs.declared.fault.Why.TheVariants as why
 use Rattle.oer_units.specs.Octets.{IsOctets}
-use Rattle.oer_units.specs.Reader.{Outcome, Reader, at, got, refused}
-use Rattle.oer_units.specs.Reads.{ReadsFront, renamed}
-use Rattle.oer_model.specs.AsnType.{AsnType}
-use Rattle.oer_model.specs.AsnValue.{AsnValue}
-use Rattle.oer_model.specs.Reading.{read_value}
-use Rattle.oer_cmd.specs.Answer.{end_at, ended, limited, value_read, whole, within_limit}
+use Rattle.oer_cmd.specs.Answer.{ended, limited, whole, within_limit}
 use Rattle.oer_cmd.specs.Expected.{Expected, Meets, Says, SaysOf, refusal, stop, unknown, value, ◌>>=◌}
-use Rattle.oer_cmd.specs.Faults.{IsOfRead, status_of}
+use Rattle.oer_cmd.specs.Faults.{status_of}
 use Rattle.oer_cmd.specs.declared.fault.Fault.{Fault}
-use Rattle.oer_cmd.specs.declared.fault.Fault.TheVariants.{Follows, Input, Memory, Read}
+use Rattle.oer_cmd.specs.declared.fault.Fault.TheVariants.{Follows}
 
 -- the bytes of a line
 abbrev pub bytes : String Global → List ℕ
@@ -57,6 +49,12 @@ meets view (value y) (Err fault) h = λ small. let no = h small in cc
 meets view (refusal r) (Ok x) h = absurd (cc)
 meets view (refusal r) (Err fault) h = λ small. let same = h small in cc
 
+-- Two steps that follow one are one.
+pub assoc : {A B C : Type 0} (m : Expected A) (f : A → Expected B) (g : B → Expected C) → (m >>= f >>= g) ≡ (m >>= λ x. f x >>= g)
+assoc unknown f g = refl
+assoc (refusal r) f g = refl
+assoc (value x) f g = refl
+
 -- what is said of an answer that is expected, by another name
 pub named : {X Y : Type 0} (view : X → Y) (m n : Expected Y) (result : Result X Fault) → m ≡ n → Says view n result → Says view m result
 named view m n (Ok x) same h = same ∙ h
@@ -83,81 +81,7 @@ limited_said view limit next (Some xs) b octets slice (Ok x) all is same few are
 limited_said view limit next (Some xs) b octets slice (Err fault) all is same few are h = λ small.
     ap (λ o. o >>= next) few ∙ ap next (sym same) ∙ h small
 
--- ---- reading
-
-plain : {A : Type 0} (o : Outcome A) → renamed false o ≡ o
-plain (got x q) = refl
-plain (refused w l) = refl
-
-less_none : (n : ℕ) → n - 0 ≡ n
-less_none n = omega arith
-
--- what the plain reader makes of the octets, from what the code's reader answers
-pub exactly_got : {A : Type 0} (r : Reader A) (limit failed failed' : ℕ) (xs ys : List ℕ) (x : A)
-    → (h : ReadsFront r limit (Some xs) failed (Ok x) (Some ys) failed') → r (at xs limit) ≡ got x (at ys (h.bound.end - h.bound.taken))
-exactly_got r limit failed failed' xs ys x h =
-    ap (λ (n : ℕ). r (at xs n)) (sym (less_none limit)) ∙ sym (plain (r (at xs (limit - 0)))) ∙ h.reads.exact
-
-pub exactly_refused : {A : Type 0} (r : Reader A) (limit failed failed' : ℕ) (xs ys : List ℕ) (e : ReadFault)
-    → ReadsFront r limit (Some xs) failed (Err e) (Some ys) failed' → e.why ≢ why.Device → e.why ≢ why.Memory
-    → r (at xs limit) ≡ refused e.why ys
-exactly_refused r limit failed failed' xs ys e h device memory =
-    ap (λ (n : ℕ). r (at xs n)) (sym (less_none limit)) ∙ sym (plain (r (at xs (limit - 0)))) ∙ h.reads.exact device memory
-
 -- Octets follow.
 pub ended_more : {A : Type 0} (m n : ℕ) (x : A) (rest : List ℕ) → rest ≢ [] → m ≡ n → ended m x rest ≡ stop (Follows n)
 ended_more m n x [] some same = absurd (some refl)
 ended_more m n x (y ∷ rest) some same = ap (λ (k : ℕ). stop (Follows k)) same
-
-ended_next : {A B : Type 0} (n : ℕ) (x : A) (next : A → Expected B) (rest : List ℕ)
-    → (ended n x rest >>= next) ≡ (end_at n rest >>= λ u. next x)
-ended_next n x next [] = refl
-ended_next n x next (y ∷ rest) = refl
-
--- A value was read. What is made of it stands where nothing follows the octets that it took.
-pub value_ends : {B : Type 0} (T : AsnType) (limit failed failed' n : ℕ) (known known' : Option (List ℕ)) (v : AsnValue) (t b : List ℕ)
-    (next : AsnValue → Expected B) → ReadsFront (read_value T) limit known failed (Ok v) known' failed' → Consumes known known' t
-    → n ≡ length t → known ≡ Some b
-    → (rest : List ℕ) × (known' ≡ Some rest) × ((value_read T limit b >>= next) ≡ (end_at n rest >>= λ u. next v))
-value_ends T limit failed failed' n None known' v t b next h takes count is = absurd (cc)
-value_ends T limit failed failed' n (Some xs) None v t b next h takes count is = absurd takes
-value_ends T limit failed failed' n (Some xs) (Some ys) v t b next h takes count is =
-    let same : xs ≡ b = cc in
-    let size : length xs - length ys ≡ n = omega (arith, ap length takes, length-append t ys, count) in
-    let all : (value_read T limit xs >>= next) ≡ (end_at n ys >>= λ u. next v) =
-    ap (λ o. whole xs o >>= next) (exactly_got (read_value T) limit failed failed' xs ys v h)
-    ∙ ap (λ (k : ℕ). ended k v ys >>= next) size ∙ ended_next n v next ys in
-    (ys, refl, subst (λ (l : List ℕ). (value_read T limit l >>= next) ≡ (end_at n ys >>= λ u. next v)) same all)
-
--- a refusal of the reader is told as such
-pub is_read : (e : ReadFault) (fault : Fault) → IsOfRead e fault → status_of fault ≤ 2
-    → (e.why ≢ why.Device) × (e.why ≢ why.Memory) × (fault ≡ Read e)
-is_read e fault is small =
-    let device : e.why ≢ why.Device = λ d. three fault Input (is.input d) refl small in
-    let memory : e.why ≢ why.Memory = λ m. three fault Memory (is.memory m) refl small in
-    (device, memory, is.other device memory)
-
--- It was refused.
-pub value_stops : {B : Type 0} (T : AsnType) (limit failed failed' : ℕ) (known known' : Option (List ℕ)) (e : ReadFault) (fault : Fault) (b : List ℕ)
-    (next : AsnValue → Expected B) → IsOfRead e fault → ReadsFront (read_value T) limit known failed (Err e) known' failed' → known ≡ Some b
-    → status_of fault ≤ 2 → (value_read T limit b >>= next) ≡ stop fault
-value_stops T limit failed failed' None known' e fault b next told h is small = absurd (cc)
-value_stops T limit failed failed' (Some xs) None e fault b next told h is small = absurd h.reads.exact
-value_stops T limit failed failed' (Some xs) (Some ys) e fault b next told h is small =
-    let same : xs ≡ b = cc in
-    let took = h.reads.took in
-    let why = is_read e fault told small in
-    let taken : length xs - length ys ≡ e.taken = omega (arith, ap length took.1, length-append took.0 ys, took.3, h.reads.fault) in
-    subst (λ (l : List ℕ). (value_read T limit l >>= next) ≡ stop fault) same
-    (ap (λ o. whole xs o >>= next) (exactly_refused (read_value T) limit failed failed' xs ys e h why.0 why.1)
-    ∙ ap (λ (n : ℕ). stop (Read (record { taken = n; why = e.why }))) taken ∙ ap stop (sym why.2))
-
--- What was taken is all that there was, where nothing follows it.
-pub octets_taken : (known known' : Option (List ℕ)) (t b rest : List ℕ) (n : ℕ) → Consumes known known' t → IsOctets t → known ≡ Some b
-    → known' ≡ Some rest → end_at n rest ≡ value tt → IsOctets b
-octets_taken None known' t b rest n takes octets is left end = absurd (cc)
-octets_taken (Some xs) None t b rest n takes octets is left end = absurd takes
-octets_taken (Some xs) (Some ys) t b [] n takes octets is left end =
-    let all : t ≡ b = sym (append-nil t) ∙ ap (λ (l : List ℕ). t ++ l) (let e : ys ≡ [] = cc in sym e) ∙ sym takes ∙ (let e : xs ≡ b = cc in e) in
-    subst IsOctets all octets
-octets_taken (Some xs) (Some ys) t b (y ∷ rest) n takes octets is left end = absurd (cc)

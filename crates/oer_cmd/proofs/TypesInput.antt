@@ -21,7 +21,8 @@ use Rattle.oer_cmd.specs.Types.{SpelledBy}
 use Rattle.oer_cmd.specs.declared.fault.Fault.{Fault}
 use Rattle.oer_cmd.specs.declared.fault.Fault.TheVariants.{Longer, «Type»}
 use Rattle.oer_cmd.proofs.Choices.{passing}
-use Rattle.oer_cmd.proofs.Meeting.{bytes, goes, stops}
+use Rattle.oer_cmd.proofs.Exact.{not_text}
+use Rattle.oer_cmd.proofs.Meeting.{assoc, bytes, goes, stops}
 
 -- ---- the text
 
@@ -31,16 +32,12 @@ text_made octets text same = subst (λ (l : List ℕ). types_text l ≡ value (s
     (ap (λ (b : Bool). if b then value (string_bytes text) else stop («Type» (record { at = utf8_valid_len (string_bytes text); why = Token })))
     (is_utf8-from_IsUtf8 (string_bytes text) (IsUtf8-string_bytes text)))
 
-no_text : (b : Bool) → (b ≡ true → ⊥) → b ≡ false
-no_text true none = absurd (none refl)
-no_text false none = refl
-
 -- It is not.
 pub text_refused : (octets : List ℕ) (n : ℕ) → n ≡ utf8_valid_len octets → (IsUtf8 octets → ⊥)
     → types_text octets ≡ stop («Type» (record { at = n; why = Token }))
 text_refused octets n place none =
     ap (λ (b : Bool). if b then value octets else stop («Type» (record { at = utf8_valid_len octets; why = Token })))
-    (no_text (is_utf8 octets) (λ is. none (IsUtf8-from_is_utf8 octets is)))
+    (not_text octets none)
     ∙ ap (λ (k : ℕ). stop («Type» (record { at = k; why = Token }))) (sym place)
 
 -- ---- the input
@@ -137,44 +134,30 @@ read_line types name body text task limit told mid line mark same read h =
       by None was = tt
       by (Some b) was = (was.0, was.1, subst (λ (l : List ℕ). SpelledBy (among l name) h.type) (same ∙ was.2) h.spelled)
 
--- ---- what is expected of them
+-- ---- the answer by definitions that are read
 
--- ---- texts that are not read
+module _ (types name : Text) (task : Task) (limit : ℕ) (path : Expected (List Step)) (told : Option (List ℕ)) (mark : bytes_eq types (codes "-") ≡ true) where
+  abbrev by_body : Text → Expected Text
+  by_body body = answer_of (among body name) task limit path told
 
--- ---- what is taken
+  given_read : given_answer (among types name) task limit path told ≡ (types_input (source_text task) told >>= by_body)
+  given_read = ap (λ (b : Bool). (if b then (types_input (source_text task) told >>= λ text. value (among text name)) else value (among types name))
+      >>= λ texts. answer_of texts task limit path told) mark
+      ∙ assoc (types_input (source_text task) told) (λ text. value (among text name)) (λ texts. answer_of texts task limit path told)
 
--- ---- what is expected of them
+  pub read_answer : (body : Text) (text : String Global) (mid : Option (List ℕ)) (result : Result (String Global) Fault) → body ≡ string_bytes text
+      → Meets bytes (types_input (source_text task) told) (Ok text) → Meets bytes (answer_of (among body name) task limit path mid) result
+      → Meets bytes (given_answer (among types name) task limit path told) result
+  read_answer body text mid result same read made =
+      let moved = ap (λ (l : List ℕ). answer_of (among l name) task limit path mid) same
+      ∙ answer_kept (among (string_bytes text) name) task limit path mid told (was_read (source_text task) told text read).0 in
+      subst (λ m. Meets bytes m result) (sym given_read)
+      (goes bytes bytes (types_input (source_text task) told) by_body text result read (subst (λ m. Meets bytes m result) moved made))
 
-pub read_answer : (types name body : Text) (text : String Global) (task : Task) (limit : ℕ) (path : Expected (List Step))
-    (told mid : Option (List ℕ)) (result : Result (String Global) Fault) → bytes_eq types (codes "-") ≡ true → body ≡ string_bytes text
-    → Meets bytes (types_input (source_text task) told) (Ok text) → Meets bytes (answer_of (among body name) task limit path mid) result
-    → Meets bytes (given_answer (among types name) task limit path told) result
-read_answer types name body text task limit path told mid result mark same read made =
-    let some = (was_read (source_text task) told text read).0 in
-    let moved = ap (λ (l : List ℕ). answer_of (among l name) task limit path mid) same
-    ∙ answer_kept (among (string_bytes text) name) task limit path mid told some in
-    subst (λ (b : Bool). Meets bytes ((if b then (types_input (source_text task) told >>= λ text. value (among text name))
-    else value (among types name))
-    >>= λ texts. answer_of texts task limit path told) result) (sym mark)
-    (goes (λ (s : String Global). among (string_bytes s) name) bytes
-    (types_input (source_text task) told >>= λ text. value (among text name))
-    (λ texts. answer_of texts task limit path told) text result
-    (goes bytes (λ (s : String Global). among (string_bytes s) name) (types_input (source_text task) told) (λ text. value (among text name))
-    text (Ok text) read refl)
-    (subst (λ m. Meets bytes m result) moved made))
-
-pub lost_answer : (types name : Text) (task : Task) (limit : ℕ) (path : Expected (List Step)) (told : Option (List ℕ)) (fault : Fault)
-    → bytes_eq types (codes "-") ≡ true → Meets {X = String Global} bytes (types_input (source_text task) told) (Err fault)
-    → Meets {X = String Global} bytes (given_answer (among types name) task limit path told) (Err fault)
-lost_answer types name task limit path told fault mark lost =
-    subst (λ (b : Bool). Meets {X = String Global} bytes ((if b
-    then (types_input (source_text task) told >>= λ text. value (among text name)) else value (among types name))
-    >>= λ texts. answer_of texts task limit path told) (Err fault)) (sym mark)
-    (stops (λ (s : String Global). among (string_bytes s) name) bytes
-    (types_input (source_text task) told >>= λ text. value (among text name))
-    (λ texts. answer_of texts task limit path told) fault
-    (stops bytes (λ (s : String Global). among (string_bytes s) name) (types_input (source_text task) told)
-    (λ text. value (among text name)) fault lost))
+  pub lost_answer : (fault : Fault) → Meets {X = String Global} bytes (types_input (source_text task) told) (Err fault)
+      → Meets {X = String Global} bytes (given_answer (among types name) task limit path told) (Err fault)
+  lost_answer fault lost = subst (λ m. Meets {X = String Global} bytes m (Err fault)) (sym given_read)
+      (stops {X = String Global} {Z = String Global} bytes bytes (types_input (source_text task) told) by_body fault lost)
 
 -- ---- what is taken
 

@@ -20,6 +20,9 @@ pub record Streams : Type 0 where
   pub errors : Option (List ℕ)
   pub errors' : Option (List ℕ)
 
+abbrev pub streams : Option (List ℕ) → Option (List ℕ) → Option (List ℕ) → Option (List ℕ) → Streams
+streams output output' errors errors' = record { output = output; output' = output'; errors = errors; errors' = errors' }
+
 -- the line of a refusal
 abbrev pub refusal_line : Text → Text
 refusal_line text = codes "oer: " ++ text ++ 10 ∷ []
@@ -51,6 +54,10 @@ abbrev pub Breaks : Expected Text → ℕ → Streams → Type 0
 Breaks expected status s =
     (status ≡ 3) × HoldsFront expected s × ((line : Text) × IsMachineLine line × AppendsFront s.errors s.errors' line)
 
+-- The answer is given, or the machine failed.
+abbrev pub IsEnd : Expected Text → ℕ → Streams → Type 0
+IsEnd expected status s = Delivers expected status s ⊎ Breaks expected status s
+
 -- Memory for the words was refused, and the errors say so; all else is as it was.
 abbrev pub IsUnstarted : Type 0 → ℕ → Streams → Type 0
 IsUnstarted untouched status s =
@@ -61,8 +68,7 @@ IsUnstarted untouched status s =
 pub record Does (words : List Text) (told : Option (List ℕ)) (untouched : Type 0) (status : ℕ) (s : Streams) : Type 0 where
   pub options : Options
   pub asks : Asks words options
-  pub answers : (path : Expected (List Step)) → IsPathOf (path_text options.task) path
-      → Delivers (expected_answer options path told) status s ⊎ Breaks (expected_answer options path told) status s
+  pub answers : (path : Expected (List Step)) → IsPathOf (path_text options.task) path → IsEnd (expected_answer options path told) status s
   pub keeps : source_text options.task ≢ None → reads_types (texts_of options) ≡ false → untouched
 
 -- The same for values of a type that is given, whatever the options on types say.
@@ -70,7 +76,7 @@ pub record DoesFor (T : AsnType) (words : List Text) (told : Option (List ℕ)) 
   pub options : Options
   pub asks : Asks words options
   pub answers : (path : Expected (List Step)) → IsPathOf (path_text options.task) path
-      → Delivers (task_answer options.task T options.limit path told) status s ⊎ Breaks (task_answer options.task T options.limit path told) status s
+      → IsEnd (task_answer options.task T options.limit path told) status s
   pub keeps : source_text options.task ≢ None → untouched
 
 -- The words ask for help, or for the version.
@@ -92,12 +98,12 @@ pub record IsNotTaken (words : List Text) (untouched : Type 0) (status : ℕ) (s
 abbrev pub Ends : List Text → Option (List ℕ) → Type 0 → ℕ
     → Option (List ℕ) → Option (List ℕ) → Option (List ℕ) → Option (List ℕ) → Type 0
 Ends words told untouched status output output' errors errors' =
-    let s : Streams = record { output = output; output' = output'; errors = errors; errors' = errors' } in
+    let s = streams output output' errors errors' in
     IsUnstarted untouched status s ⊎ Does words told untouched status s ⊎ IsNotTaken words untouched status s
 
 -- The same for values of a type that is given.
 abbrev pub EndsFor : AsnType → List Text → Option (List ℕ) → Type 0 → ℕ
     → Option (List ℕ) → Option (List ℕ) → Option (List ℕ) → Option (List ℕ) → Type 0
 EndsFor T words told untouched status output output' errors errors' =
-    let s : Streams = record { output = output; output' = output'; errors = errors; errors' = errors' } in
+    let s = streams output output' errors errors' in
     IsUnstarted untouched status s ⊎ DoesFor T words told untouched status s ⊎ IsNotTaken words untouched status s

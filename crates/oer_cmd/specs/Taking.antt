@@ -54,14 +54,22 @@ GivesValue T limit status told told' = GivesFront told told' (Amounts (limit + 1
 abbrev pub GivesAll : ℕ → ℕ → Option (List ℕ) → Option (List ℕ) → Type 0
 GivesAll limit status told told' = GivesFront told told' (Amounts (limit + 4096) status (IsGathered limit))
 
+-- how many octets a task takes at most, and how many it takes
+abbrev pub most_taken : Kind → ℕ → ℕ
+most_taken show limit = limit + 1
+most_taken show_ascii limit = limit + 1
+most_taken canon limit = limit + 1
+most_taken _ limit = limit + 4096
+
+abbrev pub IsTaken : Kind → AsnType → ℕ → List ℕ → ℕ → Type 0
+IsTaken show T limit b n = IsValue T limit b n
+IsTaken show_ascii T limit b n = IsValue T limit b n
+IsTaken canon T limit b n = IsValue T limit b n
+IsTaken _ T limit b n = IsGathered limit b n
+
 -- The input gave what a task takes of it for values of the type.
 abbrev pub GivesTask : Kind → AsnType → ℕ → ℕ → Option (List ℕ) → Option (List ℕ) → Type 0
-GivesTask show T limit status told told' = GivesValue T limit status told told'
-GivesTask show_ascii T limit status told told' = GivesValue T limit status told told'
-GivesTask canon T limit status told told' = GivesValue T limit status told told'
-GivesTask check T limit status told told' = GivesAll limit status told told'
-GivesTask make T limit status told told' = GivesAll limit status told told'
-GivesTask part T limit status told told' = GivesAll limit status told told'
+GivesTask k T limit status told told' = GivesFront told told' (Amounts (most_taken k limit) status (IsTaken k T limit))
 
 -- The input gave what is taken for the type, where there are a type, no octets and no JSON, and a path, if the task has one. Else it is
 -- untouched.

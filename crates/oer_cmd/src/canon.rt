@@ -1,8 +1,6 @@
 //! The canonical octets of a value.
 ghost use Rattle.std.specs.Prelude.{◌≡◌, ℕ, List, Some};
 ghost use Rattle.oer_types.specs.Schema.{the_type};
-ghost use Rattle.oer_units.specs.Reading.{octet as octet_read};
-ghost use Rattle.oer_units.specs.Reads.{ReadsFront};
 ghost use Rattle.oer_cmd.specs.Answer.{canonical_of, end_at};
 ghost use Rattle.oer_cmd.specs.Expected.{Says, SaysOf};
 ghost use Rattle.oer_cmd.specs.Octets.{octets_of};
@@ -11,20 +9,10 @@ ghost use Rattle.oer_cmd.specs.Taking.{Amounts, GivesFront, GivesValue, IsNext, 
 use crate::fault::Fault;
 use oer_decoder::rewrite;
 use oer_types::Schema;
-use oer_units::{Metered, ReadFault, Source, Why, Window, octet};
+use oer_units::{Metered, Source};
 use std::alloc::Global;
 
-// The next octet.
-fn octet_at_front<R: Source>(reader: &mut R) -> Result<u8, ReadFault>
-    ensures reads { ReadsFront octet_read 1 (R.remaining reader.old) (R.failed reader.old) result
-        (R.remaining reader.new) (R.failed reader.new) }
-    ensures loan { R.loan reader.new ≡ R.loan reader.old }
-{
-    let mut w = Window::new(reader, 1);
-    octet(&mut w)
-}
-
-#[tactic(auto, using(crate::proofs::Meeting::ended_more, crate::proofs::Front::octet_left, crate::proofs::Front::none_left, crate::proofs::Taking::one_taken, crate::proofs::Taking::none_taken))]
+#[tactic(auto, using(crate::proofs::Front::nothing_left, crate::proofs::Front::more_left, crate::proofs::Front::one_taken))]
 /// That the reader has no octet left after a value that took so many. Refused as `Follows`, or as
 /// `Input` where the reader fails.
 pub fn check_end<'a, R: Source>(reader: &mut R, taken: u64) -> Result<(), Fault<'a>>
@@ -32,13 +20,11 @@ pub fn check_end<'a, R: Source>(reader: &mut R, taken: u64) -> Result<(), Fault<
     ensures takes { GivesFront (R.remaining reader.old) (R.remaining reader.new) (Amounts 1 (status_after result) IsNext) }
     ensures loan { R.loan reader.new ≡ R.loan reader.old }
 {
-    let fault = match octet_at_front(reader) {
-        Ok(_) => return Err(Fault::Follows(taken)),
-        Err(fault) => fault,
-    };
-    match fault.why {
-        Why::End => Ok(()),
-        _ => Err(Fault::Input),
+    let mut next = [0u8; 1];
+    match reader.pull(&mut next) {
+        Ok(0) => Ok(()),
+        Ok(_) => Err(Fault::Follows(taken)),
+        Err(_) => Err(Fault::Input),
     }
 }
 

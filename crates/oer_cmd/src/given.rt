@@ -8,13 +8,12 @@ ghost use Rattle.oer_cmd.specs.Ending.{EndsFor};
 ghost use Rattle.oer_cmd.specs.Run.{NoLineAskedFor, PrintsFor};
 ghost use Rattle.oer_cmd.specs.Taking.{TakesFrom};
 
-use crate::program::{line_of, print_line, refused, report};
+use crate::program::{conclude, line_of, refused};
 use oer_options::parsed;
 use oer_types::Schema;
 use std::alloc::Global;
 use std::io::{Read, Write};
 
-#[tactic(auto, using(crate::proofs::Lines::answers_words_for))]
 /// Runs the command for values of this type, as `run` does for the type that the words name: `words` are the arguments, the
 /// program's name first, without any on types; those that there are count for nothing. Returns the status of the program.
 pub fn run_for<R: Read, W: Write, E: Write>(
@@ -46,12 +45,6 @@ pub fn run_for<R: Read, W: Write, E: Write>(
         Ok(options) => options,
         Err(error) => return refused(alloc, &error, output, errors),
     };
-    let line = match line_of(alloc, schema, options, input) {
-        Ok(line) => line,
-        Err(fault) => return report(alloc, fault, errors),
-    };
-    match print_line(line, output) {
-        Ok(()) => 0,
-        Err(fault) => report(alloc, fault, errors),
-    }
+    let answer = line_of(alloc, schema, options, input);
+    conclude(alloc, answer, output, errors)
 }

@@ -1,13 +1,13 @@
 //! The command.
-ghost use Rattle.std.specs.Prelude.{◌≡◌, ◌≢◌, ◌≤◌, ◌⊎◌, List, None, false, true, map, IfErr, IfOk, string_bytes};
+ghost use Rattle.std.specs.Prelude.{◌≡◌, ◌≢◌, ◌≤◌, ◌⊎◌, List, [], ◌∷◌, ◌++◌, None, false, true, map, IfErr, IfOk, IsOkAnd, string_bytes};
 ghost use Rattle.std.specs.Io.KnownBytes.{Appends, Keeps};
-ghost use Rattle.clap.specs.Words.{kind_of, takes};
+ghost use Rattle.clap.specs.Words.{Text, kind_of, takes};
 ghost use Rattle.clap.specs.declared.error.kind.ErrorKind.TheVariants.{DisplayHelp, DisplayVersion, OutOfMemory};
 ghost use Rattle.oer_model.specs.Parts.{Step};
 ghost use Rattle.oer_types.specs.Schema.{the_type};
 ghost use Rattle.oer_options.specs.Words.{kind, oer, path_text, source_text, texts_of};
 ghost use Rattle.oer_cmd.specs.Answer.{IsPathOf, answer_of, expected_answer, expected_type, given_answer, task_answer};
-ghost use Rattle.oer_cmd.specs.Ending.{Ends};
+ghost use Rattle.oer_cmd.specs.Ending.{Ends, IsEnd, streams};
 ghost use Rattle.oer_cmd.specs.Expected.{Expected, Meets, value};
 ghost use Rattle.oer_cmd.specs.Faults.{AppendsFront, Printed, Reports, status_of};
 ghost use Rattle.oer_cmd.specs.Run.{IsLineFor, IsLineGiven, IsLineOf, NoLineAsked, Prints};
@@ -189,6 +189,31 @@ pub fn report<E: Write>(alloc: Global, fault: Fault<'_>, errors: &mut E) -> u8
     }
 }
 
+/// Prints the line of an answer, or says why there is none. Returns the status.
+pub(crate) fn conclude<W: Write, E: Write>(
+    alloc: Global,
+    answer: Result<String, Fault<'_>>,
+    output: &mut W,
+    errors: &mut E,
+) -> u8
+    ensures status { result ≤ 2 → result ≡ status_after answer.entry }
+    ensures most { result ≤ 3 }
+    ensures quiet { 1 ≤ result → result ≤ 2 → Keeps (W.contents output.old) (W.contents output.new) }
+    ensures prints { result ≡ 0 → IsOkAnd answer.entry (λ line.
+        Appends (W.contents output.old) (W.contents output.new) (string_bytes line ++ 10 ∷ []) × Keeps (E.contents errors.old) (E.contents errors.new)) }
+    ensures exact { (expected : Expected Text) → Meets string_bytes expected answer.entry
+        → IsEnd expected result (streams (W.contents output.old) (W.contents output.new) (E.contents errors.old) (E.contents errors.new)) }
+{
+    let line = match answer {
+        Ok(line) => line,
+        Err(fault) => return report(alloc, fault, errors),
+    };
+    match print_line(line, output) {
+        Ok(()) => 0,
+        Err(fault) => report(alloc, fault, errors),
+    }
+}
+
 // What is said where `clap` takes no words: its text. Where it doesn't know one of them, this may be the
 // argument to an option, since it takes each word that begins with a hyphen for an option: a line says how
 // such an argument is given.
@@ -241,7 +266,6 @@ pub fn refused<W: Write, E: Write>(
     0
 }
 
-#[tactic(auto, using(crate::proofs::Lines::answers_words))]
 /// Runs the command: `words` are the arguments, the program's name first. Returns the status of the program.
 pub fn run<R: Read, W: Write, E: Write>(
     alloc: Global,
@@ -275,12 +299,5 @@ pub fn run<R: Read, W: Write, E: Write>(
     };
     // The laws of the notation: where the answer is a refusal there is no line, of no type that the texts name.
     what_is_spelled_is_parsed();
-    let line = match answer(alloc, options, input) {
-        Ok(line) => line,
-        Err(fault) => return report(alloc, fault, errors),
-    };
-    match print_line(line, output) {
-        Ok(()) => 0,
-        Err(fault) => report(alloc, fault, errors),
-    }
+    conclude(alloc, answer(alloc, options, input), output, errors)
 }

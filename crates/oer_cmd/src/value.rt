@@ -8,7 +8,7 @@ ghost use Rattle.oer_cmd.specs.Taking.{GivesValue, status_after};
 use crate::canon::canonical;
 use crate::fault::Fault;
 use crate::octets::{decoded, in_digits};
-use crate::show::{ascii_text, json_text, shown};
+use crate::show::{ascii_text, json_text, read_whole};
 use oer_types::Schema;
 use oer_units::{Lent, Metered, Source};
 use std::alloc::Global;
@@ -43,12 +43,12 @@ fn read_line<'a, R: Source>(
             in_digits(alloc, octets.as_slice())
         }
         Form::Json => {
-            let json = shown(alloc, schema, reader, limit)?;
-            json_text(alloc, &json)
+            let value = read_whole(alloc, schema, reader, limit)?;
+            json_text(alloc, schema, value)
         }
         Form::Ascii => {
-            let json = shown(alloc, schema, reader, limit)?;
-            ascii_text(alloc, &json)
+            let value = read_whole(alloc, schema, reader, limit)?;
+            ascii_text(alloc, schema, value)
         }
     }
 }

@@ -1,13 +1,6 @@
 pub mod Asked
-pub mod Printed
-pub mod Pushed
-pub mod Laid
-pub mod Terminal
 pub mod Shown
 pub mod TypesRead
 pub mod ToldBy
 pub mod Ends
-pub mod Counted
-pub mod Measured
-pub mod Spelt
-pub mod Celled
+pub mod Terminal

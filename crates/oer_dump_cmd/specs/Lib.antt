@@ -1,9 +1,4 @@
 pub mod Words
-pub mod Array
-pub mod Cells
-pub mod Layout
-pub mod Outgoing
-pub mod Printing
 pub mod Showing
 pub mod Ending
 pub mod Telling

@@ -11,13 +11,8 @@ use Rattle.oer_cmd.specs.Faults.{status_of}
 use Rattle.oer_cmd.specs.Run.{IsEncoding, OfOctets}
 use Rattle.oer_cmd.specs.Types.{SpelledBy, SpelledWith}
 use Rattle.oer_cmd.specs.declared.fault.Fault.{Fault}
-use Rattle.oer_rows.specs.Listing.{rows_of}
-use Rattle.oer_entries.specs.Entries.{AreOfRows}
-use Rattle.oer_entries.specs.declared.entry.Entry.{Entry}
-use Rattle.oer_dump_cmd.specs.Array.{array_text}
-use Rattle.oer_dump_cmd.specs.Layout.{AreWidths, lines_text}
+use Rattle.oer_layout.specs.Pages.{IsArray, IsLines}
 use Rattle.oer_dump_cmd.specs.Words.{texts_asked}
-use Rattle.oer_dump_cmd.specs.declared.columns.Widths.{Widths}
 use Rattle.oer_dump_cmd.specs.declared.options.Form.{Form}
 use Rattle.oer_dump_cmd.specs.declared.options.Form.TheVariants as form
 use Rattle.oer_dump_cmd.specs.declared.options.Options.{Options}
@@ -72,14 +67,10 @@ AreOneFor texts hex limit told = (T : AsnType) × SpelledBy texts T × AreOne T 
 abbrev pub AreOneWith : Texts → Option Text → ℕ → Option (List ℕ) → Type 0
 AreOneWith t hex limit told = (T : AsnType) × SpelledWith t hex told T × AreOne T hex limit told
 
--- the text, in this form, of entries that octets have
-abbrev pub IsTextOf : Form → AsnType → List ℕ → List Entry → Text → Type 0
-IsTextOf form.Json T b es text = text ≡ array_text es
-IsTextOf (form.Text width) T b es text = (w : Widths) × AreWidths width T b w × (text ≡ lines_text w es)
-
--- The text is that of entries of the octets b: one for each row that they have by the type T, and behind these at most one more.
+-- The text is that of entries of the octets b, in this form.
 abbrev pub IsPage : Form → AsnType → List ℕ → Text → Type 0
-IsPage f T b text = (es : List Entry) × AreOfRows (rows_of T b) es × IsTextOf f T b es text
+IsPage form.Json T b text = IsArray T b text
+IsPage (form.Text width) T b text = IsLines width T b text
 
 -- the type, and the octets of `--hex`, else those of the input: no more than the limit
 abbrev pub octets_at : Option Text → ℕ → Option (List ℕ) → AsnType → Expected (AsnType × List ℕ)

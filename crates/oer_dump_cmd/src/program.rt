@@ -14,23 +14,22 @@ ghost use Rattle.oer_dump_cmd.specs.Showing.{AreOne, AreOneFor, AreOneWith, Disp
 ghost use Rattle.oer_dump_cmd.specs.Telling.{judged_by, judged_octets_by};
 ghost use Rattle.oer_dump_cmd.specs.Words.{oer_dump, texts_asked};
 
-use crate::as_json::print_array;
-use crate::layout::print_lines;
 use crate::options::{Form, Options, parsed};
 use oer_cmd::type_text::{TypeText, definitions, named_type, one_type, type_text, types_on_input};
 use oer_cmd::{Fault, all_octets, judged, put_all, refused, report, spelt};
 use oer_ends_cmd::{Origin, told_by};
 use oer_entries::{Place, Stopped};
+use oer_layout::{print_array, print_lines};
 use oer_types::Schema;
 use std::alloc::{AllocError, Global};
 use std::io::{Read, Write};
 
 // What stands behind the reason: the part that was being read.
-fn part_text(alloc: Global, place: Option<Place>) -> Result<String, AllocError> {
+fn part_text(alloc: Global, place: Option<Place<'_>>) -> Result<String, AllocError> {
     let Some(place) = place else {
         return Ok(String::new(alloc));
     };
-    let Place { path, names } = place;
+    let Place { path, names, .. } = place;
     if path.is_empty() {
         return String::from_str(alloc, ", in the whole");
     }
@@ -48,7 +47,11 @@ fn line_with(alloc: Global, fault: Fault<'_>, part: &str) -> Result<String, Allo
 }
 
 // The line on the errors of octets that are rejected.
-fn reason_line(alloc: Global, fault: Fault<'_>, place: Option<Place>) -> Result<String, AllocError>
+fn reason_line(
+    alloc: Global,
+    fault: Fault<'_>,
+    place: Option<Place<'_>>,
+) -> Result<String, AllocError>
     ensures { IfOk result (λ line. IsReasonLine (text_of fault.entry) (string_bytes line)) }
 {
     let part = part_text(alloc, place)?;
@@ -57,13 +60,13 @@ fn reason_line(alloc: Global, fault: Fault<'_>, place: Option<Place>) -> Result<
 
 // Prints the entries of octets as lines, or as an array. Returns the part that was being read when they were
 // rejected, if they were.
-fn print_entries<W: Write>(
+fn print_entries<'s, W: Write>(
     alloc: Global,
-    schema: &Schema,
-    octets: &[u8],
+    schema: &'s Schema,
+    octets: &'s [u8],
     form: Form,
     output: &mut W,
-) -> Result<Option<Place>, Stopped>
+) -> Result<Option<Place<'s>>, Stopped>
     ensures { IfOk result (λ _. PrintsPage form (the_type schema.now) octets.now (W.contents output.old) (W.contents output.new)) }
 {
     match form {
@@ -73,13 +76,13 @@ fn print_entries<W: Write>(
 }
 
 // The same, with the fault where it fails.
-fn print<'a, W: Write>(
+fn print<'s, 'a, W: Write>(
     alloc: Global,
-    schema: &Schema,
-    octets: &[u8],
+    schema: &'s Schema,
+    octets: &'s [u8],
     form: Form,
     output: &mut W,
-) -> Result<Option<Place>, Fault<'a>>
+) -> Result<Option<Place<'s>>, Fault<'a>>
     ensures printed { IfOk result (λ _. PrintsPage form (the_type schema.now) octets.now (W.contents output.old) (W.contents output.new)) }
     ensures fails { IfErr result (λ fault. status_of fault ≡ 3) }
 {

@@ -12,3 +12,4 @@ pub mod Tags
 pub mod Taken
 pub mod Texts
 pub mod Within
+pub mod Spots

@@ -282,10 +282,10 @@ taken_last role offset b (f ∷ g ∷ fs) = ap (λ l. taken f ∷ l) (taken_last
 
 -- ---- ways
 
-abbrev Texts : AsnType → (List plain.Step → Option Tag) → List plain.Step → List Seen → Type 0
+abbrev pub Texts : AsnType → (List plain.Step → Option Tag) → List plain.Step → List Seen → Type 0
 Texts T tags path fs = (path_in fs ≡ path_text path) × (names_in fs ≡ names_text T tags path) × (kind_text (last_type fs) ≡ kind_at T tags path)
 
-texts_are : (T : AsnType) (tags : List plain.Step → Option Tag) (path : List plain.Step) (fs : List Seen) → AreParts T fs → map taken (drop 1 fs) ≡ path_steps path
+pub texts_are : (T : AsnType) (tags : List plain.Step → Option Tag) (path : List plain.Step) (fs : List Seen) → AreParts T fs → map taken (drop 1 fs) ≡ path_steps path
     → Tagged tags [] fs → Texts T tags path fs
 texts_are T tags path [] h is t = absurd h
 texts_are T tags path (f ∷ gs) (whole, more) is (own, later) =

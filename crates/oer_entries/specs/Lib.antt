@@ -9,3 +9,4 @@ pub mod Names
 pub mod Next
 pub mod Trails
 pub mod Ways
+pub mod Places

@@ -1,10 +1,14 @@
 //! Entries of octets: their rows, with names and values.
-ghost use Rattle.std.specs.Prelude.{◌≡◌, IfOk, OnOk};
+ghost use Rattle.std.specs.Prelude.{◌≡◌, IfOk, IfSome, OnOk, is_some};
+ghost use Rattle.std.specs.Result.{is_err};
+ghost use Rattle.oer_model.specs.AsnType.{AsnType};
 ghost use Rattle.oer_types.specs.Schema.{the_type};
 ghost use Rattle.oer_rows.specs.Listing.{rows_of};
 ghost use Rattle.oer_rows.specs.Rows.{line_in};
 ghost use Rattle.oer_entries.specs.Entries.{ArePlacedFor, AreTakenFor, TakesAtMostOne, spot_of};
 ghost use Rattle.oer_entries.specs.Makes.{Makes, Places};
+ghost use Rattle.oer_entries.specs.Places.{IsPlace, is_rejected};
+ghost use Rattle.oer_entries.specs.Trails.{IsWay};
 
 use crate::entry::{Entry, Place, What};
 use crate::meaning::{Meaning, meaning_of};
@@ -60,7 +64,7 @@ struct Making<'a, E: TakeEntry + Drop> {
     taker: E,
 }
 
-impl<E: TakeEntry + Drop> Making<'_, E> {
+impl<'a, E: TakeEntry + Drop> Making<'a, E> {
     // Goes to the part of the row, and has the entry of its octets taken.
     fn enter(&mut self, row: RowRef<'_>) -> Result<(), Stopped>
         ensures { OnOk result (Places E.takes self.old.taker self.old.way (line_in row.entry) self.new.taker self.new.way) }
@@ -72,8 +76,9 @@ impl<E: TakeEntry + Drop> Making<'_, E> {
     }
 
     // Has an entry taken of octets that show a rejection, and says of which part they are.
-    fn reject(&mut self, fault: ReadFault) -> Result<Place, Stopped>
-        ensures { IfOk result (λ _. TakesAtMostOne E.takes self.old.taker self.new.taker) }
+    fn reject(&mut self, fault: ReadFault) -> Result<Place<'a>, Stopped>
+        ensures taken { IfOk result (λ _. TakesAtMostOne E.takes self.old.taker self.new.taker) }
+        ensures place { IfOk result (λ place. (T : AsnType) → IsWay T self.old.way → IsPlace T place) }
     {
         let begin = self.way.end;
         let shown = self.way.reject(self.alloc, fault.taken)?;
@@ -92,8 +97,10 @@ impl<E: TakeEntry + Drop> Making<'_, E> {
 
     // Has an entry taken of the octets behind the rows. Returns the part that was being read when the octets
     // were rejected, if they were.
-    fn finish(&mut self, verdict: Result<Verdict, ReadFault>) -> Result<Option<Place>, Stopped>
-        ensures { IfOk result (λ _. TakesAtMostOne E.takes self.old.taker self.new.taker) }
+    fn finish(&mut self, verdict: Result<Verdict, ReadFault>) -> Result<Option<Place<'a>>, Stopped>
+        ensures taken { IfOk result (λ _. TakesAtMostOne E.takes self.old.taker self.new.taker) }
+        ensures place { IfOk result (λ found. (T : AsnType) → IsWay T self.old.way → IfSome found (IsPlace T)) }
+        ensures rejected { IfOk result (λ found. is_some found ≡ is_err verdict) }
     {
         match verdict {
             Ok(verdict) => {
@@ -119,16 +126,19 @@ impl<E: TakeEntry + Drop> TakeRow for Making<'_, E> {
 /// these one of octets that follow the value or that show a rejection, if there are any. Nothing is kept of
 /// them. It returns what took them, and the part that was being read when the octets were rejected, if they
 /// were. It fails if an allocation fails, or if an entry isn't taken; some entries may be taken then.
-pub fn each_entry<E: TakeEntry + Drop>(
+pub fn each_entry<'s, E: TakeEntry + Drop>(
     alloc: Global,
-    schema: &Schema,
-    octets: &[u8],
+    schema: &'s Schema,
+    octets: &'s [u8],
     taker: E,
-) -> Result<(E, Option<Place>), Stopped>
+) -> Result<(E, Option<Place<'s>>), Stopped>
     ensures taken { IfOk result (λ done. AreTakenFor E.takes (rows_of (the_type schema.now) octets.now) taker done.0) }
     // Each entry of a row has the path of its row, the names on it, and the kind of the type of its part.
     ensures placed { let T = the_type schema.now in
         IfOk result (λ done. ArePlacedFor E.takes T (rows_of T octets.now) taker done.0) }
+    // There is a place just where the octets are rejected, and it is that of a part of the type.
+    ensures place { IfOk result (λ done. IfSome done.1 (IsPlace (the_type schema.now))) }
+    ensures rejected { IfOk result (λ done. is_some done.1 ≡ is_rejected (the_type schema.now) octets.now) }
 {
     let mut making = Making {
         alloc,

@@ -3,6 +3,7 @@
 use crate::bits::NamedBit;
 use crate::frame::Name;
 use crate::plain::PlainJson;
+use oer_types::Shape;
 use oer_units::Tag;
 
 /// What the octets of an entry are.
@@ -27,15 +28,17 @@ pub enum What<'a> {
     Unknown,
     /// Octets after the value.
     Follows,
-    /// The octets that were taken last, by which all are rejected.
+    /// The octets that made the reader reject the input.
     Rejected,
 }
 
 /// A part, by its path and its names.
 #[derive(Drop)]
-pub struct Place {
+pub struct Place<'s> {
     pub path: String,
     pub names: String,
+    /// Its type, if that is known.
+    pub shape: Option<&'s Shape>,
 }
 
 /// Octets, and what they are.

@@ -37,7 +37,7 @@ pub(crate) struct Frame<'a> {
     pub name: Name<'a>,
     /// Its type, if that is known.
     pub shape: Option<&'a Shape>,
-    /// The value of which it says that a component may be absent.
+    /// Its DEFAULT.
     pub default: Option<&'a Value>,
     /// Whether octets of it were read.
     pub is_begun: bool,

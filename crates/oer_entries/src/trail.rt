@@ -1,5 +1,5 @@
 //! How the way leads on to other octets, and back.
-ghost use Rattle.std.specs.Prelude.{◌≡◌, ◌≤◌, ◌+◌, ◌++◌, ◌∷◌, [], List, IfOk, OnOk, drop, length, map, string_bytes, take, vec_len};
+ghost use Rattle.std.specs.Prelude.{◌≡◌, ◌≤◌, ◌+◌, ◌++◌, ◌∷◌, [], List, IfOk, OnOk, drop, length, map, option_map, string_bytes, take, vec_len};
 ghost use Rattle.oer_model.specs.AsnType.{AsnType};
 ghost use Rattle.oer_values.specs.ShapeView.{type_of};
 ghost use Rattle.oer_entries.specs.declared.frame.Frame.{Frame};
@@ -128,10 +128,15 @@ impl<'a> Way<'a> {
     }
 
     /// The part at the end of the way, with copies of its texts.
-    pub(crate) fn place(&self, alloc: Global) -> Result<Place, AllocError> {
+    pub(crate) fn place(&self, alloc: Global) -> Result<Place<'a>, AllocError>
+        ensures path { IfOk result (λ place. string_bytes place.path ≡ string_bytes self.now.path) }
+        ensures names { IfOk result (λ place. string_bytes place.names ≡ string_bytes self.now.names) }
+        ensures shape { IfOk result (λ place. option_map (λ s. type_of s.now) place.shape ≡ last_type (parts_of self.now)) }
+    {
         Ok(Place {
             path: String::from_str(alloc, self.path.as_str())?,
             names: String::from_str(alloc, self.names.as_str())?,
+            shape: self.last().shape,
         })
     }
 
@@ -213,13 +218,23 @@ impl<'a> Way<'a> {
         Ok(())
     }
 
+    // Goes on to the part that comes next, if a row was read.
+    fn go_further(&mut self, alloc: Global) -> Result<(), AllocError>
+        ensures { (T : AsnType) → IsWay T self.old → OnOk result (IsWay T self.new) }
+    {
+        if !self.is_begun {
+            return Ok(());
+        }
+        self.go_on(alloc)
+    }
+
     /// Goes on to the part that was being read when the octets were rejected, so many having been taken by
     /// then. Returns those of them that no row has.
-    pub(crate) fn reject(&mut self, alloc: Global, taken: u64) -> Result<&'a [u8], AllocError> {
+    pub(crate) fn reject(&mut self, alloc: Global, taken: u64) -> Result<&'a [u8], AllocError>
+        ensures { (T : AsnType) → IsWay T self.old → OnOk result (IsWay T self.new) }
+    {
         let begin = self.end;
-        if self.is_begun {
-            self.go_on(alloc)?;
-        }
+        self.go_further(alloc)?;
         let count = (taken as usize).saturating_sub(begin);
         Ok(octets_at(self.octets, begin, count))
     }

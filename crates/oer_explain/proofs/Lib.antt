@@ -1,2 +1,3 @@
-mod Utf8
+pub mod Utf8
+mod Rows
 mod Stopping

@@ -7,3 +7,5 @@ pub mod Hints
 pub mod Place
 pub mod Types
 pub mod Digits
+pub mod OctetsWords
+pub mod Octets

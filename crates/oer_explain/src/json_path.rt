@@ -68,7 +68,8 @@ fn last_text(alloc: Global, trouble: Trouble<'_>) -> Result<String, AllocError>
     }
 }
 
-fn at_line(alloc: Global, path: &str) -> Result<String, AllocError>
+/// The line that tells the way to a part. It fails where an allocation does.
+pub(crate) fn at_line(alloc: Global, path: &str) -> Result<String, AllocError>
     ensures { IfOk result (λ line. string_bytes line ≡ at_line path.now) }
 {
     if path.is_empty() {

@@ -94,7 +94,12 @@ fn size_text(alloc: Global, size: Size, unit: &str) -> Result<String, AllocError
     }
 }
 
-fn bounds_text(alloc: Global, low: Option<i128>, high: Option<i128>) -> Result<String, AllocError>
+/// An INTEGER within these bounds.
+pub(crate) fn bounds_text(
+    alloc: Global,
+    low: Option<i128>,
+    high: Option<i128>,
+) -> Result<String, AllocError>
     ensures { IfOk result (λ text. string_bytes text ≡ bounds_text low high) }
 {
     match (low, high) {
@@ -105,15 +110,16 @@ fn bounds_text(alloc: Global, low: Option<i128>, high: Option<i128>) -> Result<S
     }
 }
 
-fn shown_of(alloc: Global, shape: &Shape) -> Result<String, AllocError>
+/// The names of a type.
+pub(crate) fn shown_of(alloc: Global, shape: &Shape) -> Result<String, AllocError>
     ensures { IfOk result (λ text. string_bytes text ≡ names_shown (names (type_of shape.now))) }
 {
     let names = names_of(alloc, shape)?;
     names_shown(alloc, names.as_slice())
 }
 
-// Which values fit.
-fn values_wanted(alloc: Global, shape: &Shape) -> Result<String, AllocError>
+/// Which values fit.
+pub(crate) fn values_wanted(alloc: Global, shape: &Shape) -> Result<String, AllocError>
     ensures { IfOk result (λ text. string_bytes text ≡ values_wanted (type_of shape.now)) }
 {
     match shape {
@@ -170,8 +176,12 @@ fn unknown_sentence(shape: &Shape) -> &'static str
     }
 }
 
-// A sentence, with what is wanted, in a line.
-fn sentence_line(alloc: Global, sentence: &str, wanted: &str) -> Result<String, AllocError>
+/// A sentence, with what is wanted, in a line.
+pub(crate) fn sentence_line(
+    alloc: Global,
+    sentence: &str,
+    wanted: &str,
+) -> Result<String, AllocError>
     ensures { IfOk result (λ line. string_bytes line ≡ sentence_line sentence.now wanted.now) }
 {
     if wanted.is_empty() {

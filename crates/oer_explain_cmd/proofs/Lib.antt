@@ -1,2 +1,4 @@
+mod Adds
 mod Endings
 mod Noted
+mod Whys

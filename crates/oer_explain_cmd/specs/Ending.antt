@@ -14,11 +14,13 @@ use Rattle.oer_cmd.specs.declared.fault.Fault.{Fault}
 use Rattle.oer_canonical_cmd.specs.Ending as canonical
 use Rattle.oer_at_cmd.specs.Ending as at
 use Rattle.oer_ends_cmd.specs.Ending.{EndsForModules}
-use Rattle.oer_places.specs.Input.{BeginsWithDigits}
-use Rattle.oer_explain_cmd.specs.Adding.{Adds, is_held, notes_of, own_notes}
-use Rattle.oer_explain.specs.Json.{json_notes}
-use Rattle.oer_explain_cmd.specs.Holding.{holds_json, read_notes, reads_json}
-use Rattle.oer_explain_cmd.specs.Looking.{digits_hint, looks_first, reads_octets}
+use Rattle.oer_ends_cmd.specs.declared.telling.Origin.TheVariants.{Modules}
+use Rattle.oer_places.specs.Input.{IsFront}
+use Rattle.oer_explain_cmd.specs.Adding.{is_held, notes_of, own_notes}
+use Rattle.oer_explain_cmd.specs.Holding.{AddsHeld, AddsHeldFor, holds_all, reads_all_for}
+use Rattle.oer_explain_cmd.specs.Looking.{looks_first, reads_octets}
+use Rattle.oer_explain_cmd.specs.Told.{Says}
+use Rattle.oer_explain_cmd.specs.Saying.{AddsGiven, AddsIf, HintsAt, SaysBy, type_by}
 use Rattle.oer_explain_cmd.specs.declared.adding.Command.{Command}
 use Rattle.oer_explain_cmd.specs.declared.adding.Command.TheVariants.{At, Canonical, Usual}
 
@@ -62,55 +64,55 @@ pub record Does (command : Command) (words : List Text) (told : Option (List ℕ
   pub held : Option (List ℕ)
   pub stopped : ℕ
   pub ends : (middle : Option (List ℕ)) × IsDone command words told untouched held (is_held command options) status output output' errors middle
-      × Adds (notes_of stopped command options held) status middle errors'
+      × AddsGiven (notes_of stopped command options held) (SaysBy options true (type_by (texts_of options) held)) options status middle errors'
 
--- The input is looked at, which takes nothing of it, and then the command does what it does without the option. Where it rejects octets that
--- seem to be digits, the errors grow by a line that says so.
-pub record IsLookedAt (ends : Option (List ℕ) → Option (List ℕ) → Type 0) (told : Option (List ℕ)) (status : ℕ) (errors' : Option (List ℕ)) : Type 0 where
+-- The input is looked at, which takes nothing of it, and then the command does what it does without the option. It leaves the errors as in
+-- middle, and then what is said of a front of the input is added to them; nothing, if no front was seen.
+pub record IsLookedAt (ends : Option (List ℕ) → Option (List ℕ) → Type 0) (says : List ℕ → Text → Type 0) (told : Option (List ℕ)) (status : ℕ)
+    (errors' : Option (List ℕ)) : Type 0 where
   pub found : Option (List ℕ)
   pub keeps : Keeps told found
-  pub seems : Bool
-  pub seen : seems ≡ true → BeginsWithDigits told
-  pub done : (middle : Option (List ℕ)) × ends found middle × Adds (digits_hint seems) status middle errors'
+  pub front : Option (List ℕ)
+  pub seen : IfSome front (IsFront told)
+  pub done : (middle : Option (List ℕ)) × ends found middle × AddsIf says front status middle errors'
 
 -- what a command does that is looked at so
-abbrev pub Looks : Command → List Text → Option (List ℕ) → ℕ
+abbrev pub Looks : Command → List Text → Options → Option (List ℕ) → ℕ
     → Option (List ℕ) → Option (List ℕ) → Option (List ℕ) → Option (List ℕ) → Type 0
-Looks command words told status output output' errors errors' =
-    IsLookedAt (λ found middle. EndsWithout command words found ⊤ status output output' errors middle) told status errors'
+Looks command words o told status output output' errors errors' =
+    IsLookedAt (λ found middle. EndsWithout command words found ⊤ status output output' errors middle)
+    (HintsAt (SaysBy o false (type_by (texts_of o) None))) told status errors'
 
--- The words ask for these options, by which the command comes to read octets from the input.
+-- The words ask for these options, by which the command comes to read a value from the input.
 abbrev pub DoesLooking : Command → List Text → Option (List ℕ) → ℕ
     → Option (List ℕ) → Option (List ℕ) → Option (List ℕ) → Option (List ℕ) → Type 0
 DoesLooking command words told status output output' errors errors' =
-    (o : Options) × Asks words o × (looks_first command o ≡ true) × Looks command words told status output output' errors errors'
+    (o : Options) × Asks words o × (looks_first command o ≡ true) × Looks command words o told status output output' errors errors'
 
--- The input could not be read whole, where JSON is read from it, and the errors say why; no more than this limit is read.
-abbrev pub IsUnreadJson : ℕ → Option (List ℕ) → ℕ → Option (List ℕ) → Option (List ℕ) → Option (List ℕ) → Option (List ℕ) → Type 0
-IsUnreadJson limit told status output output' errors errors' =
+-- The input could not be read whole, and the errors say why; no more than this limit is read.
+abbrev pub IsNotHeld : ℕ → Option (List ℕ) → ℕ → Option (List ℕ) → Option (List ℕ) → Option (List ℕ) → Option (List ℕ) → Type 0
+IsNotHeld limit told status output output' errors errors' =
     (fault : Fault) × IsTooLong limit None told fault × Reports fault status errors errors' × Keeps output output'
 
--- What the input had left was held. What the command does on it, as without the option, leaves the errors as in middle, and then the notes are
--- added to them. Nothing is said of the place at which the JSON reader stopped.
-pub record IsHeldJson (ends : Option (List ℕ) → Option (List ℕ) → Type 0) (notes : ℕ → List ℕ → Text) (told : Option (List ℕ)) (status : ℕ)
-    (errors' : Option (List ℕ)) : Type 0 where
+-- What the input had left was held. What the command does on it, as without the option, leaves the errors as in middle, and then these notes are
+-- added to them.
+pub record IsHeldAll (ends : Option (List ℕ) → Option (List ℕ) → Type 0) (adds : List ℕ → ℕ → Option (List ℕ) → Option (List ℕ) → Type 0)
+    (told : Option (List ℕ)) (status : ℕ) (errors' : Option (List ℕ)) : Type 0 where
   pub octets : List ℕ
   pub all : IfSome told (λ xs. xs ≡ octets)
-  pub stopped : ℕ
-  pub done : (middle : Option (List ℕ)) × ends (Some octets) middle × Adds (notes stopped octets) status middle errors'
+  pub done : (middle : Option (List ℕ)) × ends (Some octets) middle × adds octets status middle errors'
 
 abbrev pub Holds : Command → List Text → Options → Option (List ℕ) → ℕ
     → Option (List ℕ) → Option (List ℕ) → Option (List ℕ) → Option (List ℕ) → Type 0
 Holds command words o told status output output' errors errors' =
-    IsUnreadJson o.limit told status output output' errors errors'
-    ⊎ IsHeldJson (λ found middle. EndsWithout command words found ⊤ status output output' errors middle) (λ at octets. read_notes at (texts_of o) octets)
-    told status errors'
+    IsNotHeld o.limit told status output output' errors errors'
+    ⊎ IsHeldAll (λ found middle. EndsWithout command words found ⊤ status output output' errors middle) (AddsHeld o.task o) told status errors'
 
--- The words ask for these options, by which the command comes to read JSON from the input: this can't be read whole, or is held.
+-- The words ask for these options, by which the command comes to read all of the input: this can't be read whole, or is held.
 abbrev pub DoesHolding : Command → List Text → Option (List ℕ) → ℕ
     → Option (List ℕ) → Option (List ℕ) → Option (List ℕ) → Option (List ℕ) → Type 0
 DoesHolding command words told status output output' errors errors' =
-    (o : Options) × Asks words o × (holds_json command o ≡ true) × Holds command words o told status output output' errors errors'
+    (o : Options) × Asks words o × (holds_all command o ≡ true) × Holds command words o told status output output' errors errors'
 
 -- What a command with `--explain` does.
 abbrev pub Explains : Command → List Text → Option (List ℕ) → Type 0 → ℕ
@@ -143,29 +145,29 @@ pub record DoesFor (command : Command) (T : AsnType) (words : List Text) (told :
   pub asks : Asks words options
   pub stopped : ℕ
   pub ends : (middle : Option (List ℕ)) × EndsWithoutFor command T words told untouched status output output' errors middle
-      × Adds (own_notes stopped command T options) status middle errors'
+      × AddsGiven (own_notes stopped command T options) (Says Modules options true T) options status middle errors'
 
-abbrev pub LooksFor : Command → AsnType → List Text → Option (List ℕ) → ℕ
+abbrev pub LooksFor : Command → AsnType → List Text → Options → Option (List ℕ) → ℕ
     → Option (List ℕ) → Option (List ℕ) → Option (List ℕ) → Option (List ℕ) → Type 0
-LooksFor command T words told status output output' errors errors' =
-    IsLookedAt (λ found middle. EndsWithoutFor command T words found ⊤ status output output' errors middle) told status errors'
+LooksFor command T words o told status output output' errors errors' =
+    IsLookedAt (λ found middle. EndsWithoutFor command T words found ⊤ status output output' errors middle) (HintsAt (Says Modules o false T)) told status errors'
 
 abbrev pub DoesLookingFor : Command → AsnType → List Text → Option (List ℕ) → ℕ
     → Option (List ℕ) → Option (List ℕ) → Option (List ℕ) → Option (List ℕ) → Type 0
 DoesLookingFor command T words told status output output' errors errors' =
-    (o : Options) × Asks words o × (reads_octets command o.task ≡ true) × LooksFor command T words told status output output' errors errors'
+    (o : Options) × Asks words o × (reads_all_for command T o.task ≡ false) × (reads_octets command o.task ≡ true)
+    × LooksFor command T words o told status output output' errors errors'
 
 abbrev pub HoldsFor : Command → AsnType → List Text → Options → Option (List ℕ) → ℕ
     → Option (List ℕ) → Option (List ℕ) → Option (List ℕ) → Option (List ℕ) → Type 0
 HoldsFor command T words o told status output output' errors errors' =
-    IsUnreadJson o.limit told status output output' errors errors'
-    ⊎ IsHeldJson (λ found middle. EndsWithoutFor command T words found ⊤ status output output' errors middle) (λ at octets. json_notes at T octets)
-    told status errors'
+    IsNotHeld o.limit told status output output' errors errors'
+    ⊎ IsHeldAll (λ found middle. EndsWithoutFor command T words found ⊤ status output output' errors middle) (AddsHeldFor o.task T o) told status errors'
 
 abbrev pub DoesHoldingFor : Command → AsnType → List Text → Option (List ℕ) → ℕ
     → Option (List ℕ) → Option (List ℕ) → Option (List ℕ) → Option (List ℕ) → Type 0
 DoesHoldingFor command T words told status output output' errors errors' =
-    (o : Options) × Asks words o × (reads_json command o.task ≡ true) × HoldsFor command T words o told status output output' errors errors'
+    (o : Options) × Asks words o × (reads_all_for command T o.task ≡ true) × HoldsFor command T words o told status output output' errors errors'
 
 abbrev pub ExplainsFor : Command → AsnType → List Text → Option (List ℕ) → Type 0 → ℕ
     → Option (List ℕ) → Option (List ℕ) → Option (List ℕ) → Option (List ℕ) → Type 0

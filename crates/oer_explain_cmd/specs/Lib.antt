@@ -1,6 +1,7 @@
 pub mod Scan
-pub mod Errors
 pub mod Adding
 pub mod Ending
 pub mod Looking
 pub mod Holding
+pub mod Told
+pub mod Saying

@@ -1,51 +1,24 @@
 //! Whether the words of a command line ask for an explanation.
 ghost use Rattle.std.specs.Prelude.{◌≡◌, map, option_map, string_bytes};
-ghost use Rattle.oer_words.specs.Flag.{flag_of};
-ghost use Rattle.oer_words.specs.Words.{result_map, words_of};
-ghost use Rattle.oer_explain_cmd.specs.Errors.{EndsAsked};
-ghost use Rattle.oer_explain_cmd.specs.Scan.{asked_by, asks_make, explain_asked, misuse_in};
+ghost use Rattle.oer_words.specs.Rejected.{EndsAsked};
+ghost use Rattle.oer_words.specs.Words.{behind, words_of};
+ghost use Rattle.oer_explain_cmd.specs.Scan.{explain_asked, misuse_in};
 
-use crate::misuse::{Misuse, tell};
-use oer_cmd::{NoStart, stop};
-use oer_words::{Flag, asks_many, asks_octets, has_flag, without_flag};
+use oer_words::{asks_for, asks_many, asks_octets, flag_asked, has_flag, reject};
 use std::alloc::Global;
 use std::io::Write;
 
-// Whether the subcommand is `make`.
-fn asks_make(words: &[String]) -> bool
-    ensures { result ≡ asks_make (map string_bytes words.now) }
+// The line that says why `--explain` is rejected beside these words, if it is.
+fn misuse_in(words: &[String]) -> Option<&'static str>
+    ensures { behind result ≡ misuse_in (map string_bytes words.now) }
 {
-    match words.get(1) {
-        Some(word) => word.as_str() == "make",
-        None => false,
-    }
-}
-
-// Why `--explain` is rejected, given once beside these words.
-fn misuse_in(words: &[String]) -> Option<Misuse>
-    ensures { result ≡ misuse_in (map string_bytes words.now) }
-{
-    if !(asks_octets(words) || asks_make(words)) {
-        return Some(Misuse::Subcommand);
+    if !(asks_octets(words) || asks_for(words, "make")) {
+        return Some("oer: --explain needs canon, show, check, part or make\n");
     }
     if asks_many(words) || has_flag(words, "--stream") {
-        return Some(Misuse::Many);
+        return Some("oer: --explain takes one message, without --lines, --framed and --stream\n");
     }
     None
-}
-
-// The words without the flag, by what became of it.
-fn asked_by(found: Flag) -> Result<Option<Vec<String>>, Misuse>
-    ensures { result_map (option_map words_of) result ≡ asked_by (flag_of found) }
-{
-    match found {
-        Flag::Missing => Ok(None),
-        Flag::Twice => Err(Misuse::Twice),
-        Flag::Once(words) => match misuse_in(&words) {
-            Some(misuse) => Err(misuse),
-            None => Ok(Some(words)),
-        },
-    }
 }
 
 /// The words without `--explain`, the program's name first, where it stands among them before a word `--`; none where it doesn't.
@@ -61,11 +34,12 @@ pub fn explain_asked<E: Write>(
     ensures { EndsAsked (option_map words_of) result (explain_asked (map string_bytes words.now))
         (E.contents errors.old) (E.contents errors.new) }
 {
-    let Ok(found) = without_flag(alloc, "--explain", words) else {
-        return Err(stop(NoStart::NoMemory, errors));
+    let words = match flag_asked(alloc, "--explain", words, errors) {
+        Ok(Some(words)) => words,
+        answer => return answer,
     };
-    match asked_by(found) {
-        Ok(words) => Ok(words),
-        Err(misuse) => Err(tell(misuse, errors)),
+    match misuse_in(&words) {
+        Some(line) => Err(reject(line, errors)),
+        None => Ok(Some(words)),
     }
 }

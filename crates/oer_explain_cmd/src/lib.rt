@@ -5,8 +5,9 @@ mod adding;
 mod asked;
 mod holding;
 mod looking;
-mod misuse;
 mod run;
+mod saying;
+mod told;
 
 pub use adding::Command;
 pub use asked::explain_asked;

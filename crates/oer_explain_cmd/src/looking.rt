@@ -1,24 +1,20 @@
-//! Octets on the input that look like hexadecimal digits.
+//! Octets on the input, which is looked at before the command runs.
 ghost use Rattle.std.specs.Prelude.{◌≡◌, IfOk, true};
 ghost use Rattle.oer_options.specs.Words.{texts_of};
-ghost use Rattle.oer_explain_cmd.specs.Adding.{Adds};
-ghost use Rattle.oer_explain_cmd.specs.Looking.{digits_hint, is_accepted, looks_first, reads_octets, takes_octets};
+ghost use Rattle.oer_explain_cmd.specs.Looking.{is_accepted, looks_first, reads_octets, takes_octets};
 
-use crate::adding::{Command, is_rejection};
-use oer_cmd::put_all;
+use crate::adding::Command;
 use oer_explain::{defines, is_type};
 use oer_options::{Options, Task};
 use std::alloc::{AllocError, Global};
-use std::io::Write;
 
-// Whether the task, without a path, reads octets from the input.
+// Whether the task reads a value from the input.
 fn takes_octets(task: Task<'_>) -> bool
     ensures { result ≡ takes_octets task.entry }
 {
     match task {
-        Task::Show { hex } | Task::ShowAscii { hex } => hex.is_none(),
-        Task::Canon { hex } | Task::Check { hex } => hex.is_none(),
-        Task::Make { .. } | Task::Part { .. } => false,
+        Task::Show { hex } | Task::ShowAscii { hex } | Task::Canon { hex } => hex.is_none(),
+        Task::Check { .. } | Task::Make { .. } | Task::Part { .. } => false,
     }
 }
 
@@ -53,21 +49,5 @@ pub fn looks_first(alloc: Global, command: Command<'_>, options: Options<'_>) ->
     match is_accepted(alloc, options) {
         Ok(is_accepted) => is_accepted,
         Err(_) => false,
-    }
-}
-
-/// Writes, in one call, that octets which a command rejected look like digits, if they do: nothing on another status than 1 and 2. A failure to
-/// write it is ignored.
-pub fn add_hint<E: Write>(status: u8, seems_digits: bool, errors: &mut E)
-    ensures { Adds (digits_hint seems_digits) status (E.contents errors.old) (E.contents errors.new) }
-{
-    if !is_rejection(status) {
-        return;
-    }
-    if seems_digits {
-        put_all(
-            b"  These octets look like hexadecimal digits. --in hex reads digits.\n",
-            errors,
-        );
     }
 }

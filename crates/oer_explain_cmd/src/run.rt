@@ -6,15 +6,16 @@ ghost use Rattle.oer_cmd.specs.Octets.{IsTooLong};
 ghost use Rattle.oer_explain_cmd.specs.Adding.{is_held};
 ghost use Rattle.oer_explain_cmd.specs.Ending.{EndsWithout, EndsWithoutFor, Explains, ExplainsFor, Holds, HoldsFor, IsHeld, Looks, LooksFor};
 
-use crate::adding::{Command, add, add_for, is_held};
-use crate::holding::{add_read, add_read_for, holds_json, reads_json};
-use crate::looking::{add_hint, looks_first, reads_octets};
+use crate::adding::{Command, is_held};
+use crate::holding::{add_held, add_held_for, holds_all, reads_all_for};
+use crate::looking::{looks_first, reads_octets};
+use crate::saying::{add_front, add_front_for, explain, explain_for};
 use oer_at_cmd::{run_at, run_at_for};
 use oer_canonical_cmd::{run_canonical, run_canonical_for};
 use oer_cmd::{Fault, all_octets, refused, report, run};
 use oer_ends_cmd::run_for;
 use oer_options::{Options, parsed};
-use oer_places::begins_with_digits;
+use oer_places::ready;
 use oer_types::Schema;
 use std::alloc::Global;
 use std::io::{BufRead, Read, Write};
@@ -58,26 +59,27 @@ fn held_types<'a, R: Read>(
     }
 }
 
-// Looks at the input, runs the command, and says so where rejected octets look like digits. The status.
+// Looks at the input, runs the command, and explains its error. The status.
 fn run_looking<R: BufRead, W: Write, E: Write>(
     alloc: Global,
     command: Command<'_>,
     words: &[String],
+    options: Options<'_>,
     input: &mut R,
     output: &mut W,
     errors: &mut E,
 ) -> u8
-    ensures looks { Looks command.entry (map string_bytes words.now) (R.remaining input.old) result
+    ensures looks { Looks command.entry (map string_bytes words.now) options.entry (R.remaining input.old) result
         (W.contents output.old) (W.contents output.new) (E.contents errors.old) (E.contents errors.new) }
     ensures statuses { result ≤ 3 }
 {
-    let seems_digits = begins_with_digits(input);
+    let front = ready(alloc, input);
     let status = run_without(alloc, command, words, input, output, errors);
-    add_hint(status, seems_digits, errors);
+    add_front(alloc, status, options, front, errors);
     status
 }
 
-// Reads JSON from the input, runs the command on it, and explains its error. The status.
+// Reads all of the input, runs the command on it, and explains its error. The status.
 fn run_holding<R: Read, W: Write, E: Write>(
     alloc: Global,
     command: Command<'_>,
@@ -97,13 +99,13 @@ fn run_holding<R: Read, W: Write, E: Write>(
     };
     let mut reader = octets.as_slice();
     let status = run_without(alloc, command, words, &mut reader, output, errors);
-    add_read(alloc, status, options, octets.as_slice(), errors);
+    add_held(alloc, status, options, octets.as_slice(), errors);
     status
 }
 
 /// Runs the command and explains its error: `words` are the arguments without `--explain`, and without the option that the command stands
-/// for, the program's name first. The text of definitions that the command reads from the input is held meanwhile, and so is JSON; where it comes
-/// to read octets from there, the input is looked at first. Returns the status of the program, which is that of the command.
+/// for, the program's name first. The text of definitions that the command reads from the input is held meanwhile, and so is JSON, and octets
+/// that it reads whole; where it comes to read others from there, the input is looked at first. Returns the status of the program, which is that of the command.
 pub fn run_explained<R: BufRead, W: Write, E: Write>(
     alloc: Global,
     command: Command<'_>,
@@ -121,9 +123,9 @@ pub fn run_explained<R: BufRead, W: Write, E: Write>(
         Err(error) => return refused(alloc, &error, output, errors),
     };
     if looks_first(alloc, command, options) {
-        return run_looking(alloc, command, words, input, output, errors);
+        return run_looking(alloc, command, words, options, input, output, errors);
     }
-    if holds_json(alloc, command, options) {
+    if holds_all(alloc, command, options) {
         return run_holding(alloc, command, words, options, input, output, errors);
     }
     let held = match held_types(alloc, command, options, input) {
@@ -132,12 +134,12 @@ pub fn run_explained<R: BufRead, W: Write, E: Write>(
     };
     let Some(octets) = held else {
         let status = run_without(alloc, command, words, input, output, errors);
-        add(alloc, status, command, options, None, errors);
+        explain(alloc, status, command, options, None, errors);
         return status;
     };
     let mut reader = octets.as_slice();
     let status = run_without(alloc, command, words, &mut reader, output, errors);
-    add(
+    explain(
         alloc,
         status,
         command,
@@ -175,21 +177,22 @@ fn run_looking_for<R: BufRead, W: Write, E: Write>(
     command: Command<'_>,
     schema: &Schema,
     words: &[String],
+    options: Options<'_>,
     input: &mut R,
     output: &mut W,
     errors: &mut E,
 ) -> u8
-    ensures looks { LooksFor command.entry (the_type schema.now) (map string_bytes words.now) (R.remaining input.old) result
+    ensures looks { LooksFor command.entry (the_type schema.now) (map string_bytes words.now) options.entry (R.remaining input.old) result
         (W.contents output.old) (W.contents output.new) (E.contents errors.old) (E.contents errors.new) }
     ensures statuses { result ≤ 3 }
 {
-    let seems_digits = begins_with_digits(input);
+    let front = ready(alloc, input);
     let status = run_without_for(alloc, command, schema, words, input, output, errors);
-    add_hint(status, seems_digits, errors);
+    add_front_for(alloc, status, schema, options, front, errors);
     status
 }
 
-// Reads JSON from the input, and runs the command on it by a type of modules, as `run_holding` does. The status.
+// Reads all of the input, and runs the command on it by a type of modules, as `run_holding` does. The status.
 fn run_holding_for<R: Read, W: Write, E: Write>(
     alloc: Global,
     command: Command<'_>,
@@ -210,7 +213,7 @@ fn run_holding_for<R: Read, W: Write, E: Write>(
     };
     let mut reader = octets.as_slice();
     let status = run_without_for(alloc, command, schema, words, &mut reader, output, errors);
-    add_read_for(alloc, status, schema, octets.as_slice(), errors);
+    add_held_for(alloc, status, schema, options, octets.as_slice(), errors);
     status
 }
 
@@ -233,15 +236,17 @@ pub fn run_explained_for<R: BufRead, W: Write, E: Write>(
         Ok(options) => options,
         Err(error) => return refused(alloc, &error, output, errors),
     };
-    if reads_octets(command, options.task) {
-        return run_looking_for(alloc, command, schema, words, input, output, errors);
-    }
-    if reads_json(command, options.task) {
+    if reads_all_for(command, schema, options.task) {
         return run_holding_for(
             alloc, command, schema, words, options, input, output, errors,
         );
     }
+    if reads_octets(command, options.task) {
+        return run_looking_for(
+            alloc, command, schema, words, options, input, output, errors,
+        );
+    }
     let status = run_without_for(alloc, command, schema, words, input, output, errors);
-    add_for(alloc, status, command, schema, options, errors);
+    explain_for(alloc, status, command, schema, options, errors);
     status
 }

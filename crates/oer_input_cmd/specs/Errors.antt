@@ -1,9 +1,9 @@
 -- Why no octets are taken, the status of the program then, and the line that tells of it.
-use Rattle.std.specs.Prelude.{◌≡◌, ◌≤◌, ◌⊎◌, ℕ, List, [], ◌∷◌, ◌++◌, length, take, Option, codes, Result, Ok, Err}
-use Rattle.std.specs.Io.KnownBytes.{Appends}
+use Rattle.std.specs.Prelude.{◌≡◌, ◌⊎◌, ℕ, List, [], ◌∷◌, ◌++◌, Option, codes, Result, Ok, Err}
 use Rattle.oer_input.specs.Faults.{text_of as fault_text}
 use Rattle.oer_input.specs.declared.fault.Fault.{Fault}
 use Rattle.oer_input.specs.declared.fault.Fault.TheVariants as fault
+use Rattle.oer_words.specs.Rejected.{AppendsFront}
 use Rattle.oer_input_cmd.specs.declared.error.Error.{Error}
 use Rattle.oer_input_cmd.specs.declared.error.Error.TheVariants.{NoValue, Twice, Coding, Command, Hex, Lines, Framed, Text, Input, Memory}
 
@@ -46,10 +46,6 @@ text_of Memory = codes "out of memory"
 -- the line on standard error, with its line feed
 abbrev pub line_of : Error → List ℕ
 line_of e = codes "oer: " ++ text_of e ++ 10 ∷ []
-
--- known bytes grew by a front of the text, which may be all of it or nothing
-abbrev pub AppendsFront : Option (List ℕ) → Option (List ℕ) → List ℕ → Type 0
-AppendsFront old new text = (n : ℕ) × (n ≤ length text) × Appends old new (take n text)
 
 -- the line that tells of an error by this status: its own, or where memory for that was refused, the line of that
 abbrev pub IsLineFor : Error → ℕ → List ℕ → Type 0

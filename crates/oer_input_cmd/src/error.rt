@@ -1,10 +1,10 @@
 //! Why no octets are taken.
 ghost use Rattle.std.specs.Prelude.{◌≡◌, ◌≤◌, IfOk, Some, string_bytes};
-ghost use Rattle.oer_input_cmd.specs.Errors.{AppendsFront, Reports, error_by, line_of, status_of, text_of};
+ghost use Rattle.oer_input_cmd.specs.Errors.{Reports, error_by, line_of, status_of, text_of};
 ghost use Rattle.oer_input_cmd.specs.declared.error.Error.TheVariants as raw;
 
 use oer_input::Fault;
-use oer_units::Metered;
+use oer_words::put;
 use std::alloc::{AllocError, Global};
 use std::fmt;
 use std::io::Write;
@@ -96,12 +96,6 @@ fn error_line(alloc: Global, error: Error) -> Result<String, AllocError>
     ensures { IfOk result (λ line. string_bytes line ≡ line_of error) }
 {
     format!(in alloc; "oer: {error}\n")
-}
-
-fn put<E: Write>(line: &str, errors: &mut E)
-    ensures { AppendsFront (E.contents errors.old) (E.contents errors.new) line.now }
-{
-    let _is_whole = Metered::new(errors).put(line.as_bytes()).is_ok();
 }
 
 /// Writes the line of the error in one call, and returns the status of the program. If memory for the line is refused, it

@@ -1,38 +1,28 @@
 -- The words of a command line, with `--lines` or `--stream` taken out.
-use Rattle.std.specs.Prelude.{List, not, Option, Some, None, Result, Ok, Err, codes, if◌then◌else◌}
+use Rattle.std.specs.Prelude.{List, not, Option, Some, None, Result, codes, if◌then◌else◌}
 use Rattle.clap.specs.Words.{Text}
-use Rattle.oer_words.specs.Flag.{Flag, missing, once, twice, without_flag}
+use Rattle.oer_words.specs.Flag.{flag_asked}
+use Rattle.oer_words.specs.Rejected.{line_of, unless_misused}
 use Rattle.oer_words.specs.Words.{asks_many, asks_octets}
-use Rattle.oer_lines_cmd.specs.declared.misuse.Misuse.{Misuse}
-use Rattle.oer_lines_cmd.specs.declared.misuse.Misuse.TheVariants.{Subcommand, Twice, Ways}
+use Rattle.oer_lines_cmd.specs.Errors.{misuse_line}
+use Rattle.oer_lines_cmd.specs.declared.misuse.Misuse.TheVariants.{Subcommand}
 use Rattle.oer_lines_cmd.specs.declared.way.Word.TheVariants.{Lines, Stream}
 
-abbrev pub unless_misused : Option Misuse → List Text → Result (Option (List Text)) Misuse
-unless_misused None ws = Ok (Some ws)
-unless_misused (Some m) ws = Err m
+-- the line that says why `--lines` is rejected beside these words
+abbrev pub lines_misuse : List Text → Option Text
+lines_misuse ws = if asks_octets ws then None else Some (misuse_line (Subcommand Lines))
 
--- why `--lines` is rejected, given once beside these words
-abbrev pub lines_misuse : List Text → Option Misuse
-lines_misuse ws = if asks_octets ws then None else Some (Subcommand Lines)
+-- The words without `--lines`, the program's name first; none where it isn't among them; or the line that says why it is rejected.
+abbrev pub lines_asked : List Text → Result (Option (List Text)) Text
+lines_asked ws = unless_misused lines_misuse (flag_asked (codes "--lines") ws)
 
-abbrev pub lines_by : Flag → Result (Option (List Text)) Misuse
-lines_by missing = Ok None
-lines_by twice = Err (Twice Lines)
-lines_by (once ws) = unless_misused (lines_misuse ws) ws
+-- the line that says why `--stream` is rejected beside these words
+abbrev pub stream_misuse : List Text → Option Text
+stream_misuse ws =
+    if asks_many ws then Some (line_of (codes "one of --stream, --framed and --lines"))
+    else if not (asks_octets ws) then Some (misuse_line (Subcommand Stream))
+    else None
 
--- The words without `--lines`, the program's name first; none where it isn't among them.
-abbrev pub lines_asked : List Text → Result (Option (List Text)) Misuse
-lines_asked ws = lines_by (without_flag (codes "--lines") ws)
-
--- why `--stream` is rejected, given once beside these words
-abbrev pub stream_misuse : List Text → Option Misuse
-stream_misuse ws = if asks_many ws then Some Ways else if not (asks_octets ws) then Some (Subcommand Stream) else None
-
-abbrev pub stream_by : Flag → Result (Option (List Text)) Misuse
-stream_by missing = Ok None
-stream_by twice = Err (Twice Stream)
-stream_by (once ws) = unless_misused (stream_misuse ws) ws
-
--- The words without `--stream`, the program's name first; none where it isn't among them.
-abbrev pub stream_asked : List Text → Result (Option (List Text)) Misuse
-stream_asked ws = stream_by (without_flag (codes "--stream") ws)
+-- The same with `--stream`.
+abbrev pub stream_asked : List Text → Result (Option (List Text)) Text
+stream_asked ws = unless_misused stream_misuse (flag_asked (codes "--stream") ws)

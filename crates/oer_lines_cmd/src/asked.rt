@@ -1,46 +1,23 @@
 //! Whether the words of a command line ask for a message on each line, or for messages right behind one another.
 ghost use Rattle.std.specs.Prelude.{◌≡◌, map, option_map, string_bytes};
-ghost use Rattle.oer_words.specs.Flag.{flag_of};
-ghost use Rattle.oer_words.specs.Words.{result_map, words_of};
-ghost use Rattle.oer_lines_cmd.specs.Errors.{EndsAsked};
-ghost use Rattle.oer_lines_cmd.specs.Scan.{lines_asked, lines_by, lines_misuse, stream_asked, stream_by, stream_misuse, unless_misused};
+ghost use Rattle.oer_words.specs.Rejected.{EndsAsked};
+ghost use Rattle.oer_words.specs.Words.{behind, words_of};
+ghost use Rattle.oer_lines_cmd.specs.Scan.{lines_asked, lines_misuse, stream_asked, stream_misuse};
 
-use crate::misuse::{Misuse, tell};
+use crate::misuse::Misuse;
 use crate::way::Word;
-use oer_cmd::{NoStart, stop};
-use oer_words::{Flag, asks_many, asks_octets, without_flag};
+use oer_words::{asks_many, asks_octets, flag_asked, reject};
 use std::alloc::Global;
 use std::io::Write;
 
-// These words, unless an option among them is rejected.
-fn unless_misused(misuse: Option<Misuse>, words: Vec<String>) -> Result<Option<Vec<String>>, Misuse>
-    ensures { result_map (option_map words_of) result ≡ unless_misused misuse (words_of words) }
-{
-    match misuse {
-        Some(misuse) => Err(misuse),
-        None => Ok(Some(words)),
-    }
-}
-
-// Why `--lines` is rejected, given once beside these words.
-fn lines_misuse(words: &[String]) -> Option<Misuse>
-    ensures { result ≡ lines_misuse (map string_bytes words.now) }
+// The line that says why `--lines` is rejected beside these words, if it is.
+fn lines_misuse(words: &[String]) -> Option<&'static str>
+    ensures { behind result ≡ lines_misuse (map string_bytes words.now) }
 {
     if asks_octets(words) {
         return None;
     }
-    Some(Misuse::Subcommand(Word::Lines))
-}
-
-// The words without `--lines`, by what became of it.
-fn lines_by(found: Flag) -> Result<Option<Vec<String>>, Misuse>
-    ensures { result_map (option_map words_of) result ≡ lines_by (flag_of found) }
-{
-    match found {
-        Flag::Missing => Ok(None),
-        Flag::Twice => Err(Misuse::Twice(Word::Lines)),
-        Flag::Once(words) => unless_misused(lines_misuse(&words), words),
-    }
+    Some(Misuse::Subcommand(Word::Lines).line())
 }
 
 /// The words without `--lines`, the program's name first, where it stands among them before a word `--`; none where it doesn't.
@@ -56,37 +33,27 @@ pub fn lines_asked<E: Write>(
     ensures { EndsAsked (option_map words_of) result (lines_asked (map string_bytes words.now))
         (E.contents errors.old) (E.contents errors.new) }
 {
-    let Ok(found) = without_flag(alloc, "--lines", words) else {
-        return Err(stop(NoStart::NoMemory, errors));
+    let words = match flag_asked(alloc, "--lines", words, errors) {
+        Ok(Some(words)) => words,
+        answer => return answer,
     };
-    match lines_by(found) {
-        Ok(words) => Ok(words),
-        Err(misuse) => Err(tell(misuse, errors)),
+    match lines_misuse(&words) {
+        Some(line) => Err(reject(line, errors)),
+        None => Ok(Some(words)),
     }
 }
 
-// Why `--stream` is rejected, given once beside these words.
-fn stream_misuse(words: &[String]) -> Option<Misuse>
-    ensures { result ≡ stream_misuse (map string_bytes words.now) }
+// The line that says why `--stream` is rejected beside these words, if it is.
+fn stream_misuse(words: &[String]) -> Option<&'static str>
+    ensures { behind result ≡ stream_misuse (map string_bytes words.now) }
 {
     if asks_many(words) {
-        return Some(Misuse::Ways);
+        return Some("oer: one of --stream, --framed and --lines\n");
     }
     if !asks_octets(words) {
-        return Some(Misuse::Subcommand(Word::Stream));
+        return Some(Misuse::Subcommand(Word::Stream).line());
     }
     None
-}
-
-// The words without `--stream`, by what became of it.
-fn stream_by(found: Flag) -> Result<Option<Vec<String>>, Misuse>
-    ensures { result_map (option_map words_of) result ≡ stream_by (flag_of found) }
-{
-    match found {
-        Flag::Missing => Ok(None),
-        Flag::Twice => Err(Misuse::Twice(Word::Stream)),
-        Flag::Once(words) => unless_misused(stream_misuse(&words), words),
-    }
 }
 
 /// The words without `--stream`, the program's name first, where it stands among them before a word `--`; none where it doesn't.
@@ -102,11 +69,12 @@ pub fn stream_asked<E: Write>(
     ensures { EndsAsked (option_map words_of) result (stream_asked (map string_bytes words.now))
         (E.contents errors.old) (E.contents errors.new) }
 {
-    let Ok(found) = without_flag(alloc, "--stream", words) else {
-        return Err(stop(NoStart::NoMemory, errors));
+    let words = match flag_asked(alloc, "--stream", words, errors) {
+        Ok(Some(words)) => words,
+        answer => return answer,
     };
-    match stream_by(found) {
-        Ok(words) => Ok(words),
-        Err(misuse) => Err(tell(misuse, errors)),
+    match stream_misuse(&words) {
+        Some(line) => Err(reject(line, errors)),
+        None => Ok(Some(words)),
     }
 }

@@ -1,15 +1,12 @@
 //! Whether the words of a command line ask for messages behind their lengths.
 ghost use Rattle.std.specs.Prelude.{◌≡◌, map, option_map, string_bytes};
-ghost use Rattle.oer_words.specs.Setting.{setting_of};
-ghost use Rattle.oer_words.specs.Words.{result_map};
-ghost use Rattle.oer_lines_cmd.specs.Asking.{by_width, framed_asked, framed_by, framed_of, width_of};
-ghost use Rattle.oer_lines_cmd.specs.Errors.{EndsAsked};
+ghost use Rattle.oer_words.specs.Rejected.{EndsAsked, with_line};
+ghost use Rattle.oer_lines_cmd.specs.Asking.{by_width, framed_asked, framed_of, width_of};
 
-use crate::misuse::{Misuse, tell};
+use crate::misuse::Misuse;
 use crate::way::Word;
-use oer_cmd::{NoStart, stop};
 use oer_units::Width;
-use oer_words::{Setting, asks_octets, has_flag, without_option};
+use oer_words::{Given, asks_octets, has_flag, option_asked, reject};
 use std::alloc::Global;
 use std::io::Write;
 
@@ -41,35 +38,20 @@ fn width_of(value: &str) -> Option<Width>
     None
 }
 
-// How many octets a length has, by this value of `--framed` beside these words.
-fn width_by(words: &[String], value: &str) -> Result<Width, Misuse>
-    ensures { result ≡ by_width (map string_bytes words.now) (width_of value.now) }
+// How many octets a length has, by this value of `--framed` beside these words; or the line that says why it is rejected.
+fn width_by(words: &[String], value: &str) -> Result<Width, &'static str>
+    ensures { with_line result ≡ by_width (map string_bytes words.now) (width_of value.now) }
 {
     let Some(width) = width_of(value) else {
-        return Err(Misuse::Size);
+        return Err("oer: --framed takes 1, 2, 4 or 8\n");
     };
     if has_flag(words, "--lines") {
-        return Err(Misuse::Both);
+        return Err("oer: one of --framed and --lines\n");
     }
     if !asks_octets(words) {
-        return Err(Misuse::Subcommand(Word::Framed));
+        return Err(Misuse::Subcommand(Word::Framed).line());
     }
     Ok(width)
-}
-
-// What `--framed` asks for, by what became of it.
-fn framed_by(found: Setting<'_>) -> Result<Option<Framed>, Misuse>
-    ensures { result_map (option_map framed_of) result ≡ framed_by (setting_of found.entry) }
-{
-    match found {
-        Setting::Missing => Ok(None),
-        Setting::NoValue => Err(Misuse::NoValue),
-        Setting::Twice => Err(Misuse::Twice(Word::Framed)),
-        Setting::Once { value, words } => match width_by(&words, value) {
-            Ok(width) => Ok(Some(Framed { width, words })),
-            Err(misuse) => Err(misuse),
-        },
-    }
 }
 
 /// What `--framed` asks for, where it stands among the words before a word `--`; none where it doesn't.
@@ -86,11 +68,13 @@ pub fn framed_asked<E: Write>(
     ensures { EndsAsked (option_map framed_of) result (framed_asked (map string_bytes words.now))
         (E.contents errors.old) (E.contents errors.new) }
 {
-    let Ok(found) = without_option(alloc, "--framed", words) else {
-        return Err(stop(NoStart::NoMemory, errors));
+    let Given { value, words } = match option_asked(alloc, "--framed", words, errors) {
+        Ok(Some(given)) => given,
+        Ok(None) => return Ok(None),
+        Err(status) => return Err(status),
     };
-    match framed_by(found) {
-        Ok(framed) => Ok(framed),
-        Err(misuse) => Err(tell(misuse, errors)),
+    match width_by(&words, value) {
+        Ok(width) => Ok(Some(Framed { width, words })),
+        Err(line) => Err(reject(line, errors)),
     }
 }

@@ -1,13 +1,15 @@
 -- What the options of modules ask for.
 use Rattle.std.specs.Prelude.{ℕ, suc, List, [], ◌∷◌, ◌&&◌, nat_lt, Bool, true, false, not, ⊤, Option, Some, None, Ok, Err, codes, if◌then◌else◌}
 use Rattle.std.specs.Str.{bytes_eq}
-use Rattle.oer_module_options.specs.Errors.{Error, Read, ◌>>=◌, nesting, no_name, no_name_of_types, no_nesting, no_source, no_value, one_text, one_type, stray, twice, two_inputs}
+use Rattle.oer_module_options.specs.Errors.{Error, Read, ◌>>=◌, nesting, no_name, no_name_of_types, no_names, no_nesting, no_source, no_value, one_name, one_text, one_type, stray, twice, two_inputs, two_names}
 use Rattle.oer_module_options.specs.Nesting.{nesting_of}
 use Rattle.oer_module_options.specs.Scan.{Item, Scan, place, word}
 use Rattle.oer_module_options.specs.Words.{Text}
 use Rattle.oer_module_options.specs.declared.request.TypeAsked.{TypeAsked as RawTypeAsked}
 use Rattle.oer_module_options.specs.declared.request.Listing.{Listing as RawListing}
 use Rattle.oer_module_options.specs.declared.request.Listing.TheVariants as raw
+use Rattle.oer_module_options.specs.declared.scan.Flag.{Flag}
+use Rattle.oer_module_options.specs.declared.scan.Flag.TheVariants as flag
 use Rattle.oer_module_options.specs.declared.scan.Next.{Next}
 use Rattle.oer_module_options.specs.declared.scan.Next.TheVariants as next
 use Rattle.oer_module_options.specs.declared.words.Taken.{Taken}
@@ -75,16 +77,18 @@ asked s =
 
 -- ---- `oer types`
 
--- the type that a Name has among definitions in our notation, or in modules; or all types of modules
+-- the type that a Name has among definitions in our notation, or in modules; or all types of modules, or their Names alone
 pub data Listing : Type 0 where
   defined : Text → Text → Listing
   one : Text → ℕ → Listing
   all : ℕ → Listing
+  all_names : ℕ → Listing
 
 abbrev pub listing_of : RawListing → Listing
 listing_of (raw.Defined types name) = defined types.now name.now
 listing_of (raw.One name n) = one name.now n
 listing_of (raw.All n) = all n
+listing_of (raw.Names n) = all_names n
 
 -- No word stays.
 abbrev pub all_taken : List Item → Read ⊤
@@ -97,26 +101,38 @@ one_of_both true None = Ok tt
 one_of_both false (Some t) = Ok tt
 one_of_both _ _ = Err one_text
 
-abbrev pub of_name : Option Text → ℕ → Listing
-of_name None k = all k
-of_name (Some n) k = one n k
+-- whether the flag is given
+abbrev pub flagged : Flag → Read Bool
+flagged flag.Missing = Ok false
+flagged flag.Once = Ok true
+flagged flag.Twice = Err two_names
 
-abbrev pub of_modules : Scan → Option Text → ℕ → Read Listing
-of_modules s name k = free_input true s.modules >>= λ _. Ok (of_name name k)
+-- of modules, with the flag or without it
+abbrev pub of_name : Bool → Option Text → ℕ → Read Listing
+of_name false None k = Ok (all k)
+of_name false (Some n) k = Ok (one n k)
+of_name true None k = Ok (all_names k)
+of_name true (Some n) k = Err one_name
+
+abbrev pub of_modules : Scan → Bool → Option Text → ℕ → Read Listing
+of_modules s b name k = free_input true s.modules >>= λ _. of_name b name k
 
 abbrev pub without_nesting : Text → Text → List Text → Read Listing
 without_nesting t n [] = Ok (defined t n)
 without_nesting t n (k ∷ ks) = Err no_nesting
 
-abbrev pub of_types : Scan → Text → Option Text → Read Listing
-of_types s t None = Err no_name_of_types
-of_types s t (Some n) = without_nesting t n s.nestings
+abbrev pub with_name : Scan → Text → Option Text → Read Listing
+with_name s t None = Err no_name_of_types
+with_name s t (Some n) = without_nesting t n s.nestings
 
-abbrev pub of_either : Scan → Option Text → Option Text → ℕ → Read Listing
-of_either s None name k = of_modules s name k
-of_either s (Some t) name k = of_types s t name
+abbrev pub of_types : Scan → Text → Bool → Option Text → Read Listing
+of_types s t b name = if b then Err no_names else with_name s t name
+
+abbrev pub of_either : Scan → Option Text → Bool → Option Text → ℕ → Read Listing
+of_either s None b name k = of_modules s b name k
+of_either s (Some t) b name k = of_types s t b name
 
 unfoldable pub listing_asked : Scan → Read Listing
 listing_asked s =
     all_taken s.kept >>= λ _. whole s.next >>= λ _. one_value taken.Types s.types >>= λ t. one_of_both s.has_modules t
-    >>= λ _. one_value taken.Name s.names >>= λ n. nesting_in s.nestings >>= of_either s t n
+    >>= λ _. one_value taken.Name s.names >>= λ n. nesting_in s.nestings >>= λ k. flagged s.flag >>= λ b. of_either s t b n k

@@ -17,6 +17,9 @@ pub data Error : Type 0 where
   one_text : Error
   no_name_of_types : Error
   no_nesting : Error
+  two_names : Error
+  one_name : Error
+  no_names : Error
 
 abbrev pub error_of : RawError → Error
 error_of (raw.NoValue t) = no_value t
@@ -30,6 +33,9 @@ error_of (raw.Stray w) = stray w.now
 error_of raw.OneText = one_text
 error_of raw.NoNameOfTypes = no_name_of_types
 error_of raw.NoNesting = no_nesting
+error_of raw.TwoNames = two_names
+error_of raw.OneName = one_name
+error_of raw.NoNames = no_names
 
 -- what is said of it
 abbrev pub text_of : Error → Text
@@ -44,6 +50,9 @@ text_of (stray w) = codes "types doesn't take " ++ w
 text_of one_text = codes "one of --modules and --types"
 text_of no_name_of_types = codes "--types needs --name"
 text_of no_nesting = codes "--nesting needs --modules"
+text_of two_names = codes "--names is given twice"
+text_of one_name = codes "one of --name and --names"
+text_of no_names = codes "--names needs --modules"
 
 abbrev pub Read : Type 0 → Type 0
 Read A = Result A Error

@@ -2,7 +2,7 @@
 use Rattle.std.specs.Prelude.{List, [], ◌∷◌, ◌++◌, map, Bool, true, false, Option, Some, None, codes, if◌then◌else◌}
 use Rattle.std.specs.Borrow.{Bor}
 use Rattle.std.specs.Str.{bytes_eq}
-use Rattle.oer_module_options.specs.Words.{Text, key_of, name_in, value_in}
+use Rattle.oer_module_options.specs.Words.{Text, is_flag, key_of, name_in, value_in}
 use Rattle.oer_module_options.specs.declared.words.Command.{Command}
 use Rattle.oer_module_options.specs.declared.words.Key.{Key}
 use Rattle.oer_module_options.specs.declared.words.Key.TheVariants as key
@@ -10,6 +10,8 @@ use Rattle.oer_module_options.specs.declared.words.Kept.{Kept}
 use Rattle.oer_module_options.specs.declared.words.Kept.TheVariants as kept
 use Rattle.oer_module_options.specs.declared.words.Taken.{Taken}
 use Rattle.oer_module_options.specs.declared.words.Taken.TheVariants as taken
+use Rattle.oer_module_options.specs.declared.scan.Flag.{Flag}
+use Rattle.oer_module_options.specs.declared.scan.Flag.TheVariants as flag
 use Rattle.oer_module_options.specs.declared.scan.Item.{Item as RawItem}
 use Rattle.oer_module_options.specs.declared.scan.Item.TheVariants as item
 use Rattle.oer_module_options.specs.declared.scan.Next.{Next}
@@ -28,6 +30,7 @@ pub record Scan : Type 0 where
   pub nestings : List Text
   pub types : List Text
   pub kept : List Item
+  pub flag : Flag
   pub has_modules : Bool
   pub has_type : Bool
   pub has_source : Bool
@@ -47,6 +50,7 @@ scan_of s = record {
   nestings = map text_of s.nestings.items;
   types = map text_of s.types.items;
   kept = map item_of s.kept.items;
+  flag = s.flag;
   has_modules = s.has_modules;
   has_type = s.has_type;
   has_source = s.has_source;
@@ -61,6 +65,7 @@ start = record {
   nestings = [];
   types = [];
   kept = [];
+  flag = flag.Missing;
   has_modules = false;
   has_type = false;
   has_source = false;
@@ -91,6 +96,15 @@ note kept.Type s = record s { has_type = true }
 note kept.Source s = record s { has_source = true }
 note kept.Other s = s
 
+-- how often the flag is given, with once more
+abbrev pub once_more : Flag → Flag
+once_more flag.Missing = flag.Once
+once_more flag.Once = flag.Twice
+once_more flag.Twice = flag.Twice
+
+abbrev pub count : Scan → Scan
+count s = record s { flag = once_more s.flag }
+
 abbrev pub taken_option : Taken → Option Text → Scan → Scan
 taken_option t (Some v) s = add t v (mark t s)
 taken_option t None s = record (mark t s) { next = next.Value t }
@@ -109,6 +123,7 @@ word_of (Some (key.Kept k)) w v s = kept_option k w v s
 abbrev pub at_option : Command → Text → Scan → Scan
 at_option c w s =
     if bytes_eq w (codes "--") then keep w (record s { next = next.Rest })
+    else if is_flag c w then count s
     else word_of (key_of c (name_in w)) w (value_in w) s
 
 abbrev pub at_next : Next → Command → Text → Scan → Scan

@@ -1,5 +1,5 @@
 -- What a word is where an option may stand.
-use Rattle.std.specs.Prelude.{ℕ, ◌==◌, List, [], ◌∷◌, Bool, ◌||◌, Option, Some, None, codes, option_map, if◌then◌else◌}
+use Rattle.std.specs.Prelude.{ℕ, ◌==◌, List, [], ◌∷◌, Bool, false, ◌||◌, Option, Some, None, codes, option_map, if◌then◌else◌}
 use Rattle.std.specs.Borrow.{Bor}
 use Rattle.std.specs.Str.{bytes_eq}
 use Rattle.oer_module_options.specs.declared.words.Command.{Command}
@@ -53,6 +53,11 @@ key_of c n =
     else if bytes_eq n (codes "--name") then Some (key.Taken taken.Name)
     else if bytes_eq n (codes "--nesting") then Some (key.Taken taken.Nesting)
     else own_key c n
+
+-- the flag that asks for Names alone, which only `oer types` has
+abbrev pub is_flag : Command → Text → Bool
+is_flag command.Types w = bytes_eq w (codes "--names")
+is_flag _ w = false
 
 -- the name of an option that is taken out
 abbrev pub option_text : Taken → Text

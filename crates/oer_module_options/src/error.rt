@@ -30,6 +30,12 @@ pub enum Error<'a> {
     NoNameOfTypes,
     /// `oer types` with `--types` and `--nesting`.
     NoNesting,
+    /// `--names` twice.
+    TwoNames,
+    /// `--names` with `--name`.
+    OneName,
+    /// `oer types` with `--types` and `--names`.
+    NoNames,
 }
 
 impl fmt::Display for Error<'_> {
@@ -48,6 +54,9 @@ impl fmt::Display for Error<'_> {
             Error::OneText => f.write_str("one of --modules and --types"),
             Error::NoNameOfTypes => f.write_str("--types needs --name"),
             Error::NoNesting => f.write_str("--nesting needs --modules"),
+            Error::TwoNames => f.write_str("--names is given twice"),
+            Error::OneName => f.write_str("one of --name and --names"),
+            Error::NoNames => f.write_str("--names needs --modules"),
         }
     }
 }

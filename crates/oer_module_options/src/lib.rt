@@ -10,5 +10,5 @@ mod words;
 
 pub use error::Error;
 pub use request::{Listing, TypeAsked, asked, is_input, listing_asked};
-pub use scan::{Item, Next, Scan, scanned};
+pub use scan::{Flag, Item, Next, Scan, scanned};
 pub use words::{Command, Taken};

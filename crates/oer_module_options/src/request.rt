@@ -1,13 +1,13 @@
 //! What the options of modules ask for.
 ghost use Rattle.std.specs.Prelude.{◌≡◌, map};
-ghost use Rattle.oer_module_options.specs.Asked.{all_taken, asked, asked_of, free_input, inputs, is_input, name_in, nesting_by, nesting_in, no_type, of_modules, of_types, one_of_both, one_value, listing_asked, listing_of, whole};
+ghost use Rattle.oer_module_options.specs.Asked.{all_taken, asked, asked_of, flagged, free_input, inputs, is_input, name_in, nesting_by, nesting_in, no_type, of_modules, of_name, of_types, one_of_both, one_value, listing_asked, listing_of, whole};
 ghost use Rattle.oer_module_options.specs.Errors.{seen};
 ghost use Rattle.oer_module_options.specs.Scan.{item_of, scan_of, text_of};
 ghost use Rattle.oer_module_options.specs.Words.{behind};
 
 use crate::error::Error;
 use crate::nesting::nesting_of;
-use crate::scan::{Item, Next, Scan};
+use crate::scan::{Flag, Item, Next, Scan};
 use crate::words::Taken;
 
 /// The type that is asked for.
@@ -138,6 +138,8 @@ pub enum Listing<'a> {
     One { name: &'a str, nesting: u8 },
     /// All types of modules.
     All { nesting: u8 },
+    /// The Names of all types of modules.
+    Names { nesting: u8 },
 }
 
 // No word stays.
@@ -161,13 +163,28 @@ fn one_of_both<'a>(has_modules: bool, types: Option<&str>) -> Result<(), Error<'
     Ok(())
 }
 
+// Whether the flag is given.
+fn flagged<'a>(flag: Flag) -> Result<bool, Error<'a>>
+    ensures { seen (λ b. b) result ≡ flagged flag }
+{
+    match flag {
+        Flag::Missing => Ok(false),
+        Flag::Once => Ok(true),
+        Flag::Twice => Err(Error::TwoNames),
+    }
+}
+
 fn of_types<'a>(
     scan: &Scan<'a>,
     types: &'a str,
+    flagged: bool,
     name: Option<&'a str>,
 ) -> Result<Listing<'a>, Error<'a>>
-    ensures { seen listing_of result ≡ of_types (scan_of scan.now) types.entry.now (behind name.entry) }
+    ensures { seen listing_of result ≡ of_types (scan_of scan.now) types.entry.now flagged (behind name.entry) }
 {
+    if flagged {
+        return Err(Error::NoNames);
+    }
     let Some(name) = name else {
         return Err(Error::NoNameOfTypes);
     };
@@ -177,18 +194,27 @@ fn of_types<'a>(
     Ok(Listing::Defined { types, name })
 }
 
+fn of_name<'a>(flagged: bool, name: Option<&'a str>, nesting: u8) -> Result<Listing<'a>, Error<'a>>
+    ensures { seen listing_of result ≡ of_name flagged (behind name.entry) nesting }
+{
+    match name {
+        Some(_) if flagged => Err(Error::OneName),
+        Some(name) => Ok(Listing::One { name, nesting }),
+        None if flagged => Ok(Listing::Names { nesting }),
+        None => Ok(Listing::All { nesting }),
+    }
+}
+
 fn of_modules<'a>(
     scan: &Scan<'a>,
+    flagged: bool,
     name: Option<&'a str>,
     nesting: u8,
 ) -> Result<Listing<'a>, Error<'a>>
-    ensures { seen listing_of result ≡ of_modules (scan_of scan.now) (behind name.entry) nesting }
+    ensures { seen listing_of result ≡ of_modules (scan_of scan.now) flagged (behind name.entry) nesting }
 {
     free_input(true, &scan.modules)?;
-    match name {
-        Some(name) => Ok(Listing::One { name, nesting }),
-        None => Ok(Listing::All { nesting }),
-    }
+    of_name(flagged, name, nesting)
 }
 
 /// What the options of `oer types` ask for.
@@ -196,7 +222,8 @@ fn of_modules<'a>(
 /// # Errors
 /// The first of: Stray, if a word is no option or a value of one; NoValue, if the last word is an option without its value;
 /// Twice at `--types`; OneText, if there are neither modules nor definitions, or both; Twice at `--name`; Twice or Nesting at
-/// `--nesting`. Then beside `--types` NoNameOfTypes and NoNesting; TwoInputs, if two modules are `-`.
+/// `--nesting`; TwoNames. Then beside `--types` NoNames, NoNameOfTypes and NoNesting; else TwoInputs, if two modules are `-`,
+/// and OneName.
 #[tactic(auto, unfolding(crate::specs::Asked::listing_asked))]
 pub fn listing_asked<'a>(scan: &Scan<'a>) -> Result<Listing<'a>, Error<'a>>
     ensures { seen listing_of result ≡ listing_asked (scan_of scan.now) }
@@ -207,8 +234,9 @@ pub fn listing_asked<'a>(scan: &Scan<'a>) -> Result<Listing<'a>, Error<'a>>
     one_of_both(scan.has_modules, types)?;
     let name = one_value(Taken::Name, &scan.names)?;
     let nesting = nesting_in(&scan.nestings)?;
+    let flagged = flagged(scan.flag)?;
     match types {
-        Some(types) => of_types(scan, types, name),
-        None => of_modules(scan, name, nesting),
+        Some(types) => of_types(scan, types, flagged, name),
+        None => of_modules(scan, flagged, name, nesting),
     }
 }

@@ -1,9 +1,9 @@
 //! The words of a command line, with the options of modules taken out.
 ghost use Rattle.std.specs.Prelude.{◌≡◌, IfOk, OnOk, map, string_bytes};
-ghost use Rattle.oer_module_options.specs.Scan.{add, at_option, keep, kept_option, mark, mark_place, note, scan_of, scanned, start, step, taken_option};
+ghost use Rattle.oer_module_options.specs.Scan.{add, at_option, count, keep, kept_option, mark, mark_place, note, scan_of, scanned, start, step, taken_option};
 ghost use Rattle.oer_module_options.specs.Words.{behind};
 
-use crate::words::{Command, Kept, Key, Taken, key_of, split};
+use crate::words::{Command, Kept, Key, Taken, is_flag, key_of, split};
 use std::alloc::{AllocError, Global};
 
 /// Where the next word stands.
@@ -28,6 +28,15 @@ pub enum Item<'a> {
     Type,
 }
 
+/// How often a flag is given.
+#[derive(Clone, Copy, Debug, PartialEq, Eq)]
+pub enum Flag {
+    Missing,
+    Once,
+    /// Twice or more.
+    Twice,
+}
+
 /// The words of a command line: the values of options that are taken out, in their order, and what stays.
 #[derive(Drop)]
 pub struct Scan<'a> {
@@ -37,6 +46,8 @@ pub struct Scan<'a> {
     pub nestings: Vec<&'a str>,
     pub types: Vec<&'a str>,
     pub kept: Vec<Item<'a>>,
+    /// `--names`, of `oer types`.
+    pub flag: Flag,
     pub has_modules: bool,
     /// Whether `--type` or `--types` stays.
     pub has_type: bool,
@@ -55,6 +66,7 @@ impl<'a> Scan<'a> {
             nestings: Vec::new(alloc),
             types: Vec::new(alloc),
             kept: Vec::new(alloc),
+            flag: Flag::Missing,
             has_modules: false,
             has_type: false,
             has_source: false,
@@ -113,6 +125,16 @@ impl<'a> Scan<'a> {
         }
     }
 
+    // The flag once more.
+    fn count(&mut self)
+        ensures { scan_of self.new ≡ count (scan_of self.old) }
+    {
+        self.flag = match self.flag {
+            Flag::Missing => Flag::Once,
+            Flag::Once | Flag::Twice => Flag::Twice,
+        };
+    }
+
     // An option that is taken out, with its value behind `=` or as the next word.
     fn take_out(&mut self, taken: Taken, value: Option<&'a str>) -> Result<(), AllocError>
         ensures { OnOk result (scan_of self.new ≡ taken_option taken (behind value.entry) (scan_of self.old)) }
@@ -150,6 +172,10 @@ impl<'a> Scan<'a> {
         if word == "--" {
             self.next = Next::Rest;
             return self.keep(word);
+        }
+        if is_flag(command, word) {
+            self.count();
+            return Ok(());
         }
         let (name, value) = split(word);
         match key_of(command, name) {

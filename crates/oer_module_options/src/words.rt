@@ -1,6 +1,6 @@
 //! What a word is where an option may stand.
 ghost use Rattle.std.specs.Prelude.{◌≡◌, option_map};
-ghost use Rattle.oer_module_options.specs.Words.{is_other, is_source, is_type, kept_key, key_of, name_in, option_text, own_key, value_in};
+ghost use Rattle.oer_module_options.specs.Words.{is_flag, is_other, is_source, is_type, kept_key, key_of, name_in, option_text, own_key, value_in};
 
 /// Which command the words are given to.
 #[derive(Clone, Copy, Debug, PartialEq, Eq)]
@@ -123,6 +123,16 @@ fn own_key(command: Command, name: &str) -> Option<Key>
     match command {
         Command::Types => types_key(name),
         Command::Oer | Command::Dump => kept_key(command, name),
+    }
+}
+
+/// Whether the word is `--names`, the flag that only `oer types` has.
+pub fn is_flag(command: Command, word: &str) -> bool
+    ensures { result ≡ is_flag command word.now }
+{
+    match command {
+        Command::Types => word == "--names",
+        Command::Oer | Command::Dump => false,
     }
 }
 

@@ -12,7 +12,7 @@ use crate::tree::{Bound, Constraint, Elements, Extension, General, Narrowing, Si
 use crate::value::read_value;
 use oer_module_lexer::{Sign, Spot};
 use oer_module_syntax::{
-    Cursor, Fault, Keyword, Sought, Why, after, read_type, take_exception, take_span, take_value,
+    Cursor, Fault, Keyword, Why, after, read_type, take_exception, take_span, take_value,
 };
 use std::alloc::Global;
 
@@ -293,7 +293,7 @@ fn read_more<'s, 't>(
         let set = read_between(alloc, cursor, levels, mark)?;
         found.push(set)?;
     }
-    Err(cursor.fault(Why::Expected(Sought::Closing)))
+    unreachable!()
 }
 
 /// What stands between marks.
@@ -480,5 +480,5 @@ pub fn read_constraints<'s, 't>(
         let constraint = read_constraint(alloc, cursor, levels)?;
         found.push(constraint)?;
     }
-    Err(cursor.fault(Why::Expected(Sought::Closing)))
+    unreachable!()
 }

@@ -9,7 +9,7 @@ ghost use Rattle.oer_module_terms.specs.Trees.{amount_of, enumeration_of, item_o
 use crate::tree::{Amount, Enumeration, Item, More};
 use crate::value::read_enclosed;
 use oer_module_lexer::Sign;
-use oer_module_syntax::{Cursor, Fault, Sought, Why, after, take_exception};
+use oer_module_syntax::{Cursor, Fault, after, take_exception};
 use std::alloc::Global;
 
 /// How items are numbered.
@@ -105,7 +105,7 @@ fn read_more<'s, 't>(
         let item = read_item(cursor, numbering)?;
         found.push(item)?;
     }
-    Err(cursor.fault(Why::Expected(Sought::Closing)))
+    unreachable!()
 }
 
 /// The items of an INTEGER or a BIT STRING, at the opening brace: one or more (X.680, 19.1 and 22.1).

@@ -47,7 +47,7 @@ fn read_more<'s, 't>(
         let parameter = take_parameter(alloc, cursor)?;
         found.push(parameter)?;
     }
-    Err(cursor.fault(Why::Expected(Sought::Closing)))
+    unreachable!()
 }
 
 /// Actual parameters, at the opening brace: each is at least one token, up to the comma or the closing brace that stands

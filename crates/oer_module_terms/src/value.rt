@@ -304,7 +304,7 @@ fn read_more_members<'s, 't>(
         let member = read_member(alloc, cursor, levels)?;
         found.push(member)?;
     }
-    Err(cursor.fault(Why::Expected(Sought::Closing)))
+    unreachable!()
 }
 
 /// The parts up to a comma or the closing brace.
@@ -347,7 +347,7 @@ fn read_more_parts<'s, 't>(
         let part = read_part(alloc, cursor, levels)?;
         found.push(part)?;
     }
-    Err(cursor.fault(Why::Expected(Sought::Closing)))
+    unreachable!()
 }
 
 /// A value, or a name and its number.

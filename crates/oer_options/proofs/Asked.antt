@@ -3,7 +3,7 @@ use Rattle.std.proofs.Common.{◌≡◌, ◌∙◌, List, ℕ, Bool, Option, Som
 use Rattle.std.specs.Prelude.{option_map, option_and_then, unwrap_or, is_some, Box, ◌||◌}
 use Rattle.std.specs.Box.{box_value}
 use Rattle.std.specs.Str.Parse.{IsNumeral, ParsesBool, digits_value, without_leading_plus}
-use Rattle.clap.specs.Words.{AddsArg, AddsSubcommand, App, with_subcommand, Row, Rule, rule_of, with_rule, Text, ReadsOne, found_of, first_value, one_text, is_simple, rows_of, subcommand_name_of, subcommand_of, subcommand_rows, subcommand_rows_of, is_simple_and_free}
+use Rattle.clap.specs.Words.{AddsArg, AddsSubcommand, App, with_subcommand, Row, Rule, rule_of, with_rule, Text, ReadsOne, found_of, first_value, one_text, is_simple, first_of, one_of, rows_of, subcommand_name_of, subcommand_of, subcommand_rows, subcommand_rows_of, is_simple_and_free}
 use Rattle.clap.specs.declared.builder.arg.Arg.{Arg}
 use Rattle.clap.specs.Simple.{Shape, app_of_fields, on_top}
 use Rattle.clap.specs.declared.builder.command.Command.{Command}
@@ -28,17 +28,22 @@ both : {Z : Type 0} (o : Option (Box SubCommand Z)) (t : Text) (r : List Row) �
 both None t r e f = absurd (true≢false (sym (ap (λ x. is_some x) e)))
 both (Some b) t r e f = ap₂ (λ t r. Some (t, r)) (ap (λ x. unwrap_or x t) e) (ap (λ x. unwrap_or x r) f)
 
--- the task and the rows that a parse gave are those of the words
-pub met : (words : List Text) (m : ArgMatches) (t : Text) (r : List Row) → subcommand_rows_of m ≡ subcommand_of oer words → Some t ≡ subcommand_name_of m
-    → Some r ≡ option_map (λ p. p.1) (subcommand_rows_of m) → subcommand_of oer words ≡ Some (t, r)
-met words m t r same name rows = sym same ∙ both (out-ArgMatches m).subcommand t r (sym name) (sym rows)
+-- the task and the rows that a parse gave are those of the words. c: the command that was built
+pub met : (a c : App) (words : List Text) (m : ArgMatches) (t : Text) (r : List Row) → c ≡ a → subcommand_rows_of m ≡ subcommand_of c words → Some t ≡ subcommand_name_of m
+    → Some r ≡ option_map (λ p. p.1) (subcommand_rows_of m) → subcommand_of a words ≡ Some (t, r)
+met a c words m t r is same name rows = sym (ap (λ x. subcommand_of x words) is) ∙ sym same ∙ both (out-ArgMatches m).subcommand t r (sym name) (sym rows)
 
 asked_is : (words : List Text) (t : Text) (r : List Row) → subcommand_of oer words ≡ Some (t, r) → asked words ≡ Some t
 asked_is words t r e = ap (option_map (λ p. p.0)) e
 
-pub given_is : (words : List Text) (t id : Text) (m : ArgMatches) (o : Option Text) → subcommand_of oer words ≡ Some (t, rows_of (found_of m)) → o ≡ first_value (found_of m) id
-    → given words id ≡ o
-given_is words t id m o e is = ap (option_and_then (λ p. Rattle.clap.specs.Walk.first_of id p.1)) e ∙ sym (first_value-rows (found_of m) id) ∙ sym is
+pub given_is : (a : App) (words : List Text) (t id : Text) (m : ArgMatches) (o : Option Text) → subcommand_of a words ≡ Some (t, rows_of (found_of m)) → o ≡ first_value (found_of m) id
+    → option_and_then (λ p. first_of id p.1) (subcommand_of a words) ≡ o
+given_is a words t id m o e is = ap (option_and_then (λ p. first_of id p.1)) e ∙ sym (first_value-rows (found_of m) id) ∙ sym is
+
+-- the same as a number or a flag is read from it
+pub read_is : (a : App) (words : List Text) (t id : Text) (m : ArgMatches) → subcommand_of a words ≡ Some (t, rows_of (found_of m))
+    → option_and_then (λ p. one_of id p.1) (subcommand_of a words) ≡ one_text (found_of m) id
+read_is a words t id m e = ap (option_and_then (λ p. one_of id p.1)) e ∙ sym (one_text-rows (found_of m) id)
 
 path_is : (words : List Text) (t : Text) (m : ArgMatches) (k : Kind) → subcommand_of oer words ≡ Some (t, rows_of (found_of m)) → path_among k (given words) ≡ path_among k (first_value (found_of m))
 path_is words t m show e = refl
@@ -46,15 +51,11 @@ path_is words t m show_ascii e = refl
 path_is words t m canon e = refl
 path_is words t m check e = refl
 path_is words t m make e = refl
-path_is words t m part e = given_is words t _ m _ e refl
-
-pub number_is : (words : List Text) (t id : Text) (m : ArgMatches) → subcommand_of oer words ≡ Some (t, rows_of (found_of m))
-    → given_number words id ≡ one_text (found_of m) id
-number_is words t id m e = ap (option_and_then (λ p. Rattle.clap.specs.Walk.one_of id p.1)) e ∙ sym (one_text-rows (found_of m) id)
+path_is words t m part e = given_is oer words t _ m _ e refl
 
 flags_are : (words : List Text) (t : Text) (m : ArgMatches) (k : Kind) → subcommand_of oer words ≡ Some (t, rows_of (found_of m)) → HasFlags k (one_text (found_of m)) → HasFlags k (given_number words)
-flags_are words t m show e has = subst (λ v. v ≢ Some (codes "true")) (sym (number_is words t (codes "ascii") m e)) has
-flags_are words t m show_ascii e has = number_is words t (codes "ascii") m e ∙ has
+flags_are words t m show e has = subst (λ v. v ≢ Some (codes "true")) (sym (read_is oer words t (codes "ascii") m e)) has
+flags_are words t m show_ascii e has = read_is oer words t (codes "ascii") m e ∙ has
 flags_are words t m canon e has = tt
 flags_are words t m check e has = tt
 flags_are words t m make e has = tt
@@ -63,7 +64,7 @@ flags_are words t m part e has = tt
 -- the task that a parse gave is that of the words
 pub task_is : (words : List Text) (t : Text) (m : ArgMatches) (task : Task) → subcommand_of oer words ≡ Some (t, rows_of (found_of m)) → IsTask (Some t) (first_value (found_of m)) (one_text (found_of m)) task
     → IsTask (asked words) (given words) (given_number words) task
-task_is words t m task e is = (asked_is words _ _ e ∙ is.0, given_is words t _ m _ e (sym is.1), path_is words t m (kind task) e ∙ is.2, flags_are words t m (kind task) e is.3)
+task_is words t m task e is = (asked_is words _ _ e ∙ is.0, given_is oer words t _ m _ e (sym is.1), path_is words t m (kind task) e ∙ is.2, flags_are words t m (kind task) e is.3)
 
 -- the flag `--ascii`, as it was read
 pub flag_given : (E : Type 0) (f : Option Text) (r : Option Bool) → (f ≡ None → r ≡ None) → ((t : Text) → f ≡ Some t → ReadsOne (ParsesBool {E = E}) t r) → unwrap_or r false ≡ true → f ≡ Some (codes "true")
@@ -78,15 +79,13 @@ flag_missing E (Some t) (Some true) none some is = absurd (true≢false is)
 flag_missing E (Some t) (Some false) none some is = λ e. (let both : Some (codes "false") ≡ Some (codes "true") = ap Some (sym (some t refl)) ∙ e in cc)
 flag_missing E (Some t) None none some is = λ e. (let same : t ≡ codes "true" = (let whole : Some t ≡ Some (codes "true") = e in cc) in (some t refl).1.0 same)
 
-pub number_given : {E : Type 0} (words : List Text) (id : Text) (f : Option Text) (r : Option ℕ) (gives : List ℕ → Result ℕ E → Type 0)
+-- a number, as it was read. f: the text
+pub number_read : {E : Type 0} (f : Option Text) (r : Option ℕ) (gives : List ℕ → Result ℕ E → Type 0)
     → ((t : Text) (n : ℕ) → gives t (Ok n) → (IsNumeral 10 (without_leading_plus t) × (digits_value 10 (without_leading_plus t) < 2 ^ 64)) × (n ≡ digits_value 10 (without_leading_plus t)))
-    → given_number words id ≡ f → (f ≡ None → r ≡ None) → ((t : Text) → f ≡ Some t → ReadsOne gives t r)
-    → IfSome r (λ n. (text : Text) × (given_number words id ≡ Some text) × NumberOf text n)
-number_given words id f None gives means e none some = tt
-number_given words id None (Some n) gives means e none some = absurd (true≢false (ap (λ x. is_some x) (none refl)))
-number_given words id (Some t) (Some n) gives means e none some =
-    let reads = means t n (some t refl) in
-    (t, e, record { digits = reads.0.0; value = reads.1 })
+    → (f ≡ None → r ≡ None) → ((t : Text) → f ≡ Some t → ReadsOne gives t r) → IfSome r (λ n. (text : Text) × (f ≡ Some text) × NumberOf text n)
+number_read f None gives means none some = tt
+number_read None (Some n) gives means none some = absurd (true≢false (ap (λ x. is_some x) (none refl)))
+number_read (Some t) (Some n) gives means none some = let reads = means t n (some t refl) in (t, refl, record { digits = reads.0.0; value = reads.1 })
 
 pub or_none : {a b : Bool} → a ≡ false → b ≡ false → (a || b) ≡ false
 or_none {a} {b} e f = rw (e, f) refl

@@ -9,7 +9,7 @@ mod place;
 mod quoting;
 mod visible;
 
-pub use input::begins_with_digits;
+pub use input::ready;
 pub use looks::{definition_behind, is_digit, is_file_name, occurs, seems_digits, word_length};
 pub use parts::{count_of, push_first, push_last};
 pub use place::{Place, place_of};

@@ -52,7 +52,7 @@ pub fn parts_left(shape: &Shape, left: u16) -> Option<u16>
                 Some(additions) => alternatives_left(additions, left),
             }
         }
-        _ => Some(left),
+        Shape::Boolean | Shape::Null | Shape::ObjectId => Some(left),
     }
 }
 

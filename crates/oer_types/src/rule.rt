@@ -60,7 +60,9 @@ fn has_crossed_size(shape: &Shape) -> bool
         Shape::Printable(size) => is_crossed(*size),
         Shape::Utf8(size) => is_crossed(*size),
         Shape::SequenceOf { size, .. } => is_crossed(*size),
-        _ => false,
+        Shape::Boolean | Shape::Null | Shape::ObjectId => false,
+        Shape::Integer { .. } | Shape::Enumerated { .. } => false,
+        Shape::Sequence { .. } | Shape::Choice { .. } => false,
     }
 }
 

@@ -13,8 +13,9 @@ use Rattle.oer_module_cmd.specs.Errors.{Error, Gives, Read, error_of, input, mem
 use Rattle.oer_module_cmd.specs.Input.{text_or, with_input}
 use Rattle.oer_module_cmd.specs.Given.{by_modules}
 use Rattle.oer_module_cmd.specs.declared.error.Error.{Error as RawError}
-use Rattle.oer_module_options.specs.Asked.{Listing, all, defined, one}
+use Rattle.oer_module_options.specs.Asked.{Listing, all, all_names, defined, one}
 use Rattle.oer_module_options.specs.Words.{Text}
+use Rattle.oer_modules.specs.Defined.{types_of_modules}
 use Rattle.oer_modules.specs.Listed.{Printed}
 use Rattle.oer_modules.specs.Modules.{ComesFirst, definitions_of_modules, type_of_modules}
 use Rattle.oer_modules.specs.Refusals.{Refusal}
@@ -27,6 +28,7 @@ use Rattle.oer_value_notation.specs.declared.fault.TextFault.{TextFault}
 use Rattle.oer_types.specs.Schema.{the_type}
 use Rattle.oer_types.specs.declared.schema.Schema.{Schema}
 use Rattle.oer_types_cmd.specs.Answer.{Meets, defined_text, from_modules, given_for, listing_answer, on_a_line, printed_of, text_if}
+use Rattle.oer_types_cmd.specs.Names.{names_text}
 use Rattle.oer_types_cmd.specs.Stops.{by_error, stop_of}
 use Rattle.oer_types_cmd.specs.declared.stop.Stop.{Stop}
 use Rattle.oer_types_cmd.specs.declared.stop.Stop.TheVariants as raw
@@ -148,7 +150,7 @@ lined m text r h made failed = goes bytes bytes m on_a_line text r h (by r made 
   by (Ok s) made failed = made
   by (Err e) made failed = λ small. omega (arith, failed, small)
 
-abbrev both : Printed → Expected Text
+abbrev pub both : Printed → Expected Text
 both p = value (p.lines ++ p.comments)
 
 -- definitions and comments
@@ -158,12 +160,22 @@ listed_all (Ok p) s h =
     let same : h.printed ≡ p = (let is = h.are in cc) in h.whole ∙ ap (λ (q : Printed). q.lines ++ q.comments) same
 listed_all (Err r) s h = let is = h.are in absurd (cc)
 
-pub unlisted_all : (m : Result Printed Refusal) (e : RawError) → Gives {X = Printed} (λ p. p) (Err e) (by_modules m)
-    → Meets {X = String Global} bytes (from_modules (by_modules m) >>= both) (Err (raw.Modules e))
-unlisted_all m e h =
-    let view : Printed → Printed = λ p. p in
-    stops {X = Printed} {Z = String Global} view bytes (from_modules (by_modules m)) both (raw.Modules e)
-    (modules_stopped {X = Printed} view (by_modules m) e h)
+abbrev pub names : List Known → Expected Text
+names ks = value (names_text ks)
+
+-- Names
+pub names_met : (m : Result (List Known) Refusal) (ks : List Known) (s : String Global) → m ≡ Ok ks → string_bytes s ≡ names_text ks
+    → Meets bytes (from_modules (by_modules m) >>= names) (Ok s)
+names_met (Ok js) ks s is made = let same : ks ≡ js = (cc) in made ∙ ap names_text same
+names_met (Err r) ks s is made = absurd (cc)
+
+-- The modules can't be read, whatever is made of them.
+pub unlisted_all : {A : Type 0} (next : A → Expected Text) (m : Result A Refusal) (e : RawError)
+    → Gives {X = A} (λ x. x) (Err e) (by_modules m) → Meets {X = String Global} bytes (from_modules (by_modules m) >>= next) (Err (raw.Modules e))
+unlisted_all {A = A} next m e h =
+    let view : A → A = λ x. x in
+    stops {X = A} {Z = String Global} view bytes (from_modules (by_modules m)) next (raw.Modules e)
+    (modules_stopped {X = A} view (by_modules m) e h)
 
 -- ---- a listing
 
@@ -222,6 +234,9 @@ printed_known (one name n) ts given =
 printed_known (all n) ts given =
     let m = by_modules (definitions_of_modules (with_input given ts) n) in
     known_next (from_modules m) both (modules_known m) (λ p. tt)
+printed_known (all_names n) ts given =
+    let m = by_modules (types_of_modules (with_input given ts) n) in
+    known_next (from_modules m) names (modules_known m) (λ ks. tt)
 
 abbrev pub printable : Text → Expected Text
 printable t = value t

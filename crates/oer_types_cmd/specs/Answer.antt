@@ -5,14 +5,16 @@ use Rattle.oer_cmd.specs.Expected.{Expected, refusal, unknown, value, ◌>>=◌}
 use Rattle.oer_module_cmd.specs.Errors.{Read, options}
 use Rattle.oer_module_cmd.specs.Input.{reads_input, text_in, text_or, with_input}
 use Rattle.oer_module_cmd.specs.Given.{by_modules}
-use Rattle.oer_module_options.specs.Asked.{Listing, all, defined, is_input, listing_asked, one}
+use Rattle.oer_module_options.specs.Asked.{Listing, all, all_names, defined, is_input, listing_asked, one}
 use Rattle.oer_module_options.specs.Errors.{Read as OptionRead}
 use Rattle.oer_module_options.specs.Scan.{Scan, scanned}
 use Rattle.oer_module_options.specs.Words.{Text}
 use Rattle.oer_module_options.specs.declared.words.Command.TheVariants.{Types}
+use Rattle.oer_modules.specs.Defined.{types_of_modules}
 use Rattle.oer_modules.specs.Modules.{definitions_of_modules, type_of_modules}
 use Rattle.oer_printer.specs.Printing.{printed}
 use Rattle.oer_types_cmd.specs.Asking.{asks_for_help}
+use Rattle.oer_types_cmd.specs.Names.{names_text}
 use Rattle.oer_types_cmd.specs.Stops.{by_error, no_notation, stop_of}
 use Rattle.oer_types_cmd.specs.declared.stop.Stop.{Stop}
 
@@ -41,6 +43,7 @@ abbrev pub given_for : Listing → List Text → Option (List ℕ) → Expected 
 given_for (defined types name) ts told = given_types types told
 given_for (one name n) ts told = given_modules ts told
 given_for (all n) ts told = given_modules ts told
+given_for (all_names n) ts told = given_modules ts told
 
 -- ---- what is printed
 
@@ -66,11 +69,16 @@ one_line ts name n = from_modules (by_modules (type_of_modules ts name n)) >>= o
 abbrev pub all_lines : List Text → ℕ → Expected Text
 all_lines ts n = from_modules (by_modules (definitions_of_modules ts n)) >>= λ p. value (p.lines ++ p.comments)
 
+-- the Names that have a well-formed type in modules
+abbrev pub name_lines : List Text → ℕ → Expected Text
+name_lines ts n = from_modules (by_modules (types_of_modules ts n)) >>= λ ks. value (names_text ks)
+
 -- what is printed where the text on standard input is the given one, which `-` stands for
 abbrev pub printed_of : Listing → List Text → Text → Expected Text
 printed_of (defined types name) ts given = defined_line (text_or given types) name
 printed_of (one name n) ts given = one_line (with_input given ts) name n
 printed_of (all n) ts given = all_lines (with_input given ts) n
+printed_of (all_names n) ts given = name_lines (with_input given ts) n
 
 -- ---- the answer, where standard input had these octets left
 

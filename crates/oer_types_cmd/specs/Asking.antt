@@ -2,7 +2,7 @@
 use Rattle.std.specs.Prelude.{List, [], ◌∷◌, ◌||◌, drop, Bool, false, Ok, Err, codes, if◌then◌else◌}
 use Rattle.std.specs.Str.{bytes_eq}
 use Rattle.oer_module_cmd.specs.Input.{reads_input}
-use Rattle.oer_module_options.specs.Asked.{Listing, all, defined, listing_asked, one}
+use Rattle.oer_module_options.specs.Asked.{Listing, all, all_names, defined, listing_asked, one}
 use Rattle.oer_module_options.specs.Errors.{Read as OptionRead}
 use Rattle.oer_module_options.specs.Scan.{Item, Scan, place, scanned, word}
 use Rattle.oer_module_options.specs.Words.{Text}
@@ -34,6 +34,7 @@ abbrev pub texts_of : Listing → List Text → List Text
 texts_of (defined types name) ts = types ∷ []
 texts_of (one name n) ts = ts
 texts_of (all n) ts = ts
+texts_of (all_names n) ts = ts
 
 abbrev pub reads_for : OptionRead Listing → List Text → Bool
 reads_for (Ok l) ts = reads_input (texts_of l ts)

@@ -9,17 +9,18 @@ Usage: oer types --modules <TEXT> [--modules <TEXT>]... [OPTIONS]
 Options:
       --modules <TEXT>  A text with one ASN.1 module or more; - is the text on
                         standard input
-      --types <TEXT>    Definitions in the notation of docs/NOTATION.md; - is the
-                        text on standard input
+      --types <TEXT>    Definitions in the notation of docs/NOTATION.md; - is
+                        the text on standard input
       --name <NAME>     The name of one type, as Name or Module.Name; without it
                         all types of the modules are printed
-      --nesting <N>     How often a type that contains itself is written out, from
-                        1 to 255 [default: the most that fits, up to 8]
+      --names           Print only the names of the types that --name takes
+      --nesting <N>     How often a type that contains itself is written out,
+                        from 1 to 255 [default: the most that fits, up to 8]
   -h, --help            Print help
 
 A type is printed on one line, with each reference written out. Without --name a
-line has \"Name ::= type\", and comments say which types are refused, and why. What
-is printed is read by --type, and without --name by --types.
+line has \"Name ::= type\", and comments say which types are refused, and why. The
+text is read by --type, and without --name by --types.
 
 The other commands, and oer-dump, take --modules, --name and --nesting in place
 of --type. There --modules=- needs --hex or --json.

@@ -3,6 +3,7 @@
 
 mod help;
 mod listing;
+mod names;
 mod stop;
 mod types;
 

@@ -10,6 +10,7 @@ ghost use Rattle.oer_types_cmd.specs.Asking.{texts_of};
 ghost use Rattle.oer_types_cmd.specs.Ending.{GivesText, IsGiven, status_after};
 ghost use Rattle.oer_types_cmd.specs.Stops.{stop_of};
 
+use crate::names::name_lines;
 use crate::stop::Stop;
 use oer_cmd::Fault;
 use oer_cmd::type_text::{definitions, named_type, types_on_input};
@@ -77,6 +78,7 @@ pub fn given_text<'a, R: Read>(
         Listing::Defined { types, .. } => given_types(alloc, types, input),
         Listing::One { .. } => given_modules(alloc, texts, input),
         Listing::All { .. } => given_modules(alloc, texts, input),
+        Listing::Names { .. } => given_modules(alloc, texts, input),
     }
 }
 
@@ -170,7 +172,7 @@ fn all_lines<'a>(
 }
 
 /// The text that is printed, where `texts` are those of modules and `given` is the text on standard input: of one type on a
-/// line, or of all types of modules, a line for each.
+/// line, or of all types of modules, a line for each, or their Names.
 ///
 /// # Errors
 /// Types, if the definitions are rejected or none has the Name; Modules, if the modules give no text, or if an allocation
@@ -189,5 +191,6 @@ pub fn listing_text<'a>(
             one_line(alloc, texts, given, TypeAsked { name, nesting })
         }
         Listing::All { nesting } => all_lines(alloc, texts, given, nesting),
+        Listing::Names { nesting } => name_lines(alloc, texts, given, nesting),
     }
 }

@@ -52,15 +52,9 @@ fn read_value(alloc: Global, cursor: &mut Cursor<'_, '_>, shape: &Shape) -> Resu
         Shape::Numeric(_) => read_text(alloc, cursor),
         Shape::Printable(_) => read_text(alloc, cursor),
         Shape::Utf8(_) => read_text(alloc, cursor),
-        Shape::Sequence { additions, .. } => match additions {
-            Some(_) => Err(no_value(cursor)),
-            None => Err(no_value(cursor)),
-        },
+        Shape::Sequence { .. } => Err(no_value(cursor)),
         Shape::SequenceOf { .. } => Err(no_value(cursor)),
-        Shape::Choice { additions, .. } => match additions {
-            Some(_) => Err(no_value(cursor)),
-            None => Err(no_value(cursor)),
-        },
+        Shape::Choice { .. } => Err(no_value(cursor)),
     }
 }
 

@@ -1,4 +1,5 @@
 pub mod Words
+pub mod Rejected
 pub mod Flag
 pub mod Scan
 pub mod Setting

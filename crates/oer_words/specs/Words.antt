@@ -53,10 +53,11 @@ has_flag flag (program ∷ ws) = not (eqb (times flag ws) 0)
 abbrev pub asks_many : List Text → Bool
 asks_many ws = has_flag (codes "--lines") ws || has_option (codes "--framed") ws
 
--- the subcommands that take octets
-abbrev pub takes_octets : Text → Bool
-takes_octets w = bytes_eq w (codes "canon") || bytes_eq w (codes "show") || bytes_eq w (codes "check") || bytes_eq w (codes "part")
+-- the subcommand, which is the word behind the program's name, is this one
+abbrev pub asks_for : Text → List Text → Bool
+asks_for name (program ∷ w ∷ ws) = bytes_eq w name
+asks_for name _ = false
 
+-- it is one that takes octets
 abbrev pub asks_octets : List Text → Bool
-asks_octets (program ∷ w ∷ ws) = takes_octets w
-asks_octets _ = false
+asks_octets ws = asks_for (codes "canon") ws || asks_for (codes "show") ws || asks_for (codes "check") ws || asks_for (codes "part") ws

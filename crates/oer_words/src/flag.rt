@@ -1,13 +1,16 @@
 //! A flag, taken out of the words of a command line.
-ghost use Rattle.std.specs.Prelude.{◌≡◌, ◌∷◌, ◌≤◌, IfOk, length, map, string_bytes};
-ghost use Rattle.oer_words.specs.Flag.{flag_of, others, without_flag};
+ghost use Rattle.std.specs.Prelude.{◌≡◌, ◌∷◌, ◌≤◌, IfOk, length, map, option_map, string_bytes};
+ghost use Rattle.oer_words.specs.Flag.{flag_asked, flag_of, others, without_flag};
+ghost use Rattle.oer_words.specs.Rejected.{EndsAsked};
 ghost use Rattle.oer_words.specs.Words.{times, words_of};
 
+use crate::rejection::{out_of_memory, reject_option};
 use std::alloc::{AllocError, Global};
+use std::io::Write;
 
 /// What became of a flag.
 #[derive(Drop)]
-pub enum Flag {
+enum Flag {
     /// It isn't among the words.
     Missing,
     /// It stands among them twice or more.
@@ -57,8 +60,8 @@ fn others(
     Ok(kept)
 }
 
-/// Takes a flag, as `--lines`, out of the words. Fails if an allocation does.
-pub fn without_flag(alloc: Global, flag: &str, words: &[String]) -> Result<Flag, AllocError>
+// Takes a flag out of the words. Fails if an allocation does.
+fn without_flag(alloc: Global, flag: &str, words: &[String]) -> Result<Flag, AllocError>
     ensures { IfOk result (λ found. flag_of found ≡ without_flag flag.now (map string_bytes words.now)) }
 {
     let Some((program, rest)) = words.split_first() else {
@@ -68,5 +71,28 @@ pub fn without_flag(alloc: Global, flag: &str, words: &[String]) -> Result<Flag,
         0 => Ok(Flag::Missing),
         1 => Ok(Flag::Once(others(alloc, flag, program.as_str(), rest)?)),
         _ => Ok(Flag::Twice),
+    }
+}
+
+/// The words without a flag, as `--lines`, the program's name first, where it stands among them before a word `--`; none where it doesn't.
+///
+/// # Errors
+/// An error is told of in one line on `errors`, and its status is returned: 2 where the flag is given twice; 3 where an allocation failed.
+#[tactic(auto, unfolding(crate::specs::Flag::flag_asked))]
+pub fn flag_asked<E: Write>(
+    alloc: Global,
+    flag: &str,
+    words: &[String],
+    errors: &mut E,
+) -> Result<Option<Vec<String>>, u8>
+    ensures ends { EndsAsked (option_map words_of) result (flag_asked flag.now (map string_bytes words.now))
+        (E.contents errors.old) (E.contents errors.new) }
+    ensures quiet { IfOk result (λ _. errors.new ≡ errors.old) }
+{
+    match without_flag(alloc, flag, words) {
+        Ok(Flag::Missing) => Ok(None),
+        Ok(Flag::Twice) => Err(reject_option(alloc, flag, "is given twice", errors)),
+        Ok(Flag::Once(words)) => Ok(Some(words)),
+        Err(_) => Err(out_of_memory(errors)),
     }
 }

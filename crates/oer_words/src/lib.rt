@@ -3,10 +3,12 @@
 #![tactic(auto)]
 
 mod flag;
+mod rejection;
 mod scan;
 mod setting;
 mod words;
 
-pub use flag::{Flag, without_flag};
-pub use setting::{Setting, without_option};
-pub use words::{asks_many, asks_octets, has_flag, has_option};
+pub use flag::flag_asked;
+pub use rejection::{put, reject};
+pub use setting::{Given, Setting, option_asked, without_option};
+pub use words::{asks_for, asks_many, asks_octets, has_flag, has_option};

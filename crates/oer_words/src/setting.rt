@@ -1,11 +1,14 @@
 //! An option with a value, taken out of the words of a command line.
-ghost use Rattle.std.specs.Prelude.{◌≡◌, ◌∷◌, IfOk, map, string_bytes};
+ghost use Rattle.std.specs.Prelude.{◌≡◌, ◌∷◌, IfOk, map, option_map, string_bytes};
+ghost use Rattle.oer_words.specs.Rejected.{EndsAsked};
 ghost use Rattle.oer_words.specs.Scan.{scan_of, text_behind};
-ghost use Rattle.oer_words.specs.Setting.{setting_in, setting_of, without_option};
+ghost use Rattle.oer_words.specs.Setting.{given_of, option_asked, setting_in, setting_of, without_option};
 ghost use Rattle.oer_words.specs.Words.{words_of};
 
+use crate::rejection::{out_of_memory, reject_option};
 use crate::scan::{Next, Scan, scanned};
 use std::alloc::{AllocError, Global};
+use std::io::Write;
 
 /// What became of an option with a value.
 #[derive(Drop)]
@@ -63,4 +66,37 @@ pub fn without_option<'a>(
     };
     let scan = scanned(alloc, option, rest)?;
     setting_in(alloc, program.as_str(), &scan)
+}
+
+/// An option that was taken out of the words.
+#[derive(Drop)]
+pub struct Given<'a> {
+    pub value: &'a str,
+    /// The other words, the program's name first.
+    pub words: Vec<String>,
+}
+
+/// An option with a value, as `without_option` takes it out of the words; none where it isn't among them.
+///
+/// # Errors
+/// An error is told of in one line on `errors`, and its status is returned: 2 where the option has no value, or is given twice; 3 where an
+/// allocation failed.
+#[tactic(auto, unfolding(crate::specs::Setting::option_asked))]
+pub fn option_asked<'a, E: Write>(
+    alloc: Global,
+    option: &str,
+    words: &'a [String],
+    errors: &mut E,
+) -> Result<Option<Given<'a>>, u8>
+    ensures ends { EndsAsked (option_map given_of) result (option_asked option.now (map string_bytes words.entry.now))
+        (E.contents errors.old) (E.contents errors.new) }
+    ensures quiet { IfOk result (λ _. errors.new ≡ errors.old) }
+{
+    match without_option(alloc, option, words) {
+        Ok(Setting::Missing) => Ok(None),
+        Ok(Setting::NoValue) => Err(reject_option(alloc, option, "needs a value", errors)),
+        Ok(Setting::Twice) => Err(reject_option(alloc, option, "is given twice", errors)),
+        Ok(Setting::Once { value, words }) => Ok(Some(Given { value, words })),
+        Err(_) => Err(out_of_memory(errors)),
+    }
 }

@@ -1,6 +1,6 @@
 //! What the words of a command line say, before a word `--`.
 ghost use Rattle.std.specs.Prelude.{◌≡◌, map, string_bytes};
-ghost use Rattle.oer_words.specs.Words.{asks_many, asks_octets, has_flag, has_option, is_option, stands, takes_octets};
+ghost use Rattle.oer_words.specs.Words.{asks_for, asks_many, asks_octets, has_flag, has_option, is_option, stands};
 
 use crate::flag::times;
 use crate::scan::value_of;
@@ -55,19 +55,22 @@ pub fn asks_many(words: &[String]) -> bool
     has_flag(words, "--lines") || has_option(words, "--framed")
 }
 
-// Whether the subcommand takes octets.
-fn takes_octets(word: &str) -> bool
-    ensures { result ≡ takes_octets word.now }
+/// Whether the subcommand, which is the word behind the program's name, is this one.
+pub fn asks_for(words: &[String], name: &str) -> bool
+    ensures { result ≡ asks_for name.now (map string_bytes words.now) }
 {
-    word == "canon" || word == "show" || word == "check" || word == "part"
+    match words.get(1) {
+        Some(word) => word.as_str() == name,
+        None => false,
+    }
 }
 
-/// Whether the word behind the program's name is a subcommand that takes octets.
+/// Whether the subcommand is one that takes octets.
 pub fn asks_octets(words: &[String]) -> bool
     ensures { result ≡ asks_octets (map string_bytes words.now) }
 {
-    match words.get(1) {
-        Some(word) => takes_octets(word.as_str()),
-        None => false,
-    }
+    asks_for(words, "canon")
+        || asks_for(words, "show")
+        || asks_for(words, "check")
+        || asks_for(words, "part")
 }

@@ -1,9 +1,8 @@
-use Rattle.std.proofs.Common.{◌≡◌, ◌++◌, length, sym, ap, refl, ◌∙◌, append_assoc, append-nil, string_bytes}
+use Rattle.std.proofs.Common.{◌≡◌, ◌++◌, length, sym, ap, refl, ◌∙◌, append_assoc, append-nil, string_bytes, List, ℕ, [], ◌∷◌, arith}
 use Rattle.std.specs.Char.{encode_utf8}
 use Rattle.std.specs.Str.{chars}
 use Rattle.std.proofs.lemmas.Str.{chars_past_char, IsUtf8-past_char, chars-nil}
 use Rattle.oer_cmd.specs.Ascii.{ascii_chars, ascii_char}
-use Rattle.std.proofs.Common.{List, ℕ, [], ◌∷◌, arith}
 use Rattle.oer_cmd.proofs.ascii.push_chars.Goals as goal
 
 empty_of : (xs : List ℕ) → length xs ≡ 0 → xs ≡ []

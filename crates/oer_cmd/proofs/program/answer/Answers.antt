@@ -1,23 +1,28 @@
-use Rattle.std.proofs.Common.{◌∙◌, ap, sym}
-use Rattle.oer_options.specs.Words.{texts_of}
-use Rattle.oer_cmd.specs.Types.{texts_at}
-use Rattle.oer_cmd.proofs.Endings.{for_texts}
-use Rattle.std.proofs.Common.{refl}
-use Rattle.oer_options.specs.Words.{kind, source_text}
-use Rattle.oer_cmd.specs.Answer.{expected_type}
-use Rattle.oer_cmd.specs.Types.{reads_types}
-use Rattle.oer_cmd.proofs.Asking.{for_same, lost}
+use Rattle.std.proofs.Common.{◌≡◌, ◌≢◌, ◌∙◌, ℕ, List, Option, None, Result, String, Global, false, ap, refl, string_bytes, subst, sym}
+use Rattle.std.specs.Prelude.{IfOk}
+use Rattle.oer_model.specs.Parts.{Step}
+use Rattle.oer_options.specs.Words.{Texts, kind, path_text, source_text, texts_of}
+use Rattle.oer_options.specs.declared.options.Task.{Task}
+use Rattle.oer_cmd.specs.Answer.{IsPathOf, expected_type, given_answer}
+use Rattle.oer_cmd.specs.Expected.{Expected, Meets}
+use Rattle.oer_cmd.specs.Run.{IsLineGiven}
+use Rattle.oer_cmd.specs.Taking.{TakesBy, status_after}
+use Rattle.oer_cmd.specs.Types.{reads_types, texts_at}
+use Rattle.oer_cmd.specs.declared.fault.Fault.{Fault}
+use Rattle.oer_cmd.proofs.Asking.{lost}
 use Rattle.oer_cmd.proofs.Choices.{failing}
-use Rattle.oer_cmd.proofs.Endings.{line_for}
-use Rattle.oer_cmd.proofs.Meeting.{left}
+use Rattle.oer_cmd.proofs.Meeting.{bytes, left}
 use Rattle.oer_cmd.proofs.program.answer.Goals as goal
 
-pub returns-in-One-clause-exact : goal.returns-in-One-clause-exact
-returns-in-One-clause-exact g c = for_texts (texts_of c.args.options) _ c.args.options.task c.args.options.limit _ c.line_of_one.result (ap texts_at (sym c.in-One.is) ∙ c.in_ok-text.ensures.named) c.line_of_one.ensures.exact
+-- what is promised by these texts of a type
+abbrev Promised : Task → ℕ → Option (List ℕ) → Option (List ℕ) → Type 0 → Result (String Global) Fault → Texts → Type 0
+Promised task limit told told' untouched result t = IfOk result (λ line. IsLineGiven t task limit told (string_bytes line))
+    × ((path : Expected (List Step)) → IsPathOf (path_text task) path → Meets bytes (given_answer t task limit path told) result)
+    × (source_text task ≢ None → reads_types t ≡ false → untouched) × TakesBy t task limit untouched (status_after result) told told'
 
-pub returns-in-Named-clause-exact : goal.returns-in-Named-clause-exact
-returns-in-Named-clause-exact g c = for_texts (texts_of c.args.options) _ c.args.options.task c.args.options.limit _
-    c.line_of_types.result (ap texts_at (sym c.in-Named.is) ∙ c.in_ok-text.ensures.named) c.line_of_types.ensures.exact
+same_texts : (task : Task) (limit : ℕ) (told told' : Option (List ℕ)) (untouched : Type 0) (result : Result (String Global) Fault) (t u : Texts) → t ≡ u
+    → Promised task limit told told' untouched result t → Promised task limit told told' untouched result u
+same_texts task limit told told' untouched result t u is h = subst (λ x. Promised task limit told told' untouched result x) is h
 
 pub returns-in_err-text-clause-takes : goal.returns-in_err-text-clause-takes
 returns-in_err-text-clause-takes g c =
@@ -25,22 +30,16 @@ returns-in_err-text-clause-takes g c =
     (λ path of. lost (expected_type (texts_of c.args.options)) (source_text c.args.options.task) path _ (kind c.args.options.task) c.args.options.limit _ _
     refl (λ small. c.in_err-text.ensures.lacking)))
 
-pub returns-in-One-clause-takes : goal.returns-in-One-clause-takes
-returns-in-One-clause-takes g c = for_same _ _ c.args.options.task c.args.options.limit _ _ _ _
-    (ap texts_at (sym c.in-One.is) ∙ c.in_ok-text.ensures.named) c.line_of_one.ensures.takes
+pub returns-in-One : goal.returns-in-One
+returns-in-One g c =
+    let l = c.line_of_one.ensures in
+    let p = same_texts c.args.options.task c.args.options.limit _ _ _ c.line_of_one.result _ (texts_of c.args.options)
+    (ap texts_at (sym c.in-One.is) ∙ c.in_ok-text.ensures.named) (l.line, l.exact, (λ some own. l.untouched some), l.takes) in
+    record { line = p.0; exact = p.1; untouched = p.2; takes = p.3 }
 
-pub returns-in-Named-clause-takes : goal.returns-in-Named-clause-takes
-returns-in-Named-clause-takes g c = for_same _ _ c.args.options.task c.args.options.limit _ _ _ _
-    (ap texts_at (sym c.in-Named.is) ∙ c.in_ok-text.ensures.named) c.line_of_types.ensures.takes
-
-pub returns-in-One-clause-line : goal.returns-in-One-clause-line
-returns-in-One-clause-line g c = line_for _ _ c.args.options.task c.args.options.limit _ c.line_of_one.result
-    (ap texts_at (sym c.in-One.is) ∙ c.in_ok-text.ensures.named) c.line_of_one.ensures.line
-
-pub returns-in-Named-clause-line : goal.returns-in-Named-clause-line
-returns-in-Named-clause-line g c = line_for _ _ c.args.options.task c.args.options.limit _ c.line_of_types.result
-    (ap texts_at (sym c.in-Named.is) ∙ c.in_ok-text.ensures.named) c.line_of_types.ensures.line
-
-pub returns-in-Named-clause-untouched : goal.returns-in-Named-clause-untouched
-returns-in-Named-clause-untouched g c = λ some own. c.line_of_types.ensures.untouched some
-    (ap reads_types (ap texts_at (sym c.in-Named.is) ∙ c.in_ok-text.ensures.named) ∙ own)
+pub returns-in-Named : goal.returns-in-Named
+returns-in-Named g c =
+    let l = c.line_of_types.ensures in
+    let p = same_texts c.args.options.task c.args.options.limit _ _ _ c.line_of_types.result _ (texts_of c.args.options)
+    (ap texts_at (sym c.in-Named.is) ∙ c.in_ok-text.ensures.named) (l.line, l.exact, l.untouched, l.takes) in
+    record { line = p.0; exact = p.1; untouched = p.2; takes = p.3 }

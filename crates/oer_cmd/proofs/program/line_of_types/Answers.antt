@@ -13,7 +13,7 @@ use Rattle.oer_cmd.proofs.program.line_of_types.Goals as goal
 pub returns-in_err-text-clause-exact : goal.returns-in_err-text-clause-exact
 returns-in_err-text-clause-exact g c =
     let mark : bytes_eq c.args.types.now (codes "-") ≡ true = grind (arith, common_steps) in
-    rw (left c.from_residual.result _ c.from_residual.ensures.1) (λ path of. lost_answer c.args.types.now c.args.name.now c.args.options.task c.args.options.limit path _ _ mark
+    rw (left c.from_residual.result _ c.from_residual.ensures.1) (λ path of. lost_answer c.args.types.now c.args.name.now c.args.options.task c.args.options.limit path _ mark _
     (subst (λ s. Meets {X = String Global} bytes (types_input s (g.R.Read.remaining c.args.input.now)) (Err c.in_err-text.field-0.0))
     c.source.ensures c.in_err-text.ensures.exact))
 
@@ -22,8 +22,8 @@ returns-clause-exact g c =
     let mark : bytes_eq c.args.types.now (codes "-") ≡ true = grind (arith, common_steps) in
     let read = subst (λ s. Meets bytes (types_input s (g.R.Read.remaining c.args.input.now)) (Ok c.in_ok-text.text))
     c.source.ensures c.in_ok-text.ensures.exact in
-    λ path of. read_answer c.args.types.now c.args.name.now _ c.in_ok-text.text c.args.options.task c.args.options.limit path _ _
-    c.line_of_named-2.result mark c.as_str.ensures.value read (c.line_of_named-2.ensures.exact path of)
+    λ path of. read_answer c.args.types.now c.args.name.now c.args.options.task c.args.options.limit path _ mark _ c.in_ok-text.text _
+    c.line_of_named-2.result c.as_str.ensures.value read (c.line_of_named-2.ensures.exact path of)
 
 pub returns-clause-line : goal.returns-clause-line
 returns-clause-line g c =

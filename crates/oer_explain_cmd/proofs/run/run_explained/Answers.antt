@@ -1,6 +1,8 @@
-use Rattle.std.proofs.Common.{List, ℕ, Some, inl, inr, map, refl, string_bytes, subst}
+use Rattle.std.proofs.Common.{List, ℕ, Some, inl, inr, map, refl, string_bytes, subst, true}
 use Rattle.oer_explain_cmd.proofs.Endings.{done_on, not_taken}
-use Rattle.oer_explain_cmd.specs.Adding.{Adds, is_held, notes_of}
+use Rattle.oer_options.specs.Words.{texts_of}
+use Rattle.oer_explain_cmd.specs.Adding.{is_held, notes_of}
+use Rattle.oer_explain_cmd.specs.Saying.{AddsGiven, SaysBy, type_by}
 use Rattle.oer_explain_cmd.proofs.run.run_explained.Goals as goal
 
 pub returns-in-Err-clause-exact : goal.returns-in-Err-clause-exact
@@ -16,9 +18,9 @@ pub returns-then-looks_first-clause-exact : goal.returns-then-looks_first-clause
 returns-then-looks_first-clause-exact g c =
     inr (inr (inr (inl (c.in-Ok.options, c.in-Ok.ensures.ok, c.looks_first.ensures c.if-looks_first.true, c.run_looking.ensures.looks))))
 
-pub returns-then-holds_json-clause-exact : goal.returns-then-holds_json-clause-exact
-returns-then-holds_json-clause-exact g c =
-    inr (inr (inr (inr (c.in-Ok.options, c.in-Ok.ensures.ok, c.holds_json.ensures c.if-holds_json.true, c.run_holding.ensures.holds))))
+pub returns-then-holds_all-clause-exact : goal.returns-then-holds_all-clause-exact
+returns-then-holds_all-clause-exact g c =
+    inr (inr (inr (inr (c.in-Ok.options, c.in-Ok.ensures.ok, c.holds_all.ensures c.if-holds_all.true, c.run_holding.ensures.holds))))
 
 pub returns-clause-exact : goal.returns-clause-exact
 returns-clause-exact g c =
@@ -26,17 +28,17 @@ returns-clause-exact g c =
     let o = c.in-Ok.options in
     let b = c.in-Some.octets in
     let middle = g.E.Write.contents c.run_without-status-2.new.errors in
-    let errors = g.E.Write.contents c.add-2.new.errors in
+    let errors = g.E.Write.contents c.explain-2.new.errors in
     inr (inr (inl (record {
       options = o;
       asks = c.in-Ok.ensures.ok;
       held = Some b.items;
-      stopped = c.add-2.ensures.0;
+      stopped = c.explain-2.ensures.0;
       ends = (
         middle,
         done_on c.args.command words (g.R.Read.remaining c.args.input.now) _ _ c.in-Ok-held_types.held b c.as_slice-reader.result.now (is_held c.args.command o)
             c.run_without-status-2.result _ _ _ middle c.in-Ok-held_types.ensures.held c.in-Some.is c.as_slice-reader.ensures.value c.run_without-status-2.ensures.ends,
-        subst (λ (l : List ℕ). Adds (notes_of c.add-2.ensures.0 c.args.command o (Some l)) c.run_without-status-2.result middle errors)
-            c.as_slice.ensures.value c.add-2.ensures.1,
+        subst (λ (l : List ℕ). AddsGiven (notes_of c.explain-2.ensures.0 c.args.command o (Some l)) (SaysBy o true (type_by (texts_of o) (Some l))) o
+            c.run_without-status-2.result middle errors) c.as_slice.ensures.value c.explain-2.ensures.1,
       );
     })))

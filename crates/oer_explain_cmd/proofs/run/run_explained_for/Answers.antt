@@ -12,18 +12,24 @@ returns-in-Err-clause-exact g c =
           c.refused.ensures.quiet c.refused.ensures.failed c.refused.ensures.kept c.refused.ensures.line refl,
     )
 
+pub returns-then-reads_all_for-clause-exact : goal.returns-then-reads_all_for-clause-exact
+returns-then-reads_all_for-clause-exact g c =
+    inr (inr (inr (c.in-Ok.options, c.in-Ok.ensures.ok, sym c.reads_all_for.ensures ∙ c.if-reads_all_for.true, c.run_holding_for.ensures.holds)))
+
 pub returns-then-reads_octets-clause-exact : goal.returns-then-reads_octets-clause-exact
 returns-then-reads_octets-clause-exact g c =
-    inr (inr (inl (c.in-Ok.options, c.in-Ok.ensures.ok, sym c.reads_octets.ensures ∙ c.if-reads_octets.true, c.run_looking_for.ensures.looks)))
-
-pub returns-then-reads_json-clause-exact : goal.returns-then-reads_json-clause-exact
-returns-then-reads_json-clause-exact g c =
-    inr (inr (inr (c.in-Ok.options, c.in-Ok.ensures.ok, sym c.reads_json.ensures ∙ c.if-reads_json.true, c.run_holding_for.ensures.holds)))
+    inr (inr (inl (
+      c.in-Ok.options,
+      c.in-Ok.ensures.ok,
+      sym c.reads_all_for.ensures ∙ c.if-reads_all_for.false,
+      sym c.reads_octets.ensures ∙ c.if-reads_octets.true,
+      c.run_looking_for.ensures.looks,
+    )))
 
 pub returns-clause-exact : goal.returns-clause-exact
 returns-clause-exact g c = inr (inl (record {
   options = c.in-Ok.options;
   asks = c.in-Ok.ensures.ok;
-  stopped = c.add_for.ensures.0;
-  ends = (_, c.run_without_for-status.ensures.ends, c.add_for.ensures.1);
+  stopped = c.explain_for.ensures.0;
+  ends = (_, c.run_without_for-status.ensures.ends, c.explain_for.ensures.1);
 }))

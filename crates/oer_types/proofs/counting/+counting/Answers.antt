@@ -1,9 +1,8 @@
-use Rattle.std.proofs.Common.{arith, rules}
+use Rattle.std.proofs.Common.{arith}
 use Rattle.std.proofs.lemmas.Grind.{common_steps}
 use Rattle.oer_values.proofs.Shapes.{type_of-Choice, shapes}
 use Rattle.oer_model.proofs.fitting.Leaves.{some_node}
 use Rattle.oer_types.proofs.Alternatives.{choice_leaves, root_leaves, root_parts}
-use Rattle.oer_values.specs.declared.shape.Shape.{the_lemmas}
 use Rattle.oer_types.proofs.counting.+counting.Goals as goal
 
 pub parts_left-returns-in_default-alternatives_left : goal.parts_left-returns-in_default-alternatives_left
@@ -54,9 +53,6 @@ fields_left-returns t c = grind (arith, common_steps)
 pub parts_left-returns-then-left-eq0 : goal.parts_left-returns-then-left-eq0
 parts_left-returns-then-left-eq0 t c = grind (arith, shapes, some_node)
 
-pub parts_left-returns-in_default-fields_left : goal.parts_left-returns-in_default-fields_left
-parts_left-returns-in_default-fields_left t c = grind (arith, shapes)
-
 pub parts_left-returns-in-Integer : goal.parts_left-returns-in-Integer
 parts_left-returns-in-Integer t c = grind (arith, shapes)
 
@@ -94,4 +90,4 @@ pub parts_left-returns-in-SequenceOf : goal.parts_left-returns-in-SequenceOf
 parts_left-returns-in-SequenceOf t c = grind (arith, shapes)
 
 pub parts_left-returns-in_default : goal.parts_left-returns-in_default
-parts_left-returns-in_default t c = search (rules, the_lemmas)
+parts_left-returns-in_default t c = grind (arith, shapes)

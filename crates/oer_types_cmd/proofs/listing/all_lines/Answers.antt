@@ -8,7 +8,7 @@ use Rattle.oer_modules.specs.Listed.{Printed}
 use Rattle.oer_modules.specs.Modules.{definitions_of_modules}
 use Rattle.oer_types_cmd.specs.Answer.{Meets, all_lines}
 use Rattle.oer_types_cmd.specs.declared.stop.Stop.TheVariants as raw
-use Rattle.oer_types_cmd.proofs.Meeting.{listed_all, machine_fails, unlisted_all}
+use Rattle.oer_types_cmd.proofs.Meeting.{both, listed_all, machine_fails, unlisted_all}
 use Rattle.oer_types_cmd.proofs.listing.all_lines.Goals as goal
 
 pub returns-in_default : goal.returns-in_default
@@ -27,5 +27,5 @@ returns c =
     let plain = definitions_of_modules (map text_of c.deref.result.now) c.args.nesting in
     subst (λ (ts : List (List ℕ)). Meets {X = String Global} bytes (all_lines ts c.args.nesting) (Err (raw.Modules c.from.result)))
     (ap (map text_of) c.deref.ensures.value ∙ c.in-Ok.ensures)
-    (unlisted_all plain c.from.result (refuses (λ (p : Printed). p) plain c.in-Err.refusal c.from.result c.from.ensures
+    (unlisted_all both plain c.from.result (refuses (λ (p : Printed). p) plain c.in-Err.refusal c.from.result c.from.ensures
     c.in-Err.ensures))

@@ -1,0 +1,10 @@
+use Rattle.std.proofs.Common.{ap}
+use Rattle.oer_words.proofs.Asking.{line_in, misused}
+use Rattle.oer_words.specs.Words.{words_of}
+use Rattle.oer_canonical_cmd.specs.Scan.{misuse_in}
+use Rattle.oer_canonical_cmd.proofs.asked.canonical_asked.Goals as goal
+
+pub returns-in-Some : goal.returns-in-Some
+returns-in-Some g c = misused words_of misuse_in _ _ c.in-Ok-Some.words _ _ _ _ _ c.in-Ok-Some.ensures.ends.0 c.in-Ok-Some.field-0-is
+    (line_in misuse_in c.in-Ok-Some.words c.deref.result.now _ c.in-Some.line c.deref.ensures.value c.misuse_in.ensures c.in-Some.is)
+    (ap g.E.Write.contents c.in-Ok-Some.ensures.quiet) c.reject.ensures.status c.reject.ensures.line

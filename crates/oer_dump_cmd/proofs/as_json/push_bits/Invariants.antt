@@ -1,8 +1,0 @@
-use Rattle.std.proofs.Common.{◌++◌, drop, string_bytes}
-use Rattle.serde_json.specs.Written.{compact_text}
-use Rattle.oer_dump_cmd.specs.Array.{bits_data}
-use Rattle.oer_dump_cmd.proofs.Pushed.{GivesBits}
-use Rattle.oer_dump_cmd.proofs.as_json.push_bits.Given as goal
-
-abbrev pub invariant-loop-bit : goal.invariant-loop-bit
-invariant-loop-bit l = GivesBits (string_bytes l.text) (string_bytes l.fn.text ++ compact_text (bits_data l.bits)) l.is_later (drop l.bit-index l.bits)

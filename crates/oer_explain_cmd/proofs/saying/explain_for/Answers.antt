@@ -1,0 +1,11 @@
+use Rattle.oer_explain_cmd.proofs.Adds.{none_added, notes_added}
+use Rattle.oer_explain_cmd.proofs.saying.explain_for.Goals as goal
+
+pub returns-in-Ok : goal.returns-in-Ok
+returns-in-Ok g c = (
+  c.add_for.ensures.0,
+  (_, c.add_for.ensures.1, notes_added _ c.args.status _ _ c.in-Ok.notes.items c.as_slice.result.now c.as_slice.ensures.value c.in-Ok.ensures c.put_notes.ensures),
+)
+
+pub returns-in-Err : goal.returns-in-Err
+returns-in-Err g c = (c.add_for.ensures.0, (_, c.add_for.ensures.1, none_added _ c.args.status _))
