@@ -604,7 +604,7 @@ static void test_certificate(const char *folder) {
 
 #ifdef FAIL_MEMORY
 /* The call where each of its growths fails in turn, up to the run where none fails: that one
- * gives the answer of the vector, and each before it says that memory ran out. */
+ * gives the answer of the vector, and each before it says that memory ran out. A near name is found without some of it. */
 static void fail_in_turn(const struct vector *vector) {
     oer_types types = types_of(vector->type);
     long before = blocks, nth;
@@ -618,6 +618,10 @@ static void fail_in_turn(const struct vector *vector) {
         fail_at = 0;
         EXPECT(blocks == before, vector->given);
         if (growths < nth) break;
+        if (vector->task == EXPLAIN_JSON && answer.status == OER_OK) {
+            EXPECT(answer.written == vector->written && memcmp(out, vector->answer, (size_t)answer.written) == 0, vector->given);
+            continue;
+        }
         EXPECT(is_only(answer, OER_MEMORY), vector->given);
         EXPECT(are_all(out, 0, sizeof out, 0xdd), vector->given);
     }
