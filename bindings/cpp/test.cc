@@ -414,10 +414,12 @@ static void test_memory(const vector &row) {
     for (long nth = 1; nth <= 1000; nth++) {
         allocations = 0;
         fail_at = nth;
-        error = call(types, "A", row).error;
+        answer from = call(types, "A", row);
         fail_at = 0;
         if (allocations < nth) break;
-        EXPECT(is_only(error, OER_MEMORY), row.given);
+        // A near name is found without some memory.
+        bool is_whole = row.task == EXPLAIN_JSON && from.error.status == OER_OK && from.made == wanted(row);
+        EXPECT(is_whole || is_only(from.error, OER_MEMORY), row.given);
     }
     allocations = 0;
     fail_at = 1;
