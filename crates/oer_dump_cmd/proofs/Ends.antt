@@ -63,8 +63,8 @@ pub unrejected : (rejection : Rejection) (status : ℕ) (errors errors' : Option
 unrejected None status errors errors' tells zero = refl
 unrejected (Some line) status errors errors' tells zero = absurd (omega (arith, zero, tells.0))
 
-pub accepts : (words : List Text) (told : Option (List ℕ)) (o : Options) → Asks words o → AreOneWith (texts_asked o) (behind o.hex) o.limit told → Accepts words told
-accepts words told o asks h =
+pub accepts : (words : List Text) (usual : ℕ) (told : Option (List ℕ)) (o : Options) → Asks words usual o → AreOneWith (texts_asked o) (behind o.hex) o.limit told → Accepts words told
+accepts words usual told o asks h =
     let texts : texts_asked o ≡ texts_given words = rw (← asks.type_text, ← asks.types, ← asks.name) refl in
     record {
       limit = o.limit;
@@ -74,9 +74,9 @@ accepts words told o asks h =
       octets = subst (λ t. AreOneWith t (given words (codes "hex")) o.limit told) texts (subst (λ x. AreOneWith (texts_asked o) x o.limit told) (sym asks.hex) h);
     }
 
-pub accepts_for : (T : AsnType) (words : List Text) (told : Option (List ℕ)) (o : Options) → Asks words o → AreOne T (behind o.hex) o.limit told
+pub accepts_for : (T : AsnType) (words : List Text) (usual : ℕ) (told : Option (List ℕ)) (o : Options) → Asks words usual o → AreOne T (behind o.hex) o.limit told
     → AcceptsFor T words told
-accepts_for T words told o asks h = record {
+accepts_for T words usual told o asks h = record {
   limit = o.limit;
   limit_text = asks.limit.0;
   limit_is = asks.limit.1;
@@ -133,13 +133,14 @@ undisplayed f unknown fault status s shown same silent small = tt
 undisplayed f (value p) fault status s shown same silent small = absurd (shown (omega (arith, small, same small)))
 undisplayed f (refusal r) fault status s shown same silent small = kept s.output s.output' (silent (omega (arith, small, same small)))
 
-pub does : (words : List Text) (told : Option (List ℕ)) (untouched : Type 0) (status : ℕ) (s : Streams) (o : Options) → Asks words o
+pub does : (words : List Text) (usual : ℕ) (told : Option (List ℕ)) (untouched : Type 0) (status : ℕ) (s : Streams) (o : Options) → Asks words usual o
     → Answers (judged_as o told) status s ⊎ Breaks status s → (status ≤ 2 → Outputs o.form (octets_as o told) s)
-    → (behind o.hex ≢ None → reads_types (texts_asked o) ≡ false → untouched) → Ends words told untouched status s
-does words told untouched status s o asks answers outputs keeps = inl (record { options = o; asks = asks; answers = answers; outputs = outputs; keeps = keeps })
+    → (behind o.hex ≢ None → reads_types (texts_asked o) ≡ false → untouched) → Ends words usual told untouched status s
+does words usual told untouched status s o asks answers outputs keeps = inl (record { options = o; asks = asks; answers = answers; outputs = outputs; keeps = keeps })
 
-pub does_for : (T : AsnType) (words : List Text) (told : Option (List ℕ)) (untouched : Type 0) (status : ℕ) (s : Streams) (o : Options) → Asks words o
+pub does_for : (T : AsnType) (words : List Text) (usual : ℕ) (told : Option (List ℕ)) (untouched : Type 0) (status : ℕ) (s : Streams) (o : Options)
+    → Asks words usual o
     → Answers (judged_octets_by Modules (behind o.hex) o.limit told T) status s ⊎ Breaks status s
-    → (status ≤ 2 → Outputs o.form (octets_at (behind o.hex) o.limit told T) s) → (behind o.hex ≢ None → untouched) → EndsFor T words told untouched status s
-does_for T words told untouched status s o asks answers outputs keeps =
+    → (status ≤ 2 → Outputs o.form (octets_at (behind o.hex) o.limit told T) s) → (behind o.hex ≢ None → untouched) → EndsFor T words usual told untouched status s
+does_for T words usual told untouched status s o asks answers outputs keeps =
     inl (record { options = o; asks = asks; answers = answers; outputs = outputs; keeps = keeps })

@@ -39,10 +39,10 @@ Outputs f (value p) s = PrintsPage f p.0 p.1 s.output s.output'
 Outputs f (refusal r) s = Keeps s.output s.output'
 
 -- The words ask for these options, and their answer is given, or the machine failed. Where they have the octets, the input is untouched,
--- unless the text of the definitions is read from it.
-pub record Does (words : List Text) (told : Option (List ℕ)) (untouched : Type 0) (status : ℕ) (s : Streams) : Type 0 where
+-- unless the text of the definitions is read from it. usual: how many characters a line may have if they don't say
+pub record Does (words : List Text) (usual : ℕ) (told : Option (List ℕ)) (untouched : Type 0) (status : ℕ) (s : Streams) : Type 0 where
   pub options : Options
-  pub asks : Asks words options
+  pub asks : Asks words usual options
   pub answers : Answers (judged_as options told) status s ⊎ Breaks status s
   pub outputs : status ≤ 2 → Outputs options.form (octets_as options told) s
   pub keeps : behind options.hex ≢ None → reads_types (texts_asked options) ≡ false → untouched
@@ -64,8 +64,8 @@ abbrev pub streams : Option (List ℕ) → Option (List ℕ) → Option (List �
 streams output output' errors errors' = record { output = output; output' = output'; errors = errors; errors' = errors' }
 
 -- What the program does. told: what the input had left, if it is known; untouched: the input is as it was.
-abbrev pub Ends : List Text → Option (List ℕ) → Type 0 → ℕ → Streams → Type 0
-Ends words told untouched status s = Does words told untouched status s ⊎ IsNotTaken words untouched status s
+abbrev pub Ends : List Text → ℕ → Option (List ℕ) → Type 0 → ℕ → Streams → Type 0
+Ends words usual told untouched status s = Does words usual told untouched status s ⊎ IsNotTaken words untouched status s
 
 -- The octets that the words give are one encoding of the type that they name, within the limit that they give.
 pub record Accepts (words : List Text) (told : Option (List ℕ)) : Type 0 where
@@ -77,15 +77,15 @@ pub record Accepts (words : List Text) (told : Option (List ℕ)) : Type 0 where
 
 -- ---- for a type of modules, whatever the options on types say
 
-pub record DoesFor (T : AsnType) (words : List Text) (told : Option (List ℕ)) (untouched : Type 0) (status : ℕ) (s : Streams) : Type 0 where
+pub record DoesFor (T : AsnType) (words : List Text) (usual : ℕ) (told : Option (List ℕ)) (untouched : Type 0) (status : ℕ) (s : Streams) : Type 0 where
   pub options : Options
-  pub asks : Asks words options
+  pub asks : Asks words usual options
   pub answers : Answers (judged_octets_by Modules (behind options.hex) options.limit told T) status s ⊎ Breaks status s
   pub outputs : status ≤ 2 → Outputs options.form (octets_at (behind options.hex) options.limit told T) s
   pub keeps : behind options.hex ≢ None → untouched
 
-abbrev pub EndsFor : AsnType → List Text → Option (List ℕ) → Type 0 → ℕ → Streams → Type 0
-EndsFor T words told untouched status s = DoesFor T words told untouched status s ⊎ IsNotTaken words untouched status s
+abbrev pub EndsFor : AsnType → List Text → ℕ → Option (List ℕ) → Type 0 → ℕ → Streams → Type 0
+EndsFor T words usual told untouched status s = DoesFor T words usual told untouched status s ⊎ IsNotTaken words untouched status s
 
 pub record AcceptsFor (T : AsnType) (words : List Text) (told : Option (List ℕ)) : Type 0 where
   pub limit : ℕ

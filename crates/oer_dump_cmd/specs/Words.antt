@@ -33,20 +33,29 @@ given words id = first_of id (matches_of oer_dump words)
 abbrev pub given_number : List Text → Text → Option Text
 given_number words id = one_of id (matches_of oer_dump words)
 
--- the array where the value of `--json` is true, and lines where it is false
-abbrev pub IsForm : Option Text → Form → Type 0
-IsForm value form.Json = (value ≢ None) × (value ≢ Some (codes "false"))
-IsForm value (form.Text width) = value ≢ Some (codes "true")
+-- the number that the text writes, if that is below 2^64, and else the other one
+abbrev pub IsNumberOr : ℕ → Text → ℕ → Type 0
+IsNumberOr other text n = (NumberOf text n × (n < 2 ^ 64)) ⊎ ((n ≡ other) × ((m : ℕ) → NumberOf text m → 2 ^ 64 ≤ m))
 
--- the options are those of the words
-pub record Asks (words : List Text) (o : Options) : Type 0 where
+-- How many characters a line may have, where the value of `--width` has this text; the usual number without it.
+abbrev pub IsWidth : ℕ → Option Text → ℕ → Type 0
+IsWidth usual None width = width ≡ usual
+IsWidth usual (Some text) width = IsNumberOr usual text width
+
+-- the array where the value of `--json` is true, and lines that are so wide where it is false
+abbrev pub IsForm : Option Text → (ℕ → Type 0) → Form → Type 0
+IsForm value wide form.Json = (value ≢ None) × (value ≢ Some (codes "false"))
+IsForm value wide (form.Text width) = (value ≢ Some (codes "true")) × wide width
+
+-- The options are those of the words. usual: how many characters a line may have if they don't say
+pub record Asks (words : List Text) (usual : ℕ) (o : Options) : Type 0 where
   pub type_text : given words (codes "type") ≡ behind o.type_text
   pub types : given words (codes "types") ≡ behind o.types
   pub name : given words (codes "name") ≡ behind o.name
   pub hex : given words (codes "hex") ≡ behind o.hex
   -- the number that the value of `--limit` writes
   pub limit : (text : Text) × (given_number words (codes "limit") ≡ Some text) × NumberOf text o.limit
-  pub form : IsForm (given_number words (codes "json")) o.form
+  pub form : IsForm (given_number words (codes "json")) (IsWidth usual (given_number words (codes "width"))) o.form
 
 -- the texts of `--type`, `--types` and `--name` among the options
 abbrev pub texts_asked : Options → Texts
@@ -62,4 +71,4 @@ texts_given words = record { one = given words (codes "type"); types = given wor
 abbrev pub IsUsualWidth : Bool → Option Text → ℕ → Type 0
 IsUsualWidth false columns width = width ≡ 0
 IsUsualWidth true None width = width ≡ 100
-IsUsualWidth true (Some text) width = (NumberOf text width × (width < 2 ^ 64)) ⊎ ((width ≡ 100) × ((n : ℕ) → NumberOf text n → 2 ^ 64 ≤ n))
+IsUsualWidth true (Some text) width = IsNumberOr 100 text width

@@ -34,7 +34,7 @@ pub fn run_for<R: Read, W: Write, E: Write>(
         → AcceptsFor (the_type schema.now) (map string_bytes words.now) (R.remaining input.old) }
     // The status, the reason on the errors and the output are what plain functions of the type, the words and the octets say,
     // unless memory ran out or a device failed. Input that isn't needed is untouched.
-    ensures exact { EndsFor (the_type schema.now) (map string_bytes words.now) (R.remaining input.old) (input.new ≡ input.old) result
+    ensures exact { EndsFor (the_type schema.now) (map string_bytes words.now) width (R.remaining input.old) (input.new ≡ input.old) result
         (streams (W.contents output.old) (W.contents output.new) (E.contents errors.old) (E.contents errors.new)) }
 {
     let options = match parsed(alloc, words, width) {

@@ -1,12 +1,12 @@
 //! What the arguments ask for.
-ghost use Rattle.std.specs.Prelude.{◌≡◌, IfErr, IfOk, false, map, string_bytes, true};
-ghost use Rattle.clap.specs.Words.{HasKind, fault_of, kind_of, rule_of, takes};
+ghost use Rattle.std.specs.Prelude.{◌≡◌, IfErr, IfOk, codes, false, map, string_bytes, true};
+ghost use Rattle.clap.specs.Words.{HasKind, fault_of, found_of, kind_of, one_text, rule_of, takes};
 ghost use Rattle.clap.specs.declared.error.kind.ErrorKind.TheVariants.{OutOfMemory};
 ghost use Rattle.oer_options.specs.Words.{HasShape, limit_rule, texts_of};
-ghost use Rattle.oer_dump_cmd.specs.Words.{Asks, bare, json_rule, oer_dump, texts_asked, width_rule};
+ghost use Rattle.oer_dump_cmd.specs.Words.{Asks, IsWidth, bare, json_rule, oer_dump, texts_asked, width_rule};
 
 use crate::help;
-use clap::{Arg, ArgAction, Command, Error};
+use clap::{Arg, ArgAction, ArgMatches, Command, Error};
 use oer_options::{
     DEFAULT_LIMIT, HEX, NAME, Options as OerOptions, TYPE, TYPES, Task, VERSION, option,
 };
@@ -106,6 +106,13 @@ fn command<'a>(alloc: Global) -> Result<Command<'a>, AllocError>
         .arg(json_option(alloc))
 }
 
+// How many characters a line may have, by `--width`; the usual number without it.
+fn width_of(found: &ArgMatches<'_>, usual: u64) -> u64
+    ensures { IsWidth usual (one_text (found_of found.now) (codes "width")) result }
+{
+    found.get_one::<u64>("width").unwrap_or(usual)
+}
+
 /// What the arguments ask for, or why `clap` rejects them. The first word is the name of the program;
 /// `width` is how many characters a line may have if they don't say.
 pub(crate) fn parsed<'a>(
@@ -113,7 +120,7 @@ pub(crate) fn parsed<'a>(
     words: &'a [String],
     width: u64,
 ) -> Result<Options<'a>, Error>
-    ensures ok { IfOk result (λ o. Asks (map string_bytes words.entry.now) o) }
+    ensures ok { IfOk result (λ o. Asks (map string_bytes words.entry.now) width o) }
     ensures err { IfErr result (λ e. takes oer_dump (map string_bytes words.entry.now) ≡ true
         → kind_of e ≡ OutOfMemory) }
     // An allocation failed, or it is a fault that these words have.
@@ -131,7 +138,7 @@ pub(crate) fn parsed<'a>(
         Form::Json
     } else {
         Form::Text {
-            width: found.get_one::<u64>("width").unwrap_or(width),
+            width: width_of(&found, width),
         }
     };
     Ok(Options {

@@ -274,9 +274,9 @@ pub fn run<R: Read, W: Write, E: Write>(
         → Accepts (map string_bytes words.now) (R.remaining input.old) }
     // The status, and the reason on the errors, are those that plain functions of the words and the octets
     // say, the same as of `oer check`, unless memory ran out or a device failed. The output has the text of
-    // the entries of the octets, and nothing where there are no octets or no type. Input that isn't needed
+    // the entries of the octets, in lines as wide as the words or `width` say, and nothing where there are no octets or no type. Input that isn't needed
     // is untouched.
-    ensures exact { Ends (map string_bytes words.now) (R.remaining input.old) (input.new ≡ input.old) result
+    ensures exact { Ends (map string_bytes words.now) width (R.remaining input.old) (input.new ≡ input.old) result
         (streams (W.contents output.old) (W.contents output.new) (E.contents errors.old) (E.contents errors.new)) }
 {
     let options = match parsed(alloc, words, width) {

@@ -16,7 +16,7 @@ returns-in-Err-print_value-clause-exact g c =
     let o = c.in-Ok.options in
     let T = the_type c.args.schema.now in
     let told = g.R.Read.remaining c.args.input.now in
-    does_for T (map string_bytes c.args.words.now) _ _ c.report.result _ o c.in-Ok.ensures.ok
+    does_for T (map string_bytes c.args.words.now) _ _ _ c.report.result _ o c.in-Ok.ensures.ok
     (refused_end (judged_octets_by Modules (behind o.hex) o.limit told T) c.in-Err-print_value.fault c.report.result _
     c.in-Err-print_value.ensures.shown c.report.ensures.line)
     (undisplayed o.form (octets_at (behind o.hex) o.limit told T) c.in-Err-print_value.fault
@@ -35,7 +35,7 @@ returns-in-Ok-print_value-clause-exact g c =
     let told = g.R.Read.remaining c.args.input.now in
     let expected = judged_octets_by Modules (behind o.hex) o.limit told T in
     let octets = octets_at (behind o.hex) o.limit told T in
-    does_for T (map string_bytes c.args.words.now) _ _ c.tell.result _ o c.in-Ok.ensures.ok
+    does_for T (map string_bytes c.args.words.now) _ _ _ c.tell.result _ o c.in-Ok.ensures.ok
     (inl (printed_end o.form octets expected c.in-Ok-print_value.rejection c.tell.result _ c.in-Ok-print_value.ensures.shown
     c.in-Ok-print_value.ensures.displayed c.tell.ensures))
     (λ small. displayed o.form octets c.in-Ok-print_value.rejection _ c.in-Ok-print_value.ensures.displayed)
@@ -43,5 +43,5 @@ returns-in-Ok-print_value-clause-exact g c =
 
 pub returns-in-Ok-print_value-clause-accepts : goal.returns-in-Ok-print_value-clause-accepts
 returns-in-Ok-print_value-clause-accepts g c = λ taken zero.
-    accepts_for (the_type c.args.schema.now) (map string_bytes c.args.words.now) _ c.in-Ok.options c.in-Ok.ensures.ok
+    accepts_for (the_type c.args.schema.now) (map string_bytes c.args.words.now) _ _ c.in-Ok.options c.in-Ok.ensures.ok
     (c.in-Ok-print_value.ensures.accepted (unrejected c.in-Ok-print_value.rejection c.tell.result _ _ c.tell.ensures zero))
