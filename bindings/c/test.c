@@ -800,14 +800,16 @@ static void compare_whole(oer_types *types, const uint8_t *octets, size_t length
 /* That the calls agree on the octets. */
 static void compare(oer_types *types, const uint8_t *octets, size_t length) {
     uint8_t out[256], again[256];
-    char json[4096];
+    char json[4096], lines[16384];
     oer_checked checked = oer_check(types, "A", 1, octets, length), made;
+    oer_written explained = oer_explain_octets(types, "A", 1, octets, length, lines, sizeof lines);
     oer_written canon = oer_canon(types, "A", 1, octets, length, OER_NO_LIMIT, out, sizeof out);
     oer_written shown = oer_to_json(types, "A", 1, octets, length, OER_NO_LIMIT, json, sizeof json);
     oer_written back;
     EXPECT(canon.status == checked.status && shown.status == checked.status, "status");
     EXPECT(canon.why == checked.why && shown.why == checked.why, "why");
     EXPECT(canon.octets == checked.octets && shown.octets == checked.octets, "octets");
+    EXPECT(explained.status == OER_OK && (explained.written == 0) == (checked.status == OER_OK), "explained");
     compare_whole(types, octets, length, checked);
     if (checked.status != OER_OK) {
         EXPECT(checked.status == OER_REJECTED && checked.why >= OER_END && checked.why <= OER_UNKNOWN_ADDITION, "a reason");
@@ -821,6 +823,8 @@ static void compare(oer_types *types, const uint8_t *octets, size_t length) {
     EXPECT(made.status == OER_OK && made.octets == canon.written && made.canonical == 1, "canonical octets");
     back = oer_from_json(types, "A", 1, json, (size_t)shown.written, again, sizeof again);
     EXPECT(back.status == OER_OK && back.written == canon.written && !memcmp(again, out, (size_t)back.written), "json");
+    explained = oer_explain_json(types, "A", 1, json, (size_t)shown.written, lines, sizeof lines);
+    EXPECT(explained.status == OER_OK && explained.written == 0, "explained json");
 }
 
 static void test_random(long strings) {
