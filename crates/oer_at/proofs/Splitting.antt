@@ -1,47 +1,12 @@
 -- A text and its names.
-use Rattle.std.proofs.Common.{◌≡◌, ◌≢◌, ◌<◌, ℕ, suc, List, [], ◌∷◌, ◌++◌, length, take, map, false, eqb, refl, sym, ap, ap₂, ◌∙◌, subst, arith, eqb-true, eq-eqb, true≢false, length-take-le}
+use Rattle.std.proofs.Common.{◌≡◌, ◌≢◌, ℕ, List, [], ◌∷◌, ◌++◌, map, false, eqb, refl, sym, ap, ◌∙◌, arith}
 use Rattle.std.specs.Borrow.{Bor}
-use Rattle.std.specs.List.{after_first, before_first, position_or_len}
-use Rattle.std.proofs.Math.ListN.{get_or}
-use Rattle.std.proofs.lemmas.List.{get_or-take}
-use Rattle.std.proofs.lemmas.List.Sums.{split_at_first, fails_before_first, passes_at_first}
 use Rattle.std.proofs.lemmas.Bool.Decides.{nat_tests}
 use Rattle.oer_at.specs.Names.{names_in, text_behind}
-
--- there is no point in the text
-abbrev pub Lacks : List ℕ → Type 0
-Lacks xs = (k : ℕ) → k < length xs → get_or xs k 0 ≢ 46
-
-later : (x : ℕ) (xs : List ℕ) → Lacks (x ∷ xs) → Lacks xs
-later x xs h k lt = h (suc k) (omega (arith, lt))
+use Rattle.oer_parts.proofs.Paths.{Falls, Lacks, later}
 
 no_point : (x : ℕ) (xs : List ℕ) → Lacks (x ∷ xs) → eqb x 46 ≡ false
 no_point x xs h = let ne : x ≢ 46 = h 0 (omega arith) in grind (arith, nat_tests)
-
--- where no point is found
-pub none_found : (xs : List ℕ) → position_or_len (λ b. eqb b 46) xs ≡ length xs → Lacks xs
-none_found xs e k lt is =
-    let fails : eqb (get_or xs k 0) 46 ≡ false = fails_before_first (λ b. eqb b 46) xs k 0 (omega (arith, e, lt)) in
-    true≢false (sym (eq-eqb _ 46 is) ∙ fails)
-
--- the text before the first point, and after it
-pub record Falls (xs front rest : List ℕ) : Type 0 where
-  pub all : xs ≡ front ++ 46 ∷ rest
-  pub lacks : Lacks front
-
-pub found : (xs front rest : List ℕ) → front ≡ before_first (λ b. eqb b 46) xs → rest ≡ after_first (λ b. eqb b 46) xs → position_or_len (λ b. eqb b 46) xs < length xs → Falls xs front rest
-found xs front rest f r lt =
-    let at = position_or_len (λ b. eqb b 46) xs in
-    let point : get_or xs at 0 ≡ 46 = eqb-true _ 46 (passes_at_first (λ b. eqb b 46) xs 0 lt) in
-    let whole : xs ≡ before_first (λ b. eqb b 46) xs ++ (get_or xs at 0 ∷ after_first (λ b. eqb b 46) xs) = split_at_first (λ b. eqb b 46) xs 0 lt in
-    let before : Lacks (take at xs) = λ k less is.
-    let inside : k < at = let most : length (take at xs) ≡ at = length-take-le at xs (omega (arith, lt)) in omega (arith, less, most) in
-    let fails : eqb (get_or xs k 0) 46 ≡ false = fails_before_first (λ b. eqb b 46) xs k 0 inside in
-    true≢false (sym (eq-eqb _ 46 (sym (get_or-take at xs k 0 inside) ∙ is)) ∙ fails) in
-    record {
-      all = whole ∙ ap₂ (λ (a b : List ℕ). a ++ b) (sym f) (ap₂ (λ (z : ℕ) (l : List ℕ). z ∷ l) point (sym r));
-      lacks = subst Lacks (sym f) before;
-    }
 
 -- a text without a point is one name
 pub one_name : (xs : List ℕ) → Lacks xs → names_in xs ≡ xs ∷ []

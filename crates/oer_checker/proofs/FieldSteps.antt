@@ -24,7 +24,7 @@ use Rattle.oer_model.proofs.filling.Same.{same_list-refl, same_list-true}
 use Rattle.oer_model.specs.SharedSteps.{bits_left, is_there}
 use Rattle.oer_checker.specs.Steps.{addition_map, and_after, between, check_if, check_there, got_both, is_default, sized_quantity}
 use Rattle.oer_checker.proofs.BitLists.{drop_next, drop_past}
-use Rattle.oer_checker.proofs.Joins.{also_is, and_all, and_true, bind_got, bind_stop, both_got, both_stop, give_got, judged_got, judged_stop, more_got, more_stop, no_more}
+use Rattle.oer_checker.proofs.Joins.{also_is, and_all, and_true, bind_got, bind_stop, both_got, both_stop, give_got, judged_got, judged_stop, kept_at, more_got, more_stop, no_more}
 
 abbrev no : Why → List ℕ → Outcome Bool
 no why rest = refused why rest
@@ -292,40 +292,20 @@ marked_end s i acc p whole le inv = no_more p acc whole (ap (λ (l : List Bool).
 
 -- ---- what is asked of the types
 
-fields_dropped : (xs : List Field) (i : ℕ) → FieldsKeepLimits (fields_of xs) → FieldsKeepLimits (fields_of (drop i xs))
-fields_dropped xs zero k = k
-fields_dropped [] (suc i) k = k
-fields_dropped (f ∷ xs) (suc i) k = fields_dropped xs i k.1
-
 pub field_limits : (xs : List Field) (i : ℕ) (f : Field) → i < length xs → f ≡ get_or xs i f → FieldsKeepLimits (fields_of xs) → KeepsLimits (type_of f.shape)
-field_limits xs i f less is k = (subst (λ (l : List Field). FieldsKeepLimits (fields_of l)) (field_here xs i f less is) (fields_dropped xs i k)).0
-
-defaults_dropped : (xs : List Field) (i : ℕ) → FieldDefaultsFit (fields_of xs) → FieldDefaultsFit (fields_of (drop i xs))
-defaults_dropped xs zero k = k
-defaults_dropped [] (suc i) k = k
-defaults_dropped (f ∷ xs) (suc i) k = defaults_dropped xs i k.2
+field_limits xs i f less is k = (kept_at (λ (l : List Field). FieldsKeepLimits (fields_of l)) (λ g l k. k.1) xs i (field_here xs i f less is) k).0
 
 pub field_defaults : (xs : List Field) (i : ℕ) (f : Field) → i < length xs → f ≡ get_or xs i f → FieldDefaultsFit (fields_of xs) → DefaultsFit (type_of f.shape)
-field_defaults xs i f less is k = (subst (λ (l : List Field). FieldDefaultsFit (fields_of l)) (field_here xs i f less is) (defaults_dropped xs i k)).0
+field_defaults xs i f less is k = (kept_at (λ (l : List Field). FieldDefaultsFit (fields_of l)) (λ g l k. k.2) xs i (field_here xs i f less is) k).0
 
 pub field_default : (xs : List Field) (i : ℕ) (f : Field) → i < length xs → f ≡ get_or xs i f → FieldDefaultsFit (fields_of xs) → DefaultFits (need_of f.need) (Fits (type_of f.shape))
-field_default xs i f less is k = (subst (λ (l : List Field). FieldDefaultsFit (fields_of l)) (field_here xs i f less is) (defaults_dropped xs i k)).1
-
-additions_dropped : (xs : List Addition) (i : ℕ) → AdditionsKeepLimits (additions_of xs) → AdditionsKeepLimits (additions_of (drop i xs))
-additions_dropped xs zero k = k
-additions_dropped [] (suc i) k = k
-additions_dropped (a ∷ xs) (suc i) k = additions_dropped xs i k.1
+field_default xs i f less is k = (kept_at (λ (l : List Field). FieldDefaultsFit (fields_of l)) (λ g l k. k.2) xs i (field_here xs i f less is) k).1
 
 pub addition_limits : (xs : List Addition) (i : ℕ) (a : Addition) → i < length xs → a ≡ get_or xs i a → AdditionsKeepLimits (additions_of xs) → KeepsLimits (type_of a.shape)
-addition_limits xs i a less is k = (subst (λ (l : List Addition). AdditionsKeepLimits (additions_of l)) (addition_here xs i a less is) (additions_dropped xs i k)).0
-
-added_dropped : (xs : List Addition) (i : ℕ) → AdditionDefaultsFit (additions_of xs) → AdditionDefaultsFit (additions_of (drop i xs))
-added_dropped xs zero k = k
-added_dropped [] (suc i) k = k
-added_dropped (a ∷ xs) (suc i) k = added_dropped xs i k.1
+addition_limits xs i a less is k = (kept_at (λ (l : List Addition). AdditionsKeepLimits (additions_of l)) (λ b l k. k.1) xs i (addition_here xs i a less is) k).0
 
 pub addition_defaults : (xs : List Addition) (i : ℕ) (a : Addition) → i < length xs → a ≡ get_or xs i a → AdditionDefaultsFit (additions_of xs) → DefaultsFit (type_of a.shape)
-addition_defaults xs i a less is k = (subst (λ (l : List Addition). AdditionDefaultsFit (additions_of l)) (addition_here xs i a less is) (added_dropped xs i k)).0
+addition_defaults xs i a less is k = (kept_at (λ (l : List Addition). AdditionDefaultsFit (additions_of l)) (λ b l k. k.1) xs i (addition_here xs i a less is) k).0
 
 pub if_absent : (b : Bool) (c : Reader Bool) (p : Place) → b ≡ false → got true p ≡ check_if b c p
 if_absent b c p is = rw is (give_got true p)

@@ -1,5 +1,5 @@
 -- Steps one after another: what each answers, the whole answers.
-use Rattle.std.proofs.Common.{◌≡◌, ℕ, Bool, true, false, ◌&&◌, List, refl, sym, ap, ◌∙◌}
+use Rattle.std.proofs.Common.{◌≡◌, ℕ, zero, suc, Bool, true, false, ◌&&◌, List, [], ◌∷◌, drop, refl, sym, subst, ap, ◌∙◌}
 use Rattle.oer_units.specs.declared.fault.Why.{Why}
 use Rattle.oer_units.specs.Reader.{Outcome, Place, Reader, bind, give, got, guard, refuse, refused, then_read}
 use Rattle.oer_model.specs.Checking.{and_also, both, judge, judged}
@@ -78,3 +78,26 @@ more_stop c d p acc why rest whole inv e = ap (and_after acc) (both_stop c d p w
 pub no_more : (p : Place) (acc : Bool) (whole : Outcome Bool) → and_after acc (give true p) ≡ whole → got acc p ≡ whole
 unfolding give
 no_more p acc whole inv = ap (λ (f : Bool). got f p) (sym (and_true acc)) ∙ inv
+
+-- ---- what is kept from a place of a list on
+
+pub kept_at : {A : Type 0} (K : List A → Type 0) → ((x : A) (xs : List A) → K (x ∷ xs) → K xs) → (xs : List A) (i : ℕ) {ys : List A} → drop i xs ≡ ys → K xs → K ys
+kept_at {A} K step xs i is k = subst K is (from xs i k) where
+  from : (xs : List A) (i : ℕ) → K xs → K (drop i xs)
+  from xs zero k = k
+  from [] (suc i) k = k
+  from (x ∷ xs) (suc i) k = from xs i (step x xs k)
+
+-- ---- whether two hold, by the branches of a test of the first
+
+pub then_and : {f g x : Bool} → f ≡ true → x ≡ g → x ≡ (f && g)
+then_and is e = rw is e
+
+pub else_and : {f x : Bool} (g : Bool) → f ≡ false → x ≡ f → x ≡ (f && g)
+else_and g is e = e ∙ rw is refl
+
+pub then_got : {f g : Bool} {p : Place} {o : Outcome Bool} → f ≡ true → got (f && g) p ≡ o → got g p ≡ o
+then_got {f} {g} {p} {o} is h = subst (λ (x : Bool). got (x && g) p ≡ o) is h
+
+pub else_got : {f : Bool} (g : Bool) {p : Place} {o : Outcome Bool} → f ≡ false → got (f && g) p ≡ o → got f p ≡ o
+else_got {f} g {p} is h = ap (λ (x : Bool). got x p) (else_and g is refl) ∙ h

@@ -1,5 +1,5 @@
 -- Alternatives of a CHOICE, one after another.
-use Rattle.std.proofs.Common.{◌≡◌, ℕ, zero, suc, subst, ◌<◌, Bool, true, false, ◌||◌, List, [], ◌∷◌, arith, if◌then◌else◌, Option, Some, None, length, drop, take, get_or, refl, sym, ap, ap₂, ◌∙◌}
+use Rattle.std.proofs.Common.{◌≡◌, ℕ, zero, suc, ◌<◌, Bool, true, false, ◌||◌, List, [], ◌∷◌, arith, if◌then◌else◌, Option, Some, None, length, take, get_or, refl, sym, ap, ap₂, ◌∙◌}
 use Rattle.oer_units.specs.declared.fault.Why.{Why}
 use Rattle.oer_units.specs.declared.fault.Why.TheVariants.{UnknownAlternative}
 use Rattle.oer_units.specs.declared.tagging.Tag.{Tag}
@@ -14,7 +14,7 @@ use Rattle.oer_values.specs.ShapeView.{later_of, root_of, type_of}
 use Rattle.oer_values.specs.declared.shape.Alt.{Alt}
 use Rattle.oer_values.proofs.TagSteps.{here}
 use Rattle.oer_checker.specs.Steps.{check_later}
-use Rattle.oer_checker.proofs.Joins.{bind_got, bind_stop}
+use Rattle.oer_checker.proofs.Joins.{bind_got, bind_stop, kept_at}
 
 -- ---- a root, and what follows it
 
@@ -128,37 +128,17 @@ later_none xs t is = ap later_or is ∙ sym (later_first xs t)
 
 -- ---- what is asked of the types
 
-root_dropped : (xs : List Alt) (i : ℕ) → AlternativesKeepLimits (root_of xs no_alternatives) → AlternativesKeepLimits (root_of (drop i xs) no_alternatives)
-root_dropped xs zero k = k
-root_dropped [] (suc i) k = k
-root_dropped (a ∷ xs) (suc i) k = root_dropped xs i k.1
-
 pub root_limits : (xs : List Alt) (i : ℕ) (a : Alt) → i < length xs → a ≡ get_or xs i a → AlternativesKeepLimits (root_of xs no_alternatives) → KeepsLimits (type_of a.shape)
-root_limits xs i a less is k = (subst (λ (l : List Alt). AlternativesKeepLimits (root_of l no_alternatives)) (here xs i a less is) (root_dropped xs i k)).0
-
-root_dropped_defaults : (xs : List Alt) (i : ℕ) → AlternativeDefaultsFit (root_of xs no_alternatives) → AlternativeDefaultsFit (root_of (drop i xs) no_alternatives)
-root_dropped_defaults xs zero k = k
-root_dropped_defaults [] (suc i) k = k
-root_dropped_defaults (a ∷ xs) (suc i) k = root_dropped_defaults xs i k.1
+root_limits xs i a less is k = (kept_at (λ (l : List Alt). AlternativesKeepLimits (root_of l no_alternatives)) (λ b l k. k.1) xs i (here xs i a less is) k).0
 
 pub root_defaults : (xs : List Alt) (i : ℕ) (a : Alt) → i < length xs → a ≡ get_or xs i a → AlternativeDefaultsFit (root_of xs no_alternatives) → DefaultsFit (type_of a.shape)
-root_defaults xs i a less is k = (subst (λ (l : List Alt). AlternativeDefaultsFit (root_of l no_alternatives)) (here xs i a less is) (root_dropped_defaults xs i k)).0
-
-later_dropped : (xs : List Alt) (i : ℕ) → AlternativesKeepLimits (later_of xs) → AlternativesKeepLimits (later_of (drop i xs))
-later_dropped xs zero k = k
-later_dropped [] (suc i) k = k
-later_dropped (a ∷ xs) (suc i) k = later_dropped xs i k.1
+root_defaults xs i a less is k = (kept_at (λ (l : List Alt). AlternativeDefaultsFit (root_of l no_alternatives)) (λ b l k. k.1) xs i (here xs i a less is) k).0
 
 pub later_limits : (xs : List Alt) (i : ℕ) (a : Alt) → i < length xs → a ≡ get_or xs i a → AlternativesKeepLimits (later_of xs) → KeepsLimits (type_of a.shape)
-later_limits xs i a less is k = (subst (λ (l : List Alt). AlternativesKeepLimits (later_of l)) (here xs i a less is) (later_dropped xs i k)).0
-
-later_dropped_defaults : (xs : List Alt) (i : ℕ) → AlternativeDefaultsFit (later_of xs) → AlternativeDefaultsFit (later_of (drop i xs))
-later_dropped_defaults xs zero k = k
-later_dropped_defaults [] (suc i) k = k
-later_dropped_defaults (a ∷ xs) (suc i) k = later_dropped_defaults xs i k.1
+later_limits xs i a less is k = (kept_at (λ (l : List Alt). AlternativesKeepLimits (later_of l)) (λ b l k. k.1) xs i (here xs i a less is) k).0
 
 pub later_defaults : (xs : List Alt) (i : ℕ) (a : Alt) → i < length xs → a ≡ get_or xs i a → AlternativeDefaultsFit (later_of xs) → DefaultsFit (type_of a.shape)
-later_defaults xs i a less is k = (subst (λ (l : List Alt). AlternativeDefaultsFit (later_of l)) (here xs i a less is) (later_dropped_defaults xs i k)).0
+later_defaults xs i a less is k = (kept_at (λ (l : List Alt). AlternativeDefaultsFit (later_of l)) (λ b l k. k.1) xs i (here xs i a less is) k).0
 
 -- those of a root, and those after it
 pub front_limits : (xs : List Alt) (after : Alternatives) → AlternativesKeepLimits (root_of xs after) → AlternativesKeepLimits (root_of xs no_alternatives)

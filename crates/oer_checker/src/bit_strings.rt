@@ -13,7 +13,7 @@ ghost use Rattle.oer_checker.specs.Places.{outcome, place_of, same};
 ghost use Rattle.oer_checker.specs.Steps.{addition_map as addition_map_read, last_are_zero};
 
 use crate::bits::Bits;
-use crate::cursor::{Cursor, both};
+use crate::cursor::Cursor;
 use crate::lengths::{counted_len, octets_between};
 use crate::stop::Stop;
 use crate::units::{group_at, length_at, octet_at};
@@ -197,9 +197,7 @@ fn marks_all(bits: Bits, known: u64) -> bool
     requires { IsWhole bits }
     ensures { result ≡ (not (all_false (bits_in bits.entry)) && (leb known (length (bits_in bits.entry)) && ends_set (drop known (bits_in bits.entry)))) }
 {
-    let is_long_enough = known <= bits.to;
-    let is_marked = both(is_long_enough, bits.ends_set_from(known));
-    both(!bits.are_clear_from(0), is_marked)
+    !bits.are_clear_from(0) && known <= bits.to && bits.ends_set_from(known)
 }
 
 /// The presence bitmap of additions.
@@ -223,6 +221,6 @@ pub fn addition_map<'a>(known: usize, at: &mut Cursor<'a>) -> Result<Map<'a>, St
         });
     }
     let is_shortest = are_least_bits(bits.to, octets_between(start, *at));
-    let is_canonical = both(is_shortest, marks_all(bits, known as u64));
+    let is_canonical = is_shortest && marks_all(bits, known as u64);
     Ok(Map { bits, is_canonical })
 }

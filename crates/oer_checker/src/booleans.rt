@@ -4,7 +4,7 @@ ghost use Rattle.oer_model.specs.AsnType.{boolean};
 ghost use Rattle.oer_model.specs.Checking.{check_times, check_value};
 ghost use Rattle.oer_checker.specs.Places.{outcome, place_of, same};
 
-use crate::cursor::{Cursor, both};
+use crate::cursor::Cursor;
 use crate::numbers::check_boolean;
 use crate::stop::Stop;
 
@@ -15,7 +15,7 @@ pub(crate) fn check_booleans(count: u64, at: &mut Cursor) -> Result<bool, Stop>
     let mut is_canonical = true;
     for turn in 0..count {
         let is_element = check_boolean(at)?;
-        is_canonical = both(is_canonical, is_element);
+        is_canonical = is_canonical && is_element;
     }
     Ok(is_canonical)
 }

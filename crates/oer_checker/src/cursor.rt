@@ -1,5 +1,5 @@
 //! Cursors over the octets that are checked.
-ghost use Rattle.std.specs.Prelude.{◌≡◌, ◌≤◌, ◌&&◌, IfErr, IfOk, length, true};
+ghost use Rattle.std.specs.Prelude.{◌≡◌, ◌≤◌, IfErr, length, true};
 ghost use Rattle.oer_checker.specs.Places.{ended, outcome, place_of, same};
 ghost use Rattle.oer_checker.specs.Plain.{is_plain};
 
@@ -29,11 +29,4 @@ impl<'a> Cursor<'a> {
             Err(fault) => Err(Stop { why: fault.why }),
         }
     }
-}
-
-/// Whether both hold.
-pub(crate) fn both(one: bool, other: bool) -> bool
-    ensures { result ≡ (one && other) }
-{
-    one && other
 }

@@ -11,7 +11,7 @@ ghost use Rattle.oer_model.specs.SharedSteps.{bits_left, is_there};
 ghost use Rattle.oer_checker.specs.Steps.{is_default as is_default_in};
 
 use crate::bits::Bits;
-use crate::cursor::{Cursor, both};
+use crate::cursor::Cursor;
 use crate::lengths::check_octets;
 use crate::stop::Stop;
 use oer_types::{Field, Need, laws};
@@ -54,7 +54,7 @@ pub fn check_unknown<'a>(bits: Bits<'a>, known: usize, at: &mut Cursor) -> Resul
             continue;
         }
         let is_addition = check_octets(at)?;
-        is_canonical = both(is_canonical, is_addition);
+        is_canonical = is_canonical && is_addition;
     }
     Ok(is_canonical)
 }

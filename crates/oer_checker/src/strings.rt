@@ -12,7 +12,7 @@ ghost use Rattle.oer_values.specs.AlphabetView.{alphabet_of};
 ghost use Rattle.oer_checker.specs.Places.{outcome, place_of, same};
 ghost use Rattle.oer_checker.specs.Steps.{between};
 
-use crate::cursor::{Cursor, both};
+use crate::cursor::Cursor;
 use crate::lengths::{counted_len, octets_between, sized_length_at};
 use crate::stop::Stop;
 use crate::units::{group_at, length_at, subidentifier_at};
@@ -131,7 +131,7 @@ pub(crate) fn check_object_id(at: &mut Cursor) -> Result<bool, Stop>
         return Err(Stop { why: Why::ObjectId });
     }
     let are_canonical = check_subidentifiers(counted.count, at)?;
-    Ok(both(counted.is_least, are_canonical))
+    Ok(counted.is_least && are_canonical)
 }
 
 // The subidentifiers in so many octets.

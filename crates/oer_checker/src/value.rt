@@ -13,7 +13,7 @@ ghost use Rattle.oer_checker.specs.Steps.{check_if, check_later as later_checked
 use crate::bit_strings::{addition_map, preamble};
 use crate::bits::Bits;
 use crate::booleans::check_booleans;
-use crate::cursor::{Cursor, both};
+use crate::cursor::Cursor;
 use crate::facts::{addition_fits, field_fits, later_fits};
 use crate::leaf::check_leaf;
 use crate::lengths::{check_octets, leave, octets_between, sized_length_at};
@@ -52,7 +52,7 @@ fn check_items(size: &Size, item: &Shape, at: &mut Cursor) -> Result<bool, Stop>
 {
     let counted = sized_quantity_at(*size, at)?;
     let is_canonical = check_elements(item, counted.count, at)?;
-    Ok(both(counted.is_least, is_canonical))
+    Ok(counted.is_least && is_canonical)
 }
 
 /// A SEQUENCE without an extension marker.
@@ -82,7 +82,7 @@ fn check_extensible(
     let bits = preamble(optional(fields) as u64 + 1, at)?;
     let is_canonical = check_fields(fields, bits.later(), at)?;
     let is_extension = check_extension(additions, bits.first(), at)?;
-    Ok(both(is_canonical, is_extension))
+    Ok(is_canonical && is_extension)
 }
 
 /// A CHOICE.
@@ -123,7 +123,7 @@ pub fn check_elements(item: &Shape, count: u64, at: &mut Cursor) -> Result<bool,
     let mut is_canonical = true;
     for turn in 0..count {
         let is_element = check_shape(item, at)?;
-        is_canonical = both(is_canonical, is_element);
+        is_canonical = is_canonical && is_element;
     }
     Ok(is_canonical)
 }
@@ -154,7 +154,7 @@ fn check_field(field: &Field, at: &mut Cursor) -> Result<bool, Stop>
     let start = *at;
     let is_canonical = check_shape(&field.shape, at)?;
     let is_its_default = is_default(field, octets_between(start, *at));
-    Ok(both(is_canonical, !is_its_default))
+    Ok(is_canonical && !is_its_default)
 }
 
 /// A component of a root, if it is there.
@@ -187,7 +187,7 @@ pub fn check_fields<'a>(fields: &[Field], bits: Bits<'a>, at: &mut Cursor) -> Re
         let (is_present, rest) = presence(&field.need, left);
         left = rest;
         let is_field = check_place(field, is_present, at)?;
-        is_canonical = both(is_canonical, is_field);
+        is_canonical = is_canonical && is_field;
     }
     Ok(is_canonical)
 }
@@ -206,7 +206,8 @@ fn check_extension(additions: &[Addition], is_extended: bool, at: &mut Cursor) -
     let map = addition_map(additions.len(), at)?;
     let is_known = check_additions(additions, map.bits, at)?;
     let is_unknown = check_unknown(map.bits, additions.len(), at)?;
-    Ok(both(map.is_canonical, both(is_known, is_unknown)))
+    let are_canonical = is_known && is_unknown;
+    Ok(map.is_canonical && are_canonical)
 }
 
 /// An addition, if it is there.
@@ -241,7 +242,7 @@ pub fn check_additions<'a>(
         let is_present = left.first();
         left = left.later();
         let is_addition = check_addition(addition, is_present, at)?;
-        is_canonical = both(is_canonical, is_addition);
+        is_canonical = is_canonical && is_addition;
     }
     Ok(is_canonical)
 }

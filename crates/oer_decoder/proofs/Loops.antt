@@ -3,7 +3,7 @@ use Rattle.std.proofs.Common.{◌≡◌, ℕ, ℤ, pos, suc, ◌+◌, ◌-◌, �
 use Rattle.std.specs.Prelude.{unsigned_abs}
 use Rattle.std.proofs.lemmas.Bool.{cases_lt, le-leb, le-ltb, lt-leb, lt-ltb}
 use Rattle.std.proofs.lemmas.List.{drop_all}
-use Rattle.std.proofs.Math.Seq.{set-append_seam}
+use Rattle.std.proofs.Math.Seq.{get_or-append_seam, set-append_seam}
 use Rattle.oer_units.specs.declared.fault.Why.TheVariants as reason
 use Rattle.oer_units.specs.declared.fault.Why.TheVariants.{EmptyNumber, IntegerRange, Memory}
 use Rattle.oer_units.specs.declared.fault.ReadFault.{ReadFault}
@@ -52,6 +52,9 @@ pub leads_end : {B D : Type 0} (b : B) (f : B → D) (d : D) (whole : Reader D) 
 leads_end {B} {D} b f d whole s old same p = subst (λ (y : D). Reads whole old (Ok y) s) same (p (Ok b) s (Reads-give b s))
 
 -- what stands last in a list, after another value was stored there
+pub found_last : {A : Type 0} (xs ys : List A) (a d : A) {n : ℕ} → n ≡ length xs → ys ≡ xs ++ a ∷ [] → get_or ys n d ≡ a
+found_last {A} xs ys a d {n} last is = ap (λ (l : List A). get_or l n d) is ∙ ap (λ (k : ℕ). get_or (xs ++ a ∷ []) k d) last ∙ get_or-append_seam xs a [] d
+
 pub stored_last : {A : Type 0} (xs ys : List A) (a b : A) {n : ℕ} → n ≡ length xs → ys ≡ xs ++ a ∷ [] → set ys n b ≡ xs ++ b ∷ []
 stored_last {A} xs ys a b {n} last is = ap (λ (l : List A). set l n b) is ∙ ap (λ (k : ℕ). set (xs ++ a ∷ []) k b) last ∙ set-append_seam xs a [] b
 

@@ -1,17 +1,17 @@
 -- Object identifiers: one subidentifier after another.
-use Rattle.std.proofs.Common.{◌≡◌, ◌≢◌, ℕ, zero, suc, ◌-◌, leb, Bool, true, false, refl, List, [], ◌∷◌, ◌++◌, Result, Ok, Err, sym, ◌∙◌, ap, subst, arith, append_assoc, append-nil}
+use Rattle.std.proofs.Common.{◌≡◌, ◌≢◌, ℕ, zero, suc, ◌-◌, leb, refl, List, [], ◌∷◌, ◌++◌, Result, Ok, Err, sym, ◌∙◌, ap, subst, arith, append_assoc, append-nil}
 use Rattle.std.proofs.lemmas.Bool.{eq-eqb, le-leb, lt-leb, ne_eqb}
 use Rattle.oer_units.specs.declared.fault.Why.TheVariants.{Memory, ObjectId}
 use Rattle.oer_units.specs.declared.fault.ReadFault.{ReadFault}
 use Rattle.oer_units.specs.Reader.{bind, give, guard, Reader}
 use Rattle.oer_units.specs.Reading.{arcs_of, counted_length, object_identifier, subidentifier, subidentifiers}
-use Rattle.oer_units.specs.Reads.{Leads, Reads, named, seen, State}
+use Rattle.oer_units.specs.Reads.{Leads, Reads, seen, State}
 use Rattle.oer_units.proofs.ReadLengths.{with_stop, with_then}
 use Rattle.oer_units.proofs.ReadSteps.{Reads-give, Reads-map, Reads-memory_after, Reads-stop, Reads-then}
 use Rattle.oer_model.specs.AsnType.{object_id}
 use Rattle.oer_model.specs.AsnValue.{oid}
 use Rattle.oer_model.specs.Reading.{read_value}
-use Rattle.oer_decoder.proofs.Joins.{guard_no, guard_yes, IsPlain, seen_twice}
+use Rattle.oer_decoder.proofs.Joins.{guard_no, guard_yes, IsPlain, plain, seen_twice}
 
 abbrev after_first : ℕ → ℕ → ℕ × ℕ → Reader (List ℕ)
 after_first fuel n x = bind (subidentifiers fuel (n - x.1)) (λ xs. give (x.0 ∷ xs))
@@ -61,10 +61,7 @@ subs_out k n xs s old whole none p = ended xs s old whole (p (Ok []) s (subst (�
 -- ---- the arcs
 
 object_plain : IsPlain ObjectId
-object_plain = record { name = name; other = λ d. cc } where
-  name : (i : Bool) → named i ObjectId ≡ ObjectId
-  name true = refl
-  name false = refl
+object_plain = plain ObjectId refl (λ d. cc)
 
 abbrev arcs_in : ℕ → Reader (List ℕ)
 arcs_in n = guard (leb 1 n) ObjectId (bind (subidentifiers n n) (λ xs. give (arcs_of xs)))

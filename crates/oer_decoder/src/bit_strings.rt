@@ -26,6 +26,7 @@ pub(crate) fn read_bit_string<R: Source>(
     value: &mut Value,
     w: &mut Window<R>,
 ) -> Result<(), Stop>
+    requires { value.old ≡ Value.Null }
     ensures { ReadsAs (read_value (bit_string_type size.now)) (state R.loan R.remaining R.failed w.old) (λ _. value_of value.new) result
         (state R.loan R.remaining R.failed w.new) }
 {

@@ -1,4 +1,5 @@
 //! Values without parts.
+ghost use Rattle.std.specs.Prelude.{◌≡◌};
 ghost use Rattle.oer_units.specs.Reads.{state};
 ghost use Rattle.oer_model.specs.Reading.{read_value};
 ghost use Rattle.oer_values.specs.ShapeView.{type_of};
@@ -23,7 +24,8 @@ pub(crate) fn read_leaf<R: Source>(
     value: &mut Value,
     w: &mut Window<R>,
 ) -> Result<(), Stop>
-    requires { HasNoParts (type_of shape.now) }
+    requires parts { HasNoParts (type_of shape.now) }
+    requires empty { value.old ≡ Value.Null }
     ensures memory { NeedsNoMemory (type_of shape.now) → StopsNotForMemory result }
     ensures reads { ReadsAs (read_value (type_of shape.now)) (state R.loan R.remaining R.failed w.old) (λ _. value_of value.new) result
         (state R.loan R.remaining R.failed w.new) }

@@ -31,6 +31,7 @@ pub(crate) fn truth<R: Source>(w: &mut Window<R>) -> Result<bool, Stop>
 
 /// Reads a BOOLEAN into `value`.
 pub(crate) fn read_boolean<R: Source>(value: &mut Value, w: &mut Window<R>) -> Result<(), Stop>
+    requires { value.old ≡ Value.Null }
     ensures memory { StopsNotForMemory result }
     ensures reads { ReadsAs (read_value boolean) (state R.loan R.remaining R.failed w.old) (λ _. value_of value.new) result
         (state R.loan R.remaining R.failed w.new) }
@@ -47,6 +48,7 @@ pub(crate) fn read_integer<R: Source>(
     value: &mut Value,
     w: &mut Window<R>,
 ) -> Result<(), Stop>
+    requires { value.old ≡ Value.Null }
     ensures memory { StopsNotForMemory result }
     ensures reads { ReadsAs (read_value (integer_type low high)) (state R.loan R.remaining R.failed w.old)
         (λ _. value_of value.new) result (state R.loan R.remaining R.failed w.new) }
@@ -89,6 +91,7 @@ pub(crate) fn read_enumerated<R: Source>(
     value: &mut Value,
     w: &mut Window<R>,
 ) -> Result<(), Stop>
+    requires { value.old ≡ Value.Null }
     ensures memory { StopsNotForMemory result }
     ensures reads { ReadsAs (read_value (enumerated_type (map named_number items.now) extensible))
         (state R.loan R.remaining R.failed w.old) (λ _. value_of value.new) result (state R.loan R.remaining R.failed w.new) }

@@ -1,6 +1,6 @@
 //! What surrounds the parts of a value: presence, tags, numbers of elements, and parts that the
 //! type doesn't know.
-ghost use Rattle.std.specs.Prelude.{◌≡◌, ◌≤◌, IfErr, IfOk, drop, length, map};
+ghost use Rattle.std.specs.Prelude.{◌≡◌, ◌≤◌, IfOk, MatchResult, drop, length, map};
 ghost use Rattle.oer_units.specs.declared.fault.Why.TheVariants.{Memory};
 ghost use Rattle.oer_units.specs.Reads.{state};
 ghost use Rattle.oer_model.specs.Bits.{first_bit, later_bits};
@@ -115,6 +115,7 @@ pub(crate) fn read_unknown<R: Source>(
 /// to find out what to drop costs as much as to read a short value.
 #[inline(always)]
 pub(crate) fn set(place: &mut Value, value: Value)
+    requires { place.old ≡ Value.Null }
     ensures { place.new ≡ value }
 {
     mem::forget(mem::replace(place, value));
@@ -122,7 +123,7 @@ pub(crate) fn set(place: &mut Value, value: Value)
 
 /// A place for a value in memory of its own, which holds NULL.
 pub(crate) fn own_place(alloc: Global) -> Result<Box<Value>, Stop>
-    ensures { IfErr result (λ e. e.why ≡ Memory) }
+    ensures { MatchResult result (λ place. place.value ≡ Value.Null) (λ e. e.why ≡ Memory) }
 {
     match Box::new(alloc, Value::Null) {
         Ok(place) => Ok(place),
@@ -138,6 +139,7 @@ pub(crate) fn set_foreign<R: Source>(
     value: &mut Value,
     w: &mut Window<R>,
 ) -> Result<(), Stop>
+    requires { value.old ≡ Value.Null }
     ensures { ReadsAs (foreign_at tag) (state R.loan R.remaining R.failed w.old) (λ _. value_of value.new) result
         (state R.loan R.remaining R.failed w.new) }
 {

@@ -47,6 +47,7 @@ pub(crate) fn read_octet_string<R: Source>(
     value: &mut Value,
     w: &mut Window<R>,
 ) -> Result<(), Stop>
+    requires { value.old ≡ Value.Null }
     ensures { ReadsAs (read_value (octet_string_type size.now)) (state R.loan R.remaining R.failed w.old) (λ _. value_of value.new) result
         (state R.loan R.remaining R.failed w.new) }
 {
@@ -63,6 +64,7 @@ pub(crate) fn read_text<R: Source>(
     value: &mut Value,
     w: &mut Window<R>,
 ) -> Result<(), Stop>
+    requires { value.old ≡ Value.Null }
     ensures { ReadsAs (read_value (restricted_string (alphabet_of kind) size.now)) (state R.loan R.remaining R.failed w.old)
         (λ _. value_of value.new) result (state R.loan R.remaining R.failed w.new) }
 {
@@ -88,6 +90,7 @@ pub(crate) fn read_utf8<R: Source>(
     value: &mut Value,
     w: &mut Window<R>,
 ) -> Result<(), Stop>
+    requires { value.old ≡ Value.Null }
     ensures { ReadsAs (read_value (utf8_string size.now)) (state R.loan R.remaining R.failed w.old) (λ _. value_of value.new) result
         (state R.loan R.remaining R.failed w.new) }
 {
@@ -127,6 +130,7 @@ pub(crate) fn read_object_id<R: Source>(
     value: &mut Value,
     w: &mut Window<R>,
 ) -> Result<(), Stop>
+    requires { value.old ≡ Value.Null }
     ensures { ReadsAs (read_value object_id_type) (state R.loan R.remaining R.failed w.old) (λ _. value_of value.new) result
         (state R.loan R.remaining R.failed w.new) }
 {

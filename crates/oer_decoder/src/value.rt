@@ -1,5 +1,5 @@
 //! How a value is read.
-ghost use Rattle.std.specs.Prelude.{map, length};
+ghost use Rattle.std.specs.Prelude.{◌≡◌, map, length};
 ghost use Rattle.oer_units.specs.Reader.{times};
 ghost use Rattle.oer_units.specs.Reading.{open_type};
 ghost use Rattle.oer_units.specs.Reads.{state};
@@ -48,6 +48,7 @@ pub(crate) fn read_shape<R: Source>(
     value: &mut Value,
     w: &mut Window<R>,
 ) -> Result<(), Stop>
+    requires { value.old ≡ Value.Null }
     ensures memory { NeedsNoMemory (type_of shape.now) → StopsNotForMemory result }
     ensures reads { ReadsAs (read_value (type_of shape.now)) (state R.loan R.remaining R.failed w.old) (λ _. value_of value.new) result
         (state R.loan R.remaining R.failed w.new) }
@@ -74,6 +75,7 @@ fn read_extensible<R: Source>(
     w: &mut Window<R>,
 ) -> Result<(), Stop>
     requires is { IsExtensible shape.now root.now additions.now }
+    requires empty { value.old ≡ Value.Null }
     ensures { ReadsAs (read_value (type_of shape.now)) (state R.loan R.remaining R.failed w.old) (λ _. value_of value.new) result
         (state R.loan R.remaining R.failed w.new) }
 {
@@ -92,6 +94,7 @@ fn read_choice<R: Source>(
     w: &mut Window<R>,
 ) -> Result<(), Stop>
     requires is { IsChoice shape.now root.now additions.now }
+    requires empty { value.old ≡ Value.Null }
     ensures { ReadsAs (read_value (type_of shape.now)) (state R.loan R.remaining R.failed w.old) (λ _. value_of value.new) result
         (state R.loan R.remaining R.failed w.new) }
 {
@@ -119,6 +122,7 @@ fn read_items<R: Source>(
     value: &mut Value,
     w: &mut Window<R>,
 ) -> Result<(), Stop>
+    requires { value.old ≡ Value.Null }
     ensures { ReadsAs (read_value (sequence_of size (type_of item.now))) (state R.loan R.remaining R.failed w.old)
         (λ _. value_of value.new) result (state R.loan R.remaining R.failed w.new) }
 {
@@ -163,6 +167,7 @@ fn read_open<R: Source>(
     value: &mut Value,
     w: &mut Window<R>,
 ) -> Result<(), Stop>
+    requires { value.old ≡ Value.Null }
     ensures { ReadsAs (open_type (read_value (type_of shape.now))) (state R.loan R.remaining R.failed w.old)
         (λ _. value_of value.new) result (state R.loan R.remaining R.failed w.new) }
 {
@@ -243,6 +248,7 @@ fn read_sequence<R: Source>(
     value: &mut Value,
     w: &mut Window<R>,
 ) -> Result<(), Stop>
+    requires { value.old ≡ Value.Null }
     ensures { ReadsAs (read_value (sequence (fields_of root.now))) (state R.loan R.remaining R.failed w.old)
         (λ _. value_of value.new) result (state R.loan R.remaining R.failed w.new) }
 {
@@ -285,6 +291,7 @@ fn read_rest<R: Source>(
     value: &mut Value,
     w: &mut Window<R>,
 ) -> Result<(), Stop>
+    requires { value.old ≡ Value.Null }
     ensures { ReadsAs (rest_at (additions_of additions.now) (start_of start)) (state R.loan R.remaining R.failed w.old)
         (λ _. value_of value.new) result (state R.loan R.remaining R.failed w.new) }
 {
@@ -336,6 +343,7 @@ fn read_later_alternative<R: Source>(
     value: &mut Value,
     w: &mut Window<R>,
 ) -> Result<(), Stop>
+    requires { value.old ≡ Value.Null }
     ensures { ReadsAs (later_at (later_of alternatives.now) tag) (state R.loan R.remaining R.failed w.old)
         (λ _. value_of value.new) result (state R.loan R.remaining R.failed w.new) }
 {

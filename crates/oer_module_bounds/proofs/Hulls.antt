@@ -17,29 +17,20 @@ use Rattle.oer_module_bounds.proofs.Cuts.{same_number, each_weaker, unmoved, tru
 abbrev span : Option ℤ → Option ℤ → Span
 span low high = record { low = low; high = high }
 
+beyond : (m n : ℤ) → m <ℤ n → n ≤ℤ m → ⊥
+beyond m n h k = omega (arith, ints)
+
 module _ (P : ℤ → Type 0) where
   same_low : (a b : Option ℤ) → ((n : ℤ) → P n → IsFrom a n) → ((n : ℤ) → P n → IsFrom b n) → LowEnd P a → LowEnd P b → a ≡ b
   same_low None None f g p q = refl
-  same_low None (Some l) f g p q = let w = p l in absurd (beyond w.0 (w.1) (g w.0 w.2))
-    where
-      beyond : (n : ℤ) → n <ℤ l → l ≤ℤ n → ⊥
-      beyond n h k = omega (arith, ints)
-  same_low (Some l) None f g p q = let w = q l in absurd (beyond w.0 (w.1) (f w.0 w.2))
-    where
-      beyond : (n : ℤ) → n <ℤ l → l ≤ℤ n → ⊥
-      beyond n h k = omega (arith, ints)
+  same_low None (Some l) f g p q = let w = p l in absurd (beyond w.0 l w.1 (g w.0 w.2))
+  same_low (Some l) None f g p q = let w = q l in absurd (beyond w.0 l w.1 (f w.0 w.2))
   same_low (Some l) (Some m) f g p q = ap Some (same_number l m (f m q) (g l p))
 
   same_high : (a b : Option ℤ) → ((n : ℤ) → P n → IsTo a n) → ((n : ℤ) → P n → IsTo b n) → HighEnd P a → HighEnd P b → a ≡ b
   same_high None None f g p q = refl
-  same_high None (Some h) f g p q = let w = p h in absurd (beyond w.0 (w.1) (g w.0 w.2))
-    where
-      beyond : (n : ℤ) → h <ℤ n → n ≤ℤ h → ⊥
-      beyond n x y = omega (arith, ints)
-  same_high (Some h) None f g p q = let w = q h in absurd (beyond w.0 (w.1) (f w.0 w.2))
-    where
-      beyond : (n : ℤ) → h <ℤ n → n ≤ℤ h → ⊥
-      beyond n x y = omega (arith, ints)
+  same_high None (Some h) f g p q = let w = p h in absurd (beyond h w.0 w.1 (g w.0 w.2))
+  same_high (Some h) None f g p q = let w = q h in absurd (beyond h w.0 w.1 (f w.0 w.2))
   same_high (Some h) (Some k) f g p q = ap Some (same_number h k (g h p) (f k q))
 
   some_number : (a : Option ℤ) → LowEnd P a → (n : ℤ) × P n

@@ -96,7 +96,7 @@ brackets cs = if starts_with 91 cs then OpenGroup else OpenBracket
 abbrev pub closing : List ℕ → Sign
 closing cs = if starts_with 93 cs then CloseGroup else CloseBracket
 
--- a sign that is one character and begins no longer one (12.37)
+-- a one-character sign that starts no longer sign (12.37)
 unfoldable pub single : ℕ → Option Sign
 single c =
     if c == 123 then Some OpenBrace

@@ -226,7 +226,7 @@ fn sign_at(c: u8, rest: &[u8]) -> Option<Sign>
     }
 }
 
-/// A sign that is one character and begins no longer one.
+/// A one-character sign that starts no longer sign.
 #[tactic(auto, unfolding(crate::specs::Lexing::single))]
 fn single(c: u8) -> Option<Sign>
     ensures { result ≡ single c }

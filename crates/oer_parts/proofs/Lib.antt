@@ -6,7 +6,7 @@ mod Inside
 mod TagParts
 mod Leading
 mod Digits
-mod Paths
+pub mod Paths
 pub mod UnitFronts
 mod Standing
 mod Ranging

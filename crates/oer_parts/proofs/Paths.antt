@@ -17,7 +17,7 @@ use Rattle.oer_parts.proofs.Digits.{no_other}
 abbrev pub Lacks : List ℕ → Type 0
 Lacks xs = (k : ℕ) → k < length xs → get_or xs k 0 ≢ 46
 
-later : (x : ℕ) (xs : List ℕ) → Lacks (x ∷ xs) → Lacks xs
+pub later : (x : ℕ) (xs : List ℕ) → Lacks (x ∷ xs) → Lacks xs
 later x xs h k lt = h (suc k) (omega (arith, lt))
 
 numbered_lacks : (letter n : ℕ) → n < 2 ^ 64 → letter ≢ 46 → Lacks (letter ∷ decimal n)

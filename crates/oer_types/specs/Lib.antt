@@ -1,5 +1,6 @@
 pub mod Schema
 pub mod Counting
+pub mod Widths
 pub mod AnyFault
 pub mod Ascending
 pub mod NameOrder

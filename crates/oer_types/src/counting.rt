@@ -1,15 +1,12 @@
 //! How many parts a type has.
-ghost use Rattle.std.specs.Prelude.{◌≡◌, ◌^◌, ◌<◌, FitsSigned, length, map};
-ghost use Rattle.std.specs.Int.{w64};
+ghost use Rattle.std.specs.Prelude.{◌≡◌, ◌+◌, ◌<◌, MatchOption, length};
 ghost use Rattle.oer_model.specs.AsnType.{no_alternatives};
-ghost use Rattle.oer_units.specs.Laws.{HasTagNumber};
 ghost use Rattle.oer_types.specs.Counting.{Leaves};
 ghost use Rattle.oer_model.specs.Nodes.{additions_nodes, alternatives_nodes, fields_nodes, type_nodes};
-ghost use Rattle.oer_values.specs.ShapeView.{additions_of, fields_of, named_number, root_of, type_of};
-ghost use Rattle.oer_model.specs.Widths.{AdditionsHaveWidths, AlternativesHaveWidths, FieldsHaveWidths, HasBoundWidth, HasEndWidth, HasSizeWidths, HasWidths, HaveItemWidths};
+ghost use Rattle.oer_values.specs.ShapeView.{additions_of, fields_of, root_of, type_of};
+ghost use Rattle.oer_model.specs.Widths.{AdditionsHaveWidths, AlternativesHaveWidths, FieldsHaveWidths, HasWidths};
 
-use oer_model::Size;
-use oer_units::Tag;
+use crate::widths::{own_widths, tag_width};
 use oer_values::{Addition, Alt, Field, Item, Shape};
 
 /// Of so many parts that may be left, what is left after those of the type: each type in it, itself
@@ -19,20 +16,13 @@ use oer_values::{Addition, Alt, Field, Item, Shape};
 pub fn parts_left(shape: &Shape, left: u16) -> Option<u16>
     ensures { Leaves result left (type_nodes (type_of shape.now)) (HasWidths (type_of shape.now)) }
 {
+    own_widths(shape);
     if left == 0 {
         return None;
     }
     let left = left - 1;
     match shape {
-        Shape::Integer { low, high } => Some(bound_left(*high, bound_left(*low, left))),
         Shape::Enumerated { items, .. } => items_left(items, left),
-        Shape::BitString(size) => Some(size_left(*size, left)),
-        Shape::OctetString(size) => Some(size_left(*size, left)),
-        Shape::Ia5(size) => Some(size_left(*size, left)),
-        Shape::Visible(size) => Some(size_left(*size, left)),
-        Shape::Numeric(size) => Some(size_left(*size, left)),
-        Shape::Printable(size) => Some(size_left(*size, left)),
-        Shape::Utf8(size) => Some(size_left(*size, left)),
         Shape::Sequence { root, additions } => {
             let Some(left) = fields_left(root, left) else {
                 return None;
@@ -42,7 +32,7 @@ pub fn parts_left(shape: &Shape, left: u16) -> Option<u16>
                 Some(additions) => additions_left(additions, left),
             }
         }
-        Shape::SequenceOf { size, item } => parts_left(item, size_left(*size, left)),
+        Shape::SequenceOf { item, .. } => parts_left(item, left),
         Shape::Choice { root, additions } => {
             let Some(left) = alternatives_left(root, left) else {
                 return None;
@@ -52,81 +42,27 @@ pub fn parts_left(shape: &Shape, left: u16) -> Option<u16>
                 Some(additions) => alternatives_left(additions, left),
             }
         }
-        Shape::Boolean | Shape::Null | Shape::ObjectId => Some(left),
+        Shape::Boolean
+        | Shape::Null
+        | Shape::Integer { .. }
+        | Shape::BitString(_)
+        | Shape::OctetString(_)
+        | Shape::ObjectId
+        | Shape::Ia5(_)
+        | Shape::Visible(_)
+        | Shape::Numeric(_)
+        | Shape::Printable(_)
+        | Shape::Utf8(_) => Some(left),
     }
 }
 
 fn items_left(items: &[Item], left: u16) -> Option<u16>
-    ensures { Leaves result left (length (map named_number items.now)) (HaveItemWidths (map named_number items.now)) }
+    ensures { MatchOption result (left < length items.now) (λ rest. rest + length items.now ≡ left) }
 {
-    let mut left = left;
-    for item in items {
-        if left == 0 {
-            return None;
-        }
-        left = number_left(item.number, left - 1);
+    if items.len() > left as usize {
+        return None;
     }
-    Some(left)
-}
-
-/// An item's number is no part beside the item.
-fn number_left(number: i64, left: u16) -> u16
-    ensures same { result ≡ left }
-    ensures width { FitsSigned w64 number }
-{
-    let _ = number;
-    left
-}
-
-/// A bound is no part.
-fn bound_left(bound: Option<i128>, left: u16) -> u16
-    ensures same { result ≡ left }
-    ensures width { HasBoundWidth bound }
-{
-    match bound {
-        Some(number) => {
-            let _ = number;
-            left
-        }
-        None => left,
-    }
-}
-
-/// A size is no part.
-fn size_left(size: Size, left: u16) -> u16
-    ensures same { result ≡ left }
-    ensures widths { HasSizeWidths size }
-{
-    end_left(size.high, low_left(size.low, left))
-}
-
-/// Nor is its lower end,
-fn low_left(low: u64, left: u16) -> u16
-    ensures same { result ≡ left }
-    ensures width { low < 2 ^ 64 }
-{
-    let _ = low;
-    left
-}
-
-/// nor its upper end.
-fn end_left(high: Option<u64>, left: u16) -> u16
-    ensures same { result ≡ left }
-    ensures width { HasEndWidth high }
-{
-    match high {
-        Some(number) => low_left(number, left),
-        None => left,
-    }
-}
-
-/// A tag is no part.
-fn tag_left(tag: Tag, left: u16) -> u16
-    ensures same { result ≡ left }
-    ensures number { HasTagNumber tag }
-{
-    let _ = tag.number;
-    left
+    Some(left - items.len() as u16)
 }
 
 #[cycle(counting)]
@@ -164,7 +100,8 @@ fn alternatives_left(alts: &[Alt], left: u16) -> Option<u16>
 {
     let mut left = left;
     for alt in alts {
-        let Some(rest) = parts_left(&alt.shape, tag_left(alt.tag, left)) else {
+        tag_width(alt.tag);
+        let Some(rest) = parts_left(&alt.shape, left) else {
             return None;
         };
         left = rest;

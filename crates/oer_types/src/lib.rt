@@ -10,6 +10,7 @@ mod name;
 mod order;
 mod rule;
 mod schema;
+mod widths;
 
 pub use calls::{filled, fits, same_filled};
 pub use counting::parts_left;

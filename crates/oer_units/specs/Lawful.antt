@@ -4,8 +4,8 @@ use Rattle.oer_units.specs.declared.fault.Why.{Why}
 use Rattle.oer_units.specs.declared.fault.Why.TheVariants.{End, Limit}
 use Rattle.oer_units.specs.Reader.{Place, at, got, refused, Reader}
 
--- Of the spellings b that may yet stand where t was taken, v the octets that are supposed to follow t, a refusal speaks of these:
--- an end, of those that need no more octets; a Limit, of those of at most n octets; every other, of all.
+-- After reading t, each error rules out some spellings b, where v are the octets that would follow t: End rules out those that
+-- need none of v, Limit those of at most n octets, and any other error all of them.
 abbrev pub SpokenOf : Why → ℕ → List ℕ → List ℕ → Type 0
 SpokenOf End n b v = v ≡ []
 SpokenOf Limit n b v = length b ≤ n

@@ -1,6 +1,7 @@
 use Rattle.std.proofs.Common.{◌≡◌, ◌++◌, map, arith, rules, subst}
 use Rattle.oer_at.specs.Names.{names_in, text_behind}
-use Rattle.oer_at.proofs.Splitting.{ends, found, goes_on, none_found}
+use Rattle.oer_parts.proofs.Paths.{found, none_found}
+use Rattle.oer_at.proofs.Splitting.{ends, goes_on}
 use Rattle.oer_at.proofs.names.names_in.Goals as goal
 
 pub loop-front-preserved : goal.loop-front-preserved

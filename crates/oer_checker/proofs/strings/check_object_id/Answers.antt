@@ -6,6 +6,7 @@ use Rattle.oer_units.specs.Reader.{Outcome, Place, Reader, got, guard, refuse, r
 use Rattle.oer_model.specs.Checking.{check_object_id, check_subidentifiers}
 use Rattle.oer_checker.specs.Steps.{and_after, got_both, sized_length}
 use Rattle.oer_checker.proofs.Exits.{at_stop}
+use Rattle.oer_checker.proofs.Joins.{else_got, then_got}
 use Rattle.oer_checker.proofs.LengthSteps.{length_stop, length_then}
 use Rattle.oer_checker.proofs.StringSteps.{content_room}
 use Rattle.oer_checker.proofs.strings.check_object_id.Goals as goal
@@ -48,5 +49,12 @@ check_subidentifiers-requires c = content_room _ _ c.in_ok-counted.counted.count
 pub returns-in_err-are_canonical : goal.returns-in_err-are_canonical
 returns-in_err-are_canonical c = rw (at_stop c.from_residual-in_err-are_canonical.result c.in_err-are_canonical.field-0.0 c.from_residual-in_err-are_canonical.ensures.1) (oid_cut _ _ c.in_ok-counted.counted.count c.in_ok-counted.counted.is_least _ _ c.in_ok-counted.ensures c.if-counted-eq0.false c.in_err-are_canonical.ensures)
 
-pub returns : goal.returns
-returns c = rw c.both.ensures (oid_got _ _ _ c.in_ok-counted.counted.count c.in_ok-counted.counted.is_least c.in_ok-are_canonical.are_canonical c.in_ok-counted.ensures c.if-counted-eq0.false c.in_ok-are_canonical.ensures)
+pub returns-then-counted : goal.returns-then-counted
+returns-then-counted c =
+    then_got c.if-counted.true (oid_got _ _ _ c.in_ok-counted.counted.count c.in_ok-counted.counted.is_least c.in_ok-are_canonical.are_canonical c.in_ok-counted.ensures
+    c.if-counted-eq0.false c.in_ok-are_canonical.ensures)
+
+pub returns-else-counted : goal.returns-else-counted
+returns-else-counted c =
+    else_got c.in_ok-are_canonical.are_canonical c.if-counted.false
+    (oid_got _ _ _ c.in_ok-counted.counted.count c.in_ok-counted.counted.is_least c.in_ok-are_canonical.are_canonical c.in_ok-counted.ensures c.if-counted-eq0.false c.in_ok-are_canonical.ensures)

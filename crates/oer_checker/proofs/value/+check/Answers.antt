@@ -1,4 +1,4 @@
-use Rattle.std.proofs.Common.{◌∙◌, subst, Global, Option, Vec, Some, ◌-◌, ◌+◌, Bool, true, false, length, arith, rules, refl, sym, ap}
+use Rattle.std.proofs.Common.{◌&&◌, ◌≡◌, ◌∙◌, subst, Global, Option, Vec, Some, ◌-◌, ◌+◌, Bool, true, false, length, arith, rules, refl, sym, ap, not}
 use Rattle.oer_units.specs.Reader.{Reader}
 use Rattle.oer_model.specs.AsnType.{choice, extensible_sequence, no_alternatives, sequence, sequence_of}
 use Rattle.oer_model.specs.Checking.{check_open, check_value}
@@ -12,6 +12,7 @@ use Rattle.oer_checker.specs.BitView.{bits_in}
 use Rattle.oer_checker.specs.Places.{place_of}
 use Rattle.oer_checker.specs.Steps.{and_after, check_there, is_default, left_open}
 use Rattle.oer_checker.proofs.Exits.{at_stop}
+use Rattle.oer_checker.proofs.Joins.{else_and, else_got, then_and, then_got}
 use Rattle.oer_checker.proofs.FieldSteps.{additions_end, additions_next, additions_stop, count_is, extensible_stop, fields_end, fields_next, fields_stop, if_absent, items_stop, items_then, known_stop, later_got, later_stop, map_stop, no_extension, root_stop, sequence_stop, sequence_then, there_got, there_stop, times_end, times_next, times_start, times_stop, unknown_got, unknown_stop}
 use Rattle.oer_checker.proofs.LengthSteps.{open_stop, open_then}
 use Rattle.oer_checker.proofs.ShapeCases.{is_leaf}
@@ -20,6 +21,8 @@ use Rattle.oer_checker.proofs.TagSteps.{choice_later, choice_none, choice_root, 
 use Rattle.oer_checker.proofs.Sizes.{additions_fall, alternative_falls, fields_fall, later_fall}
 use Rattle.oer_checker.proofs.TypeSteps.{as_choice, as_closed, as_extensible, as_items, as_open, as_sequence, by_type, choice_defaults, choice_limits, open_defaults, open_limits}
 use Rattle.oer_checker.proofs.value.+check.Goals as goal
+use Rattle.oer_checker.proofs.value.+check.Goals.{check_extension-then-is_known, check_extension-else-is_known, check_additions-then-is_canonical, check_additions-else-is_canonical}
+use Rattle.oer_checker.proofs.value.+check.Goals.{check_elements-then-is_canonical, check_elements-else-is_canonical, check_fields-then-is_canonical, check_fields-else-is_canonical}
 
 pub check_addition-returns-else-is_present : goal.check_addition-returns-else-is_present
 check_addition-returns-else-is_present t c = if_absent c.args.is_present (check_open (check_value (type_of c.args.addition.now.shape))) _ c.if-is_present.false
@@ -28,7 +31,14 @@ pub check_place-returns-else-is_present : goal.check_place-returns-else-is_prese
 check_place-returns-else-is_present t c = if_absent c.args.is_present (check_there (need_of c.args.field.now.need) (type_of c.args.field.now.shape)) _ c.if-is_present.false
 
 pub check_additions-loop-addition-preserved : goal.check_additions-loop-addition-preserved
-check_additions-loop-addition-preserved t c = rw c.both-is_canonical.ensures (additions_next c.args.additions.now c.loop-addition.addition-index c.addition-item.result (bits_in c.loop-addition.left) (bits_in c.later-left.result) c.first-is_present.result c.loop-addition.is_canonical c.in_ok-is_addition.is_addition _ _ _ c.loop-addition-test.true c.addition-item.is c.first-is_present.ensures c.later-left.ensures c.loop-addition.invariant c.in_ok-is_addition.ensures)
+check_additions-loop-addition-preserved t c =
+    let both : c.if-is_canonical.is_canonical ≡ (c.loop-addition.is_canonical && c.in_ok-is_addition.is_addition) = elim c.if-is_canonical.branch [
+      | check_additions-then-is_canonical w ↦ then_and w.if-is_canonical.true w.is_canonical-is
+      | check_additions-else-is_canonical w ↦ else_and c.in_ok-is_addition.is_addition w.if-is_canonical.false w.is_canonical-is
+    ] in
+    rw both (additions_next c.args.additions.now c.loop-addition.addition-index c.addition-item.result (bits_in c.loop-addition.left) (bits_in c.later-left.result)
+    c.first-is_present.result c.loop-addition.is_canonical c.in_ok-is_addition.is_addition _ _ _ c.loop-addition-test.true c.addition-item.is c.first-is_present.ensures
+    c.later-left.ensures c.loop-addition.invariant c.in_ok-is_addition.ensures)
 
 pub check_additions-returns-in_err-is_addition : goal.check_additions-returns-in_err-is_addition
 check_additions-returns-in_err-is_addition t c = rw (at_stop c.from_residual.result c.in_err-is_addition.field-0.0 c.from_residual.ensures.1) (additions_stop c.args.additions.now c.loop-addition.addition-index c.addition-item.result (bits_in c.loop-addition.left) (bits_in c.later-left.result) c.first-is_present.result c.loop-addition.is_canonical _ _ _ _ c.loop-addition-test.true c.addition-item.is c.first-is_present.ensures c.later-left.ensures c.loop-addition.invariant c.in_err-is_addition.ensures)
@@ -37,7 +47,14 @@ pub check_additions-returns : goal.check_additions-returns
 check_additions-returns t c = additions_end c.args.additions.now c.loop-addition.addition-index (bits_in c.loop-addition.left) c.loop-addition.is_canonical _ _ c.loop-addition-test.false c.loop-addition.invariant
 
 pub check_fields-loop-field-preserved : goal.check_fields-loop-field-preserved
-check_fields-loop-field-preserved t c = rw c.both-is_canonical.ensures (fields_next c.args.fields.now c.loop-field.field-index c.field-item.result (bits_in c.loop-field.left) (bits_in c.presence-is_present.result.1) c.presence-is_present.result.0 c.loop-field.is_canonical c.in_ok-is_field.is_field _ _ _ c.loop-field-test.true c.field-item.is c.presence-is_present.ensures.there c.presence-is_present.ensures.left c.loop-field.invariant c.in_ok-is_field.ensures)
+check_fields-loop-field-preserved t c =
+    let both : c.if-is_canonical.is_canonical ≡ (c.loop-field.is_canonical && c.in_ok-is_field.is_field) = elim c.if-is_canonical.branch [
+      | check_fields-then-is_canonical w ↦ then_and w.if-is_canonical.true w.is_canonical-is
+      | check_fields-else-is_canonical w ↦ else_and c.in_ok-is_field.is_field w.if-is_canonical.false w.is_canonical-is
+    ] in
+    rw both (fields_next c.args.fields.now c.loop-field.field-index c.field-item.result (bits_in c.loop-field.left) (bits_in c.presence-is_present.result.1)
+    c.presence-is_present.result.0 c.loop-field.is_canonical c.in_ok-is_field.is_field _ _ _ c.loop-field-test.true c.field-item.is c.presence-is_present.ensures.there
+    c.presence-is_present.ensures.left c.loop-field.invariant c.in_ok-is_field.ensures)
 
 pub check_fields-returns-in_err-is_field : goal.check_fields-returns-in_err-is_field
 check_fields-returns-in_err-is_field t c = rw (at_stop c.from_residual.result c.in_err-is_field.field-0.0 c.from_residual.ensures.1) (fields_stop c.args.fields.now c.loop-field.field-index c.field-item.result (bits_in c.loop-field.left) (bits_in c.presence-is_present.result.1) c.presence-is_present.result.0 c.loop-field.is_canonical _ _ _ _ c.loop-field-test.true c.field-item.is c.presence-is_present.ensures.there c.presence-is_present.ensures.left c.loop-field.invariant c.in_err-is_field.ensures)
@@ -66,7 +83,13 @@ pub check_elements-returns-in_err-is_element : goal.check_elements-returns-in_er
 check_elements-returns-in_err-is_element t c = rw (at_stop c.from_residual.result c.in_err-is_element.field-0.0 c.from_residual.ensures.1) (times_stop (c.args.count - c.loop-turn.turn) (c.args.count - (c.loop-turn.turn + 1)) (check_value (type_of c.args.item.now)) c.loop-turn.is_canonical _ _ _ _ (omega arith) c.loop-turn.invariant c.in_err-is_element.ensures)
 
 pub check_elements-loop-turn-preserved : goal.check_elements-loop-turn-preserved
-check_elements-loop-turn-preserved t c = rw c.both-is_canonical.ensures (times_next (c.args.count - c.loop-turn.turn) (c.args.count - (c.loop-turn.turn + 1)) (check_value (type_of c.args.item.now)) c.loop-turn.is_canonical c.in_ok-is_element.is_element _ _ _ (omega arith) c.loop-turn.invariant c.in_ok-is_element.ensures)
+check_elements-loop-turn-preserved t c =
+    let both : c.if-is_canonical.is_canonical ≡ (c.loop-turn.is_canonical && c.in_ok-is_element.is_element) = elim c.if-is_canonical.branch [
+      | check_elements-then-is_canonical w ↦ then_and w.if-is_canonical.true w.is_canonical-is
+      | check_elements-else-is_canonical w ↦ else_and c.in_ok-is_element.is_element w.if-is_canonical.false w.is_canonical-is
+    ] in
+    rw both (times_next (c.args.count - c.loop-turn.turn) (c.args.count - (c.loop-turn.turn + 1)) (check_value (type_of c.args.item.now)) c.loop-turn.is_canonical
+    c.in_ok-is_element.is_element _ _ _ (omega arith) c.loop-turn.invariant c.in_ok-is_element.ensures)
 
 pub check_elements-returns : goal.check_elements-returns
 check_elements-returns t c = times_end (c.args.count - c.loop-turn.turn) (check_value (type_of c.args.item.now)) c.loop-turn.is_canonical _ _ (omega arith) c.loop-turn.invariant
@@ -83,14 +106,36 @@ check_extension-returns-in_err-is_known t c = rw (at_stop c.from_residual-in_err
 pub check_extension-returns-in_err-is_unknown : goal.check_extension-returns-in_err-is_unknown
 check_extension-returns-in_err-is_unknown t c = rw (at_stop c.from_residual-in_err-is_unknown.result c.in_err-is_unknown.field-0.0 c.from_residual-in_err-is_unknown.ensures.1) (unknown_stop (additions_of c.args.additions.now) (length c.args.additions.now) c.args.is_extended _ _ _ (bits_in c.in_ok-map.map.bits) c.in_ok-map.map.is_canonical c.in_ok-is_known.is_known _ _ (search rules) (sym (count_is c.args.additions.now)) c.in_ok-map.ensures.bits c.in_ok-is_known.ensures c.in_err-is_unknown.ensures)
 
-pub check_extension-returns : goal.check_extension-returns
-check_extension-returns t c = rw (c.both-2.ensures, c.both.ensures) (unknown_got (additions_of c.args.additions.now) (length c.args.additions.now) c.args.is_extended _ _ _ _ (bits_in c.in_ok-map.map.bits) c.in_ok-map.map.is_canonical c.in_ok-is_known.is_known c.in_ok-is_unknown.is_unknown (search rules) (sym (count_is c.args.additions.now)) c.in_ok-map.ensures.bits c.in_ok-is_known.ensures c.in_ok-is_unknown.ensures)
+pub check_extension-returns-then-map : goal.check_extension-returns-then-map
+check_extension-returns-then-map t c =
+    let both : c.if-is_known.are_canonical ≡ (c.in_ok-is_known.is_known && c.in_ok-is_unknown.is_unknown) = elim c.if-is_known.branch [
+      | check_extension-then-is_known w ↦ then_and w.if-is_known.true w.are_canonical-is
+      | check_extension-else-is_known w ↦ else_and c.in_ok-is_unknown.is_unknown w.if-is_known.false w.are_canonical-is
+    ] in
+    rw both (then_got c.if-map.true (unknown_got (additions_of c.args.additions.now) (length c.args.additions.now) c.args.is_extended _ _ _ _
+    (bits_in c.in_ok-map.map.bits) c.in_ok-map.map.is_canonical c.in_ok-is_known.is_known c.in_ok-is_unknown.is_unknown (search rules)
+    (sym (count_is c.args.additions.now)) c.in_ok-map.ensures.bits c.in_ok-is_known.ensures c.in_ok-is_unknown.ensures))
+
+pub check_extension-returns-else-map : goal.check_extension-returns-else-map
+check_extension-returns-else-map t c =
+    else_got (c.in_ok-is_known.is_known && c.in_ok-is_unknown.is_unknown) c.if-map.false
+    (unknown_got (additions_of c.args.additions.now) (length c.args.additions.now) c.args.is_extended _ _ _ _ (bits_in c.in_ok-map.map.bits) c.in_ok-map.map.is_canonical
+    c.in_ok-is_known.is_known c.in_ok-is_unknown.is_unknown (search rules) (sym (count_is c.args.additions.now)) c.in_ok-map.ensures.bits c.in_ok-is_known.ensures c.in_ok-is_unknown.ensures)
 
 pub check_field-returns-in_err-is_canonical : goal.check_field-returns-in_err-is_canonical
 check_field-returns-in_err-is_canonical t c = rw (at_stop c.from_residual.result c.in_err-is_canonical.field-0.0 c.from_residual.ensures.1) (there_stop (need_of c.args.field.now.need) (type_of c.args.field.now.shape) _ _ _ c.in_err-is_canonical.ensures)
 
-pub check_field-returns : goal.check_field-returns
-check_field-returns t c = rw c.both.ensures (there_got (need_of c.args.field.now.need) (type_of c.args.field.now.shape) _ _ c.in_ok-is_canonical.is_canonical c.is_default-is_its_default.result c.in_ok-is_canonical.ensures (c.is_default-is_its_default.ensures ∙ ap (is_default (need_of c.args.field.now.need) (type_of c.args.field.now.shape)) c.octets_between.ensures))
+pub check_field-returns-then-is_canonical : goal.check_field-returns-then-is_canonical
+check_field-returns-then-is_canonical t c =
+    then_got c.if-is_canonical.true (there_got (need_of c.args.field.now.need) (type_of c.args.field.now.shape) _ _ c.in_ok-is_canonical.is_canonical
+    c.is_default-is_its_default.result c.in_ok-is_canonical.ensures
+    (c.is_default-is_its_default.ensures ∙ ap (is_default (need_of c.args.field.now.need) (type_of c.args.field.now.shape)) c.octets_between.ensures))
+
+pub check_field-returns-else-is_canonical : goal.check_field-returns-else-is_canonical
+check_field-returns-else-is_canonical t c =
+    else_got (not c.is_default-is_its_default.result) c.if-is_canonical.false
+    (there_got (need_of c.args.field.now.need) (type_of c.args.field.now.shape) _ _ c.in_ok-is_canonical.is_canonical c.is_default-is_its_default.result
+    c.in_ok-is_canonical.ensures (c.is_default-is_its_default.ensures ∙ ap (is_default (need_of c.args.field.now.need) (type_of c.args.field.now.shape)) c.octets_between.ensures))
 
 pub check_open-returns-in_err-counted : goal.check_open-returns-in_err-counted
 check_open-returns-in_err-counted t c = rw (at_stop c.from_residual.result c.in_err-counted.field-0.0 c.from_residual.ensures.1) (open_stop (check_value (type_of c.args.shape.now)) _ _ _ c.in_err-counted.ensures)
@@ -104,8 +149,16 @@ check_items-returns-in_err-counted t c = rw (at_stop c.from_residual.result c.in
 pub check_items-returns-in_err-is_canonical : goal.check_items-returns-in_err-is_canonical
 check_items-returns-in_err-is_canonical t c = rw (at_stop c.from_residual-in_err-is_canonical.result c.in_err-is_canonical.field-0.0 c.from_residual-in_err-is_canonical.ensures.1) (ap (and_after c.in_ok-counted.counted.is_least) c.in_err-is_canonical.ensures ∙ items_then c.args.size.now (type_of c.args.item.now) _ _ c.in_ok-counted.counted.count c.in_ok-counted.counted.is_least c.in_ok-counted.ensures)
 
-pub check_items-returns : goal.check_items-returns
-check_items-returns t c = rw c.both.ensures (ap (and_after c.in_ok-counted.counted.is_least) c.in_ok-is_canonical.ensures ∙ items_then c.args.size.now (type_of c.args.item.now) _ _ c.in_ok-counted.counted.count c.in_ok-counted.counted.is_least c.in_ok-counted.ensures)
+pub check_items-returns-then-counted : goal.check_items-returns-then-counted
+check_items-returns-then-counted t c =
+    then_got c.if-counted.true (ap (and_after c.in_ok-counted.counted.is_least) c.in_ok-is_canonical.ensures ∙ items_then c.args.size.now (type_of c.args.item.now) _ _
+    c.in_ok-counted.counted.count c.in_ok-counted.counted.is_least c.in_ok-counted.ensures)
+
+pub check_items-returns-else-counted : goal.check_items-returns-else-counted
+check_items-returns-else-counted t c =
+    else_got c.in_ok-is_canonical.is_canonical c.if-counted.false
+    (ap (and_after c.in_ok-counted.counted.is_least) c.in_ok-is_canonical.ensures ∙ items_then c.args.size.now (type_of c.args.item.now) _ _ c.in_ok-counted.counted.count
+    c.in_ok-counted.counted.is_least c.in_ok-counted.ensures)
 
 pub check_sequence-returns-in_err-bits : goal.check_sequence-returns-in_err-bits
 check_sequence-returns-in_err-bits t c = rw (at_stop c.from_residual.result c.in_err-bits.field-0.0 c.from_residual.ensures.1) (sequence_stop (fields_of c.args.fields.now) _ _ _ (rw c.optional.ensures.is at c.in_err-bits.ensures))
@@ -140,14 +193,30 @@ check_extensible-returns-in_err-is_extension t c =
     let is = as_extensible c.args.shape.now h.0 (Some h.1) h.1 fs xs h.2 refl h.3 h.4 in
     rw (at_stop c.from_residual-in_err-is_extension.result c.in_err-is_extension.field-0.0 c.from_residual-in_err-is_extension.ensures.1) (by_type (type_of c.args.shape.now) (extensible_sequence (fields_of fs) (additions_of xs)) _ _ is (later_stop (fields_of fs) (additions_of xs) (c.optional.result + 1) _ _ _ (bits_in c.in_ok-bits.bits) (bits_in c.later.result) c.first.result c.in_ok-is_canonical.is_canonical _ _ (omega arith) c.in_ok-bits.ensures c.later.ensures c.first.ensures c.in_ok-is_canonical.ensures c.in_err-is_extension.ensures))
 
-pub check_extensible-returns : goal.check_extensible-returns
-check_extensible-returns t c =
+pub check_extensible-returns-then-is_canonical : goal.check_extensible-returns-then-is_canonical
+check_extensible-returns-then-is_canonical t c =
     let many = c.optional.ensures.is in
     let fs = c.args.fields.now in
     let xs = c.args.additions.now in
     let h = c.requires.is in
     let is = as_extensible c.args.shape.now h.0 (Some h.1) h.1 fs xs h.2 refl h.3 h.4 in
-    rw c.both.ensures (by_type (type_of c.args.shape.now) (extensible_sequence (fields_of fs) (additions_of xs)) _ _ is (later_got (fields_of fs) (additions_of xs) (c.optional.result + 1) _ _ _ _ (bits_in c.in_ok-bits.bits) (bits_in c.later.result) c.first.result c.in_ok-is_canonical.is_canonical c.in_ok-is_extension.is_extension (omega arith) c.in_ok-bits.ensures c.later.ensures c.first.ensures c.in_ok-is_canonical.ensures c.in_ok-is_extension.ensures))
+    then_got c.if-is_canonical.true (by_type (type_of c.args.shape.now) (extensible_sequence (fields_of fs) (additions_of xs)) _ _ is
+    (later_got (fields_of fs) (additions_of xs) (c.optional.result + 1) _ _ _ _ (bits_in c.in_ok-bits.bits) (bits_in c.later.result) c.first.result
+    c.in_ok-is_canonical.is_canonical c.in_ok-is_extension.is_extension (omega arith) c.in_ok-bits.ensures c.later.ensures c.first.ensures c.in_ok-is_canonical.ensures
+    c.in_ok-is_extension.ensures))
+
+pub check_extensible-returns-else-is_canonical : goal.check_extensible-returns-else-is_canonical
+check_extensible-returns-else-is_canonical t c =
+    let many = c.optional.ensures.is in
+    let fs = c.args.fields.now in
+    let xs = c.args.additions.now in
+    let h = c.requires.is in
+    let is = as_extensible c.args.shape.now h.0 (Some h.1) h.1 fs xs h.2 refl h.3 h.4 in
+    else_got c.in_ok-is_extension.is_extension c.if-is_canonical.false
+    (by_type (type_of c.args.shape.now) (extensible_sequence (fields_of fs) (additions_of xs)) _ _ is
+    (later_got (fields_of fs) (additions_of xs) (c.optional.result + 1) _ _ _ _ (bits_in c.in_ok-bits.bits) (bits_in c.later.result) c.first.result
+    c.in_ok-is_canonical.is_canonical c.in_ok-is_extension.is_extension (omega arith) c.in_ok-bits.ensures c.later.ensures c.first.ensures c.in_ok-is_canonical.ensures
+    c.in_ok-is_extension.ensures))
 
 pub check_extensible-check_fields-requires : goal.check_extensible-check_fields-requires
 check_extensible-check_fields-requires t c =

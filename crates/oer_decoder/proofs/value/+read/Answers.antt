@@ -16,7 +16,7 @@ use Rattle.oer_values.specs.declared.value.Value.TheVariants as Value
 use Rattle.oer_decoder.specs.MarksView.{bits_in}
 use Rattle.oer_decoder.specs.Starts.{added_of, start_of}
 use Rattle.oer_decoder.proofs.Extensions.{extensible_stop, extensible_then, extension_known, extension_none, extension_stop, extension_then, rest_then}
-use Rattle.oer_decoder.proofs.Loops.{addition_count_is, stored_last, adds_end, adds_next, adds_none, adds_stop, elements_end, elements_next, elements_none, elements_stop, fields_end, fields_next, fields_none, fields_stop, items_stop, items_then, leads_memory, listed_is, place_none, place_then, root_stop, root_then, sequence_stop, sequence_then}
+use Rattle.oer_decoder.proofs.Loops.{addition_count_is, found_last, stored_last, adds_end, adds_next, adds_none, adds_stop, elements_end, elements_next, elements_none, elements_stop, fields_end, fields_next, fields_none, fields_stop, items_stop, items_then, leads_memory, listed_is, place_none, place_then, root_stop, root_then, sequence_stop, sequence_then}
 use Rattle.oer_decoder.proofs.Picks.{choice_found, choice_later, choice_none, choice_with-is, has_marker, more_of, choice_stop, chosen_memory, chosen_stop, chosen_then, later_foreign, later_found}
 use Rattle.oer_decoder.proofs.Shapes.{type_of-Boolean}
 use Rattle.oer_decoder.proofs.Exits.{at_fault, at_stop, here}
@@ -56,6 +56,13 @@ pub read_elements-returns-in_err-read_shape : goal.read_elements-returns-in_err-
 read_elements-returns-in_err-read_shape g t c =
     rw (at_stop c.from_residual.result c.in_err-read_shape.field-0.0 c.from_residual.ensures.1)
     (elements_stop (c.args.count - c.loop-i.i) (c.args.count - (c.loop-i.i + 1)) (read_value (type_of c.args.item.now)) c.loop-i.values.items _ _ _ _ _ (omega arith) c.loop-i.invariant c.in_err-read_shape.ensures.reads)
+
+pub read_elements-read_shape-requires : goal.read_elements-read_shape-requires
+read_elements-read_shape-requires g t c κs within =
+    let pushed : c.push.new.self.items ≡ c.loop-i.values.items ++ Value.Null ∷ [] = grind (arith, common_steps) in
+    let len : vec_len c.push.new.self ≡ vec_len c.loop-i.values + 1 = grind (arith, common_steps) in
+    let last = found_last c.loop-i.values.items c.push.new.self.items Value.Null _ (omega (arith, len, c.loop-i.values.ok.0)) pushed in
+    (omega (arith, c.decreases), (within, c.in-Some.ensures.value ∙ last))
 
 pub read_elements-loop-i-preserved : goal.read_elements-loop-i-preserved
 read_elements-loop-i-preserved g t c =
@@ -228,7 +235,7 @@ read_rest-returns g t c =
 pub read_later_alternative-read_open-requires : goal.read_later_alternative-read_open-requires
 read_later_alternative-read_open-requires g t c κs within =
     let smaller = first_falls c.args.tag c.args.alternatives.now c.in-Some.alternative.now c.in-Some.ensures.is in
-    (omega (arith, smaller, c.decreases), within)
+    (omega (arith, smaller, c.decreases), (within, c.deref_mut.ensures.value ∙ c.in_ok-inner.ensures))
 
 pub read_later_alternative-returns-in_default : goal.read_later_alternative-returns-in_default
 read_later_alternative-returns-in_default g t c = later_foreign c.args.alternatives.now c.args.tag _ _ _ c.in_default.ensures.is c.set_foreign.ensures
@@ -257,7 +264,8 @@ pub read_shape-read_extensible-requires : goal.read_shape-read_extensible-requir
 read_shape-read_extensible-requires g t c κs within =
     let s = c.in-Sequence in
     let d = c.decreases in
-    (omega arith, (within, (s.root, c.in-Some.additions, s.is ∙ ap (λ (m : Option (Vec Addition Global)). Sequence s.root m) c.in-Some.is, c.deref-in-Some.ensures.value, c.deref-in-Some-2.ensures.value)))
+    let there = s.is ∙ ap (λ (m : Option (Vec Addition Global)). Sequence s.root m) c.in-Some.is in
+    (omega arith, (within, ((s.root, c.in-Some.additions, there, c.deref-in-Some.ensures.value, c.deref-in-Some-2.ensures.value), c.requires)))
 
 pub read_extensible-read_root-requires : goal.read_extensible-read_root-requires
 read_extensible-read_root-requires g t c κs within =
@@ -269,7 +277,7 @@ pub read_extensible-read_rest-requires : goal.read_extensible-read_rest-requires
 read_extensible-read_rest-requires g t c κs within =
     let h = c.requires.is in
     let smaller = additions_fall c.args.shape.now h.0 (Some h.1) h.1 _ h.2 refl refl in
-    (rw h.4 (omega (arith, smaller, c.decreases)), within)
+    (rw h.4 (omega (arith, smaller, c.decreases)), (within, c.requires.empty))
 
 pub read_extensible-returns-in_err-start : goal.read_extensible-returns-in_err-start
 read_extensible-returns-in_err-start g t c =
@@ -289,13 +297,13 @@ pub read_shape-read_choice-requires : goal.read_shape-read_choice-requires
 read_shape-read_choice-requires g t c κs within =
     let s = c.in-Choice in
     let d = c.decreases in
-    (omega arith, (within, (s.root, s.is, c.deref-in-Choice.ensures.value)))
+    (omega arith, (within, ((s.root, s.is, c.deref-in-Choice.ensures.value), c.requires)))
 
 pub read_choice-read_later_alternative-requires : goal.read_choice-read_later_alternative-requires
 read_choice-read_later_alternative-requires g t c κs within =
     let h = c.requires.is in
     let smaller = later_fall c.args.shape.now h.0 c.args.additions.now c.in-Some-additions.additions _ h.1 c.in-Some-additions.is refl in
-    (rw c.deref.ensures.value (omega (arith, smaller, c.decreases)), within)
+    (rw c.deref.ensures.value (omega (arith, smaller, c.decreases)), (within, c.requires.empty))
 
 pub read_choice-returns-in_err-tag : goal.read_choice-returns-in_err-tag
 read_choice-returns-in_err-tag g t c =
@@ -307,7 +315,7 @@ pub read_choice-read_shape-requires : goal.read_choice-read_shape-requires
 read_choice-read_shape-requires g t c κs within =
     let h = c.requires.is in
     let smaller = root_falls c.in_ok-tag.tag c.args.shape.now h.0 c.args.additions.now c.in-Some.alternative.now h.1 (rw h.2 at c.in-Some.ensures.is) in
-    (omega (arith, smaller, c.decreases), within)
+    (omega (arith, smaller, c.decreases), (within, c.deref_mut.ensures.value ∙ c.in_ok-inner.ensures))
 
 pub read_choice-returns-in_err-inner : goal.read_choice-returns-in_err-inner
 read_choice-returns-in_err-inner g t c =

@@ -53,32 +53,10 @@ fields_left-returns t c = grind (arith, common_steps)
 pub parts_left-returns-then-left-eq0 : goal.parts_left-returns-then-left-eq0
 parts_left-returns-then-left-eq0 t c = grind (arith, shapes, some_node)
 
-pub parts_left-returns-in-Integer : goal.parts_left-returns-in-Integer
-parts_left-returns-in-Integer t c = grind (arith, shapes)
-
 pub parts_left-returns-in-Enumerated : goal.parts_left-returns-in-Enumerated
-parts_left-returns-in-Enumerated t c = grind (arith, shapes)
-
-pub parts_left-returns-in-BitString : goal.parts_left-returns-in-BitString
-parts_left-returns-in-BitString t c = grind (arith, shapes)
-
-pub parts_left-returns-in-OctetString : goal.parts_left-returns-in-OctetString
-parts_left-returns-in-OctetString t c = grind (arith, shapes)
-
-pub parts_left-returns-in-Ia5 : goal.parts_left-returns-in-Ia5
-parts_left-returns-in-Ia5 t c = grind (arith, shapes)
-
-pub parts_left-returns-in-Visible : goal.parts_left-returns-in-Visible
-parts_left-returns-in-Visible t c = grind (arith, shapes)
-
-pub parts_left-returns-in-Numeric : goal.parts_left-returns-in-Numeric
-parts_left-returns-in-Numeric t c = grind (arith, shapes)
-
-pub parts_left-returns-in-Printable : goal.parts_left-returns-in-Printable
-parts_left-returns-in-Printable t c = grind (arith, shapes)
-
-pub parts_left-returns-in-Utf8 : goal.parts_left-returns-in-Utf8
-parts_left-returns-in-Utf8 t c = grind (arith, shapes)
+parts_left-returns-in-Enumerated t c =
+    let h = rw c.deref.ensures.value at c.items_left.ensures in
+    grind (arith, shapes, common_steps)
 
 pub parts_left-returns-in-None : goal.parts_left-returns-in-None
 parts_left-returns-in-None t c = grind (arith, shapes)
