@@ -72,20 +72,22 @@ def digests(crate, parts):
 
 
 # A function in the layout of rt fmt, from its first line to the brace that closes it.
-FUNCTION = re.compile(r"^(?P<indent> *)(?P<open>pub )?(?:pub\([^)]*\) )?(?:(?:unsafe|extern \"C\") )*fn [^\n]*\n.*?^(?P=indent)}\n", re.M | re.S)
+FUNCTION = re.compile(r"^(?P<indent> *)(?P<open>pub )?(?:pub\([^)]*\) )?(?:(?:unsafe|extern \"C\") )*fn (?P<name>\w+)[^\n]*\n.*?^(?P=indent)}\n", re.M | re.S)
 COMMENTS = {".rt": re.compile(r"^ *//.*\n", re.M), ".antt": re.compile(r"^ *--.*\n", re.M)}
 # How functions are proved, and the names of private modules.
 UNSEEN = re.compile(r"^ *#!?\[(?:tactic|cycle)\b[^\n]*\n|^mod \w+;\n", re.M)
+# A file of definitions.
+NAMED = re.compile(r"\bRattle\.(\w+\.specs\.(?:[a-z]\w*\.)*[A-Z]\w*)")
 # Names of other modules. What `pub use` lists, others see.
 IMPORT = re.compile(r"^((?:ghost )?use [^;{\n]*)(?:\{([^;{}]*)\})?;\n", re.M)
 # A constant or a macro, which a blank line follows.
 CONSTANT = re.compile(r"^(?:pub )?(?:const|macro_rules!) (\w+)\b.*?[;}]\n(?=\n|\Z)", re.M | re.S)
 
 
-def without_body(function):
+def without_body(function, is_hidden):
     """The text of a function as the crates above see it: one that promises something without its body, and a free one that is
-    private not at all."""
-    if not function["indent"] and not function["open"]:
+    private, or stands in a module that hides it, not at all."""
+    if not function["indent"] and (not function["open"] or is_hidden(function["name"])):
         return ""
     head, _, _ = function[0].partition(f"\n{function['indent']}{{\n")
     return f"{head}\n" if " ensures " in head else function[0]
@@ -104,23 +106,33 @@ def cited():
     return {it for line in lines for it in re.findall(r"\b(\w+\.specs\.declared\.\w+)\.TheConstants", line)}
 
 
-def shown_constants(crate, file, text):
-    """The text of a file without the constants and macros of a module that is private, but for those that lib.rt names."""
+def hides(crate, file):
+    """Whether the module of a file is private and lib.rt doesn't name what has this name."""
     lib = f"{crate.folder}/src/lib.rt"
     root = text_of(lib) if os.path.exists(lib) else ""
+    module = os.path.relpath(file, f"{crate.folder}/src").removesuffix(".rt").split("/")[0]
+    is_private = re.search(rf"^mod {module};$", root, re.M) is not None
+    return lambda name: is_private and not re.search(rf"\b{name}\b", root)
+
+
+def shown_constants(crate, file, text):
+    """The text of a file without the constants and macros that its module hides."""
+    is_hidden = hides(crate, file)
     name = os.path.basename(file).removesuffix(".rt")
-    is_private = re.search(rf"^mod {name};$", root, re.M) and "macro_export" not in text
-    if not is_private or f"{crate.name}.specs.declared.{name}" in cited():
+    if "macro_export" in text or f"{crate.name}.specs.declared.{name}" in cited():
         return text
-    return CONSTANT.sub(lambda it: it[0] if re.search(rf"\b{it[1]}\b", root) else "", text)
+    return CONSTANT.sub(lambda it: "" if is_hidden(it[1]) else it[0], text)
 
 
 def with_needed_imports(text):
-    """The text of a file in Rattle without imported names that nothing else in it says. An operator stays."""
-    words = set(re.findall(r"\w+", IMPORT.sub("", text)))
+    """The text of a file in Rattle without imported names that nothing else in it says."""
+    rest = IMPORT.sub("", text)
+    words = set(re.findall(r"\w+", rest))
 
     def is_needed(name):
-        return "◌" in name or not re.fullmatch(r"[\w.: ]+", name) or re.findall(r"\w+", name)[-1] in words
+        if "◌" in name:
+            return all(sign in rest for sign in name.split("◌"))
+        return not re.fullmatch(r"[\w.: ]+", name) or re.findall(r"\w+", name)[-1] in words
 
     def without_others(line):
         if line[2] is None:
@@ -135,21 +147,46 @@ def shown_of(crate, file, text):
     """What the crates above see of a file with this text."""
     if not file.endswith(".rt"):
         return text
-    return with_needed_imports(FUNCTION.sub(without_body, UNSEEN.sub("", shown_constants(crate, file, text))))
+    is_hidden = hides(crate, file)
+    shown = UNSEEN.sub("", shown_constants(crate, file, text))
+    return with_needed_imports(FUNCTION.sub(lambda it: without_body(it, is_hidden), shown))
+
+
+@cache
+def named_definitions():
+    """The files of definitions that each crate names, of all crates, as CRATE.specs.FILE."""
+    return {name: {it for file in files_of(crate, PARTS) for it in NAMED.findall(text_of(file))} for name, crate in crates().items()}
+
+
+def seen_definitions(crate, shown):
+    """The files of definitions of a crate that other crates name, or that these texts do, and those that such files name."""
+    files = {}
+    for file in files_of(crate, ("specs",)):
+        at = os.path.relpath(file, f"{crate.folder}/specs").removesuffix(".antt").replace("/", ".")
+        files[f"{crate.name}.specs.{at}"] = file
+    others = set().union(*(found for name, found in named_definitions().items() if name != crate.name))
+    found, more = set(), {*others, *(it for text in shown for it in NAMED.findall(text))} & files.keys()
+    while more:
+        found |= more
+        more = {it for name in more for it in NAMED.findall(text_of(files[name]))} & files.keys() - found
+    return {files[name] for name in found}
 
 
 @cache
 def seen_of(crate):
-    """What the crates above see of a crate: its line of crates.txt, its definitions, and its types and the contracts of its
-    functions with the names that these import, but no body under a contract, no tactic, no constant that is private, no proof
-    and no comment."""
-    found = [f"{crate.name}: {' '.join(crate.below)}\n"]
+    """What the crates above see of a crate: its line of crates.txt, and its types and the contracts of its functions with the names
+    that these import, and the definitions that these or other crates name, but no body under a contract, no function that a
+    private module hides, no tactic, no constant that is private, no proof and no comment."""
+    texts = {}
     for file in files_of(crate, ("specs", "src")):
         comments = COMMENTS.get(os.path.splitext(file)[1])
         text = comments.sub("", text_of(file)) if comments else text_of(file)
-        shown = re.sub(r"\n{2,}", "\n", shown_of(crate, file, text)).strip()
-        if shown:
-            found.append(f"{file[len(TOP):]}\0{shown}\0")
+        texts[file] = re.sub(r"\n{2,}", "\n", shown_of(crate, file, text)).strip()
+    definitions = seen_definitions(crate, [text for file, text in texts.items() if file.endswith(".rt")])
+    found = [f"{crate.name}: {' '.join(crate.below)}\n"]
+    for file, text in texts.items():
+        if text and (file.endswith(".rt") or file in definitions):
+            found.append(f"{file[len(TOP):]}\0{text}\0")
     return hashlib.sha256("".join(found).encode()).digest()
 
 
