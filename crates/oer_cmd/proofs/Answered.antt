@@ -3,11 +3,9 @@
 use Rattle.std.proofs.Common.{◌≡◌, ◌≢◌, ◌∙◌, ℕ, zero, suc, ◌-◌, ◌≤◌, Bool, true, false, List, [], ◌∷◌, length, Option, Some, None, Err, String, Global, refl, sym, ap, subst, arith, append-nil, ◌^◌, ◌<◌, ◌++◌, Result, Ok, string_bytes, ◌⊎◌, inl, inr}
 use Rattle.std.specs.Prelude.{◌↔◌, if◌then◌else◌, IfOk, leb, MatchBool}
 use Rattle.std.specs.Str.{IsUtf8, is_utf8}
-use Rattle.oer_cmd.specs.Ascii.{ascii_text}
 use Rattle.oer_cmd.specs.Taking.{status_after}
 use Rattle.clap.specs.Words.{Text}
-use Rattle.hex.specs.Hex.{encode_lower, IsBytes, decode_of, lower_digits}
-use Rattle.serde_json.specs.Written.{compact_text}
+use Rattle.hex.specs.Hex.{encode_lower, decode_of, lower_digits}
 use Rattle.oer_units.specs.Reader.{at, got, Outcome, refused}
 use Rattle.oer_model.specs.AsnType.{AsnType}
 use Rattle.oer_model.specs.AsnValue.{AsnValue}
@@ -18,6 +16,7 @@ use Rattle.oer_model.specs.Laws.{Judges, IsRightAnswer, Means}
 use Rattle.oer_model.specs.Parts.{Step, find_part, Answer, absent_part, found, no_such_step}
 use Rattle.oer_model.specs.Reading.{read_value}
 use Rattle.oer_model.specs.WellFormed.{IsWellFormed}
+use Rattle.oer_model.proofs.bits.Packing.{octets_from}
 use Rattle.oer_model.proofs.canonical.Computed.{canon_computed}
 use Rattle.oer_model.proofs.checking.Judged.{check_tells}
 use Rattle.oer_model.proofs.faults.Faults.{defaults_fit}
@@ -31,13 +30,13 @@ use Rattle.oer_notation.specs.Grammar.{AreWellFormed, IsDefined, later_definitio
 use Rattle.oer_notation.specs.Laws.{ParseAllComplete, ParseComplete}
 use Rattle.oer_notation.specs.Reading.{Known, find}
 use Rattle.oer_notation.proofs.NamesGiven.{find_given}
-use Rattle.oer_options.specs.Words.{Kind, Texts, behind, canon, check, kind, make, part, path_text, show, show_ascii, source_text}
+use Rattle.oer_options.specs.Words.{Kind, Texts, behind, canon, check, kind, make, part, path_text, show, source_text}
 use Rattle.oer_options.specs.declared.options.Task.{Task}
-use Rattle.oer_options.specs.declared.options.Task.TheVariants.{Canon, Check, Make, Part, Show, ShowAscii}
-use Rattle.oer_cmd.specs.Answer.{answer_of, check_octets, checked, decoded_as, given_octets, handed, hex_octets, in_ascii, in_digits, in_text, json_read, json_taken, limited_octets, make_text, named_as, parsed, part_answer, part_octets, task_answer, texts_read, type_among, types_input, value_read, value_text, whole, within_limit, HasNoPath, HasPath, IsPathOf, digits_octets, ended, json_in, input_octets, limited, expected_type}
+use Rattle.oer_options.specs.declared.options.Task.TheVariants.{Canon, Check, Make, Part, Show}
+use Rattle.oer_cmd.specs.Answer.{answer_of, check_octets, checked, decoded_as, given_octets, handed, hex_octets, in_digits, in_form, json_read, json_taken, limited_octets, make_text, named_as, parsed, part_answer, part_octets, task_answer, texts_read, type_among, types_input, value_read, value_text, whole, within_limit, HasNoPath, HasPath, IsPathOf, digits_octets, ended, json_in, input_octets, limited, expected_type}
 use Rattle.oer_cmd.specs.Expected.{Expected, Meets, refusal, unknown, value, ◌>>=◌, Says, SaysOf, stop}
 use Rattle.oer_cmd.specs.Laws.{HasNoLine, TasksRefuse, TextsRefuse, TasksTell}
-use Rattle.oer_cmd.specs.Run.{AreCanonical, IsAsciiLine, IsCanonLine, IsCheckLine, IsEncoding, IsLineBy, IsLineOf, IsMakeLine, IsPart, IsPartLine, IsPath, IsShowLine, IsValueLine, OfOctets, verdict_text, MayBe}
+use Rattle.oer_cmd.specs.Run.{AreCanonical, IsCheckLine, IsEncoding, IsInForm, IsLineBy, IsLineOf, IsMakeLine, IsPart, IsPartLine, IsPath, IsValueLine, OfOctets, json_text, verdict_text, MayBe}
 use Rattle.oer_cmd.specs.Types.{IsNamed, SpelledBy, SpelledWith, reads_types}
 use Rattle.oer_cmd.specs.declared.fault.Fault.{Fault}
 use Rattle.oer_cmd.specs.declared.value.Form.{Form}
@@ -63,7 +62,7 @@ use Rattle.oer_cmd.specs.declared.fault.Fault.TheVariants.{Longer, Path}
 -- ---- steps
 
 -- What was answered was made of a value.
-made_of : {A B : Type 0} (m : Expected A) (next : A → Expected B) (y : B) → (m >>= next) ≡ value y → (x : A) × (m ≡ value x) × (next x ≡ value y)
+pub made_of : {A B : Type 0} (m : Expected A) (next : A → Expected B) (y : B) → (m >>= next) ≡ value y → (x : A) × (m ≡ value x) × (next x ≡ value y)
 made_of unknown next y h = absurd (cc)
 made_of (refusal r) next y h = absurd (cc)
 made_of (value x) next y h = (x, refl, h)
@@ -82,17 +81,13 @@ few_there : (limit : ℕ) (f : List ℕ → Expected Text) (b : List ℕ) (line 
 few_there limit f b line few h = ap (λ o. o >>= f) (within_value limit b few) ∙ h
 
 -- They are given by digits, or the input has them.
-octets_of_bytes : (b : List ℕ) → IsBytes b → IsOctets b
-octets_of_bytes [] h = tt
-octets_of_bytes (x ∷ b) h = (h 0, octets_of_bytes b (λ i. h (suc i)))
-
 module _ (b : List ℕ) (P : List ℕ → Type 0) (f : List ℕ → Expected Text) (line : Text) where
   given_said : (hex : Option Text) → IsOctets b → ((c : List ℕ) → IsOctets c → f c ≡ value line → P c) → (given_octets hex (Some b) >>= f) ≡ value line
       → OfOctets hex (Some b) P
   given_said None octets to h = to b octets h
   given_said (Some digits) octets to h = by (decode_of digits) refl h where
     by : (r : Result (List ℕ) FromHexError) → decode_of digits ≡ r → (decoded_as r >>= f) ≡ value line → OfOctets (Some digits) (Some b) P
-    by (Ok c) is h = (c, is, to c (octets_of_bytes c (decode_of-ok digits c is).3) h)
+    by (Ok c) is h = (c, is, to c (octets_from c (decode_of-ok digits c is).3) h)
     by (Err e) is h = absurd (cc)
 
   given_there : (hex : Option Text) → ((c : List ℕ) → P c → f c ≡ value line) → OfOctets hex (Some b) P → (given_octets hex (Some b) >>= f) ≡ value line
@@ -105,25 +100,14 @@ limited_given : (hex : Option Text) (limit : ℕ) (told : Option (List ℕ)) (f 
 limited_given (Some digits) limit told f = assoc (digits_octets digits) (λ b. value (Some b)) (λ spelt. limited_octets limit spelt told >>= f)
 limited_given None limit told f = assoc (input_octets told) (within_limit limit) f
 
-one_test : {A : Type 0} (p q : Bool) → (p ≡ true ↔ A) → (q ≡ true ↔ A) → p ≡ q
+-- two tests of one thing
+pub one_test : {A : Type 0} (p q : Bool) → (p ≡ true ↔ A) → (q ≡ true ↔ A) → p ≡ q
 one_test true true h k = refl
 one_test true false h k = sym (k.1 (h.0 refl))
 one_test false true h k = h.1 (k.0 refl)
 one_test false false h k = refl
 
 -- ==== The line of octets, or of a text, is what the plain functions make of them.
-
--- the line of a value
-abbrev form_line : Form → AsnType → AsnValue → Expected Text
-form_line form.Octets T v = in_digits (canonical_octets T v)
-form_line form.Json T v = in_text (made T v)
-form_line form.Ascii T v = in_text (made T v) >>= in_ascii
-
-by_value : (f : Form) (T : AsnType) (m : Expected AsnValue) (limit : ℕ) (b : List ℕ) → value_read T limit b ≡ m → value_text f T limit b ≡ (m >>= form_line f T)
-by_value form.Octets T m limit b is = ap (λ o. o >>= (λ v. value (canonical_octets T v)) >>= in_digits) is ∙ assoc m (λ v. value (canonical_octets T v)) in_digits
-by_value form.Json T m limit b is = ap (λ o. o >>= (λ v. value (made T v)) >>= in_text) is ∙ assoc m (λ v. value (made T v)) in_text
-by_value form.Ascii T m limit b is = ap (λ o. o >>= (λ v. value (made T v)) >>= in_text >>= in_ascii) is
-    ∙ ap (λ o. o >>= in_ascii) (assoc m (λ v. value (made T v)) in_text) ∙ assoc m (λ v. in_text (made T v)) in_ascii
 
 module _ (T : AsnType) (well : IsWellFormed T) where
   value_said : (limit : ℕ) (b : List ℕ) (v : AsnValue) → IsOctets b → value_read T limit b ≡ value v → Encodes T v b × (length b ≤ limit)
@@ -171,29 +155,22 @@ module _ (T : AsnType) (well : IsWellFormed T) where
     canonical_is v fits short is =
         canon_given T well.limits v fits (omega (arith, short, ap length is, length-encode_with lower_digits (canonical_octets T v)))
 
-    form_is : (f : Form) (b : List ℕ) (v : AsnValue) → length line < 2 ^ 64 → Encodes T v b → length b ≤ limit → form_line f T v ≡ value line
-        → IsValueLine f T limit line b
-    form_is form.Octets b v short enc few is =
-        let same : line ≡ encode_lower (canonical_octets T v) = cc in
-        (canonical_octets T v, record { value = v; encodes = enc; canonical = canonical_is v enc.1 short same; within = few }, same)
-    form_is form.Json b v short enc few is = let same : line ≡ compact_text (made T v) = cc in (made T v, (v, enc, few, refl), same)
-    form_is form.Ascii b v short enc few is =
-        let same : line ≡ ascii_text (compact_text (made T v)) = cc in (compact_text (made T v), (made T v, (v, enc, few, refl), refl), same)
+    form_is : (f : Form) (v : AsnValue) → Fits T v → length line < 2 ^ 64 → in_form f T v ≡ value line → IsInForm f T v line
+    form_is form.Octets v fits short is =
+        let same : line ≡ encode_lower (canonical_octets T v) = cc in (canonical_octets T v, canonical_is v fits short same, same)
+    form_is (form.Json style) v fits short is = let same : line ≡ json_text style (made T v) = cc in same
+
+    of_form : (f : Form) (v : AsnValue) → IsInForm f T v line → in_form f T v ≡ value line
+    of_form form.Octets v (c, canonical, is) = same_line (encode_lower (canonical_octets T v)) line (is ∙ ap encode_lower (canon_computed T v c canonical))
+    of_form (form.Json style) v is = same_line (json_text style (made T v)) line is
 
     form_said : (f : Form) → length line < 2 ^ 64 → (b : List ℕ) → IsOctets b → value_text f T limit b ≡ value line → IsValueLine f T limit line b
     form_said f short b octets h =
-        let m = made_of (value_read T limit b) (form_line f T) line (sym (by_value f T (value_read T limit b) limit b refl) ∙ h) in
-        let e = value_said limit b m.0 octets m.1 in form_is f b m.0 short e.0 e.1 m.2
-
-    of_form : (f : Form) (b : List ℕ) → IsValueLine f T limit line b → (v : AsnValue) × Encodes T v b × (length b ≤ limit) × (form_line f T v ≡ value line)
-    of_form form.Octets b (c, m, is) =
-        (m.value, m.encodes, m.within, same_line (encode_lower (canonical_octets T m.value)) line (is ∙ ap encode_lower (canon_computed T m.value c m.canonical)))
-    of_form form.Json b (j, (v, enc, few, same), is) = (v, enc, few, same_line (compact_text (made T v)) line (is ∙ ap compact_text same))
-    of_form form.Ascii b (text, (j, (v, enc, few, same), is), ascii) =
-        (v, enc, few, same_line (ascii_text (compact_text (made T v))) line (ascii ∙ ap ascii_text (is ∙ ap compact_text same)))
+        let m = made_of (value_read T limit b) (in_form f T) line h in
+        let e = value_said limit b m.0 octets m.1 in (m.0, e.0, e.1, form_is f m.0 e.0.1 short m.2)
 
     form_there : (f : Form) (b : List ℕ) → IsValueLine f T limit line b → value_text f T limit b ≡ value line
-    form_there f b h = let w = of_form f b h in by_value f T (value w.0) limit b (ap (whole b) (value_there w.0 b limit w.1 w.2)) ∙ w.3
+    form_there f b (v, enc, few, is) = ap (λ o. o >>= in_form f T) (ap (whole b) (value_there v b limit enc few)) ∙ of_form f v is
 
     -- ---- octets that are checked
 
@@ -261,28 +238,25 @@ module _ (T : AsnType) (well : IsWellFormed T) where
         let n = made_of (json_taken (taken T m.0)) (λ v. in_digits (canonical_octets T v)) line m.2 in
         let j = json_said text m.0 m.1 in
         let of = taken_sound T m.0 n.0 (taken_is (taken T m.0) n.0 n.1) in
-        let is : line ≡ encode_lower (canonical_octets T n.0) = (let e = n.2 in cc) in
-        (few.0, (j.0, (m.0, j.1, (n.0, of, (canonical_octets T n.0, canonical_is n.0 of.1 short is, is)))))
+        (few.0, (j.0, (m.0, j.1, (n.0, of, form_is form.Octets n.0 of.1 short n.2))))
 
     text_there : (text : Text) → IsMakeLine T limit line text → limited limit (make_text T) text ≡ value line
-    text_there text (few, (utf8, (j, is, (v, of, (c, canonical, same))))) =
+    text_there text (few, (utf8, (j, is, (v, of, same)))) =
         few_there limit (make_text T) text line few
         (ap (λ o. o >>= λ j. json_taken (taken T j) >>= λ v. in_digits (canonical_octets T v)) (utf8_read text utf8 ∙ ap json_read is)
         ∙ ap (λ r. json_taken r >>= λ v. in_digits (canonical_octets T v)) (taken_complete T well j v of)
-        ∙ same_line (encode_lower (canonical_octets T v)) line (same ∙ ap encode_lower (canon_computed T v c canonical)))
+        ∙ of_form form.Octets v same)
 
 -- ==== The line of a task is what its plain function answers.
 
 pub tasks_tell : TasksTell
-tasks_tell T well (Show hex) limit bound b octets path spelled line short h =
-    given_said b (IsShowLine T limit line) (value_text form.Json T limit) line (behind hex) octets (form_said T well limit line form.Json short) h
-tasks_tell T well (ShowAscii hex) limit bound b octets path spelled line short h =
-    given_said b (IsAsciiLine T limit line) (value_text form.Ascii T limit) line (behind hex) octets (form_said T well limit line form.Ascii short) h
+tasks_tell T well (Show hex style) limit bound b octets path spelled line short h =
+    given_said b (IsValueLine (form.Json style) T limit line) (value_text (form.Json style) T limit) line (behind hex) octets
+    (form_said T well limit line (form.Json style) short) h
 tasks_tell T well (Canon hex) limit bound b octets path spelled line short h =
-    given_said b (IsCanonLine T limit line) (value_text form.Octets T limit) line (behind hex) octets (form_said T well limit line form.Octets short) h
+    given_said b (IsValueLine form.Octets T limit line) (value_text form.Octets T limit) line (behind hex) octets (form_said T well limit line form.Octets short) h
 tasks_tell T well (Check hex) limit bound b octets path spelled line short h =
-    given_said b (IsCheckLine T limit line) (limited limit (check_octets T)) line (behind hex) octets (check_said T well limit line bound)
-    (sym (limited_given (behind hex) limit (Some b) (check_octets T)) ∙ h)
+    given_said b (IsCheckLine T limit line) (limited limit (check_octets T)) line (behind hex) octets (check_said T well limit line bound) h
 tasks_tell T well (Make (Some text)) limit bound b octets path spelled line short h = text_said T well limit line short text.now h
 tasks_tell T well (Make None) limit bound b octets path spelled line short h = text_said T well limit line short b h
 tasks_tell T well (Part hex text) limit bound b octets path spelled line short h =
@@ -291,18 +265,15 @@ tasks_tell T well (Part hex text) limit bound b octets path spelled line short h
 
 task_there : (T : AsnType) → IsWellFormed T → (limit : ℕ) (line : Text) → limit ≤ most → (task : Task) (b : List ℕ) → IsLineOf task (Some b) T limit line
     → (path : List Step) × IsPath (path_text task) path × (task_answer task T limit (value path) (Some b) ≡ value line)
-task_there T well limit line bound (Show hex) b h =
-    ([], refl, given_there b (IsShowLine T limit line) (value_text form.Json T limit) line (behind hex) (form_there T well limit line form.Json) h)
-task_there T well limit line bound (ShowAscii hex) b h =
-    ([], refl, given_there b (IsAsciiLine T limit line) (value_text form.Ascii T limit) line (behind hex) (form_there T well limit line form.Ascii) h)
-task_there T well limit line bound (Canon hex) b h =
-    ([], refl, given_there b (IsCanonLine T limit line) (value_text form.Octets T limit) line (behind hex) (form_there T well limit line form.Octets) h)
-task_there T well limit line bound (Check hex) b h = (
+task_there T well limit line bound (Show hex style) b h = (
   [],
   refl,
-  limited_given (behind hex) limit (Some b) (check_octets T)
-      ∙ given_there b (IsCheckLine T limit line) (limited limit (check_octets T)) line (behind hex) (check_there T well limit line bound) h,
+  given_there b (IsValueLine (form.Json style) T limit line) (value_text (form.Json style) T limit) line (behind hex) (form_there T well limit line (form.Json style)) h,
 )
+task_there T well limit line bound (Canon hex) b h =
+    ([], refl, given_there b (IsValueLine form.Octets T limit line) (value_text form.Octets T limit) line (behind hex) (form_there T well limit line form.Octets) h)
+task_there T well limit line bound (Check hex) b h =
+    ([], refl, given_there b (IsCheckLine T limit line) (limited limit (check_octets T)) line (behind hex) (check_there T well limit line bound) h)
 task_there T well limit line bound (Make (Some text)) b h = ([], refl, text_there T well limit line text.now h)
 task_there T well limit line bound (Make None) b h = ([], refl, text_there T well limit line b h)
 task_there T well limit line bound (Part hex text) b h =
@@ -334,7 +305,7 @@ none_there None lacks = absurd lacks
 
 unknown_line : (k : Kind) (source path : Option Text) (T : AsnType) (limit : ℕ) (line : Text) → source ≡ None
     → IsLineBy k source path None T limit line
-unknown_line show None path T limit line none = tt
+unknown_line (show style) None path T limit line none = tt
 unknown_line _ None path T limit line none = tt
 unknown_line k (Some s) path T limit line none = absurd (cc)
 
@@ -370,8 +341,7 @@ line_read T well task limit bound (Some b) (Ok line) none has exact =
 -- Where what the input has isn't known, nothing is expected, unless the text of `--path` spells no path.
 unread : (task : Task) (T : AsnType) (limit : ℕ) (path : Expected (List Step)) → source_text task ≡ None → IsPathOf (path_text task) path
     → (task_answer task T limit path None ≡ unknown) ⊎ (HasNoPath (path_text task) × (task_answer task T limit path None ≡ stop Path))
-unread (Show None) T limit path none of = inl refl
-unread (ShowAscii None) T limit path none of = inl refl
+unread (Show None style) T limit path none of = inl refl
 unread (Canon None) T limit path none of = inl refl
 unread (Check None) T limit path none of = inl refl
 unread (Make None) T limit path none of = inl refl
@@ -399,9 +369,8 @@ read_meets T task limit path None result none of exact pathless = by (unread tas
 line_within : (k : Kind) (path : Option Text) (b : List ℕ) (T : AsnType) (limit : ℕ) (line : Text)
     → IsLineBy k None path (Some b) T limit line
     → length b ≤ limit
-line_within show path b T limit line h = h.1.2
-line_within show_ascii path b T limit line h = h.1.1.2
-line_within canon path b T limit line h = h.1.within
+line_within (show style) path b T limit line h = h.2
+line_within canon path b T limit line h = h.2
 line_within check path b T limit line h = h.1
 line_within make path b T limit line h = h.0
 line_within part path b T limit line h = h.1

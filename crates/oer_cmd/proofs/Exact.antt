@@ -1,6 +1,6 @@
 -- What the tasks answer is what is expected.
-use Rattle.std.proofs.Common.{Result, ◌≡◌, ◌∙◌, ℕ, ◌+◌, ◌-◌, ◌<◌, ◌≤◌, Bool, true, false, List, [], ◌∷◌, ◌++◌, length, take, drop, Option, Some, None, Ok, Err, refl, sym, ap, subst, arith, length-append}
-use Rattle.std.proofs.Math.Seq.{drop-length, take-length}
+use Rattle.std.proofs.Common.{Result, ◌≡◌, ◌∙◌, ℕ, ◌+◌, ◌-◌, ◌<◌, ◌≤◌, Bool, true, false, List, [], ◌∷◌, length, take, drop, Option, Some, None, Ok, Err, refl, sym, ap, subst, arith, length-append}
+use Rattle.std.proofs.Math.Seq.{drop-append_seam, drop-length, take-length}
 use Rattle.std.proofs.lemmas.Str.{IsUtf8-from_is_utf8, is_utf8-from_IsUtf8}
 use Rattle.std.proofs.lemmas.Bool.{le-leb, lt-leb}
 use Rattle.std.specs.Prelude.{if◌then◌else◌}
@@ -21,20 +21,17 @@ use Rattle.oer_parts.specs.declared.fault.PartFault.{PartFault}
 use Rattle.oer_checker.specs.declared.verdict.Verdict.{Verdict}
 use Rattle.oer_json.specs.Take.{taken}
 use Rattle.oer_options.specs.Words.{behind}
-use Rattle.oer_cmd.specs.Answer.{IsPathOf, checked, ended, handed, in_digits, json_in, json_read, json_taken, make_text, part_octets, whole, within_limit}
+use Rattle.oer_cmd.specs.Answer.{IsPathOf, canonical_of, checked, ended, handed, in_digits, json_in, json_read, json_taken, make_text, part_octets, value_read, value_text, whole, within_limit}
 use Rattle.oer_cmd.specs.Expected.{Expected, refusal, stop, unknown, value, ◌>>=◌}
 use Rattle.oer_cmd.specs.Faults.{IsOfRead, status_of}
 use Rattle.oer_cmd.specs.Run.{IsPath}
 use Rattle.oer_cmd.specs.declared.fault.Fault.{Fault}
 use Rattle.oer_cmd.specs.declared.fault.Fault.TheVariants.{Follows, Longer, NotJson, Path, Read}
 use Rattle.oer_cmd.proofs.Front.{is_read}
-use Rattle.oer_cmd.proofs.Meeting.{ended_more}
+use Rattle.oer_cmd.specs.declared.value.Form.TheVariants as form
+use Rattle.oer_cmd.proofs.Meeting.{assoc, ended_more}
 
 -- ---- octets that are checked
-
-dropped : (b rest : List ℕ) → drop (length b) (b ++ rest) ≡ rest
-dropped [] rest = refl
-dropped (x ∷ b) rest = dropped b rest
 
 pub checked_all : (T : AsnType) (b : List ℕ) (verdict : Verdict) → Answers T b (Ok verdict) → verdict.octets ≡ length b
     → checked T b ≡ value verdict.canonical
@@ -45,7 +42,7 @@ pub checked_more : (T : AsnType) (b : List ℕ) (verdict : Verdict) → Answers 
     → (verdict.octets ≡ length b → ⊥)
     → checked T b ≡ stop (Follows verdict.octets)
 checked_more T b verdict h (c, rest, is, count, encodes, canonical) some =
-    let left : drop verdict.octets b ≡ rest = ap (λ (n : ℕ). drop n b) count ∙ ap (drop (length c)) is ∙ dropped c rest in
+    let left : drop verdict.octets b ≡ rest = ap (λ (n : ℕ). drop n b) count ∙ ap (drop (length c)) is ∙ drop-append_seam c rest in
     let size : length b ≡ verdict.octets + length rest = omega (arith, ap length is, length-append c rest, count) in
     ap (whole b) h ∙ ap (λ (l : List ℕ). ended (length b - length l) verdict.canonical l) left
     ∙ ended_more (length b - length rest) verdict.octets verdict.canonical rest (λ e. some (omega (arith, size, ap length e))) (omega (arith, size))
@@ -53,10 +50,15 @@ checked_more T b verdict h (c, rest, is, count, encodes, canonical) some =
 pub checked_stops : (T : AsnType) (b : List ℕ) (e : ReadFault) (fault : Fault) → IsOfRead e fault → Answers T b (Err e) → Tells T b (Err e)
     → status_of fault ≤ 2 → checked T b ≡ stop fault
 checked_stops T b e fault told h (t, rest, is, count, means) small =
-    let left : drop e.taken b ≡ rest = ap (λ (n : ℕ). drop n b) count ∙ ap (drop (length t)) is ∙ dropped t rest in
+    let left : drop e.taken b ≡ rest = ap (λ (n : ℕ). drop n b) count ∙ ap (drop (length t)) is ∙ drop-append_seam t rest in
     let size : length b - length rest ≡ e.taken = omega (arith, ap length is, length-append t rest, count) in
     ap (whole b) h ∙ ap (λ (l : List ℕ). stop (Read (record { taken = length b - length l; why = e.why }))) left
     ∙ ap (λ (n : ℕ). stop (Read (record { taken = n; why = e.why }))) size ∙ ap stop (sym (is_read e fault told small).2)
+
+-- ---- the line of a value
+
+pub digits_text : (T : AsnType) (limit : ℕ) (b : List ℕ) → value_text form.Octets T limit b ≡ (canonical_of T limit b >>= in_digits)
+digits_text T limit b = sym (assoc (value_read T limit b) (λ v. value (canonical_octets T v)) in_digits)
 
 -- ---- parts
 

@@ -1,9 +1,9 @@
 -- How answers that are expected are put together.
-use Rattle.std.proofs.Common.{Result, ◌≡◌, ◌≢◌, ◌∙◌, ℕ, ◌≤◌, List, [], ◌∷◌, Option, Some, None, Ok, Err, refl, sym, ap, subst, arith, String, Global, string_bytes}
+use Rattle.std.proofs.Common.{Result, ◌≡◌, ◌≢◌, ◌∙◌, ℕ, ◌≤◌, List, [], ◌∷◌, Option, Some, Ok, Err, refl, sym, ap, subst, arith, String, Global, string_bytes}
 use Rattle.std.specs.Prelude.{IfOk, IfSome, IsErrAnd}
 use Rattle.clap.specs.Words.{Text}
 use Rattle.oer_units.specs.Octets.{IsOctets}
-use Rattle.oer_cmd.specs.Answer.{ended, limited, whole, within_limit}
+use Rattle.oer_cmd.specs.Answer.{ended, limited, within_limit}
 use Rattle.oer_cmd.specs.Expected.{Expected, Meets, Says, SaysOf, refusal, stop, unknown, value, ◌>>=◌}
 use Rattle.oer_cmd.specs.Faults.{status_of}
 use Rattle.oer_cmd.specs.declared.fault.Fault.{Fault}
@@ -34,6 +34,12 @@ pub stops : {X Y Z W : Type 0} (view : X → Y) (view' : Z → W) (m : Expected 
 stops view view' unknown next fault h = tt
 stops view view' (value y) next fault h = fails view' (next y) fault h
 stops view view' (refusal r) next fault h = h
+
+pub stops_twice : {X Y V Z W : Type 0} (view : X → Y) (view' : Z → W) (m : Expected Y) (next : Y → Expected V) (more : V → Expected W) (fault : Fault)
+    → Meets view m (Err fault) → Meets view' (m >>= next >>= more) (Err fault)
+stops_twice view view' unknown next more fault h = tt
+stops_twice view view' (value y) next more fault h = fails view' (next y >>= more) fault h
+stops_twice view view' (refusal r) next more fault h = h
 
 -- Where it is made, what goes on is next.
 pub goes : {X Y Z W : Type 0} (view : X → Y) (view' : Z → W) (m : Expected Y) (next : Y → Expected W) (x : X) (result : Result Z Fault)
@@ -74,12 +80,9 @@ anyway P (Err fault) p = tt
 pub limited_said : {X : Type 0} (view : X → Text) (limit : ℕ) (next : List ℕ → Expected Text) (told : Option (List ℕ)) (b octets slice : List ℕ)
     (result : Result X Fault) → IfSome told (λ xs. xs ≡ octets) → told ≡ Some b → slice ≡ octets → within_limit limit b ≡ value octets
     → IfOk result (λ x. IsOctets slice) → Says view (next slice) result → SaysOf view b (limited limit next b) result
-limited_said view limit next None b octets slice result all is same few are h = absurd (cc)
-limited_said view limit next (Some xs) b octets slice (Ok x) all is same few are h =
-    let whole : slice ≡ b = (let first : xs ≡ b = cc in same ∙ sym all ∙ first) in
-    (subst IsOctets whole are, ap (λ o. o >>= next) few ∙ ap next (sym same) ∙ h)
-limited_said view limit next (Some xs) b octets slice (Err fault) all is same few are h = λ small.
-    ap (λ o. o >>= next) few ∙ ap next (sym same) ∙ h small
+limited_said view limit next told b octets slice (Ok x) all is same few are h =
+    let first = rw is at all in (subst IsOctets (same ∙ sym first) are, ap (λ o. o >>= next) few ∙ ap next (sym same) ∙ h)
+limited_said view limit next told b octets slice (Err fault) all is same few are h = λ small. ap (λ o. o >>= next) few ∙ ap next (sym same) ∙ h small
 
 -- Octets follow.
 pub ended_more : {A : Type 0} (m n : ℕ) (x : A) (rest : List ℕ) → rest ≢ [] → m ≡ n → ended m x rest ≡ stop (Follows n)

@@ -12,8 +12,8 @@ use Rattle.oer_model.specs.Parts.{Step}
 use Rattle.oer_value_notation.specs.declared.fault.TextWhy.TheVariants.{Token}
 use Rattle.oer_options.specs.Words.{Kind, Texts, kind, path_text, show, source_text}
 use Rattle.oer_options.specs.declared.options.Task.{Task}
-use Rattle.oer_options.specs.declared.options.Task.TheVariants.{Canon, Check, Make, Part, Show, ShowAscii}
-use Rattle.oer_cmd.specs.Answer.{answer_of, check_octets, digits_octets, expected_type, given_answer, limited_octets, part_octets, task_answer, types_input, types_text}
+use Rattle.oer_options.specs.declared.options.Task.TheVariants.{Canon, Check, Make, Part, Show}
+use Rattle.oer_cmd.specs.Answer.{answer_of, digits_octets, expected_type, given_answer, limited_octets, part_octets, task_answer, types_input, types_text}
 use Rattle.oer_cmd.specs.Expected.{Expected, Meets, refusal, stop, unknown, value, ◌>>=◌}
 use Rattle.oer_cmd.specs.Run.{IsLineBy, IsLineFor, IsLineGiven}
 use Rattle.oer_cmd.specs.Taking.{GivesAll, GivesTypes}
@@ -78,7 +78,7 @@ no_octet utf8 = true≢false (sym (is_utf8-from_IsUtf8 (255 ∷ []) utf8) ∙ lo
 pub line_by : (k : Kind) (source path : Option Text) (told told' : Option (List ℕ)) (T : AsnType) (limit : ℕ) (line : Text) → source ≢ None
     → IsLineBy k source path told T limit line → IsLineBy k source path told' T limit line
 line_by k None path told told' T limit line some h = absurd (some refl)
-line_by show (Some t) path told told' T limit line some h = h
+line_by (show style) (Some t) path told told' T limit line some h = h
 line_by _ (Some t) path told told' T limit line some h = h
 
 in_hand : {A : Type 0} (m : Expected (List ℕ)) (f g : Option (List ℕ) → Expected A) → ((b : List ℕ) → f (Some b) ≡ g (Some b))
@@ -90,11 +90,9 @@ in_hand (value b) f g h = h b
 pub task_kept : (task : Task) (T : AsnType) (limit : ℕ) (path : Expected (List Step)) (told told' : Option (List ℕ))
     → source_text task ≢ None
     → task_answer task T limit path told ≡ task_answer task T limit path told'
-task_kept (Show (Some h)) T limit path told told' some = refl
-task_kept (ShowAscii (Some h)) T limit path told told' some = refl
+task_kept (Show (Some h) style) T limit path told told' some = refl
 task_kept (Canon (Some h)) T limit path told told' some = refl
-task_kept (Check (Some h)) T limit path told told' some = in_hand (digits_octets h.now)
-    (λ spelt. limited_octets limit spelt told >>= check_octets T) (λ spelt. limited_octets limit spelt told' >>= check_octets T) (λ b. refl)
+task_kept (Check (Some h)) T limit path told told' some = refl
 task_kept (Make (Some h)) T limit path told told' some = refl
 task_kept (Part (Some h) text) T limit path told told' some = in_hand (digits_octets h.now)
     (λ spelt. path >>= λ steps. limited_octets limit spelt told >>= part_octets T steps)

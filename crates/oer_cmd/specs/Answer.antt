@@ -7,7 +7,6 @@ use Rattle.hex.specs.declared.error.FromHexError.{FromHexError}
 use Rattle.clap.specs.Words.{Text}
 use Rattle.serde_json.specs.Data.{Data}
 use Rattle.serde_json.specs.Read.{read}
-use Rattle.serde_json.specs.Written.{compact_text}
 use Rattle.oer_units.specs.Reader.{Outcome, at, got, refused}
 use Rattle.oer_model.specs.AsnType.{AsnType}
 use Rattle.oer_model.specs.AsnValue.{AsnValue}
@@ -28,10 +27,9 @@ use Rattle.oer_value_notation.specs.declared.fault.TextWhy.TheVariants.{Token}
 use Rattle.oer_options.specs.Words.{Texts, behind, source_text, texts_of}
 use Rattle.oer_options.specs.declared.options.Options.{Options}
 use Rattle.oer_options.specs.declared.options.Task.{Task}
-use Rattle.oer_options.specs.declared.options.Task.TheVariants.{Canon, Check, Make, Part, Show, ShowAscii}
-use Rattle.oer_cmd.specs.Ascii.{ascii_text}
+use Rattle.oer_options.specs.declared.options.Task.TheVariants.{Canon, Check, Make, Part, Show}
 use Rattle.oer_cmd.specs.Expected.{Expected, refusal, stop, unknown, value, ◌>>=◌}
-use Rattle.oer_cmd.specs.Run.{IsPath, verdict_text}
+use Rattle.oer_cmd.specs.Run.{IsPath, json_text, verdict_text}
 use Rattle.oer_cmd.specs.Types.{lack_in, reads_types}
 use Rattle.oer_cmd.specs.declared.fault.Fault.TheVariants.{Absent, Follows, Hex, Json, Longer, NoSource, NoSuchStep, NotJson, Path, Read, «Type»}
 use Rattle.oer_cmd.specs.declared.value.Form.{Form}
@@ -90,26 +88,17 @@ value_read T limit b = whole b (read_value T (at b limit))
 abbrev pub checked : AsnType → List ℕ → Expected Bool
 checked T b = whole b (check_value T (at b most))
 
--- the canonical octets of that value, and its JSON
+-- the canonical octets of that value
 abbrev pub canonical_of : AsnType → ℕ → List ℕ → Expected (List ℕ)
 canonical_of T limit b = value_read T limit b >>= λ v. value (canonical_octets T v)
 
-abbrev pub json_of : AsnType → ℕ → List ℕ → Expected Data
-json_of T limit b = value_read T limit b >>= λ v. value (made T v)
-
--- how octets and JSON stand in a line
+-- how octets stand in a line, and how a value does
 abbrev pub in_digits : List ℕ → Expected Text
 in_digits c = value (encode_lower c)
 
-abbrev pub in_text : Data → Expected Text
-in_text j = value (compact_text j)
-
-abbrev pub in_ascii : Text → Expected Text
-in_ascii text = value (ascii_text text)
-
--- JSON in ASCII
-abbrev pub in_ascii_text : Data → Expected Text
-in_ascii_text j = in_text j >>= in_ascii
+abbrev pub in_form : Form → AsnType → AsnValue → Expected Text
+in_form form.Octets T v = in_digits (canonical_octets T v)
+in_form (form.Json style) T v = value (json_text style (made T v))
 
 -- what is made of octets that are no more than the limit
 abbrev pub limited : ℕ → (List ℕ → Expected Text) → List ℕ → Expected Text
@@ -148,15 +137,13 @@ make_text T text = json_in text >>= λ j. json_taken (taken T j) >>= λ v. in_di
 
 -- the line of the value that the octets encode
 abbrev pub value_text : Form → AsnType → ℕ → List ℕ → Expected Text
-value_text form.Octets T limit b = canonical_of T limit b >>= in_digits
-value_text form.Json T limit b = json_of T limit b >>= in_text
-value_text form.Ascii T limit b = json_of T limit b >>= in_text >>= in_ascii
+value_text f T limit b = value_read T limit b >>= in_form f T
 
 abbrev pub value_answer : Form → AsnType → ℕ → Option Text → Option (List ℕ) → Expected Text
 value_answer f T limit hex told = given_octets hex told >>= value_text f T limit
 
 abbrev pub check_answer : AsnType → ℕ → Option Text → Option (List ℕ) → Expected Text
-check_answer T limit hex told = hex_octets hex >>= λ spelt. limited_octets limit spelt told >>= check_octets T
+check_answer T limit hex told = given_octets hex told >>= limited limit (check_octets T)
 
 -- path: what is expected of the text of `--path`
 abbrev pub part_answer : AsnType → ℕ → Option Text → Expected (List Step) → Option (List ℕ) → Expected Text
@@ -166,8 +153,7 @@ abbrev pub make_answer : AsnType → ℕ → Option Text → Option (List ℕ) �
 make_answer T limit json told = given_text json told >>= within_limit limit >>= make_text T
 
 abbrev pub task_answer : Task → AsnType → ℕ → Expected (List Step) → Option (List ℕ) → Expected Text
-task_answer (Show hex) T limit path told = value_answer form.Json T limit (behind hex) told
-task_answer (ShowAscii hex) T limit path told = value_answer form.Ascii T limit (behind hex) told
+task_answer (Show hex style) T limit path told = value_answer (form.Json style) T limit (behind hex) told
 task_answer (Canon hex) T limit path told = value_answer form.Octets T limit (behind hex) told
 task_answer (Check hex) T limit path told = check_answer T limit (behind hex) told
 task_answer (Make json) T limit path told = make_answer T limit (behind json) told

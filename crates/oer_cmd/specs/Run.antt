@@ -16,10 +16,10 @@ use Rattle.oer_model.specs.Strict.{IsCanonical}
 use Rattle.oer_parts.specs.Path.{SpellsPath}
 use Rattle.oer_json.specs.Denotes.{IsJsonOf}
 use Rattle.oer_json.specs.Made.{made}
-use Rattle.oer_options.specs.Words.{HasFlags, Kind, NumberOf, Texts, asked, canon, check, given, given_number, kind, make, name_of, part, path_among, path_text, show, show_ascii, source_option, source_text, texts_in}
+use Rattle.oer_options.specs.Words.{HasFlags, Kind, NumberOf, Texts, asked, canon, check, given, given_number, kind, make, name_of, part, path_among, path_text, show, source_option, source_text, texts_in}
+use Rattle.oer_options.specs.declared.options.Style.{Style}
 use Rattle.oer_options.specs.declared.options.Task.{Task}
 use Rattle.oer_cmd.specs.Ascii.{ascii_text}
-use Rattle.oer_cmd.specs.Canon.{MakesCanonical}
 use Rattle.oer_cmd.specs.Types.{SpelledWith}
 use Rattle.oer_cmd.specs.declared.value.Form.{Form}
 use Rattle.oer_cmd.specs.declared.value.Form.TheVariants as form
@@ -29,27 +29,23 @@ abbrev pub OfOctets : Option Text → Option (List ℕ) → (List ℕ → Type 0
 OfOctets (Some digits) told P = (b : List ℕ) × (decode_of digits ≡ Ok b) × P b
 OfOctets None told P = IfSome told P
 
--- the line of `canon` for octets b: the canonical octets of the value that they encode, in lower hexadecimal digits
-abbrev pub IsCanonLine : AsnType → ℕ → Text → List ℕ → Type 0
-IsCanonLine T limit line b = (c : List ℕ) × MakesCanonical T limit b c × (line ≡ encode_lower c)
+-- a text, or the same in ASCII
+abbrev pub ascii_if : Bool → Text → Text
+ascii_if false text = text
+ascii_if true text = ascii_text text
 
--- the JSON is that of a value of which b is an encoding, of no more octets than the limit
-abbrev pub IsShown : AsnType → ℕ → Data → List ℕ → Type 0
-IsShown T limit j b = (v : AsnValue) × Encodes T v b × (length b ≤ limit) × (j ≡ made T v)
+-- the text of JSON, without a space, in a style
+abbrev pub json_text : Style → Data → Text
+json_text style j = ascii_if style.ascii (compact_text j)
 
--- the line of `show` for octets b: the text of that JSON, without a space
-abbrev pub IsShowLine : AsnType → ℕ → Text → List ℕ → Type 0
-IsShowLine T limit line b = (j : Data) × IsShown T limit j b × (line ≡ compact_text j)
+-- the line of a value, in this form: its canonical octets, in lower hexadecimal digits, or its JSON
+abbrev pub IsInForm : Form → AsnType → AsnValue → Text → Type 0
+IsInForm form.Octets T v line = (c : List ℕ) × IsCanonical T v c × (line ≡ encode_lower c)
+IsInForm (form.Json style) T v line = line ≡ json_text style (made T v)
 
--- the same in ASCII
-abbrev pub IsAsciiLine : AsnType → ℕ → Text → List ℕ → Type 0
-IsAsciiLine T limit line b = (text : Text) × IsShowLine T limit text b × (line ≡ ascii_text text)
-
--- the line of the value that octets b encode, in this form
+-- the line of `show`, or of `canon`, for octets b: that of the value of which b is an encoding, of no more octets than the limit
 abbrev pub IsValueLine : Form → AsnType → ℕ → Text → List ℕ → Type 0
-IsValueLine form.Octets T limit line b = IsCanonLine T limit line b
-IsValueLine form.Json T limit line b = IsShowLine T limit line b
-IsValueLine form.Ascii T limit line b = IsAsciiLine T limit line b
+IsValueLine f T limit line b = (v : AsnValue) × Encodes T v b × (length b ≤ limit) × IsInForm f T v line
 
 -- b is all of one encoding
 abbrev pub IsEncoding : AsnType → List ℕ → Type 0
@@ -75,7 +71,7 @@ IsCheckLine T limit line b = IsEncoding T b × (length b ≤ limit)
 -- the canonical octets, in lower hexadecimal digits, of a value that fits, for which the text of JSON stands, in UTF-8
 abbrev pub Makes : AsnType → Text → List ℕ → Type 0
 Makes T line text = IsUtf8 text
-    × ((j : Data) × (read text ≡ Some j) × ((v : AsnValue) × IsJsonOf T v j × ((c : List ℕ) × IsCanonical T v c × (line ≡ encode_lower c))))
+    × ((j : Data) × (read text ≡ Some j) × ((v : AsnValue) × IsJsonOf T v j × IsInForm form.Octets T v line))
 
 -- the line of `make` for a text of JSON, of no more octets than the limit
 abbrev pub IsMakeLine : AsnType → ℕ → Text → List ℕ → Type 0
@@ -101,9 +97,8 @@ IsPartLine T limit text line b = IsEncoding T b × (length b ≤ limit) × ((pat
 
 -- the line of a kind of task, with this text of octets or of JSON and this one of a path, where the input had these octets left
 abbrev pub IsLineBy : Kind → Option Text → Option Text → Option (List ℕ) → AsnType → ℕ → Text → Type 0
-IsLineBy show source path told T limit line = OfOctets source told (IsShowLine T limit line)
-IsLineBy show_ascii source path told T limit line = OfOctets source told (IsAsciiLine T limit line)
-IsLineBy canon source path told T limit line = OfOctets source told (IsCanonLine T limit line)
+IsLineBy (show style) source path told T limit line = OfOctets source told (IsValueLine (form.Json style) T limit line)
+IsLineBy canon source path told T limit line = OfOctets source told (IsValueLine form.Octets T limit line)
 IsLineBy check source path told T limit line = OfOctets source told (IsCheckLine T limit line)
 IsLineBy make source path told T limit line = OfText source told (IsMakeLine T limit line)
 IsLineBy part source path told T limit line = OfOctets source told (IsPartLine T limit path line)
@@ -134,24 +129,9 @@ pub record IsLineFor (P : AsnType → Type 0) (task : Task) (limit : ℕ) (told 
 abbrev pub IsLineGiven : Texts → Task → ℕ → Option (List ℕ) → Text → Type 0
 IsLineGiven texts task limit told line = IsLineFor (SpelledWith texts (source_text task) told) task limit told line
 
--- the line of the task that the words ask for, by their options, for the type that they name
-abbrev pub IsLine : List Text → Option (List ℕ) → AsnType → ℕ → Text → Type 0
-IsLine words told T limit line = (k : Kind) × (asked words ≡ Some (name_of k)) × HasFlags k (given_number words)
-    × SpelledWith (texts_in words) (given words (source_option k)) told T
-    × IsLineBy k (given words (source_option k)) (path_among k (given words)) told T limit line
-
--- the line that the words ask for, where the input had these octets left
-pub record IsLineAsked (words : List Text) (told : Option (List ℕ)) (line : Text) : Type 0 where
-  pub limit : ℕ
-  pub limit_text : Text
-  pub limit_is : given_number words (codes "limit") ≡ Some limit_text
-  pub number : NumberOf limit_text limit
-  pub type : AsnType
-  pub line_is : IsLine words told type limit line
-
 -- The line that the words ask for, by their options, for values of a type that is given, where the input had these octets left.
 -- Options on types count for nothing.
-pub record IsLineAskedFor (T : AsnType) (words : List Text) (told : Option (List ℕ)) (line : Text) : Type 0 where
+pub record IsLine (T : AsnType) (words : List Text) (told : Option (List ℕ)) (line : Text) : Type 0 where
   pub limit : ℕ
   pub limit_text : Text
   pub limit_is : given_number words (codes "limit") ≡ Some limit_text
@@ -161,13 +141,19 @@ pub record IsLineAskedFor (T : AsnType) (words : List Text) (told : Option (List
   pub flags : HasFlags task (given_number words)
   pub line_is : IsLineBy task (given words (source_option task)) (path_among task (given words)) told T limit line
 
+-- the same for the type that the words name
+pub record IsLineAsked (words : List Text) (told : Option (List ℕ)) (line : Text) : Type 0 where
+  pub type : AsnType
+  pub line_is : IsLine type words told line
+  pub spelled : SpelledWith (texts_in words) (given words (source_option line_is.task)) told type
+
 -- no line is what the words ask for, whatever the input had left
 abbrev pub NoLineAsked : List Text → Option (List ℕ) → Type 0
 NoLineAsked words told = NoLine told (IsLineAsked words)
 
 -- the same for values of a type that is given
 abbrev pub NoLineAskedFor : AsnType → List Text → Option (List ℕ) → Type 0
-NoLineAskedFor T words told = NoLine told (IsLineAskedFor T words)
+NoLineAskedFor T words told = NoLine told (IsLine T words)
 
 -- the output grew by that line alone, and nothing is on the errors
 abbrev pub Prints : List Text → Option (List ℕ) → Option (List ℕ) → Option (List ℕ) → Option (List ℕ) → Option (List ℕ) → Type 0
@@ -177,4 +163,4 @@ Prints words told output output' errors errors' =
 -- the same for values of a type that is given
 abbrev pub PrintsFor : AsnType → List Text → Option (List ℕ) → Option (List ℕ) → Option (List ℕ) → Option (List ℕ) → Option (List ℕ) → Type 0
 PrintsFor T words told output output' errors errors' =
-    (line : Text) × IsLineAskedFor T words told line × Appends output output' (line ++ 10 ∷ []) × Keeps errors errors'
+    (line : Text) × IsLine T words told line × Appends output output' (line ++ 10 ∷ []) × Keeps errors errors'

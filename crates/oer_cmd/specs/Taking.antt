@@ -5,7 +5,7 @@ use Rattle.oer_units.specs.Reader.{Outcome, at, got, refused}
 use Rattle.oer_model.specs.AsnType.{AsnType}
 use Rattle.oer_model.specs.Parts.{Step}
 use Rattle.oer_model.specs.Reading.{read_value}
-use Rattle.oer_options.specs.Words.{Asks, Kind, Texts, canon, check, kind, make, oer, part, path_text, show, show_ascii, source_text, texts_of}
+use Rattle.oer_options.specs.Words.{Asks, Kind, Texts, canon, kind, oer, path_text, show, source_text, texts_of}
 use Rattle.oer_options.specs.declared.options.Options.{Options}
 use Rattle.oer_options.specs.declared.options.Task.{Task}
 use Rattle.oer_checker.specs.Check.{most}
@@ -56,14 +56,12 @@ GivesAll limit status told told' = GivesFront told told' (Amounts (limit + 4096)
 
 -- how many octets a task takes at most, and how many it takes
 abbrev pub most_taken : Kind → ℕ → ℕ
-most_taken show limit = limit + 1
-most_taken show_ascii limit = limit + 1
+most_taken (show style) limit = limit + 1
 most_taken canon limit = limit + 1
 most_taken _ limit = limit + 4096
 
 abbrev pub IsTaken : Kind → AsnType → ℕ → List ℕ → ℕ → Type 0
-IsTaken show T limit b n = IsValue T limit b n
-IsTaken show_ascii T limit b n = IsValue T limit b n
+IsTaken (show style) T limit b n = IsValue T limit b n
 IsTaken canon T limit b n = IsValue T limit b n
 IsTaken _ T limit b n = IsGathered limit b n
 

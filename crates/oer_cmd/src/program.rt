@@ -72,7 +72,7 @@ fn line_of_one<'a, R: Read>(
     line_of(alloc, &schema, options, input)
 }
 
-#[tactic(auto, using(crate::proofs::Asking::lost))]
+#[tactic(auto, using(crate::proofs::Asking::lost, crate::proofs::Meeting::stops_twice))]
 // The line for the type that the Name has among the definitions that the text spells.
 fn line_of_named<'a, R: Read>(
     alloc: Global,
@@ -189,6 +189,7 @@ pub fn report<E: Write>(alloc: Global, fault: Fault<'_>, errors: &mut E) -> u8
     }
 }
 
+#[tactic(auto, using(crate::proofs::Endings::broken_end, crate::proofs::Endings::keeps_same, crate::proofs::Endings::printed_end, crate::proofs::Endings::refused_end))]
 /// Prints the line of an answer, or says why there is none. Returns the status.
 pub(crate) fn conclude<W: Write, E: Write>(
     alloc: Global,

@@ -6,14 +6,17 @@ ghost use Rattle.oer_model.specs.Fits.{Fits};
 ghost use Rattle.oer_types.specs.Schema.{the_type};
 ghost use Rattle.oer_values.specs.ValueView.{value_of};
 ghost use Rattle.oer_json.specs.Made.{made};
-ghost use Rattle.oer_cmd.specs.Answer.{in_ascii_text, in_text, value_read};
+ghost use Rattle.oer_cmd.specs.Answer.{value_read};
 ghost use Rattle.oer_cmd.specs.Expected.{Says, SaysOf, value as expected};
+ghost use Rattle.oer_cmd.specs.Run.{json_text};
+ghost use Rattle.serde_json.specs.Written.{compact_text};
 ghost use Rattle.oer_cmd.specs.Taking.{GivesValue, status_after};
 
 use crate::ascii::in_ascii;
 use crate::canon::check_end;
 use crate::fault::Fault;
 use oer_decoder::read_with_length;
+use oer_options::Style;
 use oer_text::to_json;
 use oer_types::{Schema, Value};
 use oer_units::Source;
@@ -42,6 +45,7 @@ pub fn read_whole<'a, R: Source>(
     Ok(value)
 }
 
+#[tactic(auto, using(oer_json::proofs::Floats::made_none))]
 // The JSON of a value; fails with `Memory`.
 fn json_of<'a>(alloc: Global, schema: &Schema, value: Value) -> Result<Json, Fault<'a>>
     requires { Fits (the_type schema.now) (value_of value) }
@@ -54,10 +58,10 @@ fn json_of<'a>(alloc: Global, schema: &Schema, value: Value) -> Result<Json, Fau
     }
 }
 
-/// The text of the JSON of a value, without a space; fails with `Memory`.
-pub fn json_text<'a>(alloc: Global, schema: &Schema, value: Value) -> Result<String, Fault<'a>>
+// The text of the JSON of a value, without a space; fails with `Memory`.
+fn json_text<'a>(alloc: Global, schema: &Schema, value: Value) -> Result<String, Fault<'a>>
     requires { Fits (the_type schema.now) (value_of value) }
-    ensures { Says string_bytes (in_text (made (the_type schema.now) (value_of value))) result }
+    ensures { Says string_bytes (expected (compact_text (made (the_type schema.now) (value_of value)))) result }
 {
     let json = json_of(alloc, schema, value)?;
     match json.to_string(alloc) {
@@ -66,12 +70,20 @@ pub fn json_text<'a>(alloc: Global, schema: &Schema, value: Value) -> Result<Str
     }
 }
 
-/// That text in ASCII; fails with `Memory`.
-pub fn ascii_text<'a>(alloc: Global, schema: &Schema, value: Value) -> Result<String, Fault<'a>>
+/// That text in a style; fails with `Memory`.
+pub fn json_line<'a>(
+    alloc: Global,
+    schema: &Schema,
+    value: Value,
+    style: Style,
+) -> Result<String, Fault<'a>>
     requires { Fits (the_type schema.now) (value_of value) }
-    ensures { Says string_bytes (in_ascii_text (made (the_type schema.now) (value_of value))) result }
+    ensures { Says string_bytes (expected (json_text style (made (the_type schema.now) (value_of value)))) result }
 {
     let text = json_text(alloc, schema, value)?;
+    if !style.ascii {
+        return Ok(text);
+    }
     match in_ascii(alloc, text.as_str()) {
         Ok(line) => Ok(line),
         Err(_) => Err(Fault::Memory),

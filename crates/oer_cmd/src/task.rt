@@ -31,8 +31,9 @@ pub fn line_given<'a>(
     ensures spells { IfOk result (λ line. HasPath (path_text task.entry)) }
 {
     match task {
-        Task::Show { .. } => value_of_digits(alloc, schema, Form::Json, text, limit),
-        Task::ShowAscii { .. } => value_of_digits(alloc, schema, Form::Ascii, text, limit),
+        Task::Show { style, .. } => {
+            value_of_digits(alloc, schema, Form::Json(style), text, limit)
+        }
         Task::Canon { .. } => value_of_digits(alloc, schema, Form::Octets, text, limit),
         Task::Check { .. } => check_digits(alloc, schema, text, limit),
         Task::Make { .. } => made_of_text(alloc, schema, text, limit),
@@ -58,8 +59,9 @@ pub fn line_read<'a, R: Read>(
     ensures pathless { HasNoPath (path_text task.entry) → (input.new ≡ input.old) × Says string_bytes (stop Fault.Path) result }
 {
     match task {
-        Task::Show { .. } => value_of_input(alloc, schema, Form::Json, input, limit),
-        Task::ShowAscii { .. } => value_of_input(alloc, schema, Form::Ascii, input, limit),
+        Task::Show { style, .. } => {
+            value_of_input(alloc, schema, Form::Json(style), input, limit)
+        }
         Task::Canon { .. } => value_of_input(alloc, schema, Form::Octets, input, limit),
         Task::Check { .. } => check_input(alloc, schema, limit, input),
         Task::Make { .. } => made_of_input(alloc, schema, limit, input),

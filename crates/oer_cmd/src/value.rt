@@ -8,7 +8,8 @@ ghost use Rattle.oer_cmd.specs.Taking.{GivesValue, status_after};
 use crate::canon::canonical;
 use crate::fault::Fault;
 use crate::octets::{decoded, in_digits};
-use crate::show::{ascii_text, json_text, read_whole};
+use crate::show::{json_line, read_whole};
+use oer_options::Style;
 use oer_types::Schema;
 use oer_units::{Lent, Metered, Source};
 use std::alloc::Global;
@@ -19,12 +20,11 @@ use std::io::Read;
 pub enum Form {
     /// As its canonical octets, in lower hexadecimal digits.
     Octets,
-    /// As its JSON.
-    Json,
-    /// As its JSON, in ASCII.
-    Ascii,
+    /// As its JSON, in this style.
+    Json(Style),
 }
 
+#[tactic(auto, using(crate::proofs::Exact::digits_text))]
 // The line for the octets that the reader has left.
 fn read_line<'a, R: Source>(
     alloc: Global,
@@ -42,13 +42,9 @@ fn read_line<'a, R: Source>(
             let octets = canonical(alloc, schema, reader, limit)?;
             in_digits(alloc, octets.as_slice())
         }
-        Form::Json => {
+        Form::Json(style) => {
             let value = read_whole(alloc, schema, reader, limit)?;
-            json_text(alloc, schema, value)
-        }
-        Form::Ascii => {
-            let value = read_whole(alloc, schema, reader, limit)?;
-            ascii_text(alloc, schema, value)
+            json_line(alloc, schema, value, style)
         }
     }
 }

@@ -5,9 +5,9 @@ use Rattle.std.specs.Borrow.{Bor}
 use Rattle.clap.specs.Words.{Text}
 use Rattle.oer_model.specs.AsnType.{AsnType}
 use Rattle.oer_model.specs.Parts.{Step}
-use Rattle.oer_options.specs.Words.{Kind, canon, check, kind, make, part, path_text, show, show_ascii, source_text}
+use Rattle.oer_options.specs.Words.{Kind, kind, path_text, show, source_text}
 use Rattle.oer_options.specs.declared.options.Task.{Task}
-use Rattle.oer_options.specs.declared.options.Task.TheVariants.{Canon, Check, Make, Part, Show, ShowAscii}
+use Rattle.oer_options.specs.declared.options.Task.TheVariants.{Make}
 use Rattle.oer_cmd.proofs.Meeting.{bytes}
 use Rattle.oer_cmd.specs.Answer.{digits_octets, hex_octets, limited_octets}
 use Rattle.oer_cmd.specs.Expected.{Expected, Meets, refusal, unknown, value, ◌>>=◌}
@@ -22,12 +22,8 @@ HasOctets task = (json : Option (Bor Text)) → task ≡ Make json → ⊥
 
 nested_of : (T : AsnType) (task : Task) (limit : ℕ) (path : Expected (List Step)) (had : Option (List ℕ)) (source : Option Text) → source ≡ source_text task
     → HasOctets task → answer_in_hand task T limit path (octets_in_hand source limit had) ≡ nested_answer task T limit path had
-nested_of T (Show hex) limit path had source same has = ap (λ o. answer_in_hand (Show hex) T limit path (octets_in_hand o limit had)) same
-nested_of T (ShowAscii hex) limit path had source same has = ap (λ o. answer_in_hand (ShowAscii hex) T limit path (octets_in_hand o limit had)) same
-nested_of T (Canon hex) limit path had source same has = ap (λ o. answer_in_hand (Canon hex) T limit path (octets_in_hand o limit had)) same
-nested_of T (Check hex) limit path had source same has = ap (λ o. answer_in_hand (Check hex) T limit path (octets_in_hand o limit had)) same
 nested_of T (Make json) limit path had source same has = absurd (has json refl)
-nested_of T (Part hex text) limit path had source same has = ap (λ o. answer_in_hand (Part hex text) T limit path (octets_in_hand o limit had)) same
+nested_of T task limit path had source same has = ap (λ o. answer_in_hand task T limit path (octets_in_hand o limit had)) same
 
 -- What is made of the octets in hand is the answer.
 pub nested_by : (T : AsnType) (task : Task) (limit : ℕ) (path : Expected (List Step)) (had : Option (List ℕ)) (source : Option Text)
@@ -59,19 +55,11 @@ none_in_hand f P limit had (Some digits) spelt none spells h = absurd (subst (λ
 -- ---- the line
 
 -- What is given by the words doesn't depend on the input.
-given_line : (k : Kind) (digits : Text) (path : Option Text) (a b : Option (List ℕ)) (T : AsnType) (limit : ℕ) (line : Text)
-    → IsLineBy k (Some digits) path a T limit line → IsLineBy k (Some digits) path b T limit line
-given_line show digits path a b T limit line h = h
-given_line show_ascii digits path a b T limit line h = h
-given_line canon digits path a b T limit line h = h
-given_line check digits path a b T limit line h = h
-given_line make digits path a b T limit line h = h
-given_line part digits path a b T limit line h = h
-
 line_by : (k : Kind) (source path : Option Text) (octets : Vec ℕ Global) (spelt : Option (Vec ℕ Global)) (a b : Option (List ℕ)) (T : AsnType) (limit : ℕ) (line : Text)
     → spelt ≡ Some octets → AreSpelt source (option_map octets_of spelt) → IsLineBy k source path a T limit line → IsLineBy k source path b T limit line
 line_by k None path octets spelt a b T limit line some spells h = absurd (subst (λ o. AreSpelt None (option_map octets_of o)) some spells)
-line_by k (Some digits) path octets spelt a b T limit line some spells h = given_line k digits path a b T limit line h
+line_by (show style) (Some digits) path octets spelt a b T limit line some spells h = h
+line_by _ (Some digits) path octets spelt a b T limit line some spells h = h
 
 pub spelt_line : (task : Task) (source : Option Text) (octets : Vec ℕ Global) (spelt : Option (Vec ℕ Global)) (a b : Option (List ℕ)) (T : AsnType) (limit : ℕ)
     (result : Result (String Global) Fault) → source ≡ source_text task → spelt ≡ Some octets → AreSpelt source (option_map octets_of spelt)
@@ -82,13 +70,9 @@ spelt_line task source octets spelt a b T limit (Err fault) same some spells h =
 
 read_line : (k : Kind) (path : Option Text) (had : Option (List ℕ)) (T : AsnType) (limit : ℕ) (line : Text)
     → IfSome had (λ b. IsLineBy k None path (Some b) T limit line) → IsLineBy k None path had T limit line
-read_line show path None T limit line h = tt
-read_line show_ascii path None T limit line h = tt
-read_line canon path None T limit line h = tt
-read_line check path None T limit line h = tt
-read_line make path None T limit line h = tt
-read_line part path None T limit line h = tt
 read_line k path (Some b) T limit line h = h
+read_line (show style) path None T limit line h = tt
+read_line _ path None T limit line h = tt
 
 unspelt_line : (k : Kind) (source path : Option Text) (spelt : Option (Vec ℕ Global)) (had : Option (List ℕ)) (T : AsnType) (limit : ℕ) (line : Text)
     → spelt ≡ None → AreSpelt source (option_map octets_of spelt) → IfSome had (λ b. IsLineBy k source path (Some b) T limit line) → IsLineBy k source path had T limit line

@@ -126,7 +126,7 @@ pub(crate) fn parsed<'a>(alloc: Global, words: &'a [String]) -> Result<Asked<'a>
     };
     let _task = name;
     let options = Options {
-        task: Task::Show { hex: None },
+        task: Task::Canon { hex: None },
         type_text: found.get_str("type"),
         types: found.get_str("types"),
         name: found.get_str("name"),

@@ -1,4 +1,6 @@
 mod Adds
 mod Endings
+mod Fails
+mod Founds
 mod Noted
 mod Whys

@@ -17,10 +17,11 @@ use Rattle.oer_ends_cmd.specs.Ending.{EndsForModules}
 use Rattle.oer_ends_cmd.specs.declared.telling.Origin.TheVariants.{Modules}
 use Rattle.oer_places.specs.Input.{IsFront}
 use Rattle.oer_explain_cmd.specs.Adding.{is_held, notes_of, own_notes}
-use Rattle.oer_explain_cmd.specs.Holding.{AddsHeld, AddsHeldFor, holds_all, reads_all_for}
+use Rattle.oer_explain_cmd.specs.Found.{type_by}
+use Rattle.oer_explain_cmd.specs.Holding.{AddsHeld, AddsHeldFor, HoldsAll, HoldsAllFor, reads_all_for}
 use Rattle.oer_explain_cmd.specs.Looking.{looks_first, reads_octets}
 use Rattle.oer_explain_cmd.specs.Told.{Says}
-use Rattle.oer_explain_cmd.specs.Saying.{AddsGiven, AddsIf, HintsAt, SaysBy, type_by}
+use Rattle.oer_explain_cmd.specs.Saying.{AddsGiven, AddsIf, HintsAt, SaysBy}
 use Rattle.oer_explain_cmd.specs.declared.adding.Command.{Command}
 use Rattle.oer_explain_cmd.specs.declared.adding.Command.TheVariants.{At, Canonical, Usual}
 
@@ -112,7 +113,7 @@ Holds command words o told status output output' errors errors' =
 abbrev pub DoesHolding : Command → List Text → Option (List ℕ) → ℕ
     → Option (List ℕ) → Option (List ℕ) → Option (List ℕ) → Option (List ℕ) → Type 0
 DoesHolding command words told status output output' errors errors' =
-    (o : Options) × Asks words o × (holds_all command o ≡ true) × Holds command words o told status output output' errors errors'
+    (o : Options) × Asks words o × HoldsAll command o × Holds command words o told status output output' errors errors'
 
 -- What a command with `--explain` does.
 abbrev pub Explains : Command → List Text → Option (List ℕ) → Type 0 → ℕ
@@ -167,7 +168,7 @@ HoldsFor command T words o told status output output' errors errors' =
 abbrev pub DoesHoldingFor : Command → AsnType → List Text → Option (List ℕ) → ℕ
     → Option (List ℕ) → Option (List ℕ) → Option (List ℕ) → Option (List ℕ) → Type 0
 DoesHoldingFor command T words told status output output' errors errors' =
-    (o : Options) × Asks words o × (reads_all_for command T o.task ≡ true) × HoldsFor command T words o told status output output' errors errors'
+    (o : Options) × Asks words o × HoldsAllFor command T o.task × HoldsFor command T words o told status output output' errors errors'
 
 abbrev pub ExplainsFor : Command → AsnType → List Text → Option (List ℕ) → Type 0 → ℕ
     → Option (List ℕ) → Option (List ℕ) → Option (List ℕ) → Option (List ℕ) → Type 0

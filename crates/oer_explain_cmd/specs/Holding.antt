@@ -1,5 +1,5 @@
 -- JSON or octets on the input, all of which the command reads, and which are held while it runs.
-use Rattle.std.specs.Prelude.{ℕ, List, [], Bool, true, false, ◌&&◌, ◌||◌, Option, Some, None}
+use Rattle.std.specs.Prelude.{◌≡◌, ◌⊎◌, ℕ, List, [], Bool, true, false, ◌&&◌, ◌||◌, Option, Some, None}
 use Rattle.clap.specs.Words.{Text}
 use Rattle.oer_model.specs.AsnType.{AsnType}
 use Rattle.oer_ends.specs.Ends.{has_end}
@@ -12,7 +12,9 @@ use Rattle.oer_options.specs.declared.options.Task.TheVariants.{Check, Make}
 use Rattle.oer_explain_cmd.specs.Adding.{Adds}
 use Rattle.oer_explain_cmd.specs.Looking.{is_accepted, reads_octets}
 use Rattle.oer_explain_cmd.specs.Told.{Says}
-use Rattle.oer_explain_cmd.specs.Saying.{AddsSaid, HintsAt, SaysBy, type_by}
+use Rattle.oer_explain_cmd.specs.Found.{type_by}
+use Rattle.oer_explain_cmd.specs.Leading.{Leads, LeadsBy}
+use Rattle.oer_explain_cmd.specs.Saying.{AddsSaid, HintsAt, SaysBy}
 use Rattle.oer_explain_cmd.specs.declared.adding.Command.{Command}
 use Rattle.oer_explain_cmd.specs.declared.adding.Command.TheVariants.{At, Canonical, Usual}
 
@@ -22,7 +24,7 @@ takes_all (Make None) = true
 takes_all (Check None) = true
 takes_all _ = false
 
--- Of `part` nothing is said.
+-- `part` comes to read octets only by its path or names.
 abbrev pub reads_all : Command → Task → Bool
 reads_all Usual task = takes_all task
 reads_all Canonical task = takes_all task
@@ -32,9 +34,16 @@ reads_all (At names) task = false
 abbrev pub reads_all_for : Command → AsnType → Task → Bool
 reads_all_for command T task = reads_all command task || (reads_octets command task && has_end T)
 
--- The command comes to read all of the input.
 abbrev pub holds_all : Command → Options → Bool
 holds_all command o = reads_all command o.task && is_accepted (texts_of o)
+
+-- The command comes to read all of the input: by a type that is accepted, or as `part` does.
+abbrev pub HoldsAll : Command → Options → Type 0
+HoldsAll command o = (holds_all command o ≡ true) ⊎ LeadsBy command (type_by (texts_of o) None) o.task
+
+-- The same by a type of modules.
+abbrev pub HoldsAllFor : Command → AsnType → Task → Type 0
+HoldsAllFor command T task = (reads_all_for command T task ≡ true) ⊎ Leads command T task
 
 abbrev pub read_among : ℕ → Option Text → Option Text → Option Text → List ℕ → Text
 read_among at (Some text) None None octets = type_json_notes at text octets

@@ -4,4 +4,6 @@ pub mod Ending
 pub mod Looking
 pub mod Holding
 pub mod Told
+pub mod Found
+pub mod Leading
 pub mod Saying

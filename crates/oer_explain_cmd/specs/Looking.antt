@@ -5,14 +5,13 @@ use Rattle.oer_explain.specs.Types.{defines, is_type}
 use Rattle.oer_options.specs.Words.{Texts, texts_of}
 use Rattle.oer_options.specs.declared.options.Options.{Options}
 use Rattle.oer_options.specs.declared.options.Task.{Task}
-use Rattle.oer_options.specs.declared.options.Task.TheVariants.{Canon, Show, ShowAscii}
+use Rattle.oer_options.specs.declared.options.Task.TheVariants.{Canon, Show}
 use Rattle.oer_explain_cmd.specs.declared.adding.Command.{Command}
 use Rattle.oer_explain_cmd.specs.declared.adding.Command.TheVariants.{At, Canonical, Usual}
 
 -- The task reads a value from the input.
 abbrev pub takes_octets : Task → Bool
-takes_octets (Show None) = true
-takes_octets (ShowAscii None) = true
+takes_octets (Show None style) = true
 takes_octets (Canon None) = true
 takes_octets _ = false
 

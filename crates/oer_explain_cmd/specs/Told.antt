@@ -8,13 +8,13 @@ use Rattle.oer_model.specs.AsnType.{AsnType}
 use Rattle.oer_model.specs.Reading.{read_value}
 use Rattle.oer_options.specs.declared.options.Options.{Options}
 use Rattle.oer_options.specs.declared.options.Task.{Task}
-use Rattle.oer_options.specs.declared.options.Task.TheVariants.{Canon, Check, Show, ShowAscii}
+use Rattle.oer_options.specs.declared.options.Task.TheVariants.{Canon, Check, Part, Show}
 use Rattle.oer_ends.specs.Nests.{nests_at}
 use Rattle.oer_ends_cmd.specs.declared.telling.Origin.{Origin}
 use Rattle.oer_ends_cmd.specs.declared.telling.Origin.TheVariants.{Modules, Notation}
 use Rattle.oer_explain.specs.Octets.{SaysOf, check_why, why_in}
 
--- `check` takes no more than the limit.
+-- `check` and `part` take no more than the limit.
 abbrev pub limited_why : ℕ → AsnType → List ℕ → Option Why
 limited_why limit T b = if leb (length b) limit then check_why T b else None
 
@@ -25,9 +25,9 @@ read_why limit T b = why_in (read_value T (at b limit))
 -- why a task rejects the octets b as it reads them, if it does
 abbrev pub why_of : Task → ℕ → AsnType → List ℕ → Option Why
 why_of (Check hex) limit T b = limited_why limit T b
+why_of (Part hex path) limit T b = limited_why limit T b
 why_of (Canon hex) limit T b = read_why limit T b
-why_of (Show hex) limit T b = read_why limit T b
-why_of (ShowAscii hex) limit T b = read_why limit T b
+why_of (Show hex style) limit T b = read_why limit T b
 why_of task limit T b = None
 
 -- The machine failed, and it isn't told that the octets are rejected.

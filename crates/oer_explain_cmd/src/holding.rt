@@ -1,12 +1,13 @@
 //! JSON or octets on the input, all of which the command reads, and which are held while it runs.
-ghost use Rattle.std.specs.Prelude.{◌≡◌, ℕ, IfOk, string_bytes, true};
+ghost use Rattle.std.specs.Prelude.{◌≡◌, ℕ, IfOk, false, string_bytes, true};
 ghost use Rattle.oer_types.specs.Schema.{the_type};
 ghost use Rattle.oer_options.specs.Words.{texts_of};
 ghost use Rattle.oer_explain.specs.Json.{json_notes};
 ghost use Rattle.oer_explain_cmd.specs.Adding.{Adds};
-ghost use Rattle.oer_explain_cmd.specs.Holding.{AddsHeld, AddsHeldFor, holds_all, read_notes, reads_all, reads_all_for, takes_all};
+ghost use Rattle.oer_explain_cmd.specs.Holding.{AddsHeld, AddsHeldFor, HoldsAll, HoldsAllFor, read_notes, reads_all, reads_all_for, takes_all};
 
 use crate::adding::{Command, is_rejection};
+use crate::leading::{leads, leads_by};
 use crate::looking::{is_accepted, reads_octets};
 use crate::saying::{add_octets, add_octets_for};
 use oer_cmd::put_all;
@@ -24,7 +25,7 @@ fn takes_all(task: Task<'_>) -> bool
     matches!(task, Task::Make { json: None } | Task::Check { hex: None })
 }
 
-// Whether the command does, where its type is accepted. Of `part` nothing is said.
+// Whether the command does, where its type is accepted. `part` comes to read octets only by its path or names.
 fn reads_all(command: Command<'_>, task: Task<'_>) -> bool
     ensures { result ≡ reads_all command.entry task.entry }
 {
@@ -34,24 +35,36 @@ fn reads_all(command: Command<'_>, task: Task<'_>) -> bool
     }
 }
 
-/// Whether the command does by a type of modules.
-pub fn reads_all_for(command: Command<'_>, schema: &Schema, task: Task<'_>) -> bool
+// Whether the command does by a type of modules.
+fn reads_all_for(command: Command<'_>, schema: &Schema, task: Task<'_>) -> bool
     ensures { result ≡ reads_all_for command.entry (the_type schema.now) task.entry }
 {
     reads_all(command, task) || (reads_octets(command, task) && has_end(schema.shape()))
 }
 
+// Whether the command comes to read all of the input.
+fn holds(alloc: Global, command: Command<'_>, options: Options<'_>) -> Result<bool, AllocError>
+    ensures { IfOk result (λ holds. holds ≡ true → HoldsAll command.entry options.entry) }
+{
+    if reads_all(command, options.task) {
+        return is_accepted(alloc, options);
+    }
+    leads_by(alloc, command, options)
+}
+
 /// Whether the input may be read before the command runs, and be held: it comes to read all of it. Not so if memory to find out is refused.
 pub fn holds_all(alloc: Global, command: Command<'_>, options: Options<'_>) -> bool
-    ensures { result ≡ true → holds_all command.entry options.entry ≡ true }
+    ensures { result ≡ true → HoldsAll command.entry options.entry }
 {
-    if !reads_all(command, options.task) {
-        return false;
-    }
-    match is_accepted(alloc, options) {
-        Ok(is_accepted) => is_accepted,
-        Err(_) => false,
-    }
+    holds(alloc, command, options).unwrap_or(false)
+}
+
+/// The same by a type of modules.
+pub fn holds_all_for(alloc: Global, command: Command<'_>, schema: &Schema, task: Task<'_>) -> bool
+    ensures held { result ≡ true → HoldsAllFor command.entry (the_type schema.now) task.entry }
+    ensures others { result ≡ false → reads_all_for command.entry (the_type schema.now) task.entry ≡ false }
+{
+    reads_all_for(command, schema, task) || leads(alloc, command, schema, task).unwrap_or(false)
 }
 
 // What is added to the error of a command where the input had this JSON.

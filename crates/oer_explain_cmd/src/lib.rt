@@ -3,7 +3,9 @@
 
 mod adding;
 mod asked;
+mod found;
 mod holding;
+mod leading;
 mod looking;
 mod run;
 mod saying;

@@ -13,7 +13,7 @@ fn takes_octets(task: Task<'_>) -> bool
     ensures { result ≡ takes_octets task.entry }
 {
     match task {
-        Task::Show { hex } | Task::ShowAscii { hex } | Task::Canon { hex } => hex.is_none(),
+        Task::Show { hex, .. } | Task::Canon { hex } => hex.is_none(),
         Task::Check { .. } | Task::Make { .. } | Task::Part { .. } => false,
     }
 }

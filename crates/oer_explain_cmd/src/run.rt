@@ -7,7 +7,7 @@ ghost use Rattle.oer_explain_cmd.specs.Adding.{is_held};
 ghost use Rattle.oer_explain_cmd.specs.Ending.{EndsWithout, EndsWithoutFor, Explains, ExplainsFor, Holds, HoldsFor, IsHeld, Looks, LooksFor};
 
 use crate::adding::{Command, is_held};
-use crate::holding::{add_held, add_held_for, holds_all, reads_all_for};
+use crate::holding::{add_held, add_held_for, holds_all, holds_all_for};
 use crate::looking::{looks_first, reads_octets};
 use crate::saying::{add_front, add_front_for, explain, explain_for};
 use oer_at_cmd::{run_at, run_at_for};
@@ -236,7 +236,7 @@ pub fn run_explained_for<R: BufRead, W: Write, E: Write>(
         Ok(options) => options,
         Err(error) => return refused(alloc, &error, output, errors),
     };
-    if reads_all_for(command, schema, options.task) {
+    if holds_all_for(alloc, command, schema, options.task) {
         return run_holding_for(
             alloc, command, schema, words, options, input, output, errors,
         );

@@ -2,82 +2,29 @@
 ghost use Rattle.std.specs.Prelude.{◌≡◌, ◌++◌, false, true, IfOk, None, ℕ};
 ghost use Rattle.hex.specs.Hex.{decode_of};
 ghost use Rattle.oer_types.specs.Schema.{the_type};
-ghost use Rattle.oer_notation.specs.Parsing.{parse, parse_all};
 ghost use Rattle.oer_options.specs.Words.{texts_of};
 ghost use Rattle.oer_ends_cmd.specs.declared.telling.Origin.TheVariants.{Modules};
-ghost use Rattle.oer_explain_cmd.specs.Adding.{Adds, items_behind, notes_of, own_notes};
+ghost use Rattle.oer_explain_cmd.specs.Adding.{items_behind, notes_of, own_notes};
+ghost use Rattle.oer_explain_cmd.specs.Found.{ok_in, type_by};
 ghost use Rattle.oer_explain_cmd.specs.Told.{Says};
-ghost use Rattle.oer_explain_cmd.specs.Saying.{AddsGiven, AddsIf, AddsSaid, HintsAt, SaysBy, SaysIf, given_octets, hint_of, items_in, named_in, ok_in, type_by, type_in};
+ghost use Rattle.oer_explain_cmd.specs.Saying.{AddsGiven, AddsIf, AddsNotes, AddsSaid, HintsAt, SaysBy, SaysIf, given_octets, hint_of, items_in};
 
-use crate::adding::{Command, add, add_for, is_rejection};
+use crate::adding::{Command, add, add_for};
+use crate::found::found_by;
 use crate::told::told_notes;
 use hex::FromHexError;
 use oer_cmd::put_all;
 use oer_ends_cmd::Origin;
-use oer_notation::{TextWhy, parse_type, parse_types};
 use oer_options::{Options, Task};
 use oer_places::seems_digits;
 use oer_types::Schema;
 use std::alloc::{AllocError, Global};
 use std::io::Write;
 
-// By the type that a text spells; nothing where it is rejected.
-fn one_said(
-    alloc: Global,
-    text: &str,
-    options: Options<'_>,
-    is_whole: bool,
-    octets: &[u8],
-) -> Result<Vec<u8>, AllocError>
-    ensures { IfOk result (λ notes. SaysBy options.entry is_whole (ok_in (parse text.now)) octets.now notes.items) }
-{
-    match parse_type(alloc, text) {
-        Ok(schema) => told_notes(alloc, &schema, Origin::Notation, options, is_whole, octets),
-        Err(fault) if fault.why == TextWhy::Memory => Err(AllocError),
-        Err(_) => Ok(Vec::new(alloc)),
-    }
-}
+// The status where octets are rejected, after all that the arguments say was accepted.
+const OCTETS: u8 = 1;
 
-// By the type that the Name has among definitions that are UTF-8.
-fn named_said(
-    alloc: Global,
-    text: &str,
-    name: &str,
-    options: Options<'_>,
-    is_whole: bool,
-    octets: &[u8],
-) -> Result<Vec<u8>, AllocError>
-    ensures { IfOk result (λ notes. SaysBy options.entry is_whole (named_in (parse_all text.now) name.now) octets.now notes.items) }
-{
-    let types = match parse_types(alloc, text) {
-        Ok(types) => types,
-        Err(fault) if fault.why == TextWhy::Memory => return Err(AllocError),
-        Err(_) => return Ok(Vec::new(alloc)),
-    };
-    match types.get(name) {
-        Some(schema) => told_notes(alloc, schema, Origin::Notation, options, is_whole, octets),
-        None => Ok(Vec::new(alloc)),
-    }
-}
-
-// By the type that the Name has among the definitions of a text.
-fn types_said(
-    alloc: Global,
-    types: &[u8],
-    name: &str,
-    options: Options<'_>,
-    is_whole: bool,
-    octets: &[u8],
-) -> Result<Vec<u8>, AllocError>
-    ensures { IfOk result (λ notes. SaysBy options.entry is_whole (type_in types.now name.now) octets.now notes.items) }
-{
-    match str::from_utf8(types) {
-        Ok(text) => named_said(alloc, text, name, options, is_whole, octets),
-        Err(_) => Ok(Vec::new(alloc)),
-    }
-}
-
-// By the type that the options name, where this text of definitions was held.
+// By the type that the options name, where this text of definitions was held; nothing where there is none.
 fn octets_said(
     alloc: Global,
     options: Options<'_>,
@@ -87,13 +34,10 @@ fn octets_said(
 ) -> Result<Vec<u8>, AllocError>
     ensures { IfOk result (λ notes. SaysBy options.entry is_whole (type_by (texts_of options.entry) (items_behind held.entry)) octets.now notes.items) }
 {
-    match (options.type_text, options.types, options.name) {
-        (Some(text), None, None) => one_said(alloc, text, options, is_whole, octets),
-        (None, Some(types), Some(name)) => match held {
-            Some(text) => types_said(alloc, text, name, options, is_whole, octets),
-            None => types_said(alloc, types.as_bytes(), name, options, is_whole, octets),
-        },
-        _ => Ok(Vec::new(alloc)),
+    let found = found_by(alloc, options, held)?;
+    match found.schema() {
+        Some(schema) => told_notes(alloc, schema, Origin::Notation, options, is_whole, octets),
+        None => Ok(Vec::new(alloc)),
     }
 }
 
@@ -159,11 +103,11 @@ fn given_said_for(
     }
 }
 
-// Writes what is said behind the error of a command that ended with this status, in one call.
+// Writes what is said of octets behind the error of a command that ended with this status, in one call.
 fn put_notes<E: Write>(status: u8, notes: &[u8], errors: &mut E)
-    ensures { Adds notes.now status (E.contents errors.old) (E.contents errors.new) }
+    ensures { AddsNotes notes.now status (E.contents errors.old) (E.contents errors.new) }
 {
-    if is_rejection(status) {
+    if status == OCTETS {
         put_all(notes, errors);
     }
 }

@@ -12,7 +12,7 @@ use oer_types::Schema;
 use oer_units::{Metered, Why};
 use std::alloc::{AllocError, Global};
 
-// Why octets are rejected that `check` takes, no more than the limit.
+// Why octets are rejected that `check` and `part` take, no more than the limit.
 fn limited_why(schema: &Schema, limit: u64, octets: &[u8]) -> Option<Why>
     ensures { result ≡ limited_why limit (the_type schema.now) octets.now }
 {
@@ -59,11 +59,9 @@ fn why_of(
     ensures { IfOk result (λ why. why ≡ why_of options.entry.task options.entry.limit (the_type schema.now) octets.now) }
 {
     match options.task {
-        Task::Check { .. } => Ok(limited_why(schema, options.limit, octets)),
-        Task::Canon { .. } | Task::Show { .. } | Task::ShowAscii { .. } => {
-            read_why(alloc, schema, options.limit, octets)
-        }
-        Task::Make { .. } | Task::Part { .. } => Ok(None),
+        Task::Check { .. } | Task::Part { .. } => Ok(limited_why(schema, options.limit, octets)),
+        Task::Canon { .. } | Task::Show { .. } => read_why(alloc, schema, options.limit, octets),
+        Task::Make { .. } => Ok(None),
     }
 }
 

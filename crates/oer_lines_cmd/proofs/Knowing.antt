@@ -8,12 +8,11 @@ use Rattle.oer_model.specs.Parts as part
 use Rattle.oer_model.specs.Parts.{Step, find_part}
 use Rattle.oer_model.specs.Reading.{read_value}
 use Rattle.oer_checker.specs.Check.{most}
-use Rattle.oer_json.specs.Made.{made}
-use Rattle.oer_model.specs.Canonical.{canonical_octets}
+use Rattle.oer_model.specs.AsnValue.{AsnValue}
 use Rattle.oer_cmd.specs.Run.{verdict_text}
 use Rattle.oer_cmd.specs.declared.fault.Fault.TheVariants.{Longer}
-use Rattle.oer_cmd.specs.Answer.{IsPathOf, canonical_of, check_octets, checked, ended, handed, in_ascii, in_digits}
-use Rattle.oer_cmd.specs.Answer.{in_text, json_of, named_as, parsed, part_octets, value_read, value_text, whole, within_limit}
+use Rattle.oer_cmd.specs.Answer.{IsPathOf, check_octets, checked, ended, handed, in_form}
+use Rattle.oer_cmd.specs.Answer.{named_as, parsed, part_octets, value_read, value_text, whole, within_limit}
 use Rattle.oer_value_notation.specs.declared.fault.TextFault.{TextFault}
 use Rattle.oer_cmd.specs.Expected.{Expected, refusal, stop, unknown, value, ◌>>=◌}
 use Rattle.oer_cmd.specs.declared.value.Form.{Form}
@@ -23,7 +22,7 @@ use Rattle.oer_lines_cmd.specs.Answering.{IsKnown}
 use Rattle.oer_lines_cmd.specs.Stream.{Piece, long, message, piece_answer, reads_first, rejected}
 use Rattle.oer_lines_cmd.specs.Tasks.{long_answer, octets_answer, octets_told, path_of}
 use Rattle.oer_lines_cmd.specs.declared.task.LineTask.{LineTask}
-use Rattle.oer_lines_cmd.specs.declared.task.LineTask.TheVariants.{Canon, Check, Part, Show, ShowAscii}
+use Rattle.oer_lines_cmd.specs.declared.task.LineTask.TheVariants.{Canon, Check, Part, Show}
 
 pub known_then : {A B : Type 0} (e : Expected A) (next : A → Expected B) → IsKnown e → ((x : A) → IsKnown (next x)) → IsKnown (e >>= next)
 known_then unknown next h k = absurd h
@@ -47,14 +46,12 @@ within_known limit b = by (leb (length b) limit) where
 read_known : (T : AsnType) (limit : ℕ) (b : List ℕ) → IsKnown (value_read T limit b)
 read_known T limit b = whole_known b (read_value T (at b limit))
 
-json_known : (T : AsnType) (limit : ℕ) (b : List ℕ) → IsKnown (json_of T limit b)
-json_known T limit b = known_then (value_read T limit b) (λ v. value (made T v)) (read_known T limit b) (λ v. tt)
+form_known : (f : Form) (T : AsnType) (v : AsnValue) → IsKnown (in_form f T v)
+form_known form.Octets T v = tt
+form_known (form.Json style) T v = tt
 
 text_known : (f : Form) (T : AsnType) (limit : ℕ) (b : List ℕ) → IsKnown (value_text f T limit b)
-text_known form.Octets T limit b = known_then (canonical_of T limit b) in_digits
-    (known_then (value_read T limit b) (λ v. value (canonical_octets T v)) (read_known T limit b) (λ v. tt)) (λ c. tt)
-text_known form.Json T limit b = known_then (json_of T limit b) in_text (json_known T limit b) (λ j. tt)
-text_known form.Ascii T limit b = known_then (json_of T limit b >>= in_text) in_ascii (known_then (json_of T limit b) in_text (json_known T limit b) (λ j. tt)) (λ t. tt)
+text_known f T limit b = known_then (value_read T limit b) (in_form f T) (read_known T limit b) (form_known f T)
 
 checked_known : (T : AsnType) (b : List ℕ) → IsKnown (checked T b)
 checked_known T b = whole_known b (check_value T (at b most))
@@ -77,8 +74,7 @@ path_known text (value p) h = tt
 
 answer_known : (task : LineTask) (T : AsnType) (limit : ℕ) (path : Expected (List Step)) (b : List ℕ) → IsPathOf (path_of task) path
     → IsKnown (octets_answer task T limit path b)
-answer_known Show T limit path b h = text_known form.Json T limit b
-answer_known ShowAscii T limit path b h = text_known form.Ascii T limit b
+answer_known (Show style) T limit path b h = text_known (form.Json style) T limit b
 answer_known Canon T limit path b h = text_known form.Octets T limit b
 answer_known Check T limit path b h = known_then (within_limit limit b) (check_octets T) (within_known limit b) (check_known T)
 answer_known (Part text) T limit path b h =
@@ -97,11 +93,8 @@ octets_known true task T limit path b h = told_answer_known T limit b (octets_an
 
 -- So is that to one that is too long.
 pub long_known : (task : LineTask) (limit : ℕ) (path : Expected (List Step)) → IsPathOf (path_of task) path → IsKnown (long_answer task limit path)
-long_known Show limit path h = tt
-long_known ShowAscii limit path h = tt
-long_known Canon limit path h = tt
-long_known Check limit path h = tt
 long_known (Part text) limit path h = known_then path (λ steps. stop (Longer limit)) (path_known (path_of (Part text)) path h) (λ steps. tt)
+long_known _ limit path h = tt
 
 -- And so is that to a message behind another one.
 pub piece_known : (nests : Bool) (task : LineTask) (T : AsnType) (limit : ℕ) (path : Expected (List Step)) (p : Piece) → IsPathOf (path_of task) path

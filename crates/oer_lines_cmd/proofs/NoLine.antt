@@ -7,7 +7,6 @@ use Rattle.oer_units.specs.declared.fault.Why.{Why}
 use Rattle.oer_units.specs.declared.fault.Why.TheVariants.{End, Limit}
 use Rattle.oer_model.specs.AsnType.{AsnType}
 use Rattle.oer_model.specs.AsnValue.{AsnValue}
-use Rattle.oer_model.specs.Canonical.{canonical_octets}
 use Rattle.oer_model.specs.Checking.{check_value}
 use Rattle.oer_model.specs.Constraints.{KeepsLimits}
 use Rattle.oer_model.specs.Encoding.{Encodes}
@@ -18,19 +17,20 @@ use Rattle.oer_model.specs.Reading.{read_value}
 use Rattle.oer_model.proofs.checking.Judged.{check_tells}
 use Rattle.oer_model.proofs.reading.Theorems.{one_reading, reads_encodings}
 use Rattle.oer_checker.specs.Check.{most}
-use Rattle.oer_json.specs.Made.{made}
-use Rattle.oer_cmd.specs.Answer.{canonical_of, check_octets, checked, ended, handed, in_ascii, in_digits, in_text, json_of, part_octets, value_read, value_text, whole, within_limit}
+use Rattle.oer_cmd.specs.Answer.{check_octets, checked, handed, in_form, part_octets, value_read, value_text, within_limit}
 use Rattle.oer_cmd.specs.Expected.{Expected, refusal, stop, unknown, value, ◌>>=◌}
 use Rattle.oer_cmd.specs.Run.{verdict_text}
 use Rattle.oer_cmd.specs.declared.fault.Fault.TheVariants.{Longer}
 use Rattle.oer_cmd.specs.declared.value.Form.{Form}
 use Rattle.oer_cmd.specs.declared.value.Form.TheVariants as form
+use Rattle.oer_cmd.proofs.Answered.{made_of}
+use Rattle.oer_cmd.proofs.Exact.{at_end}
 use Rattle.oer_ends_cmd.specs.Telling.{told_answer}
 use Rattle.oer_lines_cmd.specs.Stream.{Piece, by_front, by_outcome, by_reason, first_piece, front_before, long, message, piece_answer, reads_first, rejected}
 use Rattle.oer_lines_cmd.specs.StreamLaws.{BeginsWithNone}
 use Rattle.oer_lines_cmd.specs.Tasks.{long_answer, octets_answer, octets_told}
 use Rattle.oer_lines_cmd.specs.declared.task.LineTask.{LineTask}
-use Rattle.oer_lines_cmd.specs.declared.task.LineTask.TheVariants.{Canon, Check, Part, Show, ShowAscii}
+use Rattle.oer_lines_cmd.specs.declared.task.LineTask.TheVariants.{Canon, Check, Part, Show}
 use Rattle.oer_lines_cmd.proofs.Chained.{front_is, message_is}
 use Rattle.oer_lines_cmd.proofs.OneStream.{front_octets, message_of}
 
@@ -94,19 +94,6 @@ none_read T keeps limit xs octs some none = by (read_value T (at xs limit)) refl
 
 -- ---- what has a line is an encoding
 
-bound : {A B : Type 0} (e : Expected A) (next : A → Expected B) (y : B) → (e >>= next) ≡ value y → (x : A) × (e ≡ value x)
-bound unknown next y is = absurd (let differ : unknown ≡ value y = is in cc)
-bound (refusal r) next y is = absurd (let differ : refusal r ≡ value y = is in cc)
-bound (value x) next y is = (x, refl)
-
-ended_value : {A : Type 0} (n : ℕ) (y x : A) (rest : List ℕ) → ended n y rest ≡ value x → rest ≡ []
-ended_value n y x [] is = refl
-ended_value n y x (z ∷ rest) is = absurd (let differ : ended n y (z ∷ rest) ≡ value x = is in cc)
-
-whole_value : {A : Type 0} (b : List ℕ) (o : Outcome A) (x : A) → whole b o ≡ value x → (y : A) × (q : Place) × (o ≡ got y q) × (q.input ≡ [])
-whole_value b (got y q) x is = (y, q, refl, ended_value (length b - length q.input) y x q.input is)
-whole_value b (refused why rest) x is = absurd (let differ : whole b (refused why rest) ≡ value x = is in cc)
-
 module _ (T : AsnType) (keeps : KeepsLimits T) (defaults : DefaultsFit T) (b : List ℕ) (octs : IsOctets b) (few : length b < 2 ^ 64) (none : IsNone T b) where
   not_read : (n : ℕ) (v : AsnValue) (q : Place) → read_value T (at b n) ≡ got v q → q.input ≡ [] → ⊥
   not_read n v q is end =
@@ -114,40 +101,31 @@ module _ (T : AsnType) (keeps : KeepsLimits T) (defaults : DefaultsFit T) (b : L
       none v (subst (Encodes T v) (sym (all ∙ ap (λ l. t ++ l) end ∙ append-nil t)) enc)
 
   no_value : (limit : ℕ) (v : AsnValue) → value_read T limit b ≡ value v → ⊥
-  no_value limit v is = let (y, q, reads, end) = whole_value b (read_value T (at b limit)) v is in not_read limit y q reads end
+  no_value limit v is = let (q, reads, end) = at_end b (read_value T (at b limit)) v is in not_read limit v q reads end
 
   no_verdict : (f : Bool) → checked T b ≡ value f → ⊥
   no_verdict f is =
-      let (y, q, checks, end) = whole_value b (check_value T (at b most)) f is in
-      by (read_value T (at b most)) refl (check_tells T keeps defaults b most octs few) y q checks end where
+      let (q, checks, end) = at_end b (check_value T (at b most)) f is in
+      by (read_value T (at b most)) refl (check_tells T keeps defaults b most octs few) q checks end where
         by : (o : Outcome AsnValue) → read_value T (at b most) ≡ o → Judges T b (read_value T (at b most)) (check_value T (at b most))
-            → (y : Bool) (q : Place) → check_value T (at b most) ≡ got y q → q.input ≡ [] → ⊥
-        by (got v p) is judges y q checks end =
+            → (q : Place) → check_value T (at b most) ≡ got f q → q.input ≡ [] → ⊥
+        by (got v p) is judges q checks end =
             let (c, g, all, same, tells) = subst (λ o. Judges T b o (check_value T (at b most))) is judges in
-            let one : got g p ≡ got y q = sym same ∙ checks in
+            let one : got g p ≡ got f q = sym same ∙ checks in
             let place : p ≡ q = cc in
             not_read most v p is (ap (λ (r : Place). r.input) place ∙ end)
-        by (refused why rest) is judges y q checks end =
+        by (refused why rest) is judges q checks end =
             let same = subst (λ o. Judges T b o (check_value T (at b most))) is judges in
-            let differ : refused why rest ≡ got y q = sym same ∙ checks in cc
+            let differ : refused why rest ≡ got f q = sym same ∙ checks in cc
 
   no_text : (f : Form) (limit : ℕ) (y : Text) → value_text f T limit b ≡ value y → ⊥
-  no_text form.Octets limit y is =
-      let c = bound (canonical_of T limit b) in_digits y is in
-      let v = bound (value_read T limit b) (λ v. value (canonical_octets T v)) c.0 c.1 in no_value limit v.0 v.1
-  no_text form.Json limit y is =
-      let j = bound (json_of T limit b) in_text y is in
-      let v = bound (value_read T limit b) (λ v. value (made T v)) j.0 j.1 in no_value limit v.0 v.1
-  no_text form.Ascii limit y is =
-      let t = bound (json_of T limit b >>= in_text) in_ascii y is in
-      let j = bound (json_of T limit b) in_text t.0 t.1 in
-      let v = bound (value_read T limit b) (λ v. value (made T v)) j.0 j.1 in no_value limit v.0 v.1
+  no_text f limit y is = let v = made_of (value_read T limit b) (in_form f T) y is in no_value limit v.0 v.1
 
   no_check : (y : Text) → check_octets T b ≡ value y → ⊥
-  no_check y is = let f = bound (checked T b) (λ canonical. value (verdict_text canonical (length b))) y is in no_verdict f.0 f.1
+  no_check y is = let f = made_of (checked T b) (λ canonical. value (verdict_text canonical (length b))) y is in no_verdict f.0 f.1
 
   no_part : (steps : List Step) (y : Text) → part_octets T steps b ≡ value y → ⊥
-  no_part steps y is = let f = bound (checked T b) (λ canonical. handed (find_part (Some T) b steps)) y is in no_verdict f.0 f.1
+  no_part steps y is = let f = made_of (checked T b) (λ canonical. handed (find_part (Some T) b steps)) y is in no_verdict f.0 f.1
 
   no_limited : {A : Type 0} (limit : ℕ) (next : List ℕ → Expected A) (y : A) → (next b ≡ value y → ⊥) → (within_limit limit b >>= next) ≡ value y → ⊥
   no_limited limit next y never is = by (leb (length b) limit) is where
@@ -156,8 +134,7 @@ module _ (T : AsnType) (keeps : KeepsLimits T) (defaults : DefaultsFit T) (b : L
     by false is = let differ : stop (Longer limit) ≡ value y = is in cc
 
   no_answer : (task : LineTask) (limit : ℕ) (path : Expected (List Step)) (y : Text) → octets_answer task T limit path b ≡ value y → ⊥
-  no_answer Show limit path y is = no_text form.Json limit y is
-  no_answer ShowAscii limit path y is = no_text form.Ascii limit y is
+  no_answer (Show style) limit path y is = no_text (form.Json style) limit y is
   no_answer Canon limit path y is = no_text form.Octets limit y is
   no_answer Check limit path y is = no_limited limit (check_octets T) y (no_check y) is
   no_answer (Part text) limit unknown y is = let differ : unknown ≡ value y = is in cc
@@ -174,13 +151,10 @@ module _ (T : AsnType) (keeps : KeepsLimits T) (defaults : DefaultsFit T) (b : L
   no_line true task limit path y is = no_told limit (octets_answer task T limit path b) y (no_answer task limit path y) is
 
 no_long : (task : LineTask) (limit : ℕ) (path : Expected (List Step)) (y : Text) → long_answer task limit path ≡ value y → ⊥
-no_long Show limit path y is = let differ : stop (Longer limit) ≡ value y = is in cc
-no_long ShowAscii limit path y is = let differ : stop (Longer limit) ≡ value y = is in cc
-no_long Canon limit path y is = let differ : stop (Longer limit) ≡ value y = is in cc
-no_long Check limit path y is = let differ : stop (Longer limit) ≡ value y = is in cc
 no_long (Part text) limit unknown y is = let differ : unknown ≡ value y = is in cc
 no_long (Part text) limit (refusal r) y is = let differ : refusal r ≡ value y = is in cc
 no_long (Part text) limit (value steps) y is = let differ : stop (Longer limit) ≡ value y = is in cc
+no_long _ limit path y is = let differ : stop (Longer limit) ≡ value y = is in cc
 
 pub none_has_line : (T : AsnType) → KeepsLimits T → DefaultsFit T → (nests : Bool) (task : LineTask) (limit : ℕ) (path : Expected (List Step)) (xs : List ℕ)
     → IsOctets xs → length xs < 2 ^ 64 → 1 ≤ length xs → BeginsWithNone T limit xs

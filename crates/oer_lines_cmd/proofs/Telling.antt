@@ -12,14 +12,11 @@ use Rattle.oer_cmd.proofs.Meeting.{bytes}
 use Rattle.oer_ends_cmd.specs.Telling.{IsFaultTold, told, told_answer}
 use Rattle.oer_lines_cmd.specs.Tasks.{octets_answer, octets_told, on_input, path_of}
 use Rattle.oer_lines_cmd.specs.declared.task.LineTask.{LineTask}
-use Rattle.oer_lines_cmd.specs.declared.task.LineTask.TheVariants.{Canon, Check, Part, Show, ShowAscii}
+use Rattle.oer_lines_cmd.specs.declared.task.LineTask.TheVariants.{Part}
 
 path_same : (task : LineTask) → path_text (on_input task) ≡ path_of task
-path_same Show = refl
-path_same ShowAscii = refl
-path_same Canon = refl
-path_same Check = refl
 path_same (Part text) = refl
+path_same _ = refl
 
 -- the answer to the task on octets of the input
 pub of_task : (task : LineTask) (made : Task) (T : AsnType) (limit made_limit : ℕ) (b : List ℕ) (told : Option (List ℕ)) (result : Result (String Global) Fault)

@@ -7,28 +7,26 @@ use Rattle.clap.specs.Words.{Text}
 use Rattle.oer_model.specs.AsnType.{AsnType}
 use Rattle.oer_model.specs.Parts.{Step}
 use Rattle.oer_ends.specs.Nests.{nests_at}
-use Rattle.oer_cmd.specs.Answer.{IsPathOf, check_octets, part_octets, within_limit}
+use Rattle.oer_cmd.specs.Answer.{IsPathOf, check_octets, part_octets}
 use Rattle.oer_cmd.specs.Expected.{Expected, Meets, Refusal, refusal, refusal_of, stop, unknown, value, ◌>>=◌}
 use Rattle.oer_cmd.specs.Run.{IsPath}
 use Rattle.oer_cmd.specs.declared.fault.Fault.{Fault}
 use Rattle.oer_cmd.specs.declared.fault.Fault.TheVariants.{Longer, Path}
+use Rattle.oer_cmd.proofs.Exact.{within_stop}
 use Rattle.oer_cmd.proofs.Meeting.{bytes}
 use Rattle.oer_ends_cmd.specs.Telling.{at_place, told, told_answer}
 use Rattle.oer_lines_cmd.specs.Laws.{reads_all}
 use Rattle.oer_lines_cmd.specs.Tasks.{long_answer, octets_answer, octets_told, path_of}
 use Rattle.oer_lines_cmd.specs.declared.task.LineTask.{LineTask}
-use Rattle.oer_lines_cmd.specs.declared.task.LineTask.TheVariants.{Canon, Check, Part, Show, ShowAscii}
+use Rattle.oer_lines_cmd.specs.declared.task.LineTask.TheVariants.{Check, Part}
 
 abbrev Tells : LineTask → ℕ → Expected (List Step) → Fault → Type 0
 Tells task limit path fault = Meets {X = String Global} bytes (long_answer task limit path) (Err fault)
 
 -- no path is asked for
 pub no_part : (task : LineTask) (limit : ℕ) (path : Expected (List Step)) → ((text : Option (Bor Text)) → task ≡ Part text → ⊥) → Tells task limit path (Longer limit)
-no_part Show limit path other = λ small. refl
-no_part ShowAscii limit path other = λ small. refl
-no_part Canon limit path other = λ small. refl
-no_part Check limit path other = λ small. refl
 no_part (Part text) limit path other = absurd (other text refl)
+no_part _ limit path other = λ small. refl
 
 some_path : (text : Option (Bor Text)) (limit : ℕ) (path : Expected (List Step)) (p : List Step) → IsPath (path_of (Part text)) p
     → IsPathOf (path_of (Part text)) path → Tells (Part text) limit path (Longer limit)
@@ -65,18 +63,13 @@ bad_path task text limit path part none of = subst (λ t. Tells t limit path Pat
 
 -- ---- the answer of a run
 
-over : (limit : ℕ) (b : List ℕ) → limit < length b → within_limit limit b ≡ stop (Longer limit)
-over limit b above = ap (λ t. cond t (value b) (stop (Longer limit))) (lt-leb (length b) limit above)
-
 run_same : (task : LineTask) (T : AsnType) (limit : ℕ) (path : Expected (List Step)) (b : List ℕ) → reads_all task ≡ true → limit < length b
     → octets_answer task T limit path b ≡ long_answer task limit path
-run_same Show T limit path b all above = absurd (let differ : false ≡ true = all in cc)
-run_same ShowAscii T limit path b all above = absurd (let differ : false ≡ true = all in cc)
-run_same Canon T limit path b all above = absurd (let differ : false ≡ true = all in cc)
-run_same Check T limit path b all above = ap (λ o. o >>= check_octets T) (over limit b above)
+run_same Check T limit path b all above = ap (λ o. o >>= check_octets T) (within_stop limit b above)
 run_same (Part text) T limit unknown b all above = refl
 run_same (Part text) T limit (refusal r) b all above = refl
-run_same (Part text) T limit (value steps) b all above = ap (λ o. o >>= part_octets T steps) (over limit b above)
+run_same (Part text) T limit (value steps) b all above = ap (λ o. o >>= part_octets T steps) (within_stop limit b above)
+run_same _ T limit path b all above = absurd (let differ : false ≡ true = all in cc)
 
 told_long : (T : AsnType) (limit : ℕ) (b : List ℕ) (r : Refusal) → limit < length b → told T limit b r ≡ r
 told_long T limit b r above =

@@ -7,7 +7,7 @@ use Rattle.oer_cmd.specs.Expected.{Expected}
 use Rattle.oer_lines_cmd.specs.Frames.{Frame, cut, frame_size, frames, whole}
 use Rattle.oer_lines_cmd.specs.Tasks.{long_answer, octets_told}
 use Rattle.oer_lines_cmd.specs.declared.task.LineTask.{LineTask}
-use Rattle.oer_lines_cmd.specs.declared.task.LineTask.TheVariants.{Canon, Check, Part, Show, ShowAscii}
+use Rattle.oer_lines_cmd.specs.declared.task.LineTask.TheVariants.{Canon, Check, Part, Show}
 
 -- The octets are these frames, one after the other: each length has n octets and stands for the number of octets of the message behind it.
 -- Of the last one some octets may be missing.
@@ -23,8 +23,7 @@ FramesAreOne = (n : ℕ) (xs : List ℕ) → 1 ≤ n → AreFrames n xs (frames 
 
 -- the tasks that read all octets first
 abbrev pub reads_all : LineTask → Bool
-reads_all Show = false
-reads_all ShowAscii = false
+reads_all (Show style) = false
 reads_all Canon = false
 reads_all Check = true
 reads_all (Part text) = true

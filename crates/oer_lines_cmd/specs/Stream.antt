@@ -11,7 +11,7 @@ use Rattle.oer_model.specs.Reading.{read_value}
 use Rattle.oer_cmd.specs.Expected.{Expected}
 use Rattle.oer_lines_cmd.specs.Tasks.{long_answer, octets_told}
 use Rattle.oer_lines_cmd.specs.declared.task.LineTask.{LineTask}
-use Rattle.oer_lines_cmd.specs.declared.task.LineTask.TheVariants.{Canon, Check, Part, Show, ShowAscii}
+use Rattle.oer_lines_cmd.specs.declared.task.LineTask.TheVariants.{Canon, Check, Part, Show}
 
 -- what stands at the front of octets: a message; octets with which none begins; or those with which none begins within the limit, though
 -- a longer one may
@@ -60,8 +60,7 @@ pieces T limit xs = first_pieces T limit (length xs) xs
 
 -- whether a run reads all octets before it looks at them
 abbrev pub reads_first : Bool → LineTask → Bool
-reads_first nests Show = nests
-reads_first nests ShowAscii = nests
+reads_first nests (Show style) = nests
 reads_first nests Canon = nests
 reads_first nests Check = true
 reads_first nests (Part text) = true

@@ -1,5 +1,5 @@
 -- What is done with each message.
-use Rattle.std.specs.Prelude.{ℕ, Bool, true, false, List, [], Option, Some, None, Result, Ok, Err}
+use Rattle.std.specs.Prelude.{ℕ, Bool, true, false, List, Option, Some, None, Result, Ok, Err}
 use Rattle.std.specs.Borrow.{Bor}
 use Rattle.clap.specs.Words.{Text}
 use Rattle.oer_model.specs.AsnType.{AsnType}
@@ -7,15 +7,14 @@ use Rattle.oer_model.specs.Parts.{Step}
 use Rattle.oer_options.specs.Words.{behind}
 use Rattle.oer_options.specs.declared.options.Task.{Task}
 use Rattle.oer_options.specs.declared.options.Task.TheVariants as task
-use Rattle.oer_cmd.specs.Answer.{check_answer, digits_octets, part_answer, task_answer, value_answer}
+use Rattle.oer_cmd.specs.Answer.{digits_octets, task_answer}
 use Rattle.oer_cmd.specs.Expected.{Expected, stop, ◌>>=◌}
 use Rattle.oer_cmd.specs.declared.fault.Fault.TheVariants.{Longer}
-use Rattle.oer_cmd.specs.declared.value.Form.TheVariants as form
 use Rattle.oer_ends_cmd.specs.Telling.{told_answer}
 use Rattle.oer_lines_cmd.specs.declared.misuse.Misuse.{Misuse}
 use Rattle.oer_lines_cmd.specs.declared.misuse.Misuse.TheVariants.{Hex, Subcommand}
 use Rattle.oer_lines_cmd.specs.declared.task.LineTask.{LineTask}
-use Rattle.oer_lines_cmd.specs.declared.task.LineTask.TheVariants.{Canon, Check, Part, Show, ShowAscii}
+use Rattle.oer_lines_cmd.specs.declared.task.LineTask.TheVariants.{Canon, Check, Part, Show}
 use Rattle.oer_lines_cmd.specs.declared.way.Word.{Word}
 
 -- that, unless octets are given
@@ -25,8 +24,7 @@ unless_given word (Some digits) t = Err (Hex word)
 
 -- what a task does with each message, or why it can't
 abbrev pub line_task : Word → Task → Result LineTask Misuse
-line_task word (task.Show hex) = unless_given word hex Show
-line_task word (task.ShowAscii hex) = unless_given word hex ShowAscii
+line_task word (task.Show hex style) = unless_given word hex (Show style)
 line_task word (task.Canon hex) = unless_given word hex Canon
 line_task word (task.Check hex) = unless_given word hex Check
 line_task word (task.Make json) = Err (Subcommand word)
@@ -39,8 +37,7 @@ path_of _ = None
 
 -- the task on the octets of standard input
 abbrev pub on_input : LineTask → Task
-on_input Show = task.Show None
-on_input ShowAscii = task.ShowAscii None
+on_input (Show style) = task.Show None style
 on_input Canon = task.Canon None
 on_input Check = task.Check None
 on_input (Part path) = task.Part None path
@@ -59,17 +56,6 @@ abbrev pub long_answer : LineTask → ℕ → Expected (List Step) → Expected 
 long_answer (Part text) limit path = path >>= λ steps. stop (Longer limit)
 long_answer task limit path = stop (Longer limit)
 
--- ---- by digits
-
--- The answer to a message: that to the task with these digits, where the input has nothing left.
-abbrev pub message_answer : LineTask → AsnType → ℕ → Expected (List Step) → Text → Expected Text
-message_answer Show T limit path digits = value_answer form.Json T limit (Some digits) (Some [])
-message_answer ShowAscii T limit path digits = value_answer form.Ascii T limit (Some digits) (Some [])
-message_answer Canon T limit path digits = value_answer form.Octets T limit (Some digits) (Some [])
-message_answer Check T limit path digits = check_answer T limit (Some digits) (Some [])
-message_answer (Part text) T limit path digits = part_answer T limit (Some digits) path (Some [])
-
--- The same as it is told: for a type of modules that has an end (oer_ends), a refusal of octets that nest deeper says so.
+-- The answer to a message in digits, as it is told: that to the octets that they spell.
 abbrev pub answer_told : Bool → LineTask → AsnType → ℕ → Expected (List Step) → Text → Expected Text
-answer_told false task T limit path digits = message_answer task T limit path digits
-answer_told true task T limit path digits = digits_octets digits >>= λ b. told_answer T limit b (message_answer task T limit path digits)
+answer_told nests task T limit path digits = digits_octets digits >>= octets_told nests task T limit path

@@ -25,11 +25,8 @@ fn reads_first(asked: Asked<'_>) -> bool
     ensures { result ≡ reads_first asked.entry.tells_nesting asked.entry.task }
 {
     match asked.task {
-        LineTask::Show => asked.tells_nesting,
-        LineTask::ShowAscii => asked.tells_nesting,
-        LineTask::Canon => asked.tells_nesting,
-        LineTask::Check => true,
-        LineTask::Part { .. } => true,
+        LineTask::Show { .. } | LineTask::Canon => asked.tells_nesting,
+        LineTask::Check | LineTask::Part { .. } => true,
     }
 }
 

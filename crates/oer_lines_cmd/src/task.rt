@@ -5,15 +5,13 @@ ghost use Rattle.oer_lines_cmd.specs.Ways.{word_of};
 
 use crate::misuse::Misuse;
 use crate::way::{Way, Word};
-use oer_options::{Options, Task};
+use oer_options::{Options, Style, Task};
 
 /// What is done with each message.
 #[derive(Clone, Copy)]
 pub enum LineTask<'a> {
-    /// Its JSON is printed.
-    Show,
-    /// The same in ASCII.
-    ShowAscii,
+    /// Its JSON is printed, in this style.
+    Show { style: Style },
     /// Its canonical octets are printed.
     Canon,
     /// It is said whether it is canonical.
@@ -55,8 +53,7 @@ impl<'a> LineTask<'a> {
         ensures { result ≡ line_task word task.entry }
     {
         match task {
-            Task::Show { hex } => unless_given(word, hex, LineTask::Show),
-            Task::ShowAscii { hex } => unless_given(word, hex, LineTask::ShowAscii),
+            Task::Show { hex, style } => unless_given(word, hex, LineTask::Show { style }),
             Task::Canon { hex } => unless_given(word, hex, LineTask::Canon),
             Task::Check { hex } => unless_given(word, hex, LineTask::Check),
             Task::Make { .. } => Err(Misuse::Subcommand(word)),
@@ -69,8 +66,7 @@ impl<'a> LineTask<'a> {
         ensures { result ≡ on_input self.entry }
     {
         match self {
-            LineTask::Show => Task::Show { hex: None },
-            LineTask::ShowAscii => Task::ShowAscii { hex: None },
+            LineTask::Show { style } => Task::Show { hex: None, style },
             LineTask::Canon => Task::Canon { hex: None },
             LineTask::Check => Task::Check { hex: None },
             LineTask::Part { path } => Task::Part { hex: None, path },

@@ -1,6 +1,6 @@
 -- From what `clap` says of its matches to what the words ask for.
 use Rattle.std.proofs.Common.{◌≡◌, ◌∙◌, List, ℕ, Bool, Option, Some, None, false, true, sym, ap, ap₂, refl, true≢false, IfSome, Ok, Result, ◌<◌, ◌^◌, ◌≢◌, subst, codes}
-use Rattle.std.specs.Prelude.{option_map, option_and_then, unwrap_or, is_some, Box, ◌||◌}
+use Rattle.std.specs.Prelude.{◌↔◌, option_map, option_and_then, unwrap_or, is_some, Box, ◌||◌}
 use Rattle.std.specs.Box.{box_value}
 use Rattle.std.specs.Str.Parse.{IsNumeral, ParsesBool, digits_value, without_leading_plus}
 use Rattle.clap.specs.Words.{AddsArg, AddsSubcommand, App, with_subcommand, Row, Rule, rule_of, with_rule, Text, ReadsOne, found_of, first_value, one_text, is_simple, first_of, one_of, rows_of, subcommand_name_of, subcommand_of, subcommand_rows, subcommand_rows_of, is_simple_and_free}
@@ -14,7 +14,7 @@ use Rattle.clap.specs.declared.parser.matches.ArgMatches.{ArgMatches}
 use Rattle.clap.specs.declared.parser.matches.ArgMatches.TheViews.{out-ArgMatches, out-SubCommand}
 use Rattle.clap.specs.declared.parser.matches.SubCommand.{SubCommand}
 use Rattle.clap.proofs.WalkLemmas.{first_value-rows, one_text-rows}
-use Rattle.oer_options.specs.Words.{HasFlags, HasShape, IsTask, Kind, NumberOf, asked, canon, check, given, given_number, kind, make, oer, part, path_among, show, show_ascii}
+use Rattle.oer_options.specs.Words.{HasFlags, HasShape, IsFlag, IsTask, Kind, NumberOf, asked, given, given_number, kind, oer, part, path_among, show}
 use Rattle.oer_options.specs.declared.options.Task.{Task}
 
 pub simple : is_simple oer ≡ true
@@ -46,38 +46,30 @@ pub read_is : (a : App) (words : List Text) (t id : Text) (m : ArgMatches) → s
 read_is a words t id m e = ap (option_and_then (λ p. one_of id p.1)) e ∙ sym (one_text-rows (found_of m) id)
 
 path_is : (words : List Text) (t : Text) (m : ArgMatches) (k : Kind) → subcommand_of oer words ≡ Some (t, rows_of (found_of m)) → path_among k (given words) ≡ path_among k (first_value (found_of m))
-path_is words t m show e = refl
-path_is words t m show_ascii e = refl
-path_is words t m canon e = refl
-path_is words t m check e = refl
-path_is words t m make e = refl
 path_is words t m part e = given_is oer words t _ m _ e refl
+path_is words t m _ e = refl
+
+flag_is : (words : List Text) (t : Text) (m : ArgMatches) (id : Text) (is : Bool) → subcommand_of oer words ≡ Some (t, rows_of (found_of m)) → IsFlag (one_text (found_of m)) id is → IsFlag (given_number words) id is
+flag_is words t m id is e has = subst (λ v. (is ≡ true) ↔ (v ≡ Some (codes "true"))) (sym (read_is oer words t id m e)) has
 
 flags_are : (words : List Text) (t : Text) (m : ArgMatches) (k : Kind) → subcommand_of oer words ≡ Some (t, rows_of (found_of m)) → HasFlags k (one_text (found_of m)) → HasFlags k (given_number words)
-flags_are words t m show e has = subst (λ v. v ≢ Some (codes "true")) (sym (read_is oer words t (codes "ascii") m e)) has
-flags_are words t m show_ascii e has = read_is oer words t (codes "ascii") m e ∙ has
-flags_are words t m canon e has = tt
-flags_are words t m check e has = tt
-flags_are words t m make e has = tt
-flags_are words t m part e has = tt
+flags_are words t m (show style) e has = record { ascii = flag_is words t m _ _ e has.ascii }
+flags_are words t m _ e has = tt
 
 -- the task that a parse gave is that of the words
 pub task_is : (words : List Text) (t : Text) (m : ArgMatches) (task : Task) → subcommand_of oer words ≡ Some (t, rows_of (found_of m)) → IsTask (Some t) (first_value (found_of m)) (one_text (found_of m)) task
     → IsTask (asked words) (given words) (given_number words) task
 task_is words t m task e is = (asked_is words _ _ e ∙ is.0, given_is oer words t _ m _ e (sym is.1), path_is words t m (kind task) e ∙ is.2, flags_are words t m (kind task) e is.3)
 
--- the flag `--ascii`, as it was read
-pub flag_given : (E : Type 0) (f : Option Text) (r : Option Bool) → (f ≡ None → r ≡ None) → ((t : Text) → f ≡ Some t → ReadsOne (ParsesBool {E = E}) t r) → unwrap_or r false ≡ true → f ≡ Some (codes "true")
-flag_given E None r none some is = absurd (true≢false (sym is ∙ ap (λ o. unwrap_or o false) (none refl)))
-flag_given E (Some t) (Some true) none some is = ap Some (some t refl)
-flag_given E (Some t) (Some false) none some is = absurd (true≢false (sym is))
-flag_given E (Some t) None none some is = absurd (true≢false (sym is))
-
-pub flag_missing : (E : Type 0) (f : Option Text) (r : Option Bool) → (f ≡ None → r ≡ None) → ((t : Text) → f ≡ Some t → ReadsOne (ParsesBool {E = E}) t r) → unwrap_or r false ≡ false → f ≢ Some (codes "true")
-flag_missing E None r none some is = λ e. let no : None ≡ Some (codes "true") = e in cc
-flag_missing E (Some t) (Some true) none some is = absurd (true≢false is)
-flag_missing E (Some t) (Some false) none some is = λ e. (let both : Some (codes "false") ≡ Some (codes "true") = ap Some (sym (some t refl)) ∙ e in cc)
-flag_missing E (Some t) None none some is = λ e. (let same : t ≡ codes "true" = (let whole : Some t ≡ Some (codes "true") = e in cc) in (some t refl).1.0 same)
+-- a flag, as it was read
+pub flag_read : (E : Type 0) (f : Option Text) (r : Option Bool) → (f ≡ None → r ≡ None) → ((t : Text) → f ≡ Some t → ReadsOne (ParsesBool {E = E}) t r)
+    → (unwrap_or r false ≡ true) ↔ (f ≡ Some (codes "true"))
+flag_read E None r none some = (λ is. absurd (true≢false (sym is ∙ ap (λ o. unwrap_or o false) (none refl))), λ e. let no : None ≡ Some (codes "true") = e in cc)
+flag_read E (Some t) (Some true) none some = (λ is. ap Some (some t refl), λ e. refl)
+flag_read E (Some t) (Some false) none some =
+    (λ is. absurd (true≢false (sym is)), λ e. (let both : Some (codes "false") ≡ Some (codes "true") = ap Some (sym (some t refl)) ∙ e in cc))
+flag_read E (Some t) None none some =
+    (λ is. absurd (true≢false (sym is)), λ e. absurd ((some t refl).1.0 (let whole : Some t ≡ Some (codes "true") = e in cc)))
 
 -- a number, as it was read. f: the text
 pub number_read : {E : Type 0} (f : Option Text) (r : Option ℕ) (gives : List ℕ → Result ℕ E → Type 0)

@@ -1,10 +1,11 @@
 -- What the words of the command line ask for.
-use Rattle.std.specs.Prelude.{◌≡◌, ◌≢◌, ⊤, ℕ, List, [], ◌∷◌, Option, None, Some, false, true, codes, option_map, option_and_then}
+use Rattle.std.specs.Prelude.{◌≡◌, ◌↔◌, ⊤, ℕ, Bool, List, [], ◌∷◌, Option, None, Some, false, true, codes, option_map, option_and_then}
 use Rattle.std.specs.Borrow.{Bor}
 use Rattle.std.specs.Str.Parse.{IsNumeral, digits_value, without_leading_plus}
 use Rattle.oer_options.specs.declared.options.Options.{Options}
+use Rattle.oer_options.specs.declared.options.Style.{Style}
 use Rattle.oer_options.specs.declared.options.Task.{Task}
-use Rattle.oer_options.specs.declared.options.Task.TheVariants.{Canon, Check, Make, Part, Show, ShowAscii}
+use Rattle.oer_options.specs.declared.options.Task.TheVariants.{Canon, Check, Make, Part, Show}
 use Rattle.clap.specs.Words.{App, Rule, Text, first_of, new_app, new_rule, one_of, subcommand_of, with_rule, with_subcommand}
 use Rattle.clap.specs.Simple.{app_of, on_top}
 use Rattle.clap.specs.declared.builder.action.ArgAction.TheVariants.{SetTrue}
@@ -35,12 +36,12 @@ task_app name = with_rule (with_rule (with_rule (with_rule (new_app name)
 abbrev pub hex_app : Text → App
 hex_app name = with_rule (task_app name) (option_rule (codes "hex"))
 
--- the flag for a line in ASCII
-abbrev pub ascii_rule : Rule
-ascii_rule = record (new_rule (codes "ascii")) { long = Some (codes "ascii"); action = Some SetTrue }
+-- a flag, named by its id
+abbrev pub flag_rule : Text → Rule
+flag_rule id = record (new_rule id) { long = Some id; action = Some SetTrue }
 
 abbrev pub show_app : App
-show_app = with_rule (hex_app (codes "show")) ascii_rule
+show_app = with_rule (hex_app (codes "show")) (flag_rule (codes "ascii"))
 
 abbrev pub make_app : App
 make_app = with_rule (task_app (codes "make")) (option_rule (codes "json"))
@@ -77,17 +78,14 @@ behind = option_map (λ s. s.now)
 
 -- what a task is, but for its texts
 pub data Kind : Type 0 where
-  show : Kind
-  -- in ASCII
-  show_ascii : Kind
+  show : Style → Kind
   canon : Kind
   check : Kind
   make : Kind
   part : Kind
 
 abbrev pub kind : Task → Kind
-kind (Show hex) = show
-kind (ShowAscii hex) = show_ascii
+kind (Show hex style) = show style
 kind (Canon hex) = canon
 kind (Check hex) = check
 kind (Make json) = make
@@ -95,8 +93,7 @@ kind (Part hex path) = part
 
 -- the subcommand
 abbrev pub name_of : Kind → Text
-name_of show = codes "show"
-name_of show_ascii = codes "show"
+name_of (show style) = codes "show"
 name_of canon = codes "canon"
 name_of check = codes "check"
 name_of make = codes "make"
@@ -104,26 +101,17 @@ name_of part = codes "part"
 
 -- the option whose text is octets or JSON
 abbrev pub source_option : Kind → Text
-source_option show = codes "hex"
-source_option show_ascii = codes "hex"
-source_option canon = codes "hex"
-source_option check = codes "hex"
 source_option make = codes "json"
-source_option part = codes "hex"
+source_option _ = codes "hex"
 
 -- the text of a path, among these values of options
 abbrev pub path_among : Kind → (Text → Option Text) → Option Text
-path_among show value = None
-path_among show_ascii value = None
-path_among canon value = None
-path_among check value = None
-path_among make value = None
 path_among part value = value (codes "path")
+path_among _ value = None
 
 -- the text of octets or of JSON that the task has
 abbrev pub source_text : Task → Option Text
-source_text (Show hex) = behind hex
-source_text (ShowAscii hex) = behind hex
+source_text (Show hex style) = behind hex
 source_text (Canon hex) = behind hex
 source_text (Check hex) = behind hex
 source_text (Make json) = behind json
@@ -134,10 +122,17 @@ abbrev pub path_text : Task → Option Text
 path_text (Part hex text) = behind text
 path_text _ = None
 
--- The values of flags are those of the kind: `--ascii` is given, or not.
+-- whether a flag is given, by the values of flags
+abbrev pub IsFlag : (Text → Option Text) → Text → Bool → Type 0
+IsFlag flag id is = (is ≡ true) ↔ (flag id ≡ Some (codes "true"))
+
+-- JSON is printed as the flags say
+pub record HasStyle (style : Style) (flag : Text → Option Text) : Type 0 where
+  pub ascii : IsFlag flag (codes "ascii") style.ascii
+
+-- The flags of the kind are those that are given.
 abbrev pub HasFlags : Kind → (Text → Option Text) → Type 0
-HasFlags show flag = flag (codes "ascii") ≢ Some (codes "true")
-HasFlags show_ascii flag = flag (codes "ascii") ≡ Some (codes "true")
+HasFlags (show style) flag = HasStyle style flag
 HasFlags _ flag = ⊤
 
 -- the task of that name, with the values of the options that not all tasks have, and of flags

@@ -6,4 +6,4 @@ pub mod laws;
 mod options;
 
 pub use help::{HEX, NAME, TYPE, TYPES, VERSION};
-pub use options::{DEFAULT_LIMIT, Options, Task, option, parsed};
+pub use options::{DEFAULT_LIMIT, Options, Style, Task, option, parsed};

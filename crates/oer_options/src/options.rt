@@ -1,12 +1,19 @@
 //! What the arguments of the program ask for.
-ghost use Rattle.std.specs.Prelude.{◌≡◌, ◌≢◌, [], ◌∷◌, codes, List, Option, Some, None, false, true, IfOk, IfErr, IfSome, map, option_map, string_bytes};
+ghost use Rattle.std.specs.Prelude.{◌≡◌, [], ◌∷◌, List, Option, Some, None, false, true, IfOk, IfErr, IfSome, map, option_map, string_bytes};
 ghost use Rattle.clap.specs.Words.{HasKind, items_of, fault_of, first_value, found_of, kind_of, new_app, one_text, rule_of, takes};
 ghost use Rattle.clap.specs.declared.error.kind.ErrorKind.TheVariants.{OutOfMemory};
-ghost use Rattle.oer_options.specs.Words.{Asks, HasShape, IsTask, ascii_rule, behind, hex_app, limit_rule, make_app, oer, option_rule, part_app, show_app, source_text, task_app};
+ghost use Rattle.oer_options.specs.Words.{Asks, HasShape, HasStyle, IsFlag, IsTask, behind, flag_rule, hex_app, limit_rule, make_app, oer, option_rule, part_app, show_app, source_text, task_app};
 
 use crate::help::{self, Help};
 use clap::{Arg, ArgAction, ArgMatches, Command, Error};
 use std::alloc::{AllocError, Global};
+
+/// How the JSON of a value is printed.
+#[derive(Clone, Copy)]
+pub struct Style {
+    /// In ASCII: all other characters are escaped.
+    pub ascii: bool,
+}
 
 /// What the arguments ask for, and the options that not all tasks have. `hex` are octets in
 /// hexadecimal digits; without them the octets come from the input.
@@ -15,10 +22,7 @@ pub enum Task<'a> {
     /// The JSON of a value.
     Show {
         hex: Option<&'a str>,
-    },
-    /// The same in ASCII, with all other characters escaped.
-    ShowAscii {
-        hex: Option<&'a str>,
+        style: Style,
     },
     /// The canonical octets of a value.
     Canon {
@@ -45,7 +49,7 @@ impl<'a> Task<'a> {
         ensures { behind result ≡ source_text self.entry }
     {
         match self {
-            Task::Show { hex } | Task::ShowAscii { hex } | Task::Canon { hex } => hex,
+            Task::Show { hex, .. } | Task::Canon { hex } => hex,
             Task::Check { hex } | Task::Part { hex, .. } => hex,
             Task::Make { json } => json,
         }
@@ -91,15 +95,15 @@ fn limit_option<'a>(alloc: Global) -> Arg<'a>
         .default_value(DEFAULT_LIMIT)
 }
 
-/// The flag for a line in ASCII.
-fn ascii_option<'a>(alloc: Global) -> Arg<'a>
-    ensures rule { rule_of result ≡ ascii_rule }
+/// A flag, with its help.
+fn flag<'a>(alloc: Global, id: &'a str, about: &'a str) -> Arg<'a>
+    ensures rule { rule_of result ≡ flag_rule id.entry.now }
     ensures local { result.global ≡ false }
 {
-    Arg::new(alloc, "ascii")
-        .long("ascii")
+    Arg::new(alloc, id)
+        .long(id)
         .action(ArgAction::SetTrue)
-        .help(help::ASCII)
+        .help(about)
 }
 
 /// A command with its help.
@@ -134,7 +138,7 @@ fn hex_command<'a>(alloc: Global, name: &'a str, help: Help) -> Result<Command<'
 fn show_command<'a>(alloc: Global) -> Result<Command<'a>, AllocError>
     ensures { IfOk result (HasShape show_app) }
 {
-    hex_command(alloc, "show", help::SHOW)?.arg(ascii_option(alloc))
+    hex_command(alloc, "show", help::SHOW)?.arg(flag(alloc, "ascii", help::ASCII))
 }
 
 /// The subcommand of the task on JSON.
@@ -165,12 +169,20 @@ fn command<'a>(alloc: Global) -> Result<Command<'a>, AllocError>
         .subcommand(part_command(alloc)?)
 }
 
-/// Whether the flag for a line in ASCII is given.
-fn is_ascii(found: &ArgMatches<'_>) -> bool
-    ensures given { result ≡ true → one_text (found_of found.now) (codes "ascii") ≡ Some (codes "true") }
-    ensures missing { result ≡ false → one_text (found_of found.now) (codes "ascii") ≢ Some (codes "true") }
+/// Whether the flag is given.
+fn is_given(found: &ArgMatches<'_>, id: &str) -> bool
+    ensures { IsFlag (one_text (found_of found.now)) id.now result }
 {
-    found.get_one::<bool>("ascii").unwrap_or(false)
+    found.get_one::<bool>(id).unwrap_or(false)
+}
+
+/// How the flags say that JSON is printed.
+fn style_of(found: &ArgMatches<'_>) -> Style
+    ensures { HasStyle result (one_text (found_of found.now)) }
+{
+    Style {
+        ascii: is_given(found, "ascii"),
+    }
 }
 
 /// The task of that name, with the options that not all tasks have.
@@ -178,11 +190,10 @@ fn task_of<'a>(name: &str, found: &ArgMatches<'a>) -> Option<Task<'a>>
     ensures { IfSome result (IsTask (Some name.now) (first_value (found_of found.now)) (one_text (found_of found.now))) }
 {
     if name == "show" {
-        let hex = found.get_str("hex");
-        if is_ascii(found) {
-            return Some(Task::ShowAscii { hex });
-        }
-        return Some(Task::Show { hex });
+        return Some(Task::Show {
+            hex: found.get_str("hex"),
+            style: style_of(found),
+        });
     }
     if name == "canon" {
         return Some(Task::Canon {

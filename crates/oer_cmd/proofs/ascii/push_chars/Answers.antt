@@ -1,13 +1,10 @@
-use Rattle.std.proofs.Common.{◌≡◌, ◌++◌, length, sym, ap, refl, ◌∙◌, append_assoc, append-nil, string_bytes, List, ℕ, [], ◌∷◌, arith}
+use Rattle.std.proofs.Common.{◌≡◌, ◌++◌, length, sym, ap, ◌∙◌, append_assoc, append-nil, string_bytes}
 use Rattle.std.specs.Char.{encode_utf8}
 use Rattle.std.specs.Str.{chars}
+use Rattle.std.proofs.lemmas.List.{nil_from_length}
 use Rattle.std.proofs.lemmas.Str.{chars_past_char, IsUtf8-past_char, chars-nil}
 use Rattle.oer_cmd.specs.Ascii.{ascii_chars, ascii_char}
 use Rattle.oer_cmd.proofs.ascii.push_chars.Goals as goal
-
-empty_of : (xs : List ℕ) → length xs ≡ 0 → xs ≡ []
-empty_of [] h = refl
-empty_of (x ∷ xs) h = absurd (omega arith)
 
 pub characters-preserved : goal.characters-preserved
 characters-preserved c =
@@ -27,6 +24,6 @@ returns c =
     let l = c.characters in
     let none : length l.c-iterator.rest.now ≡ 0 = assumption (c.in-None.ensures.steps) in
     sym (l.invariant.is
-    ∙ ap (λ r. string_bytes l.out ++ ascii_chars (chars r)) (empty_of l.c-iterator.rest.now none)
+    ∙ ap (λ r. string_bytes l.out ++ ascii_chars (chars r)) (nil_from_length l.c-iterator.rest.now none)
     ∙ ap (λ cs. string_bytes l.out ++ ascii_chars cs) chars-nil
     ∙ append-nil (string_bytes l.out))

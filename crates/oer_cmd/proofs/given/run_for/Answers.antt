@@ -2,7 +2,7 @@ use Rattle.std.proofs.Common.{inl, inr, arith, map, refl, string_bytes}
 use Rattle.oer_types.specs.Schema.{the_type}
 use Rattle.oer_cmd.specs.Answer.{task_answer}
 use Rattle.oer_cmd.specs.Expected.{value}
-use Rattle.oer_cmd.specs.Run.{IsLineAskedFor, IsLineOf}
+use Rattle.oer_cmd.specs.Run.{IsLine, IsLineOf}
 use Rattle.oer_cmd.proofs.Answered.{not_answered, tasks_refuse}
 use Rattle.oer_cmd.proofs.Asking.{asked_later}
 use Rattle.oer_cmd.proofs.Endings.{line_printed, words_end}
@@ -15,7 +15,7 @@ returns-clause-prints g c = λ taken none.
     let T = the_type c.args.schema.now in
     let words = map string_bytes c.args.words.now in
     let told = g.R.Read.remaining c.args.input.now in
-    line_printed c.line_of-answer.result (IsLineOf o.task told T o.limit) (IsLineAskedFor T words told) _ c.line_of-answer.ensures.line
+    line_printed c.line_of-answer.result (IsLineOf o.task told T o.limit) (IsLine T words told) _ c.line_of-answer.ensures.line
     (λ line h. answers_words_for T words o told line c.in-Ok.ensures.ok h) (c.conclude.ensures.prints none)
 
 pub returns-clause-refuses : goal.returns-clause-refuses

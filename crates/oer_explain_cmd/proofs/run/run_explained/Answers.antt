@@ -2,7 +2,8 @@ use Rattle.std.proofs.Common.{List, ℕ, Some, inl, inr, map, refl, string_bytes
 use Rattle.oer_explain_cmd.proofs.Endings.{done_on, not_taken}
 use Rattle.oer_options.specs.Words.{texts_of}
 use Rattle.oer_explain_cmd.specs.Adding.{is_held, notes_of}
-use Rattle.oer_explain_cmd.specs.Saying.{AddsGiven, SaysBy, type_by}
+use Rattle.oer_explain_cmd.specs.Found.{type_by}
+use Rattle.oer_explain_cmd.specs.Saying.{AddsGiven, SaysBy}
 use Rattle.oer_explain_cmd.proofs.run.run_explained.Goals as goal
 
 pub returns-in-Err-clause-exact : goal.returns-in-Err-clause-exact

@@ -12,16 +12,16 @@ returns-in-Err-clause-exact g c =
           c.refused.ensures.quiet c.refused.ensures.failed c.refused.ensures.kept c.refused.ensures.line refl,
     )
 
-pub returns-then-reads_all_for-clause-exact : goal.returns-then-reads_all_for-clause-exact
-returns-then-reads_all_for-clause-exact g c =
-    inr (inr (inr (c.in-Ok.options, c.in-Ok.ensures.ok, sym c.reads_all_for.ensures ∙ c.if-reads_all_for.true, c.run_holding_for.ensures.holds)))
+pub returns-then-holds_all_for-clause-exact : goal.returns-then-holds_all_for-clause-exact
+returns-then-holds_all_for-clause-exact g c =
+    inr (inr (inr (c.in-Ok.options, c.in-Ok.ensures.ok, c.holds_all_for.ensures.held c.if-holds_all_for.true, c.run_holding_for.ensures.holds)))
 
 pub returns-then-reads_octets-clause-exact : goal.returns-then-reads_octets-clause-exact
 returns-then-reads_octets-clause-exact g c =
     inr (inr (inl (
       c.in-Ok.options,
       c.in-Ok.ensures.ok,
-      sym c.reads_all_for.ensures ∙ c.if-reads_all_for.false,
+      c.holds_all_for.ensures.others c.if-holds_all_for.false,
       sym c.reads_octets.ensures ∙ c.if-reads_octets.true,
       c.run_looking_for.ensures.looks,
     )))

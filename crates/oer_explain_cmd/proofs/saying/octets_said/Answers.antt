@@ -1,34 +1,10 @@
-use Rattle.std.proofs.Common.{ap}
-use Rattle.std.proofs.lemmas.Result.{IfOk-weaker}
-use Rattle.oer_options.specs.Words.{behind, texts_of}
-use Rattle.oer_explain_cmd.specs.Adding.{items_behind}
-use Rattle.oer_explain_cmd.proofs.Adds.{by_held, by_one, by_option}
+use Rattle.std.proofs.Common.{◌≡◌, [], rules}
 use Rattle.oer_explain_cmd.proofs.saying.octets_said.Goals as goal
 
-pub returns-in-Some-None-None : goal.returns-in-Some-None-None
-returns-in-Some-None-None c =
-    let t = texts_of c.args.options in
-    let a = c.in-Some-None-None in
-    IfOk-weaker c.one_said.result _ _
-    (λ notes h. by_one c.args.options c.args.is_whole c.args.octets.now notes.items t.one t.types t.name (items_behind c.args.held) a.text.now
-    (ap behind a.is-0) (ap behind a.is-1) (ap behind a.is-2) h)
-    c.one_said.ensures
-
 pub returns-in-Some : goal.returns-in-Some
-returns-in-Some c =
-    let t = texts_of c.args.options in
-    let a = c.in-None-Some-Some in
-    IfOk-weaker c.types_said.result _ _
-    (λ notes h. by_held c.args.options c.args.is_whole c.args.octets.now notes.items t.one t.types t.name (items_behind c.args.held) a.types.now a.name.now
-    c.in-Some.text.now (ap behind a.is-0) (ap behind a.is-1) (ap behind a.is-2) (ap items_behind c.in-Some.is) h)
-    c.types_said.ensures
+returns-in-Some c = rw (← c.in_ok-found.ensures, ← c.schema.ensures, c.in-Some.is) c.told_notes.ensures
 
-pub returns-in-None : goal.returns-in-None
-returns-in-None c =
-    let t = texts_of c.args.options in
-    let a = c.in-None-Some-Some in
-    let said = rw c.as_bytes.ensures.value at c.types_said-in-None.ensures in
-    IfOk-weaker c.types_said-in-None.result _ _
-    (λ notes h. by_option c.args.options c.args.is_whole c.args.octets.now notes.items t.one t.types t.name (items_behind c.args.held) a.types.now a.name.now
-    (ap behind a.is-0) (ap behind a.is-1) (ap behind a.is-2) (ap items_behind c.in-None.is) h)
-    said
+pub returns : goal.returns
+returns c =
+    let empty : c.new.result.items ≡ [] = search rules in
+    rw (← c.in_ok-found.ensures, ← c.schema.ensures, c.in-None.is) empty
