@@ -106,10 +106,17 @@ def cited():
     return {it for line in lines for it in re.findall(r"\b(\w+\.specs\.declared\.\w+)\.TheConstants", line)}
 
 
-def hides(crate, file):
-    """Whether the module of a file is private and lib.rt doesn't name what has this name."""
+@cache
+def root_of(crate):
+    """The text of lib.rt, and what the other files of a crate pass on."""
     lib = f"{crate.folder}/src/lib.rt"
-    root = text_of(lib) if os.path.exists(lib) else ""
+    passed_on = [line for file in files_of(crate, ("src",)) for line in re.findall(r"^ *pub use [^;]*;", text_of(file), re.M)]
+    return "\n".join([text_of(lib) if os.path.exists(lib) else "", *passed_on])
+
+
+def hides(crate, file):
+    """Whether the module of a file is private, and neither lib.rt names what has this name, nor does another file pass it on."""
+    root = root_of(crate)
     module = os.path.relpath(file, f"{crate.folder}/src").removesuffix(".rt").split("/")[0]
     is_private = re.search(rf"^mod {module};$", root, re.M) is not None
     return lambda name: is_private and not re.search(rf"\b{name}\b", root)
@@ -138,6 +145,8 @@ def with_needed_imports(text):
         if line[2] is None:
             return line[0] if is_needed(line[1]) else ""
         names = [name.strip() for name in line[2].split(",") if name.strip() and is_needed(name.strip())]
+        if len(names) == 1 and line[1].endswith("::"):  # as rt fmt has it
+            return f"{line[1]}{names[0]};\n"
         return f"{line[1]}{{{', '.join(names)}}};\n" if names else ""
 
     return IMPORT.sub(without_others, text)
