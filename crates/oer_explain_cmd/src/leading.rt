@@ -70,6 +70,9 @@ pub fn leads_by(
 ) -> Result<bool, AllocError>
     ensures { IfOk result (λ leads. leads ≡ true → LeadsBy command.entry (type_by (texts_of options.entry) None) options.entry.task) }
 {
+    if !matches!(options.task, Task::Part { hex: None, .. }) {
+        return Ok(false);
+    }
     let found = found_by(alloc, options, None)?;
     match found.schema() {
         Some(schema) => leads(alloc, command, schema, options.task),
